@@ -1,0 +1,6 @@
+pub mod Traps
+pub mod Types
+pub mod Op
+pub mod Code
+pub mod View
+pub mod Smaller

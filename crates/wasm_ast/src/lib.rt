@@ -1,0 +1,42 @@
+//! WebAssembly modules as trees (Core 1.0, chapter 2), cut to the integer profile of Regtuma.
+//!
+//! In memory an instruction is one flat enum of at most 16 bytes, whose children are boxed. Contracts
+//! see a body as `Code` (`specs/Code.antt`): a tree in which each constructor holds what follows, with
+//! plain instructions grouped by shape as an `Op`. So the module in a clause is the module of every
+//! definition (spelling, typing, meaning), and modules are compared by value.
+#![tactic(auto)]
+
+mod body;
+mod host_call;
+mod module;
+mod name;
+mod operators;
+mod position;
+mod trap;
+mod types;
+
+pub use body::{Block, Body, BranchTable, Conditional, Instr};
+pub use host_call::{HostAnswer, HostCall};
+pub use module::{DataSegment, Export, ExternalKind, Func, Import, ImportKind, Module};
+pub use name::Name;
+pub use operators::{BinaryOp, CompareOp, ConvertOp, UnaryOp};
+pub use position::Position;
+pub use trap::Trap;
+pub use types::{BlockType, FuncType, GlobalType, Limits, ValueType};
+
+#[cfg(test)]
+mod tests {
+    use super::*;
+    use std::test::Fail;
+
+    #[test]
+    fn a_body_keeps_its_instructions(rt: HostRuntime) -> Result<(), Fail> {
+        let body = Body::new(vec![in rt.alloc(); Instr::I32Const(1), Instr::Drop]?);
+        assert_eq!(rt; body.items().len(), 2);
+        assert!(rt; matches!(&body.items()[0], Instr::I32Const(1)));
+        let name = Name::new(String::from_str(rt.alloc(), "invoke")?);
+        assert_eq!(rt; name.as_str(), "invoke");
+        assert_eq!(rt; Trap::CallDepth.number(), 8);
+        Ok(())
+    }
+}
