@@ -1,0 +1,11 @@
+pub mod Keys
+pub mod Views
+pub mod State
+pub mod Histories
+pub mod Versions
+pub mod Alike
+pub mod Facts
+pub mod Checks
+pub mod Flagged
+pub mod Steps
+pub mod Reruns

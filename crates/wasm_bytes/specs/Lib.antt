@@ -1,0 +1,9 @@
+pub mod FaultNumbers
+pub mod Spelling
+pub mod Reading
+pub mod Place
+pub mod Faults
+pub mod Moves
+pub mod Leb
+pub mod Names
+pub mod Refusals

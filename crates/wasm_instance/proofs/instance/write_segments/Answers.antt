@@ -1,0 +1,19 @@
+use Rattle.std.proofs.Common.{◌≡◌, ◌+◌, ◌≤◌, sym, ap, ◌∙◌, subst, refl, arith, length, Some}
+use Rattle.std.specs.Prelude.{slice_get}
+use Rattle.std.proofs.lemmas.Option.{slice_get_read}
+use Rattle.wasm_meaning.specs.Program.{initial}
+use Rattle.wasm_instance.specs.Segments.{IsWithin}
+use Rattle.wasm_instance.proofs.instance.write_segments.Goals as goal
+
+pub constant-requires : goal.constant-requires
+constant-requires c =
+    let e = slice_get_read c.args.segments.now _ c.loop-segment.segment-index c.segment-item.result refl c.loop-segment-test.true c.segment-item.is in
+    let d = c.requires c.loop-segment.segment-index c.segment-item.result e in
+    record { word = d.offset; is = d.constant }
+
+pub write-requires : goal.write-requires
+write-requires c =
+    let e = slice_get_read c.args.segments.now _ c.loop-segment.segment-index c.segment-item.result refl c.loop-segment-test.true c.segment-item.is in
+    let d = c.requires c.loop-segment.segment-index c.segment-item.result e in
+    let place : c.constant.result ≡ d.offset = c.constant.ensures ∙ ap initial d.constant in
+    omega (arith, d.within, place, ap length c.as_slice.ensures, c.loop-segment.auto.memory)

@@ -1,0 +1,6 @@
+use Rattle.wasm_meaning.specs.Unfold.{meaning-is}
+use Rattle.wasm_meaning.proofs.one_level.Goals as goal
+
+-- src/lib.rt:13:1
+pub returns : goal.returns
+returns g c = meaning-is

@@ -1,0 +1,5 @@
+use Rattle.wasm_meaning.specs.Unfold.{meaning-left, invocation-left}
+use Rattle.wasm_meaning.proofs.within_fuel.Goals as goal
+
+pub returns : goal.returns
+returns g c = record { code = meaning-left; invocation = invocation-left }

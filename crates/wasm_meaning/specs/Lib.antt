@@ -1,0 +1,10 @@
+pub mod Values
+pub mod Meaning
+pub mod Program
+pub mod Fuel
+pub mod Fine
+pub mod Following
+pub mod Unfold
+pub mod Sound
+pub mod NeverStuck
+pub mod Alike

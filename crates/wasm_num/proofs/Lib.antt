@@ -1,0 +1,3 @@
+mod Readings
+mod Trapping
+mod Dividing

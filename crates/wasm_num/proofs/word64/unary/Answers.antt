@@ -1,0 +1,12 @@
+use Rattle.std.proofs.Common.{◌∙◌}
+use Rattle.wasm_num.specs.Digits.{zeros_before-digits, zeros_before-reverse-digits, sum-digits}
+use Rattle.wasm_num.proofs.word64.unary.Goals as goal
+
+pub returns-in-Clz : goal.returns-in-Clz
+returns-in-Clz c = rw c.in-Clz.is (c.from.ensures ∙ zeros_before-digits 64 c.args.a c.ranges.a.fits)
+
+pub returns-in-Ctz : goal.returns-in-Ctz
+returns-in-Ctz c = rw c.in-Ctz.is (c.from-in-Ctz.ensures ∙ zeros_before-reverse-digits 64 c.args.a)
+
+pub returns-in-Popcnt : goal.returns-in-Popcnt
+returns-in-Popcnt c = rw c.in-Popcnt.is (c.from-in-Popcnt.ensures ∙ sum-digits 64 c.args.a c.ranges.a.fits)

@@ -1,0 +1,5 @@
+pub mod Operators
+pub mod Digits
+pub mod Rotations
+pub mod Fits
+pub mod Laws

@@ -1,0 +1,97 @@
+//! Operators on words of 32 bits (Core 1.0, section 4.3.2).
+
+ghost use Rattle.std.specs.Prelude.{◌≡◌};
+ghost use Rattle.wasm_ast.specs.declared.types.ValueType.TheVariants.{I32};
+ghost use Rattle.wasm_num.specs.Operators.{binary, unary, compare, eqz, divide_signed, remainder_signed};
+
+use wasm_ast::{BinaryOp, CompareOp, Trap, UnaryOp};
+
+/// A word from two. A quotient or a remainder by zero is the trap `DivideByZero`, and the signed
+/// quotient of -2^31 by -1 is `IntegerOverflow`; nothing else is a trap.
+#[inline(always)]
+pub fn binary(op: BinaryOp, a: u32, b: u32) -> Result<u32, Trap>
+    ensures { result ≡ binary I32 op a b }
+{
+    match op {
+        BinaryOp::Add => Ok(a.wrapping_add(b)),
+        BinaryOp::Sub => Ok(a.wrapping_sub(b)),
+        BinaryOp::Mul => Ok(a.wrapping_mul(b)),
+        BinaryOp::DivS => divide_signed(a, b),
+        BinaryOp::DivU => a.checked_div(b).ok_or(Trap::DivideByZero),
+        BinaryOp::RemS => remainder_signed(a, b),
+        BinaryOp::RemU => a.checked_rem(b).ok_or(Trap::DivideByZero),
+        BinaryOp::And => Ok(a & b),
+        BinaryOp::Or => Ok(a | b),
+        BinaryOp::Xor => Ok(a ^ b),
+        BinaryOp::Shl => Ok(a.wrapping_shl(b)),
+        BinaryOp::ShrS => Ok(a.cast_signed().wrapping_shr(b).cast_unsigned()),
+        BinaryOp::ShrU => Ok(a.wrapping_shr(b)),
+        BinaryOp::Rotl => Ok(a.rotate_left(b)),
+        BinaryOp::Rotr => Ok(a.rotate_right(b)),
+    }
+}
+
+#[inline(always)]
+fn divide_signed(a: u32, b: u32) -> Result<u32, Trap>
+    ensures { result ≡ divide_signed I32 a b }
+{
+    if b == 0 {
+        return Err(Trap::DivideByZero);
+    }
+    let quotient = a.cast_signed().checked_div(b.cast_signed());
+    Ok(quotient.ok_or(Trap::IntegerOverflow)?.cast_unsigned())
+}
+
+#[inline(always)]
+fn remainder_signed(a: u32, b: u32) -> Result<u32, Trap>
+    ensures { result ≡ remainder_signed I32 a b }
+{
+    if b == 0 {
+        return Err(Trap::DivideByZero);
+    }
+    let remainder = a.cast_signed().wrapping_rem(b.cast_signed());
+    Ok(remainder.cast_unsigned())
+}
+
+/// A word from one: how many zeros it begins with, ends with, or how many ones it has, in binary.
+#[inline(always)]
+pub fn unary(op: UnaryOp, a: u32) -> u32
+    ensures { result ≡ unary I32 op a }
+{
+    match op {
+        UnaryOp::Clz => a.leading_zeros(),
+        UnaryOp::Ctz => a.trailing_zeros(),
+        UnaryOp::Popcnt => a.count_ones(),
+    }
+}
+
+/// 1 where the comparison holds, else 0.
+#[inline(always)]
+pub fn compare(op: CompareOp, a: u32, b: u32) -> u32
+    ensures { result ≡ compare I32 op a b }
+{
+    let holds = match op {
+        CompareOp::Eq => a == b,
+        CompareOp::Ne => a != b,
+        CompareOp::LtS => a.cast_signed() < b.cast_signed(),
+        CompareOp::LtU => a < b,
+        CompareOp::GtS => a.cast_signed() > b.cast_signed(),
+        CompareOp::GtU => a > b,
+        CompareOp::LeS => a.cast_signed() <= b.cast_signed(),
+        CompareOp::LeU => a <= b,
+        CompareOp::GeS => a.cast_signed() >= b.cast_signed(),
+        CompareOp::GeU => a >= b,
+    };
+    u32::from(holds)
+}
+
+/// 1 for the word 0, else 0.
+#[inline(always)]
+pub fn eqz(a: u32) -> u32
+    ensures { result ≡ eqz a }
+{
+    u32::from(a == 0)
+}
+
+#[cfg(test)]
+mod tests;

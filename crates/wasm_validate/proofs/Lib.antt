@@ -1,0 +1,9 @@
+pub mod Lists
+pub mod Heights
+pub mod Stands
+pub mod Sound
+pub mod Complete
+pub mod Instructions
+pub mod Untyped
+pub mod Functions
+pub mod Modules

@@ -1,0 +1,13 @@
+use Rattle.std.proofs.Common.{◌≡◌, ◌<◌, ◌++◌, ℕ, Some, drop, map, length}
+use Rattle.wasm_ast.specs.declared.module.Func.{Func}
+use Rattle.wasm_validate.specs.Typing.{at}
+use Rattle.wasm_validate.specs.ModuleRules.{imported, type_indices}
+use Rattle.wasm_validate.proofs.imports.function_indices.Given as goal
+
+abbrev pub invariant-loop-import : goal.invariant-loop-import
+invariant-loop-import l =
+    l.indices.items ++ imported (drop l.import-index l.given.imports) ≡ imported l.given.imports
+
+abbrev pub invariant-loop-function : goal.invariant-loop-function
+invariant-loop-function l =
+    record { indices : l.indices.items ++ map (λ (f : Func). f.type_index) (drop l.function-index l.given.functions) ≡ type_indices l.given; known : (k : ℕ) → k < l.function-index → (f : Func) → at l.given.functions k ≡ Some f → f.type_index < length l.given.types }

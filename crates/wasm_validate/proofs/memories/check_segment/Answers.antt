@@ -1,0 +1,28 @@
+use Rattle.std.proofs.Common.{◌≡◌, ◌<◌, ◌+◌, ◌*◌, ◌∙◌, ap, sym, refl, Some, None, length, arith}
+use Rattle.wasm_validate.specs.Typing.{at}
+use Rattle.wasm_validate.specs.Broken.{DataMemory}
+use Rattle.wasm_validate.proofs.Lists.{at_none, item_in}
+use Rattle.wasm_validate.proofs.memories.check_segment.Goals as goal
+
+pub returns-in_default-clause-broken : goal.returns-in_default-clause-broken
+returns-in_default-clause-broken c k h =
+    let missing : at c.args.given.now.memories c.args.segment.now.memory ≡ None = ap (λ ms. at ms c.args.segment.now.memory) (sym c.as_slice.ensures) ∙ at_none c.as_slice.result.now c.args.segment.now.memory c.in_default.ensures.lookup.3 in
+    DataMemory k c.args.segment.now h missing
+
+pub returns-then-not-is_inside-clause-broken : goal.returns-then-not-is_inside-clause-broken
+returns-then-not-is_inside-clause-broken c k h =
+    let segment = c.args.segment.now in
+    let memory = item_in c.as_slice.result.now c.args.given.now.memories segment.memory c.in-Some.limits.now c.as_slice.ensures c.in-Some.ensures.lookup.3.0 c.in-Some.ensures.lookup.1 in
+    let over : 65536 * c.in-Some.limits.now.least < c.in-Some-constant_of.offset + length segment.bytes = grind (arith, c.if-not-is_inside.ensures.1, c.len.ensures) in
+    (k, segment, c.in-Some.limits.now, c.in-Some-constant_of.offset, h, memory, c.in-Some-constant_of.ensures, over)
+
+pub returns-clause-inside : goal.returns-clause-inside
+returns-clause-inside c =
+    let segment = c.args.segment.now in
+    record {
+      memory = c.in-Some.limits.now;
+      exists = item_in c.as_slice.result.now c.args.given.now.memories segment.memory c.in-Some.limits.now c.as_slice.ensures c.in-Some.ensures.lookup.3.0 c.in-Some.ensures.lookup.1;
+      offset = c.in-Some-constant_of.offset;
+      constant = c.in-Some-constant_of.ensures;
+      within = omega (arith, c.if-not-is_inside.ensures.0 refl, c.len.ensures)
+    }

@@ -1,0 +1,11 @@
+pub mod Typing
+pub mod HostCalls
+pub mod ModuleRules
+pub mod FaultNumbers
+pub mod Operands
+pub mod Algorithm
+pub mod Missing
+pub mod Refused
+pub mod Inside
+pub mod Marks
+pub mod Broken

@@ -1,0 +1,106 @@
+-- When a module is valid (Core 1.0, section 3.4), cut to the profile.
+use Rattle.std.specs.Prelude.{◌≡◌, ◌≢◌, ◌<◌, ◌≤◌, ◌+◌, ◌*◌, ◌==◌, ℕ, List, [], ◌∷◌, ◌++◌, map, length, Option, Some, None, IfSome, get_or, codes, Bool, true, false, cond, ◌&&◌}
+use Rattle.std.specs.Cmp.Lexicographic.{pointwise}
+use Rattle.wasm_ast.specs.declared.types.ValueType.TheVariants.{I32}
+use Rattle.wasm_ast.specs.declared.types.FuncType.{FuncType}
+use Rattle.wasm_ast.specs.declared.types.Limits.{Limits}
+use Rattle.wasm_ast.specs.declared.host_call.HostCall.{HostCall}
+use Rattle.wasm_ast.specs.declared.module.ImportKind.{ImportKind}
+use Rattle.wasm_ast.specs.declared.module.ImportKind.TheVariants as kind
+use Rattle.wasm_ast.specs.declared.module.ExternalKind.{ExternalKind}
+use Rattle.wasm_ast.specs.declared.module.ExternalKind.TheVariants as external
+use Rattle.wasm_ast.specs.declared.module.Import.{Import}
+use Rattle.wasm_ast.specs.declared.module.Func.{Func}
+use Rattle.wasm_ast.specs.declared.module.Export.{Export}
+use Rattle.wasm_ast.specs.declared.module.DataSegment.{DataSegment}
+use Rattle.wasm_ast.specs.declared.module.Module.{Module}
+use Rattle.wasm_ast.specs.Op.{Const}
+use Rattle.wasm_ast.specs.Code.{End, Do}
+use Rattle.wasm_validate.specs.Typing.{Context, Types, at, under, results}
+use Rattle.wasm_validate.specs.HostCalls.{call_type, fabric, call_named}
+
+-- the type indices of imported functions, in order
+abbrev pub imported : List Import → List ℕ
+imported [] = []
+imported (i ∷ is) = elim i.kind [ kind.Function t ↦ t ∷ imported is | _ ↦ imported is ]
+
+-- the type indices of all functions, the imported ones first
+abbrev pub type_indices : Module → List ℕ
+type_indices m = imported m.imports ++ map (λ (f : Func). f.type_index) m.functions
+
+abbrev pub no_type : FuncType
+no_type = record { params = []; result = None }
+
+-- the type at an index; each index that a valid module uses has one
+abbrev pub type_at : List FuncType → ℕ → FuncType
+type_at types t = get_or types t no_type
+
+abbrev pub function_types : Module → List FuncType
+function_types m = map (type_at m.types) (type_indices m)
+
+-- an import is a host call, by its name and with its type
+pub record IsImport (types : List FuncType) (i : Import) : Type 0 where
+  pub call : HostCall
+  pub type_index : ℕ
+  pub function : i.kind ≡ kind.Function type_index
+  pub type : at types type_index ≡ Some (call_type call)
+  pub module_name : i.module ≡ fabric
+  pub name : call_named i.name ≡ Some call
+
+-- the context of a function's body: a branch out of all blocks returns (section 3.4.1)
+abbrev pub function_context : Module → Func → Context
+function_context m f =
+    let t = type_at m.types f.type_index in under t.result (record { functions = function_types m; locals = t.params ++ f.locals; labels = []; result = t.result })
+
+pub record IsFunction (m : Module) (f : Func) : Type 0 where
+  pub type : f.type_index < length m.types
+  pub body : Types (function_context m f) f.body [] (results (type_at m.types f.type_index).result)
+
+-- a memory's limits, in pages of 65,536 bytes (sections 3.2.1 and 3.2.4)
+pub record IsMemory (l : Limits) : Type 0 where
+  pub addressable : l.least ≤ 65536
+  pub ordered : IfSome l.greatest (λ g. l.least ≤ g)
+  pub small : IfSome l.greatest (λ g. g ≤ 65536)
+
+-- how many a module has of what an export may name
+abbrev pub count_of : Module → ExternalKind → ℕ
+count_of m external.Function = length (type_indices m)
+count_of m external.Table = 0
+count_of m external.Memory = length m.memories
+count_of m external.Global = 0
+
+abbrev pub is_function : ExternalKind → Bool
+is_function external.Function = true
+is_function _ = false
+
+-- the index of the first function that some exports name `invoke`
+abbrev pub invoke_in : List Export → Option ℕ
+invoke_in [] = None
+invoke_in (e ∷ es) = cond (is_function e.kind && pointwise ◌==◌ e.name (codes "invoke")) (Some e.index) (invoke_in es)
+
+-- the index of the function that a module exports as `invoke`
+abbrev pub invoke_of : Module → Option ℕ
+invoke_of m = invoke_in m.exports
+
+abbrev pub invoke_type : FuncType
+invoke_type = record { params = []; result = Some I32 }
+
+-- bytes that lie in the least size of the memory, from one constant on (section 3.4.6)
+pub record IsData (m : Module) (d : DataSegment) : Type 0 where
+  pub memory : Limits
+  pub exists : at m.memories d.memory ≡ Some memory
+  pub offset : ℕ
+  pub constant : d.offset ≡ Do (Const I32 offset) End
+  pub within : offset + length d.bytes ≤ 65536 * memory.least
+
+pub record IsValid (m : Module) : Type 0 where
+  pub imports : (k : ℕ) (i : Import) → at m.imports k ≡ Some i → IsImport m.types i
+  pub functions : (k : ℕ) (f : Func) → at m.functions k ≡ Some f → IsFunction m f
+  pub one_memory : length m.memories ≤ 1
+  pub memories : (k : ℕ) (l : Limits) → at m.memories k ≡ Some l → IsMemory l
+  pub exports : (k : ℕ) (e : Export) → at m.exports k ≡ Some e → e.index < count_of m e.kind
+  pub names : (j k : ℕ) (d e : Export) → at m.exports j ≡ Some d → at m.exports k ≡ Some e → d.name ≡ e.name → j ≡ k
+  pub entry : ℕ
+  pub invokes : invoke_of m ≡ Some entry
+  pub entry_type : at (function_types m) entry ≡ Some invoke_type
+  pub segments : (k : ℕ) (d : DataSegment) → at m.data k ≡ Some d → IsData m d

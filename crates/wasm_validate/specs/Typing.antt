@@ -1,0 +1,68 @@
+-- The declarative typing of code (Core 1.0, chapter 3). A stack of operands is a list of types, the top first.
+use Rattle.std.specs.Prelude.{◌≡◌, ◌<◌, ℕ, List, [], ◌∷◌, ◌++◌, reverse, Option, Some, None, slice_get}
+use Rattle.wasm_ast.specs.declared.types.ValueType.{ValueType}
+use Rattle.wasm_ast.specs.declared.types.ValueType.TheVariants.{I32}
+use Rattle.wasm_ast.specs.declared.types.FuncType.{FuncType}
+use Rattle.wasm_ast.specs.Types.{words}
+use Rattle.wasm_ast.specs.Op.{Op, Unreachable, Nop, Drop, Return, Br, BrIf, BrTable, Call, LocalGet, LocalSet, LocalTee, Const, Binary}
+use Rattle.wasm_ast.specs.Code.{BlockType, Code, End, Do, Block, Loop, If}
+
+-- what code may refer to (section 3.1.1)
+pub record Context : Type 0 where
+  -- the type of each function, the imported ones first
+  pub functions : List FuncType
+  -- the types of the parameters and of the other locals
+  pub locals : List ValueType
+  -- what a branch to each label carries, the innermost label first
+  pub labels : List BlockType
+  -- what the function returns
+  pub result : BlockType
+
+-- the n-th of a list
+abbrev pub at : {A : Type 0} → List A → ℕ → Option A
+at xs n = slice_get xs n
+
+-- what a block leaves, as a stack
+abbrev pub results : BlockType → List ValueType
+results None = []
+results (Some t) = t ∷ []
+
+-- the context inside a block to whose label a branch carries l
+abbrev pub under : BlockType → Context → Context
+under l c = record c { labels = l ∷ c.labels }
+
+-- a function's arguments as a stack: the last is on top
+abbrev pub arguments : FuncType → List ValueType
+arguments f = reverse f.params
+
+-- each label carries l
+abbrev pub EachLabel : Context → List ℕ → BlockType → Type 0
+EachLabel c [] l = Unit {0}
+EachLabel c (n ∷ ns) l = (at c.labels n ≡ Some l) × EachLabel c ns l
+
+-- C ⊢ op : ins → outs (sections 3.3.1 to 3.3.5). After an unconditional branch anything may stand, so `outs` is free there.
+abbrev pub Rule : Context → Op → (ins outs : List ValueType) → Type 0
+Rule c Unreachable ins outs = Unit {0}
+Rule c Nop ins outs = (ins ≡ []) × (outs ≡ [])
+Rule c Drop ins outs = (t : ValueType) × (ins ≡ t ∷ []) × (outs ≡ [])
+Rule c (Const t n) ins outs = (n < words t) × (ins ≡ []) × (outs ≡ t ∷ [])
+Rule c (Binary t o) ins outs = (ins ≡ t ∷ t ∷ []) × (outs ≡ t ∷ [])
+Rule c (LocalGet x) ins outs = (t : ValueType) × (at c.locals x ≡ Some t) × (ins ≡ []) × (outs ≡ t ∷ [])
+Rule c (LocalSet x) ins outs = (t : ValueType) × (at c.locals x ≡ Some t) × (ins ≡ t ∷ []) × (outs ≡ [])
+Rule c (LocalTee x) ins outs = (t : ValueType) × (at c.locals x ≡ Some t) × (ins ≡ t ∷ []) × (outs ≡ t ∷ [])
+Rule c (Br n) ins outs = (l : BlockType) × (at c.labels n ≡ Some l) × (below : List ValueType) × (ins ≡ results l ++ below)
+Rule c (BrIf n) ins outs = (l : BlockType) × (at c.labels n ≡ Some l) × (ins ≡ I32 ∷ results l) × (outs ≡ results l)
+Rule c (BrTable ns n) ins outs = (l : BlockType) × (at c.labels n ≡ Some l) × EachLabel c ns l × (below : List ValueType) × (ins ≡ I32 ∷ results l ++ below)
+Rule c Return ins outs = (below : List ValueType) × (ins ≡ results c.result ++ below)
+Rule c (Call f) ins outs = (t : FuncType) × (at c.functions f ≡ Some t) × (ins ≡ arguments t) × (outs ≡ results t.result)
+
+-- C ⊢ code : from → to (section 3.3.6), each instruction above a lower stack that it leaves alone.
+-- The bodies of a block start on an empty stack and leave its result; a branch to a loop carries nothing.
+abbrev pub Types : Context → Code → (from to : List ValueType) → Type 0
+Types c End from to = from ≡ to
+Types c (Do o rest) from to =
+    (ins : List ValueType) × (outs : List ValueType) × (lower : List ValueType) × Rule c o ins outs × (from ≡ ins ++ lower) × Types c rest (outs ++ lower) to
+Types c (Block t b rest) from to = Types (under t c) b [] (results t) × Types c rest (results t ++ from) to
+Types c (Loop t b rest) from to = Types (under None c) b [] (results t) × Types c rest (results t ++ from) to
+Types c (If t a b rest) from to =
+    (lower : List ValueType) × (from ≡ I32 ∷ lower) × Types (under t c) a [] (results t) × Types (under t c) b [] (results t) × Types c rest (results t ++ lower) to

@@ -1,0 +1,148 @@
+//! The check of functions' bodies (Core 1.0, sections 3.3.6 and 3.4.1).
+
+ghost use Rattle.std.specs.Prelude.{◌≡◌, ◌<◌, ◌⊎◌, ℕ, length, IfOk, IfErr, IsSome, Some};
+ghost use Rattle.wasm_ast.specs.Op as op;
+ghost use Rattle.wasm_ast.specs.declared.module.Func.{Func};
+ghost use Rattle.wasm_validate.specs.Typing.{at, under};
+ghost use Rattle.wasm_validate.specs.ModuleRules.{type_indices, IsFunction};
+ghost use Rattle.wasm_validate.specs.Algorithm.{step, instruction, conditional, whole_body};
+ghost use Rattle.wasm_validate.specs.Missing.{MissingIn, MissingInstr, MissingFirst};
+ghost use Rattle.wasm_validate.specs.Refused.{Refused};
+ghost use Rattle.wasm_validate.specs.Broken.{Broken};
+ghost use Rattle.wasm_validate.specs.Inside.{context_of};
+
+use crate::fault::ValidateFault;
+use crate::labels::Labels;
+use crate::operands::OperandStack;
+use crate::scope::Scope;
+use crate::shapes;
+use std::alloc::Global;
+use wasm_ast::{BlockType, Body, Conditional, Func, Instr, Module, ValueType};
+
+/// Whether each function's body is typed. The indices are those of the functions' types.
+pub fn check_code(alloc: Global, given: &Module, functions: &[u32]) -> Result<(), ValidateFault>
+    requires indices { functions.now ≡ type_indices given.now }
+    requires known { (k : ℕ) → (t : ℕ) → at functions.now k ≡ Some t → t < length given.now.types }
+    ensures typed { IfOk result (λ _. (k : ℕ) → (f : Func) → at given.now.functions k ≡ Some f → IsFunction given.now f) }
+    ensures broken { IfErr result (λ e. Broken e given.now) }
+{
+    for function in given.functions.as_slice() {
+        check_function(alloc, given, functions, function)?;
+    }
+    Ok(())
+}
+
+// A function, on stacks of its own.
+fn check_function(alloc: Global, given: &Module, functions: &[u32], function: &Func) -> Result<(), ValidateFault>
+    requires indices { functions.now ≡ type_indices given.now }
+    requires known { (k : ℕ) → (t : ℕ) → at functions.now k ≡ Some t → t < length given.now.types }
+    requires has_type { function.now.type_index < length given.now.types }
+    ensures typed { IfOk result (λ _. IsFunction given.now function.now) }
+    ensures broken { IfErr result (λ e. (k : ℕ) → at given.now.functions k ≡ Some function.now → Broken e given.now) }
+{
+    let types = given.types.as_slice();
+    let function_type = &types[function.type_index as usize];
+    let mut locals = Vec::from_slice(alloc, function_type.params.as_slice())?;
+    locals.extend_from_slice(function.locals.as_slice())?;
+    let scope = Scope {
+        types,
+        functions,
+        locals: &locals,
+        result: function_type.result,
+    };
+    let mut labels = Labels::new(alloc);
+    let mut stack = OperandStack::new(alloc);
+    let result = function_type.result;
+    check_body(&scope, &mut labels, &mut stack, result, result, &function.body)
+}
+
+// An instruction, with its bodies.
+#[cycle(check)]
+fn check_instr(
+    scope: &Scope,
+    labels: &mut Labels,
+    stack: &mut OperandStack,
+    instr: &Instr,
+) -> Result<(), ValidateFault>
+    ensures ok { IfOk result (λ _. instruction (context_of scope.now labels.old) instr.now stack.old.here ≡ Some stack.new.here) }
+    ensures lower { IfOk result (λ _. stack.new.lower ≡ stack.old.lower) }
+    ensures labels { IfOk result (λ _. labels.new ≡ labels.old) }
+    ensures refused { IfErr result (λ e. Refused e (MissingInstr (context_of scope.now labels.old) instr.now) (instruction (context_of scope.now labels.old) instr.now stack.old.here)) }
+{
+    match instr {
+        Instr::Unreachable => {
+            stack.leave();
+            Ok(())
+        }
+        Instr::Nop => Ok(()),
+        Instr::Block(block) => {
+            check_body(scope, labels, stack, block.result, block.result, &block.body)?;
+            stack.push_result(block.result)
+        }
+        Instr::Loop(block) => {
+            check_body(scope, labels, stack, None, block.result, &block.body)?;
+            stack.push_result(block.result)
+        }
+        Instr::If(choice) => check_if(scope, labels, stack, choice),
+        Instr::Br(label) => shapes::check_br(scope, labels, stack, *label),
+        Instr::BrIf(label) => shapes::check_br_if(scope, labels, stack, *label),
+        Instr::BrTable(table) => shapes::check_br_table(scope, labels, stack, table),
+        Instr::Return => shapes::check_return(scope, labels, stack),
+        Instr::Call(function) => shapes::check_call(scope, labels, stack, *function),
+        Instr::Drop => {
+            let _ = stack.pop()?;
+            Ok(())
+        }
+        Instr::LocalGet(local) => shapes::check_local_get(scope, labels, stack, *local),
+        Instr::LocalSet(local) => shapes::check_local_set(scope, labels, stack, *local),
+        Instr::LocalTee(local) => shapes::check_local_tee(scope, labels, stack, *local),
+        Instr::I32Const(word) => shapes::check_constant(ValueType::I32, *word as u64, stack),
+        Instr::I32Add => shapes::check_binary(ValueType::I32, stack),
+    }
+}
+
+// An `if`: the operand, and both bodies.
+#[cycle(check)]
+fn check_if(
+    scope: &Scope,
+    labels: &mut Labels,
+    stack: &mut OperandStack,
+    choice: &Conditional,
+) -> Result<(), ValidateFault>
+    ensures ok { IfOk result (λ _. conditional (context_of scope.now labels.old) choice.now.result choice.now.yes choice.now.no stack.old.here ≡ Some stack.new.here) }
+    ensures lower { IfOk result (λ _. stack.new.lower ≡ stack.old.lower) }
+    ensures labels { IfOk result (λ _. labels.new ≡ labels.old) }
+    ensures refused { IfErr result (λ e. Refused e (MissingIn (under choice.now.result (context_of scope.now labels.old)) choice.now.yes ⊎ MissingIn (under choice.now.result (context_of scope.now labels.old)) choice.now.no) (conditional (context_of scope.now labels.old) choice.now.result choice.now.yes choice.now.no stack.old.here)) }
+{
+    let result = choice.result;
+    stack.pop_as(ValueType::I32)?;
+    check_body(scope, labels, stack, result, result, &choice.yes)?;
+    check_body(scope, labels, stack, result, result, &choice.no)?;
+    stack.push_result(result)
+}
+
+// A body to its end, in a block of its own.
+#[cycle(check)]
+fn check_body(
+    scope: &Scope,
+    labels: &mut Labels,
+    stack: &mut OperandStack,
+    carried: BlockType,
+    left: BlockType,
+    body: &Body,
+) -> Result<(), ValidateFault>
+    ensures ok { IfOk result (λ _. IsSome (whole_body (under carried (context_of scope.now labels.old)) left body.now)) }
+    ensures stack { IfOk result (λ _. stack.new ≡ stack.old) }
+    ensures labels { IfOk result (λ _. labels.new ≡ labels.old) }
+    ensures refused { IfErr result (λ e. Refused e (MissingIn (under carried (context_of scope.now labels.old)) body.now) (whole_body (under carried (context_of scope.now labels.old)) left body.now)) }
+{
+    labels.enter(carried)?;
+    let outer = stack.enter();
+    for instr in body.items() {
+        check_instr(scope, labels, stack, instr)?;
+    }
+    stack.finish(left)?;
+    stack.exit(outer);
+    labels.exit();
+    Ok(())
+}

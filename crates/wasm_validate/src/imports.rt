@@ -1,0 +1,114 @@
+//! Imports, and the types of functions (Core 1.0, sections 3.4.7 and 3.4.9).
+
+ghost use Rattle.std.specs.Prelude.{◌≡◌, ◌<◌, ℕ, length, IfOk, IfErr, IsTrue, ◌↔◌, Some, replicate};
+ghost use Rattle.std.specs.List.{All};
+ghost use Rattle.wasm_ast.specs.declared.types.ValueType.TheVariants.{I32};
+ghost use Rattle.wasm_ast.specs.declared.module.Import.{Import};
+ghost use Rattle.wasm_ast.specs.declared.module.Func.{Func};
+ghost use Rattle.wasm_validate.specs.Typing.{at};
+ghost use Rattle.wasm_validate.specs.HostCalls.{arity, call_type, call_named, host_calls};
+ghost use Rattle.wasm_validate.specs.ModuleRules.{IsImport, imported, type_indices};
+ghost use Rattle.wasm_validate.specs.Broken.{Broken};
+
+use crate::fault::ValidateFault;
+use std::alloc::Global;
+use wasm_ast::{FuncType, HostCall, Import, ImportKind, Module, ValueType};
+
+/// The host call that each import is, in the order of the imports.
+pub fn check_imports(alloc: Global, given: &Module) -> Result<Vec<HostCall>, ValidateFault>
+    ensures calls { IfOk result (λ calls. calls.items ≡ host_calls given.now.imports) }
+    ensures imports { IfOk result (λ _. (k : ℕ) → (i : Import) → at given.now.imports k ≡ Some i → IsImport given.now.types i) }
+    ensures broken { IfErr result (λ e. Broken e given.now) }
+{
+    let mut calls = Vec::new(alloc);
+    for import in given.imports.as_slice() {
+        calls.push(check_import(given, import)?)?;
+    }
+    Ok(calls)
+}
+
+// The host call that an import is.
+fn check_import(given: &Module, import: &Import) -> Result<HostCall, ValidateFault>
+    ensures listed { IfOk result (λ _. IsImport given.now.types import.now) }
+    ensures call { IfOk result (λ call. call_named import.now.name ≡ Some call) }
+    ensures broken { IfErr result (λ e. (k : ℕ) → at given.now.imports k ≡ Some import.now → Broken e given.now) }
+{
+    let ImportKind::Function(type_index) = import.kind else {
+        return Err(ValidateFault::Import);
+    };
+    let Some(function_type) = given.types.as_slice().get(type_index as usize) else {
+        return Err(ValidateFault::Index);
+    };
+    if import.module.as_str() != "fabric" {
+        return Err(ValidateFault::Import);
+    }
+    match call_named(import.name.as_str()) {
+        Some(call) if has_type(call, function_type) => Ok(call),
+        _ => Err(ValidateFault::Import),
+    }
+}
+
+// The call of a name.
+fn call_named(name: &str) -> Option<HostCall>
+    ensures { result ≡ call_named name.now }
+{
+    match name {
+        "put_state" => Some(HostCall::PutState),
+        _ => None,
+    }
+}
+
+// How many parameters a call has.
+fn arity(call: HostCall) -> usize
+    ensures { result ≡ arity call }
+{
+    match call {
+        HostCall::GetState | HostCall::PutState => 4,
+        HostCall::RangeState => 7,
+        HostCall::DelState | HostCall::GetArg | HostCall::SetResult => 2,
+    }
+}
+
+// Whether this is the type of a call.
+fn has_type(call: HostCall, function_type: &FuncType) -> bool
+    ensures { IsTrue result ↔ (function_type.now ≡ call_type call) }
+{
+    are_i32(function_type.params.as_slice(), arity(call))
+        && function_type.result == Some(ValueType::I32)
+}
+
+// Whether these are so many i32.
+fn are_i32(types: &[ValueType], count: usize) -> bool
+    ensures { IsTrue result ↔ (types.now ≡ replicate count I32) }
+{
+    types.len() == count && all_i32(types)
+}
+
+// Whether each of these is i32.
+fn all_i32(types: &[ValueType]) -> bool
+    ensures { IsTrue result ↔ All (λ t. t ≡ I32) types.now }
+{
+    types.iter().all(|value_type| *value_type == ValueType::I32)
+}
+
+/// The index of the type of each function, the imported ones first.
+pub fn function_indices(alloc: Global, given: &Module) -> Result<Vec<u32>, ValidateFault>
+    requires { (k : ℕ) → (i : Import) → at given.now.imports k ≡ Some i → IsImport given.now.types i }
+    ensures indices { IfOk result (λ v. v.items ≡ type_indices given.now) }
+    ensures known { IfOk result (λ _. (k : ℕ) → (t : ℕ) → at (type_indices given.now) k ≡ Some t → t < length given.now.types) }
+    ensures broken { IfErr result (λ e. Broken e given.now) }
+{
+    let mut indices = Vec::new(alloc);
+    for import in given.imports.as_slice() {
+        if let ImportKind::Function(type_index) = import.kind {
+            indices.push(type_index)?;
+        }
+    }
+    for function in given.functions.as_slice() {
+        if function.type_index as usize >= given.types.len() {
+            return Err(ValidateFault::Index);
+        }
+        indices.push(function.type_index)?;
+    }
+    Ok(indices)
+}

@@ -1,0 +1,34 @@
+//! What a function's body may refer to, its labels aside.
+
+ghost use Rattle.std.specs.Prelude.{◌≡◌, ◌<◌, ℕ, length, Some};
+ghost use Rattle.wasm_validate.specs.Typing.{at};
+
+use wasm_ast::{BlockType, FuncType, ValueType};
+
+/// What a function's body may refer to, its labels aside.
+#[derive(Clone, Copy)]
+pub struct Scope<'a> {
+    /// The types of the module.
+    pub types: &'a [FuncType],
+    /// The index of the type of each function, the imported ones first.
+    pub functions: &'a [u32],
+    /// The types of the parameters and of the other locals.
+    pub locals: &'a [ValueType],
+    /// What the function returns.
+    pub result: BlockType,
+    ghost known: { (k : ℕ) → (t : ℕ) → at functions.now k ≡ Some t → t < length types.now },
+}
+
+impl<'a> Scope<'a> {
+    ghost use Rattle.std.specs.Prelude.{◌≡◌, Some, None, MatchOption, map};
+    ghost use Rattle.wasm_validate.specs.Typing.{at};
+    ghost use Rattle.wasm_validate.specs.ModuleRules.{type_at};
+
+    /// The type of a function.
+    pub fn type_of(&self, function: u32) -> Option<&'a FuncType>
+        ensures { let found = at (map (type_at self.now.types.now) self.now.functions.now) function in MatchOption result (found ≡ None) (λ t. found ≡ Some t.now) }
+    {
+        let type_index = *self.functions.get(function as usize)?;
+        Some(&self.types[type_index as usize])
+    }
+}

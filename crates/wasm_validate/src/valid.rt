@@ -1,0 +1,102 @@
+//! Modules that are known to be valid.
+
+ghost use Rattle.std.specs.Prelude.{◌≡◌, ◌≢◌, IfOk, IfErr, Some};
+ghost use Rattle.wasm_validate.specs.HostCalls.{host_calls};
+ghost use Rattle.wasm_validate.specs.ModuleRules.{IsValid, invoke_of};
+ghost use Rattle.wasm_validate.specs.Broken.{Broken};
+
+use crate::code::check_code;
+use crate::exports::{check_exports, find_entry};
+use crate::fault::ValidateFault;
+use crate::imports::{check_imports, function_indices};
+use crate::memories::{check_data, check_memories};
+use std::alloc::Global;
+use std::marker::Model;
+use wasm_ast::{HostCall, Module};
+
+/// A module that is valid, with what a run looks up in it.
+///
+/// Contracts see the module. Only `validate` makes one.
+#[derive(Debug, Drop)]
+pub struct ValidModule {
+    module: Module,
+    // The call of each import, in order.
+    calls: Vec<HostCall>,
+    // The index of the function that is exported as `invoke`.
+    invoke: u32,
+}
+
+impl Model for ValidModule {
+    ghost use Rattle.std.specs.Prelude.{◌≡◌, Some};
+    ghost use Rattle.wasm_ast.specs.declared.module.Module.{Module};
+    ghost use Rattle.wasm_ast.specs.contracts.module.Module as declared;
+    ghost use Rattle.wasm_validate.specs.HostCalls.{host_calls};
+    ghost use Rattle.wasm_validate.specs.ModuleRules.{IsValid, invoke_of};
+
+    ghost Value = { Module };
+
+    ghost coded = { declared.the_row.coded };
+
+    ghost view = { λ v. v.module };
+
+    ghost invariant = { λ v. IsValid v.module × (v.calls.items ≡ host_calls v.module.imports) × (invoke_of v.module ≡ Some v.invoke) };
+}
+
+impl ValidModule {
+    /// The module.
+    pub fn module(&self) -> &Module
+        ensures same { result.now ≡ self.now }
+        ensures valid { IsValid self.now }
+    {
+        &self.module
+    }
+
+    /// The host call that each import is, in the order of the imports.
+    pub fn host_calls(&self) -> &[HostCall]
+        ensures { result.now ≡ host_calls self.now.imports }
+    {
+        self.calls.as_slice()
+    }
+
+    /// The index of the function that the module exports as `invoke`. It takes nothing and leaves an i32.
+    pub fn invoke(&self) -> u32
+        ensures { invoke_of self.now ≡ Some result }
+    {
+        self.invoke
+    }
+}
+
+/// Takes a module in where it is valid.
+///
+/// The rules are tested in the order of the sections: imports, functions, memories, exports, code,
+/// data; the first that is broken is answered. A module that is refused is dropped.
+pub fn validate(alloc: Global, given: Module) -> Result<ValidModule, ValidateFault>
+    ensures value { IfOk result (λ v. v ≡ given) }
+    ensures valid { IfOk result (λ _. IsValid given) }
+    ensures broken { IfErr result (λ e. Broken e given) }
+    ensures refused { IfErr result (λ e. e ≢ ValidateFault.Memory → ¬ IsValid given) }
+{
+    let (calls, invoke) = check_module(alloc, &given)?;
+    Ok(ValidModule {
+        module: given,
+        calls,
+        invoke,
+    })
+}
+
+// What a run looks up in a module that is valid.
+fn check_module(alloc: Global, given: &Module) -> Result<(Vec<HostCall>, u32), ValidateFault>
+    ensures valid { IfOk result (λ _. IsValid given.now) }
+    ensures calls { IfOk result (λ found. found.0.items ≡ host_calls given.now.imports) }
+    ensures invoke { IfOk result (λ found. invoke_of given.now ≡ Some found.1) }
+    ensures broken { IfErr result (λ e. Broken e given.now) }
+{
+    let calls = check_imports(alloc, given)?;
+    let functions = function_indices(alloc, given)?;
+    check_memories(given)?;
+    check_exports(given, &functions)?;
+    let invoke = find_entry(given, &functions)?;
+    check_code(alloc, given, &functions)?;
+    check_data(given)?;
+    Ok((calls, invoke))
+}

@@ -1,0 +1,14 @@
+//! `Snapshot`: the blocks of a chain with their flags, and the state after them.
+//!
+//! Contracts see a snapshot as its chain. What it answers of a key is what the last VALID writer in
+//! that chain left there, with that writer's version: this is the invariant of its map. A snapshot
+//! never changes; a longer chain is a new one, which shares the blocks.
+#![tactic(auto)]
+
+mod snapshot;
+mod writes;
+
+pub use snapshot::Snapshot;
+
+#[cfg(test)]
+mod tests;
