@@ -1,9 +1,9 @@
 -- A whole is read if its parts are.
-use Rattle.std.proofs.Common.{◌≡◌, ℕ, zero, suc, ◌+◌, ◌^◌, ◌<◌, ◌≤◌, Bool, true, false, cond, eqb, ltb, leb, List, [], ◌∷◌, ◌++◌, length, take, drop, Option, Some, None, refl, sym, ap, ap₂, subst, ◌∙◌, append_assoc, arith, rules}
+use Rattle.std.proofs.Common.{◌≡◌, ℕ, zero, suc, ◌≤◌, true, false, cond, eqb, ltb, leb, List, [], ◌∷◌, ◌++◌, length, take, drop, Option, Some, None, refl, sym, ap, ap₂, subst, ◌∙◌, append_assoc, arith}
 use Rattle.std.proofs.lemmas.Bool.{eqb-true, eq-eqb, leb-true, le-leb, ltb-false, le-ltb}
 use Rattle.std.proofs.lemmas.Option.{some_pair_parts, cond_some}
 use Rattle.std.proofs.lemmas.List.{append-nil, nil_from_length, take_at, drop_at, take-append-drop, length-append, length-take}
-use Rattle.grammar.specs.Spelling.{◌⟫◌, IsByte, IsEmpty, IsText, IsMade, IsAtMost, Repeats, IsCounted, IsMeasured}
+use Rattle.grammar.specs.Spelling.{◌⟫◌, IsByte, IsText, IsMade, IsAtMost, Repeats, IsCounted, IsMeasured}
 use Rattle.grammar.specs.Reading.{◌>>=◌, byte_at, made_at, tagged_at, text_at, at_most, repeats_at, counted_at, whole_at, within_at, measured_at}
 use Rattle.grammar.specs.Table.{IsRowByte, IsByRow, row_at, row_byte_at, by_row_at, is_unique}
 use Rattle.grammar.specs.Rows.{has_row, row_found}
@@ -49,8 +49,8 @@ by_row_reads {K = K} rows IsAfter after unique p = record {
       let s = h.3 in
       let regrouped : text ++ rest ≡ s.0 ++ (s.1 ++ rest) = ap (λ (r : List ℕ). r ++ rest) s.4 ∙ append_assoc s.0 s.1 rest in
       ap (by_row_at rows after) regrouped
-          ∙ ap (λ (o : Option (K × List ℕ)). o >>= λ k. after k.0 k.1) ((row_reads rows unique).again h.1 s.0 (s.1 ++ rest) tt (h.0, h.2, s.2))
-          ∙ (p h.1).again x s.1 rest tt s.3;
+      ∙ ap (λ (o : Option (K × List ℕ)). o >>= λ k. after k.0 k.1) ((row_reads rows unique).again h.1 s.0 (s.1 ++ rest) tt (h.0, h.2, s.2))
+      ∙ (p h.1).again x s.1 rest tt s.3;
 }
 
 -- a byte in front
@@ -97,8 +97,8 @@ then_reads {A = A} Known First first get Second second p q = record {
   again = λ b text rest known h.
       let regrouped : text ++ rest ≡ h.0 ++ (h.1 ++ rest) = ap (λ (x : List ℕ). x ++ rest) h.4 ∙ append_assoc h.0 h.1 rest in
       ap (λ (x : List ℕ). first x >>= λ x. second x.0 x.1) regrouped
-          ∙ ap (λ (o : Option (A × List ℕ)). o >>= λ x. second x.0 x.1) (p.again (get b) h.0 (h.1 ++ rest) tt h.2)
-          ∙ (q (get b)).again b h.1 rest (known, refl) h.3;
+      ∙ ap (λ (o : Option (A × List ℕ)). o >>= λ x. second x.0 x.1) (p.again (get b) h.0 (h.1 ++ rest) tt h.2)
+      ∙ (q (get b)).again b h.1 rest (known, refl) h.3;
 }
 
 -- the last part, after which the value is made
@@ -183,8 +183,8 @@ counted_reads IsCount count counts most Spells read p = record {
   again = λ xs text rest _ h.
       let regrouped : text ++ rest ≡ h.0 ++ (h.1 ++ rest) = ap (λ (x : List ℕ). x ++ rest) h.4 ∙ append_assoc h.0 h.1 rest in
       ap (counted_at count most read) regrouped
-          ∙ ap (λ (o : Option (ℕ × List ℕ)). o >>= λ n. repeats_at read n.0 n.1) ((bounded_reads most IsCount count counts).again (length xs) h.0 (h.1 ++ rest) tt h.2)
-          ∙ repeats_again Spells read p xs h.1 rest h.3;
+      ∙ ap (λ (o : Option (ℕ × List ℕ)). o >>= λ n. repeats_at read n.0 n.1) ((bounded_reads most IsCount count counts).again (length xs) h.0 (h.1 ++ rest) tt h.2)
+      ∙ repeats_again Spells read p xs h.1 rest h.3;
 }
 
 -- ---- all of the bytes
@@ -227,7 +227,7 @@ module _ {A : Type 0} (IsLength : ℕ → List ℕ → Type 0) (measure : List �
       let whole : text ++ rest ≡ k.0 ++ (content ++ rest) = ap (λ (r : List ℕ). r ++ rest) (k.4 ∙ ap (λ (r : List ℕ). k.0 ++ r) k.3) ∙ append_assoc k.0 content rest in
       let long : ltb (length (content ++ rest)) (length content) ≡ false = le-ltb _ _ (omega (arith, length-append content rest)) in
       ap (measured_at measure content_of) whole ∙ ap (λ (o : Option (ℕ × List ℕ)). o >>= λ n. within_at content_of n.0 n.1) (measures.again (length content) k.0 (content ++ rest) tt k.2)
-          ∙ rw (long, take_at content rest (length content) refl, drop_at content rest (length content) refl, h) refl
+      ∙ rw (long, take_at content rest (length content) refl, drop_at content rest (length content) refl, h) refl
 
   pub measured_reads : (Spells : A → List ℕ → Type 0) (read : List ℕ → Option (A × List ℕ)) → Reads Spells read → Reads (λ x. IsMeasured IsLength (Spells x)) (measured_at measure (whole_at read))
   measured_reads Spells read p = record {

@@ -1,5 +1,5 @@
 -- What is found in a table is a row of it, and each row is found.
-use Rattle.std.proofs.Common.{◌≡◌, ℕ, Bool, true, false, cond, eqb, List, [], ◌∷◌, ◌⊎◌, inl, inr, Option, Some, None, refl, sym, ap, ◌∙◌}
+use Rattle.std.proofs.Common.{◌≡◌, ℕ, Bool, true, false, cond, eqb, List, [], ◌∷◌, inl, inr, Option, Some, None, refl, sym, ap, ◌∙◌}
 use Rattle.std.proofs.lemmas.Bool.{eqb-true, eq-eqb}
 use Rattle.std.specs.Prelude.{is_none, ◌&&◌}
 use Rattle.grammar.specs.Table.{HasRow, row_at, is_unique}
@@ -32,9 +32,9 @@ row_found (r ∷ rows) b k unique (inr h) =
 -- a byte of the table is none that is absent from it
 pub row_is_not : {K : Type 0} (rows : List (ℕ × K)) (b n : ℕ) (k : K) → row_at rows n ≡ None → row_at rows b ≡ Some k → eqb b n ≡ false
 row_is_not rows b n k none e = decided (eqb b n) refl
-    where
-      decided : (t : Bool) → eqb b n ≡ t → t ≡ false
-      decided false is = refl
-      decided true is =
-          let same : row_at rows b ≡ None = ap (row_at rows) (eqb-true b n is) ∙ none in
-          absurd (let f : Some k ≡ None = sym e ∙ same in cc)
+  where
+    decided : (t : Bool) → eqb b n ≡ t → t ≡ false
+    decided false is = refl
+    decided true is =
+        let same : row_at rows b ≡ None = ap (row_at rows) (eqb-true b n is) ∙ none in
+        absurd (let f : Some k ≡ None = sym e ∙ same in cc)

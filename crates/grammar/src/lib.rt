@@ -20,5 +20,4 @@ ghost use Rattle.grammar.specs.Reads.{Reads, SpellsOnce};
 pub fn bytes()
     ensures reads { Reads IsByte byte_at }
     ensures once { SpellsOnce IsByte }
-{
-}
+{}

@@ -5,6 +5,8 @@ pub mod Fuel
 pub mod Fine
 pub mod Following
 pub mod Unfold
+pub mod Executed
+pub mod ExecutedFits
 pub mod Sound
 pub mod NeverStuck
 pub mod Alike

@@ -33,7 +33,7 @@
 //! the host have no depth.
 #![tactic(auto)]
 
-ghost use Rattle.std.specs.Prelude.{◌≡◌, ◌≢◌, ◌≤◌, ℕ, List};
+ghost use Rattle.std.specs.Prelude.{◌≡◌, ◌≢◌, ◌≤◌, ◌+◌, ℕ, List};
 ghost use Rattle.wasm_ast.specs.declared.module.Module.{Module};
 ghost use Rattle.wasm_ast.specs.Code.{Code};
 ghost use Rattle.wasm_validate.specs.ModuleRules.{IsValid};
@@ -41,6 +41,7 @@ ghost use Rattle.wasm_meaning.specs.Values.{Val, World, Stuck, Answering, Progra
 ghost use Rattle.wasm_meaning.specs.Meaning.{tree, meaning};
 ghost use Rattle.wasm_meaning.specs.Program.{invocation};
 ghost use Rattle.wasm_meaning.specs.Fuel.{fuel_left};
+ghost use Rattle.wasm_meaning.specs.Executed.{executed, executed_by};
 ghost use Rattle.wasm_meaning.specs.Fine.{IsEnding, IsTypedProgram, IsSound};
 ghost use Rattle.wasm_meaning.specs.Following.{Ends, Follows};
 
@@ -54,6 +55,12 @@ pub fn one_level<R>()
 pub fn within_fuel<R>()
     ensures code { (p : Program R) (depth : ℕ) (code : Code) (fuel : ℕ) (stack locals : List Val) (world : World R) → fuel_left (meaning p depth code fuel stack locals world) ≤ fuel }
     ensures invocation { (m : Module) (host : Answering R) (records : R) (fuel : ℕ) → fuel_left (invocation m host records fuel) ≤ fuel }
+{}
+
+/// No more instructions are executed than fuel is used: each pays at least 1 before anything else.
+pub fn instructions_within_fuel<R>()
+    ensures code { (p : Program R) (depth : ℕ) (code : Code) (fuel : ℕ) (stack locals : List Val) (world : World R) → executed p depth code fuel stack locals world + fuel_left (meaning p depth code fuel stack locals world) ≤ fuel }
+    ensures invocation { (m : Module) (host : Answering R) (records : R) (fuel : ℕ) → executed_by m host records fuel + fuel_left (invocation m host records fuel) ≤ fuel }
 {}
 
 /// Code that is typed, on operands and locals of its types, leads to operands and locals of the types

@@ -10,6 +10,7 @@ use Rattle.wasm_validate.specs.declared.fault.ValidateFault.{ValidateFault}
 use Rattle.wasm_validate.specs.declared.fault.ValidateFault.TheVariants.{Memory, TypeMismatch, Index}
 use Rattle.wasm_validate.specs.Typing.{Context, Types, at, under, results}
 use Rattle.wasm_validate.specs.ModuleRules.{imported, type_indices, type_at, function_types, function_context, no_type, IsFunction}
+use Rattle.wasm_validate.specs.Indices.{AreTypes}
 use Rattle.wasm_validate.specs.Algorithm.{whole_body}
 use Rattle.wasm_validate.specs.Missing.{MissingIn}
 use Rattle.wasm_validate.specs.Refused.{Refused}
@@ -52,7 +53,7 @@ module _ (m : Module) (f : Func) (t : FuncType) (types : List FuncType) (functio
   function_typed h =
       record {
         type = p.bound;
-        body = subst (λ (t : FuncType). Whole (function_context m f) t.result) its_type (subst (λ c. Whole c t.result) context_is (accepted_is_typed (inside types functions locals labels t.result) t.result f.body h))
+        body = subst (λ (t : FuncType). Whole (function_context m f) t.result) its_type (subst (λ c. Whole c t.result) context_is (accepted_is_typed (inside types functions locals labels t.result) t.result f.body h));
       }
 
   pub function_broken : (e : ValidateFault) → Refused e (MissingIn (inside types functions locals labels t.result) f.body) (whole_body (inside types functions locals labels t.result) t.result f.body) → (k : ℕ) → at m.functions k ≡ Some f → Broken e m
@@ -63,6 +64,6 @@ module _ (m : Module) (f : Func) (t : FuncType) (types : List FuncType) (functio
   function_broken _ r k h = absurd r
 
 -- a defined function's type is among those of all functions
-pub own_type : (m : Module) (functions : List ℕ) (k : ℕ) (f : Func) → functions ≡ type_indices m → ((k : ℕ) → (t : ℕ) → at functions k ≡ Some t → t < length m.types) → at m.functions k ≡ Some f → f.type_index < length m.types
+pub own_type : (m : Module) (functions : List ℕ) (k : ℕ) (f : Func) → functions ≡ type_indices m → AreTypes functions m.types → at m.functions k ≡ Some f → f.type_index < length m.types
 own_type m functions k f e known h =
     known (length (imported m.imports) + k) f.type_index (ap (λ is. at is (length (imported m.imports) + k)) e ∙ at_append (imported m.imports) (map (λ (f : Func). f.type_index) m.functions) k f.type_index (at_map (λ (f : Func). f.type_index) m.functions k f h))

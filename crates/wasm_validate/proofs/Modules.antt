@@ -17,6 +17,7 @@ use Rattle.wasm_validate.specs.declared.fault.ValidateFault.{ValidateFault}
 use Rattle.wasm_validate.specs.declared.fault.ValidateFault.TheVariants as fault
 use Rattle.wasm_validate.specs.Typing.{at, results}
 use Rattle.wasm_validate.specs.ModuleRules.{imported, type_indices, type_at, function_context, IsImport, IsFunction, IsData, IsValid, count_of}
+use Rattle.wasm_validate.specs.Indices.{AreTypes}
 use Rattle.wasm_validate.specs.HostCalls.{call_type, call_named, then_call, host_calls}
 use Rattle.wasm_validate.specs.Broken.{Broken, MissingIndex, ImportType, FunctionType, Exported, InBody, DataMemory}
 use Rattle.wasm_validate.proofs.Lists.{at_none, at_below, at_either, at_map_back, next_item}
@@ -63,7 +64,7 @@ imported_has (i ∷ is) k t e =
     elim i.kind as (λ d. i.kind ≡ d → at (elim d [ kind.Function t ↦ t ∷ imported is | _ ↦ imported is ]) k ≡ Some t → HasImport (i ∷ is) t) [ kind.Function u ↦ λ d h. first_or_later i is k t u d h (λ k h. imported_has is k t h) | _ ↦ λ d h. later i is t (imported_has is k t h) ] refl e
 
 -- where imports are host calls and functions have types, each function has a type
-pub known_types : (m : Module) → ((k : ℕ) → (i : Import) → at m.imports k ≡ Some i → IsImport m.types i) → ((k : ℕ) → (f : Func) → at m.functions k ≡ Some f → f.type_index < length m.types) → (k : ℕ) → (t : ℕ) → at (type_indices m) k ≡ Some t → t < length m.types
+pub known_types : (m : Module) → ((k : ℕ) → (i : Import) → at m.imports k ≡ Some i → IsImport m.types i) → ((k : ℕ) → (f : Func) → at m.functions k ≡ Some f → f.type_index < length m.types) → AreTypes (type_indices m) m.types
 known_types m imports functions k t e =
     elim (at_either (imported m.imports) (map (λ (f : Func). f.type_index) m.functions) k t e) [ inl h ↦ of_import h | inr h ↦ of_function h.0 h.1 ]
   where
@@ -73,6 +74,7 @@ known_types m imports functions k t e =
         let i = imports r.0 r.1 r.2 in
         let same : t ≡ i.type_index = same_type_index r.1.kind t i.type_index r.3 i.function in
         omega (arith, at_below m.types i.type_index _ i.type)
+
     of_function : (j : ℕ) → at (map (λ (f : Func). f.type_index) m.functions) j ≡ Some t → t < length m.types
     of_function j h =
         let r = at_map_back (λ (f : Func). f.type_index) m.functions j t h in omega (arith, functions j r.0 r.1, r.2)

@@ -8,6 +8,7 @@ ghost use Rattle.wasm_validate.specs.ModuleRules.{type_indices, IsFunction};
 ghost use Rattle.wasm_validate.specs.Algorithm.{step, instruction, conditional, whole_body};
 ghost use Rattle.wasm_validate.specs.Missing.{MissingIn, MissingInstr, MissingFirst};
 ghost use Rattle.wasm_validate.specs.Refused.{Refused};
+ghost use Rattle.wasm_validate.specs.Indices.{AreTypes};
 ghost use Rattle.wasm_validate.specs.Broken.{Broken};
 ghost use Rattle.wasm_validate.specs.Inside.{context_of};
 
@@ -19,10 +20,10 @@ use crate::shapes;
 use std::alloc::Global;
 use wasm_ast::{BlockType, Body, Conditional, Func, Instr, Module, ValueType};
 
-/// Whether each function's body is typed. The indices are those of the functions' types.
+/// Whether each function's body is typed. The indices are those of all functions' types, the imported ones first.
 pub fn check_code(alloc: Global, given: &Module, functions: &[u32]) -> Result<(), ValidateFault>
     requires indices { functions.now ≡ type_indices given.now }
-    requires known { (k : ℕ) → (t : ℕ) → at functions.now k ≡ Some t → t < length given.now.types }
+    requires known { AreTypes functions.now given.now.types }
     ensures typed { IfOk result (λ _. (k : ℕ) → (f : Func) → at given.now.functions k ≡ Some f → IsFunction given.now f) }
     ensures broken { IfErr result (λ e. Broken e given.now) }
 {
@@ -32,10 +33,15 @@ pub fn check_code(alloc: Global, given: &Module, functions: &[u32]) -> Result<()
     Ok(())
 }
 
-// A function, on stacks of its own.
-fn check_function(alloc: Global, given: &Module, functions: &[u32], function: &Func) -> Result<(), ValidateFault>
+// A function, with stacks and a scope of its own.
+fn check_function(
+    alloc: Global,
+    given: &Module,
+    functions: &[u32],
+    function: &Func,
+) -> Result<(), ValidateFault>
     requires indices { functions.now ≡ type_indices given.now }
-    requires known { (k : ℕ) → (t : ℕ) → at functions.now k ≡ Some t → t < length given.now.types }
+    requires known { AreTypes functions.now given.now.types }
     requires has_type { function.now.type_index < length given.now.types }
     ensures typed { IfOk result (λ _. IsFunction given.now function.now) }
     ensures broken { IfErr result (λ e. (k : ℕ) → at given.now.functions k ≡ Some function.now → Broken e given.now) }
@@ -52,8 +58,8 @@ fn check_function(alloc: Global, given: &Module, functions: &[u32], function: &F
     };
     let mut labels = Labels::new(alloc);
     let mut stack = OperandStack::new(alloc);
-    let result = function_type.result;
-    check_body(&scope, &mut labels, &mut stack, result, result, &function.body)
+    let left = function_type.result;
+    check_body(&scope, &mut labels, &mut stack, left, left, &function.body)
 }
 
 // An instruction, with its bodies.
@@ -76,12 +82,14 @@ fn check_instr(
         }
         Instr::Nop => Ok(()),
         Instr::Block(block) => {
-            check_body(scope, labels, stack, block.result, block.result, &block.body)?;
-            stack.push_result(block.result)
+            let left = block.result;
+            check_body(scope, labels, stack, left, left, &block.body)?;
+            stack.push_result(left)
         }
         Instr::Loop(block) => {
-            check_body(scope, labels, stack, None, block.result, &block.body)?;
-            stack.push_result(block.result)
+            let left = block.result;
+            check_body(scope, labels, stack, None, left, &block.body)?;
+            stack.push_result(left)
         }
         Instr::If(choice) => check_if(scope, labels, stack, choice),
         Instr::Br(label) => shapes::check_br(scope, labels, stack, *label),
@@ -114,14 +122,14 @@ fn check_if(
     ensures labels { IfOk result (λ _. labels.new ≡ labels.old) }
     ensures refused { IfErr result (λ e. Refused e (MissingIn (under choice.now.result (context_of scope.now labels.old)) choice.now.yes ⊎ MissingIn (under choice.now.result (context_of scope.now labels.old)) choice.now.no) (conditional (context_of scope.now labels.old) choice.now.result choice.now.yes choice.now.no stack.old.here)) }
 {
-    let result = choice.result;
+    let left = choice.result;
     stack.pop_as(ValueType::I32)?;
-    check_body(scope, labels, stack, result, result, &choice.yes)?;
-    check_body(scope, labels, stack, result, result, &choice.no)?;
-    stack.push_result(result)
+    check_body(scope, labels, stack, left, left, &choice.yes)?;
+    check_body(scope, labels, stack, left, left, &choice.no)?;
+    stack.push_result(left)
 }
 
-// A body to its end, in a block of its own.
+// A body to its end. A branch to its label carries `carried`, and at its end it leaves `left`.
 #[cycle(check)]
 fn check_body(
     scope: &Scope,

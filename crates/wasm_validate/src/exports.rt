@@ -4,12 +4,15 @@ ghost use Rattle.std.specs.Prelude.{◌≡◌, ◌≢◌, ◌<◌, ℕ, length, 
 ghost use Rattle.wasm_ast.specs.declared.module.Export.{Export};
 ghost use Rattle.wasm_validate.specs.Typing.{at};
 ghost use Rattle.wasm_validate.specs.ModuleRules.{count_of, type_indices, function_types, invoke_of, invoke_in, invoke_type};
+ghost use Rattle.wasm_validate.specs.Indices.{AreTypes};
 ghost use Rattle.wasm_validate.specs.Broken.{Broken};
 
 use crate::fault::ValidateFault;
 use wasm_ast::{Export, ExternalKind, FuncType, Module, ValueType};
 
 /// Whether each export names what is there, by a name of its own.
+///
+/// Names are compared in pairs, since a module has few exports.
 pub fn check_exports(given: &Module, functions: &[u32]) -> Result<(), ValidateFault>
     requires { functions.now ≡ type_indices given.now }
     ensures exports { IfOk result (λ _. (k : ℕ) → (e : Export) → at given.now.exports k ≡ Some e → e.index < count_of given.now e.kind) }
@@ -57,7 +60,7 @@ fn is_named(exports: &[Export], name: &str) -> bool
 /// The index of the function that is exported as `invoke`, which takes nothing and leaves an i32.
 pub fn find_entry(given: &Module, functions: &[u32]) -> Result<u32, ValidateFault>
     requires indices { functions.now ≡ type_indices given.now }
-    requires known { (k : ℕ) → (t : ℕ) → at functions.now k ≡ Some t → t < length given.now.types }
+    requires known { AreTypes functions.now given.now.types }
     ensures invoke { IfOk result (λ entry. invoke_of given.now ≡ Some entry) }
     ensures entry_type { IfOk result (λ entry. at (function_types given.now) entry ≡ Some invoke_type) }
     ensures broken { IfErr result (λ e. Broken e given.now) }
@@ -66,7 +69,9 @@ pub fn find_entry(given: &Module, functions: &[u32]) -> Result<u32, ValidateFaul
         return Err(ValidateFault::NoInvoke);
     };
     match functions.get(entry as usize) {
-        Some(type_index) if is_invoke_type(&given.types.as_slice()[*type_index as usize]) => Ok(entry),
+        Some(type_index) if is_invoke_type(&given.types.as_slice()[*type_index as usize]) => Ok(
+            entry,
+        ),
         _ => Err(ValidateFault::NoInvoke),
     }
 }

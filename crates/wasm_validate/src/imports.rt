@@ -8,6 +8,7 @@ ghost use Rattle.wasm_ast.specs.declared.module.Func.{Func};
 ghost use Rattle.wasm_validate.specs.Typing.{at};
 ghost use Rattle.wasm_validate.specs.HostCalls.{arity, call_type, call_named, host_calls};
 ghost use Rattle.wasm_validate.specs.ModuleRules.{IsImport, imported, type_indices};
+ghost use Rattle.wasm_validate.specs.Indices.{AreTypes};
 ghost use Rattle.wasm_validate.specs.Broken.{Broken};
 
 use crate::fault::ValidateFault;
@@ -95,7 +96,7 @@ fn all_i32(types: &[ValueType]) -> bool
 pub fn function_indices(alloc: Global, given: &Module) -> Result<Vec<u32>, ValidateFault>
     requires { (k : ℕ) → (i : Import) → at given.now.imports k ≡ Some i → IsImport given.now.types i }
     ensures indices { IfOk result (λ v. v.items ≡ type_indices given.now) }
-    ensures known { IfOk result (λ _. (k : ℕ) → (t : ℕ) → at (type_indices given.now) k ≡ Some t → t < length given.now.types) }
+    ensures known { IfOk result (λ _. AreTypes (type_indices given.now) given.now.types) }
     ensures broken { IfErr result (λ e. Broken e given.now) }
 {
     let mut indices = Vec::new(alloc);

@@ -1,7 +1,6 @@
 //! What a function's body may refer to, its labels aside.
 
-ghost use Rattle.std.specs.Prelude.{◌≡◌, ◌<◌, ℕ, length, Some};
-ghost use Rattle.wasm_validate.specs.Typing.{at};
+ghost use Rattle.wasm_validate.specs.Indices.{AreTypes};
 
 use wasm_ast::{BlockType, FuncType, ValueType};
 
@@ -16,7 +15,7 @@ pub struct Scope<'a> {
     pub locals: &'a [ValueType],
     /// What the function returns.
     pub result: BlockType,
-    ghost known: { (k : ℕ) → (t : ℕ) → at functions.now k ≡ Some t → t < length types.now },
+    ghost known: { AreTypes functions.now types.now },
 }
 
 impl<'a> Scope<'a> {

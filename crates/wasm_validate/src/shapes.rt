@@ -1,4 +1,4 @@
-//! The rules of instructions without a body (Core 1.0, sections 3.3.1 to 3.3.5), one function for each shape.
+//! The rules of instructions without a body (Core 1.0, sections 3.3.1 to 3.3.5), a function for a shape.
 
 ghost use Rattle.std.specs.Prelude.{◌≡◌, ◌<◌, ◌≤◌, length, IfOk, IfErr, Some};
 ghost use Rattle.wasm_ast.specs.Types.{words};
@@ -16,7 +16,11 @@ use crate::scope::Scope;
 use wasm_ast::{BranchTable, ValueType};
 
 /// A constant. Its word is one of the type.
-pub fn check_constant(of_type: ValueType, word: u64, stack: &mut OperandStack) -> Result<(), ValidateFault>
+pub fn check_constant(
+    of_type: ValueType,
+    word: u64,
+    stack: &mut OperandStack,
+) -> Result<(), ValidateFault>
     requires { word < words of_type }
     ensures ok { IfOk result (λ _. constant of_type word stack.old.here ≡ Some stack.new.here) }
     ensures lower { IfOk result (λ _. stack.new.lower ≡ stack.old.lower) }
@@ -37,7 +41,12 @@ pub fn check_binary(of_type: ValueType, stack: &mut OperandStack) -> Result<(), 
 }
 
 /// `local.get`: the value of a local.
-pub fn check_local_get(scope: &Scope, labels: &Labels, stack: &mut OperandStack, local: u32) -> Result<(), ValidateFault>
+pub fn check_local_get(
+    scope: &Scope,
+    labels: &Labels,
+    stack: &mut OperandStack,
+    local: u32,
+) -> Result<(), ValidateFault>
     ensures ok { IfOk result (λ _. step (context_of scope.now labels.now) (op.LocalGet local) stack.old.here ≡ Some stack.new.here) }
     ensures lower { IfOk result (λ _. stack.new.lower ≡ stack.old.lower) }
     ensures refused { IfErr result (λ e. Refused e (NamesMissing (context_of scope.now labels.now) (op.LocalGet local)) (step (context_of scope.now labels.now) (op.LocalGet local) stack.old.here)) }
@@ -49,7 +58,12 @@ pub fn check_local_get(scope: &Scope, labels: &Labels, stack: &mut OperandStack,
 }
 
 /// `local.set`: takes a value off for a local.
-pub fn check_local_set(scope: &Scope, labels: &Labels, stack: &mut OperandStack, local: u32) -> Result<(), ValidateFault>
+pub fn check_local_set(
+    scope: &Scope,
+    labels: &Labels,
+    stack: &mut OperandStack,
+    local: u32,
+) -> Result<(), ValidateFault>
     ensures ok { IfOk result (λ _. step (context_of scope.now labels.now) (op.LocalSet local) stack.old.here ≡ Some stack.new.here) }
     ensures lower { IfOk result (λ _. stack.new.lower ≡ stack.old.lower) }
     ensures refused { IfErr result (λ e. Refused e (NamesMissing (context_of scope.now labels.now) (op.LocalSet local)) (step (context_of scope.now labels.now) (op.LocalSet local) stack.old.here)) }
@@ -61,7 +75,12 @@ pub fn check_local_set(scope: &Scope, labels: &Labels, stack: &mut OperandStack,
 }
 
 /// `local.tee`: sets a local to the value on top.
-pub fn check_local_tee(scope: &Scope, labels: &Labels, stack: &mut OperandStack, local: u32) -> Result<(), ValidateFault>
+pub fn check_local_tee(
+    scope: &Scope,
+    labels: &Labels,
+    stack: &mut OperandStack,
+    local: u32,
+) -> Result<(), ValidateFault>
     ensures ok { IfOk result (λ _. step (context_of scope.now labels.now) (op.LocalTee local) stack.old.here ≡ Some stack.new.here) }
     ensures lower { IfOk result (λ _. stack.new.lower ≡ stack.old.lower) }
     ensures refused { IfErr result (λ e. Refused e (NamesMissing (context_of scope.now labels.now) (op.LocalTee local)) (step (context_of scope.now labels.now) (op.LocalTee local) stack.old.here)) }
@@ -76,7 +95,12 @@ pub fn check_local_tee(scope: &Scope, labels: &Labels, stack: &mut OperandStack,
 }
 
 /// `br`: a branch to a label.
-pub fn check_br(scope: &Scope, labels: &Labels, stack: &mut OperandStack, label: u32) -> Result<(), ValidateFault>
+pub fn check_br(
+    scope: &Scope,
+    labels: &Labels,
+    stack: &mut OperandStack,
+    label: u32,
+) -> Result<(), ValidateFault>
     ensures ok { IfOk result (λ _. step (context_of scope.now labels.now) (op.Br label) stack.old.here ≡ Some stack.new.here) }
     ensures lower { IfOk result (λ _. stack.new.lower ≡ stack.old.lower) }
     ensures refused { IfErr result (λ e. Refused e (NamesMissing (context_of scope.now labels.now) (op.Br label)) (step (context_of scope.now labels.now) (op.Br label) stack.old.here)) }
@@ -90,7 +114,12 @@ pub fn check_br(scope: &Scope, labels: &Labels, stack: &mut OperandStack, label:
 }
 
 /// `br_if`: a branch to a label where the operand is not 0.
-pub fn check_br_if(scope: &Scope, labels: &Labels, stack: &mut OperandStack, label: u32) -> Result<(), ValidateFault>
+pub fn check_br_if(
+    scope: &Scope,
+    labels: &Labels,
+    stack: &mut OperandStack,
+    label: u32,
+) -> Result<(), ValidateFault>
     ensures ok { IfOk result (λ _. step (context_of scope.now labels.now) (op.BrIf label) stack.old.here ≡ Some stack.new.here) }
     ensures lower { IfOk result (λ _. stack.new.lower ≡ stack.old.lower) }
     ensures refused { IfErr result (λ e. Refused e (NamesMissing (context_of scope.now labels.now) (op.BrIf label)) (step (context_of scope.now labels.now) (op.BrIf label) stack.old.here)) }
@@ -104,7 +133,12 @@ pub fn check_br_if(scope: &Scope, labels: &Labels, stack: &mut OperandStack, lab
 }
 
 /// `br_table`: a branch to the label that the operand picks. All carry the same.
-pub fn check_br_table(scope: &Scope, labels: &Labels, stack: &mut OperandStack, table: &BranchTable) -> Result<(), ValidateFault>
+pub fn check_br_table(
+    scope: &Scope,
+    labels: &Labels,
+    stack: &mut OperandStack,
+    table: &BranchTable,
+) -> Result<(), ValidateFault>
     ensures ok { IfOk result (λ _. step (context_of scope.now labels.now) (op.BrTable table.now.labels table.now.default) stack.old.here ≡ Some stack.new.here) }
     ensures lower { IfOk result (λ _. stack.new.lower ≡ stack.old.lower) }
     ensures refused { IfErr result (λ e. Refused e (NamesMissing (context_of scope.now labels.now) (op.BrTable table.now.labels table.now.default)) (step (context_of scope.now labels.now) (op.BrTable table.now.labels table.now.default) stack.old.here)) }
@@ -125,7 +159,11 @@ pub fn check_br_table(scope: &Scope, labels: &Labels, stack: &mut OperandStack, 
 }
 
 /// `return`: what the function leaves.
-pub fn check_return(scope: &Scope, labels: &Labels, stack: &mut OperandStack) -> Result<(), ValidateFault>
+pub fn check_return(
+    scope: &Scope,
+    labels: &Labels,
+    stack: &mut OperandStack,
+) -> Result<(), ValidateFault>
     ensures ok { IfOk result (λ _. step (context_of scope.now labels.now) (op.Return) stack.old.here ≡ Some stack.new.here) }
     ensures lower { IfOk result (λ _. stack.new.lower ≡ stack.old.lower) }
     ensures refused { IfErr result (λ e. Refused e (NamesMissing (context_of scope.now labels.now) (op.Return)) (step (context_of scope.now labels.now) (op.Return) stack.old.here)) }
@@ -136,7 +174,12 @@ pub fn check_return(scope: &Scope, labels: &Labels, stack: &mut OperandStack) ->
 }
 
 /// `call`: takes the arguments off and leaves the result.
-pub fn check_call(scope: &Scope, labels: &Labels, stack: &mut OperandStack, function: u32) -> Result<(), ValidateFault>
+pub fn check_call(
+    scope: &Scope,
+    labels: &Labels,
+    stack: &mut OperandStack,
+    function: u32,
+) -> Result<(), ValidateFault>
     ensures ok { IfOk result (λ _. step (context_of scope.now labels.now) (op.Call function) stack.old.here ≡ Some stack.new.here) }
     ensures lower { IfOk result (λ _. stack.new.lower ≡ stack.old.lower) }
     ensures refused { IfErr result (λ e. Refused e (NamesMissing (context_of scope.now labels.now) (op.Call function)) (step (context_of scope.now labels.now) (op.Call function) stack.old.here)) }

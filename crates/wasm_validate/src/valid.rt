@@ -14,7 +14,7 @@ use std::alloc::Global;
 use std::marker::Model;
 use wasm_ast::{HostCall, Module};
 
-/// A module that is valid, with what a run looks up in it.
+/// A module that is valid (Core 1.0, section 3.4), with what a run looks up in it.
 ///
 /// Contracts see the module. Only `validate` makes one.
 #[derive(Debug, Drop)]
@@ -68,8 +68,14 @@ impl ValidModule {
 
 /// Takes a module in where it is valid.
 ///
-/// The rules are tested in the order of the sections: imports, functions, memories, exports, code,
-/// data; the first that is broken is answered. A module that is refused is dropped.
+/// Rules are tested in the order of the sections: imports, functions, memories, exports, code, data,
+/// and in each item by item. An import's, a function's, an export's or a segment's index is tested
+/// before its other rules, and an instruction's before its operands.
+///
+/// # Errors
+///
+/// The first rule that is broken, or `Memory` (nothing is then said of the module). A module that is
+/// refused is dropped.
 pub fn validate(alloc: Global, given: Module) -> Result<ValidModule, ValidateFault>
     ensures value { IfOk result (λ v. v ≡ given) }
     ensures valid { IfOk result (λ _. IsValid given) }
@@ -84,7 +90,7 @@ pub fn validate(alloc: Global, given: Module) -> Result<ValidModule, ValidateFau
     })
 }
 
-// What a run looks up in a module that is valid.
+// The host calls and the index of `invoke` of a module that is valid.
 fn check_module(alloc: Global, given: &Module) -> Result<(Vec<HostCall>, u32), ValidateFault>
     ensures valid { IfOk result (λ _. IsValid given.now) }
     ensures calls { IfOk result (λ found. found.0.items ≡ host_calls given.now.imports) }

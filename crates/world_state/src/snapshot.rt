@@ -9,14 +9,12 @@ ghost use Rattle.ledger_model.specs.Views.{key_cmp};
 ghost use Rattle.ledger_model.specs.State.{state, state_at};
 ghost use Rattle.world_state.specs.Shared.{blocks_in};
 
-use crate::writes::apply_block;
+use crate::writes::{StateMap, apply_block};
 use fab_types::{Block, CommittedBlock, Flag, Key, Value, Version};
 use std::alloc::{AllocError, Global};
 use std::collections::BTreeMap;
 use std::marker::Model;
 use std::sync::Arc;
-
-type StateMap = BTreeMap<Key, (Value, Version)>;
 
 /// References to a map's entries, in key order.
 fn all_entries(
@@ -38,17 +36,16 @@ pub struct Snapshot {
 
 impl Model for Snapshot {
     ghost use Rattle.std.specs.Prelude.{◌≡◌};
-    ghost use Rattle.std.specs.FinMap.{from_entries};
     ghost use Rattle.ledger_model.specs.Chain.{Chain, history};
-    ghost use Rattle.ledger_model.specs.Views.{key_cmp};
     ghost use Rattle.ledger_model.specs.State.{state};
     ghost use Rattle.world_state.specs.Shared.{blocks_in};
+    ghost use Rattle.world_state.specs.Writing.{as_state};
 
     ghost Value = { Chain };
 
     ghost view = { λ s. blocks_in s.blocks.items };
 
-    ghost invariant = { λ s. from_entries {R = key_cmp} s.map.entries ≡ state (history (blocks_in s.blocks.items)) };
+    ghost invariant = { λ s. as_state s.map.entries ≡ state (history (blocks_in s.blocks.items)) };
 }
 
 impl Snapshot {

@@ -1,20 +1,17 @@
 //! Writes applied to a map of values and versions.
 
 ghost use Rattle.std.specs.Prelude.{◌≡◌, length, OnOk};
-ghost use Rattle.std.specs.FinMap.{from_entries};
-ghost use Rattle.ledger_model.specs.Views.{key_cmp};
-ghost use Rattle.world_state.specs.Writing.{put_write, put_writes, put_block};
+ghost use Rattle.world_state.specs.Writing.{as_state, put_write, put_writes, put_block};
 
 use fab_types::{Block, Flag, Key, Value, Version, WriteItem};
 use std::alloc::AllocError;
 use std::collections::BTreeMap;
 
-fn apply_write(
-    map: &mut BTreeMap<Key, (Value, Version)>,
-    write: &WriteItem,
-    version: Version,
-) -> Result<(), AllocError>
-    ensures { OnOk result (from_entries {R = key_cmp} map.new.entries ≡ put_write (from_entries map.old.entries) write.now.key write.now.value version) }
+/// A value and a version for each key of a state.
+pub type StateMap = BTreeMap<Key, (Value, Version)>;
+
+fn apply_write(map: &mut StateMap, write: &WriteItem, version: Version) -> Result<(), AllocError>
+    ensures { OnOk result (as_state map.new.entries ≡ put_write (as_state map.old.entries) write.now.key write.now.value version) }
 {
     match &write.value {
         Some(value) => {
@@ -28,11 +25,11 @@ fn apply_write(
 }
 
 fn apply_writes(
-    map: &mut BTreeMap<Key, (Value, Version)>,
+    map: &mut StateMap,
     writes: &[WriteItem],
     version: Version,
 ) -> Result<(), AllocError>
-    ensures { OnOk result (from_entries {R = key_cmp} map.new.entries ≡ put_writes (from_entries map.old.entries) writes.now version) }
+    ensures { OnOk result (as_state map.new.entries ≡ put_writes (as_state map.old.entries) writes.now version) }
 {
     for write in writes {
         apply_write(map, write, version)?;
@@ -41,13 +38,9 @@ fn apply_writes(
 }
 
 /// Applies the writes of a block's VALID transactions, in order, each with its version.
-pub fn apply_block(
-    map: &mut BTreeMap<Key, (Value, Version)>,
-    block: &Block,
-    flags: &[Flag],
-) -> Result<(), AllocError>
+pub fn apply_block(map: &mut StateMap, block: &Block, flags: &[Flag]) -> Result<(), AllocError>
     requires { length flags.now ≡ length block.now.envelopes }
-    ensures { OnOk result (from_entries {R = key_cmp} map.new.entries ≡ put_block (from_entries map.old.entries) block.now.header.number 0 block.now.envelopes flags.now) }
+    ensures { OnOk result (as_state map.new.entries ≡ put_block (as_state map.old.entries) block.now.header.number 0 block.now.envelopes flags.now) }
 {
     let number = block.header.number.get();
     let envelopes = block.envelopes.as_slice();

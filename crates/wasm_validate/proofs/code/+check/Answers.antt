@@ -34,5 +34,5 @@ check_body-loop-instr-preserved t c =
     record {
       labels = c.in_ok-check_instr.ensures.labels ∙ inv.labels;
       lower = c.in_ok-check_instr.ensures.lower ∙ inv.lower;
-      checked = check_next (context_of c.args.scope.now c.enter.new.self) c.loop-instr.instr-index c.items-instr-items.result.now c.instr-item.result c.loop-instr.stack.here c.check_instr.new.stack.here c.loop-instr-test.true c.instr-item.is new ∙ inv.checked
+      checked = check_next (context_of c.args.scope.now c.enter.new.self) c.loop-instr.instr-index c.items-instr-items.result.now c.instr-item.result c.loop-instr.stack.here c.check_instr.new.stack.here c.loop-instr-test.true c.instr-item.is new ∙ inv.checked;
     }

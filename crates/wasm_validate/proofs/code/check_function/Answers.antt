@@ -11,7 +11,7 @@ parts c =
       bound = c.requires.has_type;
       type_is = c.index-types-function.is;
       locals_are = c.deref.ensures.value ∙ c.in_ok-extend_from_slice.ensures.items ∙ ap (λ z. z ++ c.as_slice-2.result.now) (c.in_ok-locals.ensures.items ∙ c.as_slice.ensures) ∙ ap (λ z. c.index-types-function.result.params ++ z) c.as_slice-2.ensures;
-      no_label = c.new-labels.ensures
+      no_label = c.new-labels.ensures;
     }
 
 pub returns-clause-typed : goal.returns-clause-typed

@@ -33,7 +33,7 @@ loop-i-preserved c =
     record {
       exports = one_more (λ (e : Export). e.index < count_of c.args.given.now e.kind) exports.result.now c.args.given.now.exports c.loop-i.i export exports.ensures c.loop-i-test.true c.index-exports-i.is within inv.exports;
       names = λ j k d e below hj hk same earlier. below_more (λ k. (e : Export) → at c.args.given.now.exports k ≡ Some e → d.name ≡ e.name → j < k → ⊥) c.loop-i.i (λ k lt e hk same earlier. inv.names j k d e lt hj hk same earlier) (λ e hk same earlier.
-      c.if-is_named.ensures.none refl j d (take_at exports.result.now c.loop-i.i j d earlier (ap (λ es. at es j) exports.ensures ∙ hj)) (same ∙ ap (λ (e : Export). e.name) (at_unique c.args.given.now.exports c.loop-i.i e export hk item) ∙ sym c.as_str.ensures)) k below e hk same earlier
+          c.if-is_named.ensures.none refl j d (take_at exports.result.now c.loop-i.i j d earlier (ap (λ es. at es j) exports.ensures ∙ hj)) (same ∙ ap (λ (e : Export). e.name) (at_unique c.args.given.now.exports c.loop-i.i e export hk item) ∙ sym c.as_str.ensures)) k below e hk same earlier;
     }
 
 pub returns-clause-names : goal.returns-clause-names

@@ -26,7 +26,7 @@ returns-in-Some-call_named-clause-listed c =
       function = c.in-Function.is;
       type = item_in c.as_slice.result.now c.args.given.now.types c.in-Function.type_index c.in-Some.function_type.now c.as_slice.ensures found.3.0 found.1 ∙ ap Some (c.if-has_type.ensures.0 refl);
       module_name = sym c.as_str.ensures ∙ (bytes_eq-Decides c.as_str.result.now fabric).0 (unnegated _ c.if-ne.ensures);
-      name = ap call_named (sym c.as_str-2.ensures) ∙ sym c.in-Some-call_named.ensures
+      name = ap call_named (sym c.as_str-2.ensures) ∙ sym c.in-Some-call_named.ensures;
     }
 
 pub returns-in_default-call_named-clause-broken : goal.returns-in_default-call_named-clause-broken

@@ -12,7 +12,7 @@ loop-import-preserved c =
     let import = c.import-item.result in
     record {
       calls = ap (λ cs. cs ++ host_calls (drop (c.loop-import.import-index + 1) imports)) c.in_ok-push.ensures.items ∙ calls_next items.result.now imports c.loop-import.import-index import c.in_ok-check_import.field-0 c.loop-import.calls.items items.ensures c.loop-import-test.true c.import-item.is c.in_ok-check_import.ensures.call ∙ c.loop-import.invariant.calls;
-      imports = one_more (IsImport c.args.given.now.types) items.result.now imports c.loop-import.import-index import items.ensures c.loop-import-test.true c.import-item.is c.in_ok-check_import.ensures.listed c.loop-import.invariant.imports
+      imports = one_more (IsImport c.args.given.now.types) items.result.now imports c.loop-import.import-index import items.ensures c.loop-import-test.true c.import-item.is c.in_ok-check_import.ensures.listed c.loop-import.invariant.imports;
     }
 
 pub returns-clause-imports : goal.returns-clause-imports

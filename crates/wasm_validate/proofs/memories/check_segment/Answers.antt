@@ -24,5 +24,5 @@ returns-clause-inside c =
       exists = item_in c.as_slice.result.now c.args.given.now.memories segment.memory c.in-Some.limits.now c.as_slice.ensures c.in-Some.ensures.lookup.3.0 c.in-Some.ensures.lookup.1;
       offset = c.in-Some-constant_of.offset;
       constant = c.in-Some-constant_of.ensures;
-      within = omega (arith, c.if-not-is_inside.ensures.0 refl, c.len.ensures)
+      within = omega (arith, c.if-not-is_inside.ensures.0 refl, c.len.ensures);
     }

@@ -1,9 +1,7 @@
 use Rattle.std.proofs.Common.{◌≡◌, ◌∙◌, ap, sym, ◌+◌, length, arith, ◌++◌, ◌∷◌, []}
-use Rattle.std.specs.FinMap.{from_entries}
 use Rattle.ledger_model.specs.Chain.{Committed, history}
-use Rattle.ledger_model.specs.Views.{key_cmp}
 use Rattle.ledger_model.specs.State.{state}
-use Rattle.world_state.specs.Writing.{put_block}
+use Rattle.world_state.specs.Writing.{as_state, put_block}
 use Rattle.world_state.specs.Shared.{blocks_in}
 use Rattle.world_state.proofs.Blocks.{state_more, blocks_cloned, entries_cloned, blocks_pushed}
 use Rattle.world_state.proofs.snapshot.Snapshot.extended.Goals as goal
@@ -15,7 +13,7 @@ invariant_of-result c =
     let new : Committed = record { block = c.args.block; flags = c.args.flags.items } in
     let number : c.args.block.header.number ≡ length bs + 1 = omega (arith, ap length c.self.view_is) in
     c.in_ok-apply_block.ensures
-    ∙ (λ i. put_block (from_entries {R = key_cmp} (entries_cloned c.self.inside.map.entries c.in_ok-map.map.entries c.in_ok-map.ensures.cases i)) c.args.block.header.number 0 c.args.block.envelopes (c.deref.ensures.value i))
+    ∙ (λ i. put_block (as_state (entries_cloned c.self.inside.map.entries c.in_ok-map.map.entries c.in_ok-map.ensures.cases i)) c.args.block.header.number 0 c.args.block.envelopes (c.deref.ensures.value i))
     ∙ ap (λ m. put_block m c.args.block.header.number 0 c.args.block.envelopes c.args.flags.items) c.self.invariant
     ∙ state_more bs new c.args.block.header.number number
     ∙ ap (λ b. state (history b)) (sym (ap blocks_in c.in_ok-push.ensures.items ∙ blocks_pushed arcs c.in_ok-blocks.blocks.items c.in_ok-new.field-0 new (blocks_cloned arcs c.in_ok-blocks.blocks.items c.in_ok-blocks.ensures.cases.0) (c.in_ok-new.ensures.ok ∙ c.new.ensures)))

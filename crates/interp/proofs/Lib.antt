@@ -1,0 +1,13 @@
+pub mod Words
+pub mod Plugs
+pub mod Marking
+pub mod Leaves
+pub mod Entry
+pub mod Branches
+pub mod Calls
+pub mod Enter
+pub mod Callees
+pub mod Imports
+pub mod Dispatch
+pub mod Invoked
+pub mod Start

@@ -1,0 +1,11 @@
+pub mod Loop
+pub mod Groups
+pub mod Turns
+pub mod Walks
+pub mod TypeLaws
+pub mod ExternalLaws
+pub mod OpLaws
+pub mod CodeTakes
+pub mod CodeAgain
+pub mod FunctionLaws
+pub mod ModuleLaws

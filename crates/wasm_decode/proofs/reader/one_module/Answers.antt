@@ -1,0 +1,5 @@
+use Rattle.wasm_decode.proofs.ModuleLaws.{at_most_one}
+use Rattle.wasm_decode.proofs.reader.one_module.Goals as goal
+
+pub returns : goal.returns
+returns c = at_most_one

@@ -1,0 +1,17 @@
+pub mod FaultNumbers
+pub mod Parses
+pub mod Tables
+pub mod TypeSpelling
+pub mod TypeReading
+pub mod ExternalSpelling
+pub mod ExternalReading
+pub mod Opcodes
+pub mod OpReading
+pub mod CodeSpelling
+pub mod CodeReading
+pub mod FunctionSpelling
+pub mod FunctionReading
+pub mod PartsOf
+pub mod SectionReading
+pub mod ModuleSpelling
+pub mod ModuleReading

@@ -1,0 +1,40 @@
+-- Reading sections from left to right.
+use Rattle.std.specs.Prelude.{ℕ, zero, suc, List, [], ◌∷◌, Option, Some, None, nat_lt, ◌==◌, if◌then◌else◌}
+use Rattle.grammar.specs.Reading.{◌>>=◌, byte_at, made_at, whole_at}
+use Rattle.grammar.specs.Table.{row_at}
+use Rattle.wasm_bytes.specs.Reading.{u32_at, name_at, list_at, sized_at}
+use Rattle.wasm_decode.specs.declared.sections.Kind.{Kind}
+use Rattle.wasm_decode.specs.declared.sections.Kind.TheVariants.{Types, Imports, TypeIndices, Memories, Exports, Functions, Data}
+use Rattle.wasm_decode.specs.declared.sections.Parts.{Parts}
+use Rattle.wasm_decode.specs.Tables.{section_rows}
+use Rattle.wasm_decode.specs.PartsOf.{with_module}
+use Rattle.wasm_decode.specs.TypeReading.{func_type_at, memory_type_at}
+use Rattle.wasm_decode.specs.ExternalReading.{import_at, export_at}
+use Rattle.wasm_decode.specs.FunctionReading.{functions_at, data_at}
+
+-- the parts after a section of a kind
+abbrev pub fill_at : Kind → Parts → List ℕ → Option (Parts × List ℕ)
+fill_at Types p bytes = made_at (λ x. with_module p (record p.«module» { types = x })) (list_at 1024 func_type_at) bytes
+fill_at Imports p bytes = made_at (λ x. with_module p (record p.«module» { imports = x })) (list_at 64 import_at) bytes
+fill_at TypeIndices p bytes = made_at (λ x. record p { type_indices = x }) (list_at 1024 u32_at) bytes
+fill_at Memories p bytes = made_at (λ x. with_module p (record p.«module» { memories = x })) (list_at 64 memory_type_at) bytes
+fill_at Exports p bytes = made_at (λ x. with_module p (record p.«module» { exports = x })) (list_at 64 export_at) bytes
+fill_at Functions p bytes = made_at (λ x. with_module p (record p.«module» { functions = x })) (functions_at p.type_indices) bytes
+fill_at Data p bytes = made_at (λ x. with_module p (record p.«module» { «data» = x })) (list_at 64 data_at) bytes
+
+-- a custom section: a name, and any bytes
+abbrev pub custom_at : List ℕ → Option (Unit {0})
+custom_at content = name_at content >>= λ name. Some tt
+
+-- the id after which the next section has to come, and the parts
+unfoldable pub section_at : ℕ → Parts → List ℕ → Option ((ℕ × Parts) × List ℕ)
+section_at last p bytes =
+    byte_at bytes >>= λ id.
+    if id.0 == 0 then (sized_at custom_at id.1 >>= λ u. Some ((last, p), u.1))
+    else (row_at section_rows id.0 >>= λ k. if nat_lt last id.0 then (sized_at (whole_at (fill_at k p)) id.1 >>= λ n. Some ((id.0, n.0), n.1)) else None)
+
+-- The number bounds the turns. The count of the bytes is always enough.
+unfoldable pub sections_at : ℕ → ℕ → Parts → List ℕ → Option Parts
+sections_at n last p [] = Some p
+sections_at zero last p (b ∷ bytes) = None
+sections_at (suc n) last p (b ∷ bytes) = section_at last p (b ∷ bytes) >>= λ s. sections_at n s.0.0 s.0.1 s.1

@@ -1,0 +1,196 @@
+//! Expressions and their instructions (WebAssembly Core 1.0, section 5.4).
+
+ghost use Rattle.std.specs.Prelude.{◌≡◌, ◌^◌, ◌≤◌, OnOk, ℕ, List, [], ◌∷◌, Option, Some, None};
+ghost use Rattle.grammar.specs.Table.{row_byte_at};
+ghost use Rattle.grammar.specs.Reading.{byte_at};
+ghost use Rattle.wasm_ast.specs.View.{code_of};
+ghost use Rattle.wasm_decode.specs.Parses.{Parses};
+ghost use Rattle.wasm_decode.specs.OpReading.{branch_table_at, plain_at};
+ghost use Rattle.wasm_decode.specs.CodeReading.{block_at, conditional_at, step_at, body_at, below, closed_at, expression_at};
+
+use crate::fault::{DecodeFault, FaultKind, refuse};
+use crate::item::list;
+use crate::limits::{MOST_INSTRUCTIONS, MOST_LABELS, MOST_NESTING};
+use crate::types::block_type;
+use std::alloc::Global;
+use wasm_ast::{Block, Body, BranchTable, Conditional, Instr};
+use wasm_bytes::Cursor;
+
+/// What ends a body: `end`, or `else` after the first body of an `if`.
+const END: u8 = 0x0b;
+
+const ELSE: u8 = 0x05;
+
+/// An opcode, and where it stands.
+#[derive(Clone, Copy, Debug, PartialEq, Eq)]
+struct Opcode {
+    byte: u8,
+    offset: usize,
+}
+
+fn next_opcode(cursor: &mut Cursor<'_>) -> Result<Opcode, DecodeFault>
+    ensures { Parses (λ o. o.byte) result cursor.new (byte_at cursor.old.rest) }
+{
+    let offset = cursor.offset();
+    let byte = cursor.byte()?;
+    Ok(Opcode { byte, offset })
+}
+
+fn branch_table(alloc: Global, cursor: &mut Cursor<'_>) -> Result<BranchTable, DecodeFault>
+    ensures { Parses (λ t. (t.labels, t.default)) result cursor.new (branch_table_at cursor.old.rest) }
+{
+    let labels = list(alloc, cursor, MOST_LABELS)?;
+    let default = cursor.u32_leb()?;
+    Ok(BranchTable { labels, default })
+}
+
+/// An instruction with no instruction inside, after its opcode.
+#[tactic(auto, unfolding(crate::specs::OpReading::plain_at))]
+fn plain(alloc: Global, cursor: &mut Cursor<'_>, opcode: Opcode) -> Result<Instr, DecodeFault>
+    ensures { Parses (λ i. code_of (i ∷ [])) result cursor.new (plain_at opcode.byte cursor.old.rest) }
+{
+    Ok(match opcode.byte {
+        0x00 => Instr::Unreachable,
+        0x01 => Instr::Nop,
+        0x0c => Instr::Br(cursor.u32_leb()?),
+        0x0d => Instr::BrIf(cursor.u32_leb()?),
+        0x0e => Instr::BrTable(Box::new(alloc, branch_table(alloc, cursor)?)?),
+        0x0f => Instr::Return,
+        0x10 => Instr::Call(cursor.u32_leb()?),
+        0x1a => Instr::Drop,
+        0x20 => Instr::LocalGet(cursor.u32_leb()?),
+        0x21 => Instr::LocalSet(cursor.u32_leb()?),
+        0x22 => Instr::LocalTee(cursor.u32_leb()?),
+        0x41 => Instr::I32Const(cursor.i32_leb()?.cast_unsigned()),
+        0x6a => Instr::I32Add,
+        _ => return refuse(FaultKind::Opcode, opcode.offset),
+    })
+}
+
+/// The body of a `block` or a `loop`, in which blocks may nest one level less.
+#[cycle(code)]
+#[tactic(auto, unfolding(crate::specs::CodeReading::block_at))]
+fn block(
+    alloc: Global,
+    cursor: &mut Cursor<'_>,
+    opcode: Opcode,
+    nesting: u32,
+    left: &mut u32,
+) -> Result<Block, DecodeFault>
+    ensures read { Parses (λ b. record { result = b.result; body = b.body; left = left.new }) result cursor.new (block_at (below nesting) left.old cursor.old.rest) }
+    ensures fewer { OnOk result (left.new ≤ left.old) }
+{
+    if nesting == 0 {
+        return refuse(FaultKind::Limit, opcode.offset);
+    }
+    let result = block_type(cursor)?;
+    let body = closed(alloc, cursor, nesting - 1, left)?;
+    Ok(Block { result, body })
+}
+
+/// The bodies of an `if`, in which blocks may nest one level less.
+#[cycle(code)]
+#[tactic(auto, unfolding(crate::specs::CodeReading::conditional_at))]
+fn conditional(
+    alloc: Global,
+    cursor: &mut Cursor<'_>,
+    opcode: Opcode,
+    nesting: u32,
+    left: &mut u32,
+) -> Result<Conditional, DecodeFault>
+    ensures read { Parses (λ c. record { result = c.result; yes = c.yes; no = c.no; left = left.new }) result cursor.new (conditional_at (below nesting) left.old cursor.old.rest) }
+    ensures fewer { OnOk result (left.new ≤ left.old) }
+{
+    if nesting == 0 {
+        return refuse(FaultKind::Limit, opcode.offset);
+    }
+    let result = block_type(cursor)?;
+    let (yes, last) = instructions(alloc, cursor, nesting - 1, left)?;
+    if last.byte == END {
+        let no = Body::new(Vec::new(alloc));
+        return Ok(Conditional { result, yes, no });
+    }
+    let no = closed(alloc, cursor, nesting - 1, left)?;
+    Ok(Conditional { result, yes, no })
+}
+
+/// An instruction after its opcode.
+#[cycle(code)]
+#[tactic(auto, unfolding(crate::specs::CodeReading::step_at))]
+fn instruction(
+    alloc: Global,
+    cursor: &mut Cursor<'_>,
+    opcode: Opcode,
+    nesting: u32,
+    left: &mut u32,
+) -> Result<Instr, DecodeFault>
+    ensures read { Parses (λ i. record { code = code_of (i ∷ []); left = left.new }) result cursor.new (step_at (below nesting) opcode.byte left.old cursor.old.rest) }
+    ensures fewer { OnOk result (left.new ≤ left.old) }
+{
+    if opcode.byte == 0x02 {
+        let block = block(alloc, cursor, opcode, nesting, left)?;
+        return Ok(Instr::Block(Box::new(alloc, block)?));
+    }
+    if opcode.byte == 0x03 {
+        let block = block(alloc, cursor, opcode, nesting, left)?;
+        return Ok(Instr::Loop(Box::new(alloc, block)?));
+    }
+    if opcode.byte == 0x04 {
+        let conditional = conditional(alloc, cursor, opcode, nesting, left)?;
+        return Ok(Instr::If(Box::new(alloc, conditional)?));
+    }
+    plain(alloc, cursor, opcode)
+}
+
+/// Instructions, and the opcode that ends them. Each takes one off what is left.
+#[cycle(code)]
+fn instructions(
+    alloc: Global,
+    cursor: &mut Cursor<'_>,
+    nesting: u32,
+    left: &mut u32,
+) -> Result<(Body, Opcode), DecodeFault>
+    ensures read { Parses (λ x. record { code = x.0; last = x.1.byte; left = left.new }) result cursor.new (body_at nesting left.old cursor.old.rest) }
+    ensures fewer { OnOk result (left.new ≤ left.old) }
+{
+    let mut items = Vec::new(alloc);
+    'items: loop {
+        let opcode = next_opcode(cursor)?;
+        if opcode.byte == END || opcode.byte == ELSE {
+            return Ok((Body::new(items), opcode));
+        }
+        if *left == 0 {
+            return refuse(FaultKind::Limit, opcode.offset);
+        }
+        *left -= 1;
+        items.push(instruction(alloc, cursor, opcode, nesting, left)?)?;
+    }
+}
+
+/// Instructions, and the `end` after them.
+#[cycle(code)]
+#[tactic(auto, unfolding(crate::specs::CodeReading::closed_at))]
+fn closed(
+    alloc: Global,
+    cursor: &mut Cursor<'_>,
+    nesting: u32,
+    left: &mut u32,
+) -> Result<Body, DecodeFault>
+    ensures read { Parses (λ b. record { code = b; left = left.new }) result cursor.new (closed_at (body_at nesting) left.old cursor.old.rest) }
+    ensures fewer { OnOk result (left.new ≤ left.old) }
+{
+    let (body, last) = instructions(alloc, cursor, nesting, left)?;
+    if last.byte != END {
+        return refuse(FaultKind::Opcode, last.offset);
+    }
+    Ok(body)
+}
+
+/// An expression within the limits.
+#[tactic(auto, unfolding(crate::specs::CodeReading::expression_at))]
+pub(crate) fn expression(alloc: Global, cursor: &mut Cursor<'_>) -> Result<Body, DecodeFault>
+    ensures { Parses (λ b. b) result cursor.new (expression_at cursor.old.rest) }
+{
+    let mut left = MOST_INSTRUCTIONS;
+    closed(alloc, cursor, MOST_NESTING, &mut left)
+}

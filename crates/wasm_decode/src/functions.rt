@@ -1,0 +1,129 @@
+//! The code of functions, and data (WebAssembly Core 1.0, sections 5.5.13 and 5.5.14).
+
+ghost use Rattle.std.specs.Prelude.{◌≡◌, ◌^◌, ◌-◌, ◌++◌, ℕ, List, Option, Some, IfOk, replicate, length};
+ghost use Rattle.wasm_decode.specs.Parses.{Parses};
+ghost use Rattle.wasm_decode.specs.FunctionReading.{groups_at, locals_at, code_parts_at, code_at, codes_at, functions_at, data_at};
+
+use crate::code::expression;
+use crate::fault::{DecodeFault, FaultKind, refuse};
+use crate::item::{Item, list, number};
+use crate::limits::{MOST_FUNCTIONS, MOST_LOCALS};
+use crate::types::value_type;
+use seq::Seq;
+use std::alloc::{AllocError, Global};
+use wasm_ast::{DataSegment, Func, ValueType};
+use wasm_bytes::Cursor;
+
+fn push_locals(
+    locals: &mut Vec<ValueType>,
+    count: u32,
+    value_type: ValueType,
+) -> Result<(), AllocError>
+    ensures { IfOk result (λ _. locals.new.items ≡ locals.old.items ++ replicate count value_type) }
+{
+    for _ in 0..count {
+        locals.push(value_type)?;
+    }
+    Ok(())
+}
+
+/// So many groups of locals, each of a count and a type.
+fn groups(alloc: Global, cursor: &mut Cursor<'_>, count: u32) -> Result<Seq<ValueType>, DecodeFault>
+    ensures { Parses (λ x. x) result cursor.new (groups_at MOST_LOCALS count cursor.old.rest) }
+{
+    let mut locals = Vec::new(alloc);
+    let mut room = MOST_LOCALS;
+    for _ in 0..count {
+        let count = number(cursor, room)?;
+        let value_type = value_type(cursor)?;
+        push_locals(&mut locals, count, value_type)?;
+        room -= count;
+    }
+    Ok(Seq::new(locals))
+}
+
+/// The declared locals of a function.
+#[tactic(auto, unfolding(crate::specs::FunctionReading::locals_at))]
+fn locals(alloc: Global, cursor: &mut Cursor<'_>) -> Result<Seq<ValueType>, DecodeFault>
+    ensures { Parses (λ x. x) result cursor.new (locals_at cursor.old.rest) }
+{
+    let count = cursor.u32_leb()?;
+    groups(alloc, cursor, count)
+}
+
+fn code_parts(alloc: Global, cursor: &mut Cursor<'_>, type_index: u32) -> Result<Func, DecodeFault>
+    ensures { Parses (λ x. x) result cursor.new (code_parts_at type_index cursor.old.rest) }
+{
+    let locals = locals(alloc, cursor)?;
+    let body = expression(alloc, cursor)?;
+    Ok(Func {
+        type_index,
+        locals,
+        body,
+    })
+}
+
+/// The function of a type, by its code.
+#[tactic(auto, unfolding(crate::specs::FunctionReading::code_at, grammar::specs::Reading::measured_at))]
+fn code(alloc: Global, cursor: &mut Cursor<'_>, type_index: u32) -> Result<Func, DecodeFault>
+    ensures { Parses (λ x. x) result cursor.new (code_at type_index cursor.old.rest) }
+{
+    let offset = cursor.offset();
+    let size = cursor.u32_leb()?;
+    let Some(mut content) = cursor.split(size) else {
+        return refuse(FaultKind::Length, offset);
+    };
+    let function = code_parts(alloc, &mut content, type_index)?;
+    if !content.is_at_end() {
+        return refuse(FaultKind::Length, offset);
+    }
+    Ok(function)
+}
+
+/// The functions of these types, by their code.
+fn codes(
+    alloc: Global,
+    cursor: &mut Cursor<'_>,
+    type_indices: &[u32],
+) -> Result<Seq<Func>, DecodeFault>
+    ensures { Parses (λ x. x) result cursor.new (codes_at type_indices.now cursor.old.rest) }
+{
+    let mut functions = Vec::new(alloc);
+    for type_index in type_indices {
+        functions.push(code(alloc, cursor, *type_index)?)?;
+    }
+    Ok(Seq::new(functions))
+}
+
+/// The defined functions, of which the types are given.
+#[tactic(auto, unfolding(crate::specs::FunctionReading::functions_at))]
+pub(crate) fn functions(
+    alloc: Global,
+    cursor: &mut Cursor<'_>,
+    type_indices: &[u32],
+) -> Result<Seq<Func>, DecodeFault>
+    ensures { Parses (λ x. x) result cursor.new (functions_at type_indices.now cursor.old.rest) }
+{
+    let offset = cursor.offset();
+    let count = number(cursor, MOST_FUNCTIONS)?;
+    if count as usize != type_indices.len() {
+        return refuse(FaultKind::CountsDiffer, offset);
+    }
+    codes(alloc, cursor, type_indices)
+}
+
+impl Item for DataSegment {
+    ghost reads = { data_at };
+
+    #[tactic(auto, unfolding(crate::specs::FunctionReading::data_at))]
+    fn read(alloc: Global, cursor: &mut Cursor<'_>) -> Result<DataSegment, DecodeFault> {
+        let memory = cursor.u32_leb()?;
+        let offset = expression(alloc, cursor)?;
+        let bytes = list(alloc, cursor, u32::MAX)?;
+        Ok(DataSegment {
+            memory,
+            offset,
+            bytes,
+        })
+    }
+}

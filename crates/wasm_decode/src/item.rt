@@ -1,0 +1,75 @@
+//! Lists of items, which have their count in front.
+
+ghost use Rattle.std.specs.Prelude.{◌≡◌, ◌^◌, ◌-◌, ℕ, List, Option};
+ghost use Rattle.grammar.specs.Reading.{at_most, byte_at, repeats_at};
+ghost use Rattle.wasm_bytes.specs.Reading.{u32_at, list_at};
+ghost use Rattle.wasm_decode.specs.Parses.{Parses};
+
+use crate::fault::{DecodeFault, FaultKind, refuse};
+use seq::Seq;
+use std::alloc::Global;
+use wasm_bytes::Cursor;
+
+/// What is read at a cursor.
+pub(crate) trait Item: Drop + Sized {
+    /// The item at the front of the bytes, and those after it.
+    ghost reads: { List ℕ → Option (Self × List ℕ) };
+
+    fn read(alloc: Global, cursor: &mut Cursor<'_>) -> Result<Self, DecodeFault>
+        ensures { Parses (λ x. x) result cursor.new (reads cursor.old.rest) };
+}
+
+/// A number that is at most so large.
+pub(crate) fn number(cursor: &mut Cursor<'_>, most: u32) -> Result<u32, DecodeFault>
+    ensures { Parses (λ x. x) result cursor.new (at_most most u32_at cursor.old.rest) }
+{
+    let offset = cursor.offset();
+    let number = cursor.u32_leb()?;
+    if number > most {
+        return refuse(FaultKind::Limit, offset);
+    }
+    Ok(number)
+}
+
+fn repeated<T: Item>(
+    alloc: Global,
+    cursor: &mut Cursor<'_>,
+    count: u32,
+) -> Result<Seq<T>, DecodeFault>
+    ensures { Parses (λ x. x) result cursor.new (repeats_at T.reads count cursor.old.rest) }
+{
+    let mut items = Vec::new(alloc);
+    for _ in 0..count {
+        items.push(T::read(alloc, cursor)?)?;
+    }
+    Ok(Seq::new(items))
+}
+
+/// At most so many items.
+#[tactic(auto, unfolding(grammar::specs::Reading::counted_at))]
+pub(crate) fn list<T: Item>(
+    alloc: Global,
+    cursor: &mut Cursor<'_>,
+    most: u32,
+) -> Result<Seq<T>, DecodeFault>
+    ensures { Parses (λ x. x) result cursor.new (list_at most T.reads cursor.old.rest) }
+{
+    let count = number(cursor, most)?;
+    repeated(alloc, cursor, count)
+}
+
+impl Item for u32 {
+    ghost reads = { u32_at };
+
+    fn read(_alloc: Global, cursor: &mut Cursor<'_>) -> Result<u32, DecodeFault> {
+        Ok(cursor.u32_leb()?)
+    }
+}
+
+impl Item for u8 {
+    ghost reads = { byte_at };
+
+    fn read(_alloc: Global, cursor: &mut Cursor<'_>) -> Result<u8, DecodeFault> {
+        Ok(cursor.byte()?)
+    }
+}

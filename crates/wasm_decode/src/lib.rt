@@ -1,0 +1,28 @@
+//! Modules of WebAssembly, read from their bytes (WebAssembly Core 1.0, chapter 5).
+//!
+//! [`decode`] gives the module that the bytes spell (`specs/ModuleSpelling.antt`), within the limits
+//! of the profile, or refuses with the kind and the offset of the first fault. On a fault in the
+//! bytes they spell no module of the profile; and bytes spell at most one module ([`one_module`]).
+//!
+//! Reading goes once from left to right, in time in proportion to the bytes. No byte is copied but
+//! into the module, no list is copied, and the recursion is as deep as blocks may nest.
+//!
+//! Each opcode, section and type byte is a row of a table (`specs/Tables.antt`, `specs/Opcodes.antt`),
+//! so that a further one is a row there and an arm of a `match` here.
+#![tactic(auto)]
+
+mod code;
+mod external;
+mod fault;
+mod functions;
+mod item;
+mod limits;
+mod reader;
+mod sections;
+mod types;
+
+pub use fault::{DecodeFault, FaultKind};
+pub use reader::{decode, one_module};
+
+#[cfg(test)]
+mod tests;

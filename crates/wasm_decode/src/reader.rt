@@ -1,0 +1,91 @@
+//! A module from its bytes (WebAssembly Core 1.0, section 5.5.16).
+
+ghost use Rattle.std.specs.Prelude.{◌≡◌, ◌<◌, ◌≤◌, ◌-◌, ℕ, List, Option, Some, IfOk, length, drop};
+ghost use Rattle.grammar.specs.Reading.{text_at};
+ghost use Rattle.wasm_ast.specs.declared.module.Module.{Module};
+ghost use Rattle.wasm_decode.specs.Parses.{Parses, Makes};
+ghost use Rattle.wasm_decode.specs.ModuleReading.{module_at};
+ghost use Rattle.wasm_decode.specs.PartsOf.{no_parts};
+ghost use Rattle.wasm_decode.specs.ModuleSpelling.{IsModule};
+
+use crate::fault::{DecodeFault, FaultKind, refuse};
+use crate::limits::MODULE_BYTES;
+use crate::sections::{Parts, sections};
+use seq::Seq;
+use std::alloc::Global;
+use wasm_ast::Module;
+use wasm_bytes::Cursor;
+
+/// What each module begins with: four bytes by which it is known, and the version.
+const HEADER: [u8; 8] = [0x00, 0x61, 0x73, 0x6d, 0x01, 0x00, 0x00, 0x00];
+
+fn header(cursor: &mut Cursor<'_>) -> Result<(), DecodeFault>
+    ensures { Parses (λ u. u) result cursor.new (text_at HEADER cursor.old.rest) }
+{
+    for expected in &HEADER {
+        let offset = cursor.offset();
+        if cursor.byte()? != *expected {
+            let is_magic = offset < 4;
+            return refuse(
+                if is_magic {
+                    FaultKind::Magic
+                } else {
+                    FaultKind::Version
+                },
+                offset,
+            );
+        }
+    }
+    Ok(())
+}
+
+fn nothing(alloc: Global) -> Parts
+    ensures { result ≡ no_parts }
+{
+    Parts {
+        type_indices: Seq::empty(alloc),
+        module: Module {
+            types: Seq::empty(alloc),
+            imports: Seq::empty(alloc),
+            functions: Seq::empty(alloc),
+            memories: Seq::empty(alloc),
+            exports: Seq::empty(alloc),
+            data: Seq::empty(alloc),
+        },
+    }
+}
+
+#[tactic(auto, unfolding(crate::specs::ModuleReading::module_at))]
+fn module(alloc: Global, bytes: &[u8]) -> Result<Module, DecodeFault>
+    ensures { Makes (λ m. m) result (module_at bytes.now) }
+{
+    if bytes.len() > MODULE_BYTES {
+        return refuse(FaultKind::Limit, MODULE_BYTES);
+    }
+    let mut cursor = Cursor::new(bytes);
+    header(&mut cursor)?;
+    let mut parts = nothing(alloc);
+    sections(alloc, &mut cursor, &mut parts)?;
+    if parts.type_indices.len() != parts.module.functions.len() {
+        return refuse(FaultKind::CountsDiffer, bytes.len());
+    }
+    Ok(parts.module)
+}
+
+/// The module that the bytes spell.
+///
+/// It is refused with the kind and the offset of the first fault where they spell no module of the
+/// profile within its limits, and as [`DecodeFault::Memory`] where a growth of memory was refused.
+pub fn decode(alloc: Global, bytes: &[u8]) -> Result<Module, DecodeFault>
+    // What is given is spelled by the bytes.
+    ensures found { IfOk result (λ m. IsModule m bytes.now) }
+    // What is spelled is given, unless memory runs out.
+    ensures only { (m : Module) → IsModule m bytes.now → Makes (λ x. x) result (Some m) }
+{
+    module(alloc, bytes)
+}
+
+/// Bytes spell at most one module.
+pub fn one_module()
+    ensures { (bytes : List ℕ) (a b : Module) → IsModule a bytes → IsModule b bytes → a ≡ b }
+{}

@@ -1,0 +1,164 @@
+//! Sections (WebAssembly Core 1.0, section 5.5.2).
+
+ghost use Rattle.std.specs.Prelude.{◌≡◌, ◌<◌, ◌≤◌, ℕ, List, Option, Some, None, OnOk, length};
+ghost use Rattle.grammar.specs.Reading.{whole_at};
+ghost use Rattle.grammar.specs.Table.{row_at};
+ghost use Rattle.wasm_bytes.specs.Reading.{sized_at};
+ghost use Rattle.wasm_decode.specs.Parses.{Parses, Makes};
+ghost use Rattle.wasm_decode.specs.Tables.{section_rows};
+ghost use Rattle.wasm_decode.specs.SectionReading.{custom_at, fill_at, section_at, sections_at};
+
+use crate::fault::{DecodeFault, FaultKind, refuse};
+use crate::functions::functions;
+use crate::item::list;
+use crate::limits::{MOST_FUNCTIONS, MOST_PARTS, MOST_TYPES};
+use seq::Seq;
+use std::alloc::Global;
+use wasm_ast::Module;
+use wasm_bytes::Cursor;
+
+/// What a section holds.
+#[derive(Clone, Copy, Debug, PartialEq, Eq)]
+pub(crate) enum Kind {
+    Types,
+    Imports,
+    TypeIndices,
+    Memories,
+    Exports,
+    Functions,
+    Data,
+}
+
+/// What was read so far: the module, and the types of its functions, whose code comes later.
+#[derive(Debug, Drop)]
+pub(crate) struct Parts {
+    pub(crate) type_indices: Seq<u32>,
+    pub(crate) module: Module,
+}
+
+fn section_kind(id: u8) -> Option<Kind>
+    ensures { result ≡ row_at section_rows id }
+{
+    match id {
+        1 => Some(Kind::Types),
+        2 => Some(Kind::Imports),
+        3 => Some(Kind::TypeIndices),
+        5 => Some(Kind::Memories),
+        7 => Some(Kind::Exports),
+        10 => Some(Kind::Functions),
+        11 => Some(Kind::Data),
+        _ => None,
+    }
+}
+
+/// The fault of a section that may not stand here.
+fn order_fault(last: u8, id: u8) -> FaultKind {
+    if id == 8 && last < 8 {
+        FaultKind::StartSection
+    } else {
+        FaultKind::SectionOrder
+    }
+}
+
+/// The part of the module that a section holds.
+fn fill(
+    alloc: Global,
+    cursor: &mut Cursor<'_>,
+    kind: Kind,
+    parts: &mut Parts,
+) -> Result<(), DecodeFault>
+    ensures { Parses (λ _. parts.new) result cursor.new (fill_at kind parts.old cursor.old.rest) }
+{
+    match kind {
+        Kind::Types => parts.module.types = list(alloc, cursor, MOST_TYPES)?,
+        Kind::Imports => parts.module.imports = list(alloc, cursor, MOST_PARTS)?,
+        Kind::TypeIndices => parts.type_indices = list(alloc, cursor, MOST_FUNCTIONS)?,
+        Kind::Memories => parts.module.memories = list(alloc, cursor, MOST_PARTS)?,
+        Kind::Exports => parts.module.exports = list(alloc, cursor, MOST_PARTS)?,
+        Kind::Functions => {
+            parts.module.functions = functions(alloc, cursor, parts.type_indices.as_slice())?;
+        }
+        Kind::Data => parts.module.data = list(alloc, cursor, MOST_PARTS)?,
+    }
+    Ok(())
+}
+
+/// A custom section after its id: a name, and any bytes.
+#[tactic(auto, unfolding(grammar::specs::Reading::measured_at))]
+fn custom(cursor: &mut Cursor<'_>) -> Result<(), DecodeFault>
+    ensures read { Parses (λ u. u) result cursor.new (sized_at custom_at cursor.old.rest) }
+    ensures shorter { OnOk result (length cursor.new.rest < length cursor.old.rest) }
+{
+    let offset = cursor.offset();
+    let size = cursor.u32_leb()?;
+    let Some(mut content) = cursor.split(size) else {
+        return refuse(FaultKind::Length, offset);
+    };
+    content.name()?;
+    Ok(())
+}
+
+/// A section of a kind, after its id.
+#[tactic(auto, unfolding(grammar::specs::Reading::measured_at))]
+fn known(
+    alloc: Global,
+    cursor: &mut Cursor<'_>,
+    kind: Kind,
+    parts: &mut Parts,
+) -> Result<(), DecodeFault>
+    ensures read { Parses (λ _. parts.new) result cursor.new (sized_at (whole_at (fill_at kind parts.old)) cursor.old.rest) }
+    ensures shorter { OnOk result (length cursor.new.rest < length cursor.old.rest) }
+{
+    let offset = cursor.offset();
+    let size = cursor.u32_leb()?;
+    let Some(mut content) = cursor.split(size) else {
+        return refuse(FaultKind::Length, offset);
+    };
+    fill(alloc, &mut content, kind, parts)?;
+    if !content.is_at_end() {
+        return refuse(FaultKind::Length, offset);
+    }
+    Ok(())
+}
+
+/// A section, and the id after which the next has to come.
+#[tactic(auto, unfolding(crate::specs::SectionReading::section_at))]
+fn section(
+    alloc: Global,
+    cursor: &mut Cursor<'_>,
+    last: u8,
+    parts: &mut Parts,
+) -> Result<u8, DecodeFault>
+    ensures read { Parses (λ id. (id, parts.new)) result cursor.new (section_at last parts.old cursor.old.rest) }
+    ensures shorter { OnOk result (length cursor.new.rest < length cursor.old.rest) }
+{
+    let offset = cursor.offset();
+    let id = cursor.byte()?;
+    if id == 0 {
+        custom(cursor)?;
+        return Ok(last);
+    }
+    let Some(kind) = section_kind(id) else {
+        return refuse(order_fault(last, id), offset);
+    };
+    if id <= last {
+        return refuse(FaultKind::SectionOrder, offset);
+    }
+    known(alloc, cursor, kind, parts)?;
+    Ok(id)
+}
+
+/// Sections up to the end.
+pub(crate) fn sections(
+    alloc: Global,
+    cursor: &mut Cursor<'_>,
+    parts: &mut Parts,
+) -> Result<(), DecodeFault>
+    ensures { Makes (λ _. parts.new) result (sections_at (length cursor.old.rest) 0 parts.old cursor.old.rest) }
+{
+    let mut last = 0;
+    'sections: while !cursor.is_at_end() {
+        last = section(alloc, cursor, last, parts)?;
+    }
+    Ok(())
+}

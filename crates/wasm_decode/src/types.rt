@@ -1,0 +1,182 @@
+//! Types (WebAssembly Core 1.0, section 5.3).
+
+ghost use Rattle.std.specs.Prelude.{◌≡◌, ◌^◌, ℕ, List, Option, Some};
+ghost use Rattle.grammar.specs.Table.{row_at, row_byte_at};
+ghost use Rattle.wasm_bytes.specs.Reading.{u32_at};
+ghost use Rattle.wasm_decode.specs.Parses.{Parses};
+ghost use Rattle.wasm_decode.specs.Tables.{value_type_rows, block_type_rows, flag_rows};
+ghost use Rattle.wasm_decode.specs.TypeReading.{value_type_at, result_at, func_type_at, limits_at, table_type_at, memory_type_at, global_type_at};
+
+use crate::fault::{DecodeFault, FaultKind, refuse};
+use crate::item::{Item, list, number};
+use crate::limits::{MOST_ENTRIES, MOST_PAGES, MOST_PARAMETERS};
+use std::alloc::Global;
+use wasm_ast::{BlockType, FuncType, GlobalType, Limits, ValueType};
+use wasm_bytes::Cursor;
+
+fn value_type_of(byte: u8) -> Option<ValueType>
+    ensures { result ≡ row_at value_type_rows byte }
+{
+    match byte {
+        0x7f => Some(ValueType::I32),
+        0x7e => Some(ValueType::I64),
+        _ => None,
+    }
+}
+
+/// The fault of a byte that stands for no type: f32 and f64 are told apart.
+fn type_fault(byte: u8) -> FaultKind {
+    match byte {
+        0x7c | 0x7d => FaultKind::Float,
+        _ => FaultKind::TypeByte,
+    }
+}
+
+/// A value type.
+pub(crate) fn value_type(cursor: &mut Cursor<'_>) -> Result<ValueType, DecodeFault>
+    ensures { Parses (λ x. x) result cursor.new (value_type_at cursor.old.rest) }
+{
+    let offset = cursor.offset();
+    let byte = cursor.byte()?;
+    match value_type_of(byte) {
+        Some(value_type) => Ok(value_type),
+        None => refuse(type_fault(byte), offset),
+    }
+}
+
+impl Item for ValueType {
+    ghost reads = { value_type_at };
+
+    fn read(_alloc: Global, cursor: &mut Cursor<'_>) -> Result<ValueType, DecodeFault> {
+        value_type(cursor)
+    }
+}
+
+fn block_type_of(byte: u8) -> Option<BlockType>
+    ensures { result ≡ row_at block_type_rows byte }
+{
+    match byte {
+        0x40 => Some(None),
+        0x7f => Some(Some(ValueType::I32)),
+        0x7e => Some(Some(ValueType::I64)),
+        _ => None,
+    }
+}
+
+/// What a block leaves.
+pub(crate) fn block_type(cursor: &mut Cursor<'_>) -> Result<BlockType, DecodeFault>
+    ensures { Parses (λ x. x) result cursor.new (row_byte_at block_type_rows cursor.old.rest) }
+{
+    let offset = cursor.offset();
+    let byte = cursor.byte()?;
+    match block_type_of(byte) {
+        Some(block_type) => Ok(block_type),
+        None => refuse(type_fault(byte), offset),
+    }
+}
+
+/// At most one type.
+#[tactic(auto, unfolding(crate::specs::TypeReading::result_at))]
+fn result_type(cursor: &mut Cursor<'_>) -> Result<Option<ValueType>, DecodeFault>
+    ensures { Parses (λ x. x) result cursor.new (result_at cursor.old.rest) }
+{
+    let count = number(cursor, 1)?;
+    if count == 0 {
+        return Ok(None);
+    }
+    Ok(Some(value_type(cursor)?))
+}
+
+impl Item for FuncType {
+    ghost reads = { func_type_at };
+
+    #[tactic(auto, unfolding(crate::specs::TypeReading::func_type_at))]
+    fn read(alloc: Global, cursor: &mut Cursor<'_>) -> Result<FuncType, DecodeFault> {
+        let offset = cursor.offset();
+        if cursor.byte()? != 0x60 {
+            return refuse(FaultKind::TypeByte, offset);
+        }
+        let params = list(alloc, cursor, MOST_PARAMETERS)?;
+        let result = result_type(cursor)?;
+        Ok(FuncType { params, result })
+    }
+}
+
+fn flag_of(byte: u8) -> Option<bool>
+    ensures { result ≡ row_at flag_rows byte }
+{
+    match byte {
+        0 => Some(false),
+        1 => Some(true),
+        _ => None,
+    }
+}
+
+/// A byte that says whether something is there.
+fn flag(cursor: &mut Cursor<'_>) -> Result<bool, DecodeFault>
+    ensures { Parses (λ x. x) result cursor.new (row_byte_at flag_rows cursor.old.rest) }
+{
+    let offset = cursor.offset();
+    match flag_of(cursor.byte()?) {
+        Some(flag) => Ok(flag),
+        None => refuse(FaultKind::TypeByte, offset),
+    }
+}
+
+/// Limits of which the least is at most so large.
+#[tactic(auto, unfolding(crate::specs::TypeReading::limits_at))]
+fn limits(cursor: &mut Cursor<'_>, most: u32) -> Result<Limits, DecodeFault>
+    ensures { Parses (λ x. x) result cursor.new (limits_at most cursor.old.rest) }
+{
+    let has_greatest = flag(cursor)?;
+    let least = number(cursor, most)?;
+    if !has_greatest {
+        return Ok(Limits {
+            least,
+            greatest: None,
+        });
+    }
+    let greatest = Some(cursor.u32_leb()?);
+    Ok(Limits { least, greatest })
+}
+
+/// The limits of a table of functions.
+#[tactic(auto, unfolding(crate::specs::TypeReading::table_type_at))]
+pub(crate) fn table_type(cursor: &mut Cursor<'_>) -> Result<Limits, DecodeFault>
+    ensures { Parses (λ x. x) result cursor.new (table_type_at cursor.old.rest) }
+{
+    let offset = cursor.offset();
+    if cursor.byte()? != 0x70 {
+        return refuse(FaultKind::TypeByte, offset);
+    }
+    limits(cursor, MOST_ENTRIES)
+}
+
+/// The limits of a memory.
+#[tactic(auto, unfolding(crate::specs::TypeReading::memory_type_at))]
+pub(crate) fn memory_type(cursor: &mut Cursor<'_>) -> Result<Limits, DecodeFault>
+    ensures { Parses (λ x. x) result cursor.new (memory_type_at cursor.old.rest) }
+{
+    limits(cursor, MOST_PAGES)
+}
+
+impl Item for Limits {
+    ghost reads = { memory_type_at };
+
+    fn read(_alloc: Global, cursor: &mut Cursor<'_>) -> Result<Limits, DecodeFault> {
+        memory_type(cursor)
+    }
+}
+
+/// The type of a global.
+#[tactic(auto, unfolding(crate::specs::TypeReading::global_type_at))]
+pub(crate) fn global_type(cursor: &mut Cursor<'_>) -> Result<GlobalType, DecodeFault>
+    ensures { Parses (λ x. x) result cursor.new (global_type_at cursor.old.rest) }
+{
+    let value_type = value_type(cursor)?;
+    let is_variable = flag(cursor)?;
+    Ok(GlobalType {
+        value_type,
+        is_variable,
+    })
+}
