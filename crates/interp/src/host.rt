@@ -22,7 +22,12 @@ pub trait Host {
     /// One call, with its arguments in order and the memory, which it may write.
     ///
     /// `AllocError` where there is no room for what is recorded.
-    fn call(&mut self, which: HostCall, args: &[u32], memory: &mut [u8]) -> Result<HostAnswer, AllocError>
+    fn call(
+        &mut self,
+        which: HostCall,
+        args: &[u32],
+        memory: &mut [u8],
+    ) -> Result<HostAnswer, AllocError>
         requires { length args.now ≡ arity which }
         ensures answer { IfOk result (λ a. Self.answers self.old which args.now memory.old (Self.records self.old) ≡ record { answer = a; memory = memory.new; records = Self.records self.new }) }
         ensures stays { IfOk result (λ _. Self.answers self.new ≡ Self.answers self.old) };

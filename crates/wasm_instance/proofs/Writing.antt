@@ -1,18 +1,12 @@
 -- Bytes that are written one by one, and segments one after another.
-use Rattle.std.proofs.Common.{◌≡◌, ◌<◌, ◌≤◌, ◌+◌, ◌*◌, ℕ, zero, suc, List, [], ◌∷◌, ◌++◌, length, take, drop, Some, None, Option, refl, sym, ap, ◌∙◌, subst, arith, drop-cons}
+use Rattle.std.proofs.Common.{◌≡◌, ◌≤◌, ◌+◌, ◌*◌, ℕ, zero, suc, List, [], ◌∷◌, length, drop, Some, refl, sym, ap, ◌∙◌, subst, arith}
 use Rattle.std.specs.Prelude.{slice_set, slice_get}
 use Rattle.std.proofs.lemmas.Grind.{common_steps}
-use Rattle.std.proofs.lemmas.List.{append-nil}
-use Rattle.wasm_ast.specs.declared.types.ValueType.TheVariants.{I32}
 use Rattle.wasm_ast.specs.declared.types.Limits.{Limits}
-use Rattle.wasm_ast.specs.declared.module.DataSegment.{DataSegment}
 use Rattle.wasm_ast.specs.declared.module.Module.{Module}
-use Rattle.wasm_ast.specs.Op.{Const}
-use Rattle.wasm_ast.specs.Code.{Code, End, Do}
-use Rattle.wasm_validate.specs.ModuleRules.{IsValid, IsData}
-use Rattle.wasm_validate.specs.Typing.{at}
-use Rattle.wasm_meaning.specs.Program.{written, with_segments, initial, least_pages}
-use Rattle.wasm_instance.specs.Segments.{AreWithin, IsWithin}
+use Rattle.wasm_validate.specs.ModuleRules.{IsValid}
+use Rattle.wasm_meaning.specs.Program.{written, least_pages}
+use Rattle.wasm_instance.specs.Segments.{AreWithin}
 use Rattle.wasm_instance.specs.Lending.{in_place}
 
 pub in_place_same : (old bytes : List ℕ) → length bytes ≡ length old → in_place old bytes ≡ bytes

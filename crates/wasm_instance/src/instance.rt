@@ -77,7 +77,11 @@ fn write_segments(memory: &mut [u8], segments: &[DataSegment])
     ensures { memory.new ≡ with_segments memory.old segments.now }
 {
     for segment in segments {
-        write(memory, constant(&segment.offset) as usize, segment.bytes.as_slice());
+        write(
+            memory,
+            constant(&segment.offset) as usize,
+            segment.bytes.as_slice(),
+        );
     }
 }
 

@@ -6,5 +6,7 @@
 #![tactic(auto)]
 
 mod instance;
+#[cfg(test)]
+mod tests;
 
 pub use instance::Instance;

@@ -1,15 +1,15 @@
 -- What is typed by the rules the algorithm accepts.
-use Rattle.std.proofs.Common.{◌≡◌, ◌<◌, ◌^◌, ℕ, List, [], ◌∷◌, ◌++◌, refl, sym, ap, ◌∙◌, subst, Option, Some, None, append-nil, append_assoc, Result, Ok, Err, arith}
-use Rattle.std.specs.Prelude.{Bool, true, false, ◌&&◌, nat_lt, IfErr}
+use Rattle.std.proofs.Common.{◌≡◌, ◌<◌, ℕ, List, [], ◌∷◌, ◌++◌, refl, sym, ap, ◌∙◌, subst, Option, Some, None, append-nil, append_assoc, arith}
+use Rattle.std.specs.Prelude.{Bool, true, false, ◌&&◌, nat_lt}
 use Rattle.std.proofs.lemmas.Bool.Decides.{nat_tests}
 use Rattle.wasm_ast.specs.declared.types.ValueType.{ValueType}
 use Rattle.wasm_ast.specs.declared.types.ValueType.TheVariants.{I32, I64}
-use Rattle.wasm_ast.specs.Types.{words, same_type}
+use Rattle.wasm_ast.specs.Types.{words}
 use Rattle.wasm_ast.specs.Op.{Op, Unreachable, Nop, Drop, Return, Br, BrIf, BrTable, Call, LocalGet, LocalSet, LocalTee, Const, Binary}
 use Rattle.wasm_ast.specs.Code.{BlockType, Code, End, Do, Block, Loop, If}
 use Rattle.wasm_validate.specs.Typing.{Context, at, results, under, arguments, EachLabel, Rule, Types}
 use Rattle.wasm_validate.specs.Operands.{Operands, then, matches, if_true, push, pop_from, pop, pop_as, pop_all, push_result, pop_result, no_operands, from_here, is_none, finish, label_is, named_is}
-use Rattle.wasm_validate.specs.Algorithm.{each_label, binary, step, check, whole_body}
+use Rattle.wasm_validate.specs.Algorithm.{each_label, step, check, whole_body}
 use Rattle.wasm_validate.proofs.Stands.{Stands, StandsFor, For}
 
 -- there is a value, and a fact of it

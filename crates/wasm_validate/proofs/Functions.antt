@@ -1,15 +1,15 @@
 -- A function is typed where its body is accepted, and breaks a rule where it is refused.
-use Rattle.std.proofs.Common.{◌≡◌, ◌<◌, ◌+◌, ℕ, List, [], ◌∷◌, ◌++◌, sym, ap, ◌∙◌, subst, Option, Some, length, map, get_or, slice_index_or}
+use Rattle.std.proofs.Common.{◌≡◌, ◌<◌, ◌+◌, ℕ, List, [], ◌∷◌, ◌++◌, sym, ap, ◌∙◌, subst, Some, length, map, slice_index_or}
 use Rattle.std.specs.Prelude.{IsSome}
 use Rattle.wasm_ast.specs.declared.types.ValueType.{ValueType}
 use Rattle.wasm_ast.specs.declared.types.FuncType.{FuncType}
 use Rattle.wasm_ast.specs.declared.module.Func.{Func}
 use Rattle.wasm_ast.specs.declared.module.Module.{Module}
-use Rattle.wasm_ast.specs.Code.{BlockType, Code}
+use Rattle.wasm_ast.specs.Code.{BlockType}
 use Rattle.wasm_validate.specs.declared.fault.ValidateFault.{ValidateFault}
 use Rattle.wasm_validate.specs.declared.fault.ValidateFault.TheVariants.{Memory, TypeMismatch, Index}
-use Rattle.wasm_validate.specs.Typing.{Context, Types, at, under, results}
-use Rattle.wasm_validate.specs.ModuleRules.{imported, type_indices, type_at, function_types, function_context, no_type, IsFunction}
+use Rattle.wasm_validate.specs.Typing.{Context, Types, at, results}
+use Rattle.wasm_validate.specs.ModuleRules.{imported, type_indices, type_at, function_context, no_type, IsFunction}
 use Rattle.wasm_validate.specs.Indices.{AreTypes}
 use Rattle.wasm_validate.specs.Algorithm.{whole_body}
 use Rattle.wasm_validate.specs.Missing.{MissingIn}

@@ -1,5 +1,5 @@
 -- A list of instructions is checked one after another.
-use Rattle.std.proofs.Common.{◌≡◌, ◌<◌, ◌≤◌, ◌+◌, ◌⊎◌, inl, inr, ℕ, zero, suc, List, [], ◌∷◌, refl, sym, ap, ◌∙◌, subst, Option, Some, None, length, drop, slice_index_or, arith}
+use Rattle.std.proofs.Common.{◌≡◌, ◌<◌, ◌≤◌, ◌+◌, inl, inr, ℕ, zero, suc, List, [], ◌∷◌, refl, sym, ap, ◌∙◌, subst, Option, Some, None, length, drop, slice_index_or, arith}
 use Rattle.wasm_ast.specs.declared.types.ValueType.TheVariants.{I32}
 use Rattle.wasm_ast.specs.declared.body.Instr.{Instr}
 use Rattle.wasm_ast.specs.declared.body.Instr.TheVariants as instr
@@ -7,7 +7,7 @@ use Rattle.wasm_ast.specs.Code.{BlockType, Code, End, Do, Block, Loop, If, code_
 use Rattle.wasm_ast.specs.View.{then_code, code_of}
 use Rattle.wasm_validate.specs.Typing.{Context, under}
 use Rattle.wasm_validate.specs.Operands.{Operands, then, pop_as, push_result, no_operands, finish}
-use Rattle.wasm_validate.specs.Algorithm.{step, check, whole_body, conditional, first, instruction}
+use Rattle.wasm_validate.specs.Algorithm.{check, whole_body, first, instruction}
 use Rattle.wasm_validate.specs.Missing.{MissingIn, MissingFirst, MissingInstr}
 use Rattle.wasm_validate.specs.declared.fault.ValidateFault.{ValidateFault}
 use Rattle.wasm_validate.specs.declared.fault.ValidateFault.TheVariants.{Memory, TypeMismatch, Index}

@@ -1,5 +1,5 @@
 -- What the parts of a module have, by their lists.
-use Rattle.std.proofs.Common.{◌≡◌, ◌≢◌, ◌<◌, ◌≤◌, ◌+◌, ◌*◌, ◌⊎◌, inl, inr, ℕ, zero, suc, List, [], ◌∷◌, ◌++◌, refl, sym, ap, ◌∙◌, subst, Option, Some, None, length, map, drop, append_assoc, slice_index_or, arith}
+use Rattle.std.proofs.Common.{◌≡◌, ◌≢◌, ◌<◌, ◌≤◌, ◌+◌, inl, inr, ℕ, zero, suc, List, [], ◌∷◌, ◌++◌, refl, sym, ap, ◌∙◌, Option, Some, None, length, map, drop, append_assoc, slice_index_or, arith}
 use Rattle.wasm_ast.specs.declared.types.FuncType.{FuncType}
 use Rattle.wasm_ast.specs.declared.types.Limits.{Limits}
 use Rattle.wasm_ast.specs.declared.types.ValueType.TheVariants.{I32}
@@ -9,18 +9,17 @@ use Rattle.wasm_ast.specs.declared.module.ImportKind.TheVariants as kind
 use Rattle.wasm_ast.specs.declared.module.Import.{Import}
 use Rattle.wasm_ast.specs.declared.module.Func.{Func}
 use Rattle.wasm_ast.specs.declared.module.Export.{Export}
-use Rattle.wasm_ast.specs.declared.module.DataSegment.{DataSegment}
 use Rattle.wasm_ast.specs.declared.module.Module.{Module}
 use Rattle.wasm_ast.specs.Op.{Const}
 use Rattle.wasm_ast.specs.Code.{Code, End, Do}
 use Rattle.wasm_validate.specs.declared.fault.ValidateFault.{ValidateFault}
 use Rattle.wasm_validate.specs.declared.fault.ValidateFault.TheVariants as fault
 use Rattle.wasm_validate.specs.Typing.{at, results}
-use Rattle.wasm_validate.specs.ModuleRules.{imported, type_indices, type_at, function_context, IsImport, IsFunction, IsData, IsValid, count_of}
+use Rattle.wasm_validate.specs.ModuleRules.{imported, type_indices, type_at, function_context, IsImport, IsValid}
 use Rattle.wasm_validate.specs.Indices.{AreTypes}
 use Rattle.wasm_validate.specs.HostCalls.{call_type, call_named, then_call, host_calls}
 use Rattle.wasm_validate.specs.Broken.{Broken, MissingIndex, ImportType, FunctionType, Exported, InBody, DataMemory}
-use Rattle.wasm_validate.proofs.Lists.{at_none, at_below, at_either, at_map_back, next_item}
+use Rattle.wasm_validate.proofs.Lists.{at_below, at_either, at_map_back, next_item}
 use Rattle.wasm_validate.proofs.Untyped.{missing_is_untyped}
 
 none_some : {A : Type 0} (o : Option A) (a : A) → o ≡ None → o ≡ Some a → ⊥

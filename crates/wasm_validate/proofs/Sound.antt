@@ -1,16 +1,16 @@
 -- What the algorithm accepts is typed by the rules.
-use Rattle.std.proofs.Common.{◌≡◌, ◌<◌, ◌^◌, ℕ, List, [], ◌∷◌, ◌++◌, refl, sym, subst, Option, Some, None, append-nil, true≢false, arith}
+use Rattle.std.proofs.Common.{◌≡◌, ◌<◌, ℕ, List, [], ◌∷◌, ◌++◌, refl, sym, subst, Option, Some, None, append-nil, true≢false, arith}
 use Rattle.std.specs.Prelude.{Bool, true, false, nat_lt, IsSome}
 use Rattle.std.proofs.lemmas.Bool.Decides.{nat_tests}
 use Rattle.wasm_ast.specs.declared.types.ValueType.{ValueType}
-use Rattle.wasm_ast.specs.declared.types.ValueType.TheVariants.{I32, I64}
+use Rattle.wasm_ast.specs.declared.types.ValueType.TheVariants.{I32}
 use Rattle.wasm_ast.specs.Types.{words}
 use Rattle.wasm_ast.specs.Op.{Op, Unreachable, Nop, Drop, Return, Br, BrIf, BrTable, Call, LocalGet, LocalSet, LocalTee, Const, Binary}
 use Rattle.wasm_ast.specs.Code.{BlockType, Code, End, Do, Block, Loop, If}
 use Rattle.wasm_validate.specs.Typing.{Context, at, results, under, arguments, Rule, Types}
 use Rattle.wasm_validate.specs.Operands.{Operands, then, if_true, push, pop, pop_as, pop_all, push_result, pop_result, no_operands, from_here, finish}
 use Rattle.wasm_validate.specs.Algorithm.{step, check, whole_body}
-use Rattle.wasm_validate.proofs.Stands.{Holds, bind, weaker, Stands, For, pop_sound, pop_as_sound, pop_all_sound, pop_result_sound, push_sound, push_known, push_result_sound, finish_sound, some_stack, at_sound, each_label_sound}
+use Rattle.wasm_validate.proofs.Stands.{Holds, bind, weaker, Stands, For, pop_sound, pop_as_sound, pop_all_sound, pop_result_sound, push_known, push_result_sound, finish_sound, some_stack, at_sound, each_label_sound}
 
 -- the instruction takes the first stack to the second
 abbrev pub Fits : Context → Op → List ValueType → List ValueType → Type 0

@@ -4,7 +4,6 @@ use Rattle.std.specs.Prelude.{Bool, true, false, ◌&&◌}
 use Rattle.wasm_ast.specs.declared.types.ValueType.{ValueType}
 use Rattle.wasm_ast.specs.declared.types.ValueType.TheVariants.{I32, I64}
 use Rattle.wasm_validate.specs.Typing.{Context, at, results, EachLabel}
-use Rattle.wasm_ast.specs.Types.{same_type}
 use Rattle.wasm_validate.specs.Operands.{Operands, then, matches, if_true, push, pop_from, pop, pop_as, pop_all, push_result, pop_result, no_operands, is_none, finish, label_is, named_is}
 use Rattle.wasm_validate.specs.Algorithm.{each_label}
 

@@ -1,7 +1,7 @@
 -- Code that names what does not exist has no typing.
-use Rattle.std.proofs.Common.{◌≡◌, ◌⊎◌, inl, inr, ℕ, List, [], ◌∷◌, ◌++◌, sym, ◌∙◌, Option, Some, None}
+use Rattle.std.proofs.Common.{◌≡◌, inl, inr, ℕ, List, [], ◌∷◌, ◌++◌, Option, Some, None}
 use Rattle.wasm_ast.specs.declared.types.ValueType.{ValueType}
-use Rattle.wasm_ast.specs.Op.{Op, Unreachable, Nop, Drop, Return, Br, BrIf, BrTable, Call, LocalGet, LocalSet, LocalTee, Const, Binary}
+use Rattle.wasm_ast.specs.Op.{Op, Br, BrIf, BrTable, Call, LocalGet, LocalSet, LocalTee}
 use Rattle.wasm_ast.specs.Code.{BlockType, Code, End, Do, Block, Loop, If}
 use Rattle.wasm_validate.specs.Typing.{Context, at, under, results, EachLabel, Rule, Types}
 use Rattle.wasm_validate.specs.Missing.{AnyMissing, NamesMissing, MissingIn}

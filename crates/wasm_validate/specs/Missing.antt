@@ -1,5 +1,5 @@
 -- Where code names what does not exist.
-use Rattle.std.specs.Prelude.{◌≡◌, ◌⊎◌, ℕ, List, [], ◌∷◌, Option, Some, None}
+use Rattle.std.specs.Prelude.{◌≡◌, ◌⊎◌, ℕ, List, [], ◌∷◌, None}
 use Rattle.wasm_ast.specs.declared.body.Instr.{Instr}
 use Rattle.wasm_ast.specs.Op.{Op, Unreachable, Nop, Drop, Return, Br, BrIf, BrTable, Call, LocalGet, LocalSet, LocalTee, Const, Binary}
 use Rattle.wasm_ast.specs.Code.{BlockType, Code, End, Do, Block, Loop, If}

@@ -1,11 +1,10 @@
 -- When a module is valid (Core 1.0, section 3.4), cut to the profile.
-use Rattle.std.specs.Prelude.{◌≡◌, ◌≢◌, ◌<◌, ◌≤◌, ◌+◌, ◌*◌, ◌==◌, ℕ, List, [], ◌∷◌, ◌++◌, map, length, Option, Some, None, IfSome, get_or, codes, Bool, true, false, cond, ◌&&◌}
+use Rattle.std.specs.Prelude.{◌≡◌, ◌<◌, ◌≤◌, ◌+◌, ◌*◌, ◌==◌, ℕ, List, [], ◌∷◌, ◌++◌, map, length, Option, Some, None, IfSome, get_or, codes, Bool, true, false, cond, ◌&&◌}
 use Rattle.std.specs.Cmp.Lexicographic.{pointwise}
 use Rattle.wasm_ast.specs.declared.types.ValueType.TheVariants.{I32}
 use Rattle.wasm_ast.specs.declared.types.FuncType.{FuncType}
 use Rattle.wasm_ast.specs.declared.types.Limits.{Limits}
 use Rattle.wasm_ast.specs.declared.host_call.HostCall.{HostCall}
-use Rattle.wasm_ast.specs.declared.module.ImportKind.{ImportKind}
 use Rattle.wasm_ast.specs.declared.module.ImportKind.TheVariants as kind
 use Rattle.wasm_ast.specs.declared.module.ExternalKind.{ExternalKind}
 use Rattle.wasm_ast.specs.declared.module.ExternalKind.TheVariants as external

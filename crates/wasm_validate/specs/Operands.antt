@@ -1,7 +1,6 @@
 -- The operands that validation keeps (Core 1.0, appendix A.3): types, of which some are unknown.
-use Rattle.std.specs.Prelude.{◌≡◌, ℕ, List, [], ◌∷◌, Bool, true, false, Option, Some, None}
+use Rattle.std.specs.Prelude.{List, [], ◌∷◌, Bool, true, false, Option, Some, None}
 use Rattle.wasm_ast.specs.declared.types.ValueType.{ValueType}
-use Rattle.wasm_ast.specs.declared.types.ValueType.TheVariants.{I32, I64}
 use Rattle.wasm_ast.specs.Types.{same_type}
 use Rattle.wasm_ast.specs.Code.{BlockType}
 

@@ -194,11 +194,9 @@ fn bodies_by_the_rules(rt: HostRuntime) -> Result<(), AllocError> {
     let mut rows = plain_rows(alloc)?;
     rows.append(&mut branch_rows(alloc)?)?;
     rows.append(&mut block_rows(alloc)?)?;
-    let mut row = 0;
-    for (body, want) in rows {
+    for (row, (body, want)) in rows.into_iter().enumerate() {
         let got = number_of(validate(alloc, module_of(alloc, body)?));
         assert_eq!(rt; got, want, "in row {row}");
-        row += 1;
     }
     Ok(())
 }
@@ -329,11 +327,9 @@ fn modules_by_the_rules(rt: HostRuntime) -> Result<(), AllocError> {
     rows.append(&mut export_rows(alloc)?)?;
     rows.append(&mut data_rows(alloc)?)?;
     rows.append(&mut entry_rows(alloc)?)?;
-    let mut row = 0;
-    for (module, want) in rows {
+    for (row, (module, want)) in rows.into_iter().enumerate() {
         let got = number_of(validate(alloc, module));
         assert_eq!(rt; got, want, "in row {row}");
-        row += 1;
     }
     Ok(())
 }

@@ -1,8 +1,6 @@
-use Rattle.std.proofs.Common.{◌≡◌, ◌+◌, ◌≤◌, sym, ap, ◌∙◌, subst, refl, arith, length, Some}
-use Rattle.std.specs.Prelude.{slice_get}
+use Rattle.std.proofs.Common.{◌≡◌, ap, ◌∙◌, refl, arith, length}
 use Rattle.std.proofs.lemmas.Option.{slice_get_read}
 use Rattle.wasm_meaning.specs.Program.{initial}
-use Rattle.wasm_instance.specs.Segments.{IsWithin}
 use Rattle.wasm_instance.proofs.instance.write_segments.Goals as goal
 
 pub constant-requires : goal.constant-requires

@@ -1,4 +1,4 @@
-use Rattle.std.proofs.Common.{◌≡◌, ◌+◌, drop}
+use Rattle.std.proofs.Common.{◌≡◌, drop}
 use Rattle.wasm_meaning.specs.Program.{with_segments}
 use Rattle.wasm_instance.proofs.instance.write_segments.Given as goal
 

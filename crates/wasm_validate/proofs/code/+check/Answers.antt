@@ -1,4 +1,4 @@
-use Rattle.std.proofs.Common.{◌≡◌, ◌+◌, ◌∷◌, ap, ◌∙◌, subst, drop, Some, arith}
+use Rattle.std.proofs.Common.{◌≡◌, ◌∷◌, ap, ◌∙◌, subst, drop, Some, arith}
 use Rattle.std.proofs.lemmas.Result.{err_from_is_err_and}
 use Rattle.wasm_ast.specs.Code.{code_size}
 use Rattle.wasm_ast.specs.View.{code_of}
@@ -8,9 +8,6 @@ use Rattle.wasm_validate.specs.Missing.{MissingInstr}
 use Rattle.wasm_validate.specs.Refused.{Refused}
 use Rattle.wasm_validate.specs.Inside.{context_of}
 use Rattle.wasm_validate.proofs.Instructions.{item_size, check_next, refused_next}
-use Rattle.wasm_validate.proofs.Sound.{accepted_is_typed}
-use Rattle.wasm_validate.proofs.Complete.{none_is_untyped}
-use Rattle.wasm_validate.proofs.Untyped.{missing_is_untyped}
 use Rattle.wasm_validate.proofs.code.+check.Goals as goal
 
 pub check_body-check_instr-requires : goal.check_body-check_instr-requires

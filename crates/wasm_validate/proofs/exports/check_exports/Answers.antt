@@ -1,10 +1,10 @@
-use Rattle.std.proofs.Common.{◌≡◌, ◌<◌, ◌+◌, ◌∙◌, ℕ, ap, sym, refl, Some, length, arith}
+use Rattle.std.proofs.Common.{◌≡◌, ◌<◌, ◌∙◌, ap, sym, refl, Some, length, arith}
 use borrow.Author.Count.{below_more}
 use Rattle.wasm_ast.specs.declared.module.Export.{Export}
 use Rattle.wasm_validate.specs.Typing.{at}
 use Rattle.wasm_validate.specs.ModuleRules.{count_of}
 use Rattle.wasm_validate.specs.Broken.{Exported}
-use Rattle.wasm_validate.proofs.Lists.{item_in, one_more, each_item, at_take, take_at, at_unique}
+use Rattle.wasm_validate.proofs.Lists.{item_in, one_more, at_take, take_at, at_unique}
 use Rattle.wasm_validate.proofs.Modules.{names_apart}
 use Rattle.wasm_validate.proofs.exports.check_exports.Goals as goal
 

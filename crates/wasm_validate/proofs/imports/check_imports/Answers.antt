@@ -1,4 +1,4 @@
-use Rattle.std.proofs.Common.{◌≡◌, ◌+◌, ◌++◌, ◌∙◌, ap, drop}
+use Rattle.std.proofs.Common.{◌+◌, ◌++◌, ◌∙◌, ap, drop}
 use Rattle.wasm_validate.specs.HostCalls.{host_calls}
 use Rattle.wasm_validate.specs.ModuleRules.{IsImport}
 use Rattle.wasm_validate.proofs.Lists.{one_more, each_item}

@@ -1,6 +1,5 @@
-use Rattle.std.proofs.Common.{◌≡◌, ◌<◌, ◌+◌, ◌++◌, ◌∷◌, [], ℕ, ◌∙◌, ap, sym, Some, None, map, drop, length, arith}
+use Rattle.std.proofs.Common.{◌<◌, ◌+◌, ◌++◌, ◌∙◌, ap, map, drop, length, arith}
 use Rattle.wasm_ast.specs.declared.module.Func.{Func}
-use Rattle.wasm_validate.specs.Typing.{at}
 use Rattle.wasm_validate.specs.Broken.{FunctionType}
 use Rattle.wasm_validate.proofs.Lists.{at_none, item_in, one_more, each_item, mapped_next}
 use Rattle.wasm_validate.proofs.Modules.{known_types}

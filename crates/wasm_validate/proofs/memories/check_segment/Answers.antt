@@ -1,4 +1,4 @@
-use Rattle.std.proofs.Common.{◌≡◌, ◌<◌, ◌+◌, ◌*◌, ◌∙◌, ap, sym, refl, Some, None, length, arith}
+use Rattle.std.proofs.Common.{◌≡◌, ◌<◌, ◌+◌, ◌*◌, ◌∙◌, ap, sym, refl, None, length, arith}
 use Rattle.wasm_validate.specs.Typing.{at}
 use Rattle.wasm_validate.specs.Broken.{DataMemory}
 use Rattle.wasm_validate.proofs.Lists.{at_none, item_in}

@@ -1,4 +1,4 @@
-use Rattle.std.proofs.Common.{◌*◌, sym, ap, ◌∙◌, subst, length}
+use Rattle.std.proofs.Common.{◌*◌, sym, ap, ◌∙◌, subst}
 use Rattle.wasm_validate.specs.ModuleRules.{IsValid}
 use Rattle.wasm_meaning.specs.Program.{least_pages}
 use Rattle.wasm_instance.specs.Segments.{AreWithin}

@@ -1,4 +1,4 @@
-use Rattle.std.proofs.Common.{◌≡◌, ◌∙◌, ◌++◌, ap, reverse}
+use Rattle.std.proofs.Common.{◌∙◌, ap, reverse}
 use Rattle.wasm_validate.specs.Operands.{Frames}
 use Rattle.wasm_validate.proofs.Heights.{frames_back}
 use Rattle.wasm_validate.proofs.operands.OperandStack.exit.Goals as goal

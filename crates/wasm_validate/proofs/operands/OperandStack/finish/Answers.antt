@@ -1,4 +1,4 @@
-use Rattle.std.proofs.Common.{◌≡◌, ◌<◌, ap, length, arith}
+use Rattle.std.proofs.Common.{◌<◌, ap, length, arith}
 use Rattle.wasm_validate.specs.Operands.{Frames}
 use Rattle.wasm_validate.proofs.Heights.{finish_over}
 use Rattle.wasm_validate.proofs.operands.OperandStack.finish.Goals as goal
