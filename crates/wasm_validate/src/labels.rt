@@ -1,6 +1,6 @@
 //! The labels round an instruction.
 
-ghost use Rattle.std.specs.Prelude.{◌≡◌, ◌∷◌, [], List, Option, Some, IfOk, IfErr, false};
+ghost use Rattle.std.specs.Prelude.{◌≡◌, ◌∷◌, [], List, Option, Some, IfOk, IfErr, IsTrue, false};
 ghost use Rattle.wasm_ast.specs.Code.{BlockType};
 ghost use Rattle.wasm_validate.specs.Algorithm.{each_label};
 ghost use Rattle.wasm_validate.specs.Missing.{AnyMissing};
@@ -67,7 +67,8 @@ impl Labels {
 
     /// Whether each of these is a label.
     pub fn have_all(&self, labels: &[u32]) -> bool
-        ensures { result ≡ false → AnyMissing self.now labels.now }
+        ensures missing { result ≡ false → AnyMissing self.now labels.now }
+        ensures all { IsTrue result → ¬ AnyMissing self.now labels.now }
     {
         for label in labels {
             if self.get(*label).is_none() {
