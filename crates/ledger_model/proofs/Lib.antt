@@ -9,3 +9,4 @@ pub mod Checks
 pub mod Flagged
 pub mod Steps
 pub mod Reruns
+pub mod Judged

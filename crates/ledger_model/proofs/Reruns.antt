@@ -10,6 +10,7 @@ use Rattle.ledger_model.specs.State.{state}
 use Rattle.ledger_model.specs.Flags.{entry_of, version_at, entries_at, reads_current, ranges_current, flag_at, HasFlags}
 use Rattle.ledger_model.specs.Execution.{KeySeen, RangeSeen, Done, Outcome, Exec, ReadsAlone, read_item, range_item, payload_of}
 use Rattle.ledger_model.specs.Serial.{apply, writes_of, serial_step, serial_from, serial, seen_key, read_key, seen_keys, range_keys, Agrees, AllAgree, IsHandedOut, AllHandedOut, AllSame}
+use Rattle.ledger_model.specs.Judged.{IsCurrent, AllCurrent}
 use Rattle.ledger_model.proofs.Views.{get-values_of, first-values_of}
 use Rattle.ledger_model.proofs.Steps.{state_after, state_same, state_empty}
 use Rattle.ledger_model.proofs.Versions.{Member, member_front, Within, apart_history, within_history}
@@ -91,14 +92,13 @@ handed_alike exec chain p h before inside =
     ]
 
 -- a VALID transaction at its place
-pub valid_rerun : (exec : Exec) → ReadsAlone exec → (chain : Chain) (before : List Placed) → Within before (history chain) → (t : Placed) (id : Proposal → Bytes) (endorsed : Bool) → t.flag ≡ flag_at id before endorsed t.envelope.payload → t.flag ≡ Valid → (h : IsHandedOut exec chain t.envelope.payload) → exec t.envelope.payload.proposal (values_of (state before)) ≡ exec t.envelope.payload.proposal (values_of (state (history h.begun)))
-valid_rerun exec alone chain before inside t id endorsed flag valid h =
-    let c = valid_current id before endorsed t.envelope.payload (sym flag ∙ valid) in
-    rerun_same exec alone t.envelope.payload (state before) (state (history h.begun)) (handed_alike exec chain t.envelope.payload h before inside) h.payload c.0 c.1
+pub valid_rerun : (exec : Exec) → ReadsAlone exec → (chain : Chain) (before : List Placed) → Within before (history chain) → (t : Placed) → IsCurrent before t.envelope.payload → (h : IsHandedOut exec chain t.envelope.payload) → exec t.envelope.payload.proposal (values_of (state before)) ≡ exec t.envelope.payload.proposal (values_of (state (history h.begun)))
+valid_rerun exec alone chain before inside t c h =
+    rerun_same exec alone t.envelope.payload (state before) (state (history h.begun)) (handed_alike exec chain t.envelope.payload h before inside) h.payload c.reads c.ranges
 
-pub valid_agrees : (exec : Exec) → ReadsAlone exec → (chain : Chain) (before : List Placed) → Within before (history chain) → (t : Placed) (id : Proposal → Bytes) (endorsed : Bool) → t.flag ≡ flag_at id before endorsed t.envelope.payload → t.flag ≡ Valid → (h : IsHandedOut exec chain t.envelope.payload) → Agrees (exec t.envelope.payload.proposal (values_of (state before))) t.envelope.payload
-valid_agrees exec alone chain before inside t id endorsed flag valid h =
-    subst (λ o. Agrees o t.envelope.payload) (sym (valid_rerun exec alone chain before inside t id endorsed flag valid h)) (run_agrees exec alone t.envelope.payload (state (history h.begun)) h.done h.payload)
+pub valid_agrees : (exec : Exec) → ReadsAlone exec → (chain : Chain) (before : List Placed) → Within before (history chain) → (t : Placed) → IsCurrent before t.envelope.payload → (h : IsHandedOut exec chain t.envelope.payload) → Agrees (exec t.envelope.payload.proposal (values_of (state before))) t.envelope.payload
+valid_agrees exec alone chain before inside t c h =
+    subst (λ o. Agrees o t.envelope.payload) (sym (valid_rerun exec alone chain before inside t c h)) (run_agrees exec alone t.envelope.payload (state (history h.begun)) h.done h.payload)
 
 done_writes : (o : Outcome) → o.ending ≡ Done → writes_of o ≡ o.seen.writes
 done_writes o e = ap (λ x. writes_of (record { ending = x; seen = o.seen })) e
@@ -118,29 +118,35 @@ step_same exec before t f =
       | false ↦ λ e. state_same before t e
     ] refl
 
-all_agree : (exec : Exec) → ReadsAlone exec → (id : Proposal → Bytes) (endorsed : Envelope → Bool) (chain : Chain) (before rest : List Placed) → before ++ rest ≡ history chain → HasFlags id endorsed before rest → AllHandedOut exec chain rest → AllAgree exec (values_of (state before)) rest × (values_of (state (history chain)) ≡ serial_from exec (values_of (state before)) rest)
-all_agree exec alone id endorsed chain before [] is flags handed = (tt, ap (λ ts. values_of (state ts)) (sym is ∙ append-nil before))
-all_agree exec alone id endorsed chain before (t ∷ rest) is flags handed =
+all_agree : (exec : Exec) → ReadsAlone exec → (chain : Chain) (before rest : List Placed) → before ++ rest ≡ history chain → AllCurrent before rest → AllHandedOut exec chain rest → AllAgree exec (values_of (state before)) rest × (values_of (state (history chain)) ≡ serial_from exec (values_of (state before)) rest)
+all_agree exec alone chain before [] is current handed = (tt, ap (λ ts. values_of (state ts)) (sym is ∙ append-nil before))
+all_agree exec alone chain before (t ∷ rest) is current handed =
     let inside : Within before (history chain) = λ u m. subst (λ ts. Member u ts) is (member_front u before (t ∷ rest) m) in
-    let agrees : t.flag ≡ Valid → Agrees (exec t.envelope.payload.proposal (values_of (state before))) t.envelope.payload = λ v. valid_agrees exec alone chain before inside t id (endorsed t.envelope) flags.0 v (handed.0 v) in
+    let agrees : t.flag ≡ Valid → Agrees (exec t.envelope.payload.proposal (values_of (state before))) t.envelope.payload = λ v. valid_agrees exec alone chain before inside t (current.0 v) (handed.0 v) in
     let step = step_same exec before t agrees in
-    let more = all_agree exec alone id endorsed chain (before ++ t ∷ []) rest (append_assoc before (t ∷ []) rest ∙ is) flags.1 handed.1 in
+    let more = all_agree exec alone chain (before ++ t ∷ []) rest (append_assoc before (t ∷ []) rest ∙ is) current.1 handed.1 in
     ((agrees, subst (λ m. AllAgree exec m rest) step more.0), more.1 ∙ ap (λ m. serial_from exec m rest) step)
 
-pub reruns_and_map : (exec : Exec) (id : Proposal → Bytes) (endorsed : Envelope → Bool) (chain : Chain) → ReadsAlone exec → HasFlags id endorsed [] (history chain) → AllHandedOut exec chain (history chain) → AllAgree exec empty (history chain) × (values_of (state (history chain)) ≡ serial exec (history chain))
-reruns_and_map exec id endorsed chain alone flags handed =
-    let h = all_agree exec alone id endorsed chain [] (history chain) refl flags handed in
+pub reruns_and_map : (exec : Exec) (chain : Chain) → ReadsAlone exec → AllCurrent [] (history chain) → AllHandedOut exec chain (history chain) → AllAgree exec empty (history chain) × (values_of (state (history chain)) ≡ serial exec (history chain))
+reruns_and_map exec chain alone current handed =
+    let h = all_agree exec alone chain [] (history chain) refl current handed in
     (subst (λ m. AllAgree exec m (history chain)) state_empty h.0, h.1 ∙ ap (λ m. serial_from exec m (history chain)) state_empty)
 
-all_same : (exec : Exec) → ReadsAlone exec → (id : Proposal → Bytes) (endorsed : Envelope → Bool) (chain : Chain) (before rest : List Placed) → before ++ rest ≡ history chain → HasFlags id endorsed before rest → AllHandedOut exec chain rest → AllSame exec chain (values_of (state before)) rest
-all_same exec alone id endorsed chain before [] is flags handed = tt
-all_same exec alone id endorsed chain before (t ∷ rest) is flags handed =
+all_same : (exec : Exec) → ReadsAlone exec → (chain : Chain) (before rest : List Placed) → before ++ rest ≡ history chain → AllCurrent before rest → AllHandedOut exec chain rest → AllSame exec chain (values_of (state before)) rest
+all_same exec alone chain before [] is current handed = tt
+all_same exec alone chain before (t ∷ rest) is current handed =
     let inside : Within before (history chain) = λ u m. subst (λ ts. Member u ts) is (member_front u before (t ∷ rest) m) in
-    let agrees : t.flag ≡ Valid → Agrees (exec t.envelope.payload.proposal (values_of (state before))) t.envelope.payload = λ v. valid_agrees exec alone chain before inside t id (endorsed t.envelope) flags.0 v (handed.0 v) in
+    let agrees : t.flag ≡ Valid → Agrees (exec t.envelope.payload.proposal (values_of (state before))) t.envelope.payload = λ v. valid_agrees exec alone chain before inside t (current.0 v) (handed.0 v) in
     let step = step_same exec before t agrees in
-    let more = all_same exec alone id endorsed chain (before ++ t ∷ []) rest (append_assoc before (t ∷ []) rest ∙ is) flags.1 handed.1 in
-    ((λ v h. valid_rerun exec alone chain before inside t id (endorsed t.envelope) flags.0 v h), subst (λ m. AllSame exec chain m rest) step more)
+    let more = all_same exec alone chain (before ++ t ∷ []) rest (append_assoc before (t ∷ []) rest ∙ is) current.1 handed.1 in
+    ((λ v h. valid_rerun exec alone chain before inside t (current.0 v) h), subst (λ m. AllSame exec chain m rest) step more)
 
-pub reruns_same : (exec : Exec) (id : Proposal → Bytes) (endorsed : Envelope → Bool) (chain : Chain) → ReadsAlone exec → HasFlags id endorsed [] (history chain) → AllHandedOut exec chain (history chain) → AllSame exec chain empty (history chain)
-reruns_same exec id endorsed chain alone flags handed =
-    subst (λ m. AllSame exec chain m (history chain)) state_empty (all_same exec alone id endorsed chain [] (history chain) refl flags handed)
+pub reruns_same : (exec : Exec) (chain : Chain) → ReadsAlone exec → AllCurrent [] (history chain) → AllHandedOut exec chain (history chain) → AllSame exec chain empty (history chain)
+reruns_same exec chain alone current handed =
+    subst (λ m. AllSame exec chain m (history chain)) state_empty (all_same exec alone chain [] (history chain) refl current handed)
+
+-- a chain with the written flags is current
+pub flags_current : (id : Proposal → Bytes) (endorsed : Envelope → Bool) (earlier ts : List Placed) → HasFlags id endorsed earlier ts → AllCurrent earlier ts
+flags_current id endorsed earlier [] h = tt
+flags_current id endorsed earlier (t ∷ ts) h =
+    (λ v. let c = valid_current id earlier (endorsed t.envelope) t.envelope.payload (sym h.0 ∙ v) in record { reads = c.0; ranges = c.1 }, flags_current id endorsed (earlier ++ t ∷ []) ts h.1)

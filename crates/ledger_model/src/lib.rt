@@ -7,6 +7,7 @@
 //! - `specs/Flags.antt`: the flag of a transaction at its place.
 //! - `specs/Execution.antt`: one execution of a chaincode on a plain state, and its payload.
 //! - `specs/Serial.antt`: the serial run, and when a transaction agrees with its rerun.
+//! - `specs/Judged.antt`: chains whose flags any rule gives, and chains whose VALID transactions are current.
 //!
 //! The id of a transaction stays abstract: a function from proposals to bytes. The ledger's digest of a
 //! proposal's bytes is one.
@@ -22,6 +23,7 @@ ghost use Rattle.ledger_model.specs.State.{state, state_at};
 ghost use Rattle.ledger_model.specs.Flags.{version_at, entries_at, HasFlags, flags_after, flagged};
 ghost use Rattle.ledger_model.specs.Execution.{Exec, ReadsAlone};
 ghost use Rattle.ledger_model.specs.Serial.{AllHandedOut, AllAgree, AllSame, serial};
+ghost use Rattle.ledger_model.specs.Judged.{AllCurrent};
 
 /// The state as a map has at each key what its last writer left there.
 pub fn state_is_by_the_last_writer()
@@ -55,4 +57,12 @@ pub fn reruns_agree()
     ensures agree { (exec : Exec) (id : Proposal → Bytes) (endorsed : Envelope → Bool) (chain : Chain) → ReadsAlone exec → HasFlags id endorsed [] (history chain) → AllHandedOut exec chain (history chain) → AllAgree exec empty (history chain) }
     ensures same { (exec : Exec) (id : Proposal → Bytes) (endorsed : Envelope → Bool) (chain : Chain) → ReadsAlone exec → HasFlags id endorsed [] (history chain) → AllHandedOut exec chain (history chain) → AllSame exec chain empty (history chain) }
     ensures map { (exec : Exec) (id : Proposal → Bytes) (endorsed : Envelope → Bool) (chain : Chain) → ReadsAlone exec → HasFlags id endorsed [] (history chain) → AllHandedOut exec chain (history chain) → values_of (state (history chain)) ≡ serial exec (history chain) }
+{}
+
+/// The same of every chain whose VALID transactions are current at their places, whatever rule gave its
+/// flags.
+pub fn current_reruns_agree()
+    ensures agree { (exec : Exec) (chain : Chain) → ReadsAlone exec → AllCurrent [] (history chain) → AllHandedOut exec chain (history chain) → AllAgree exec empty (history chain) }
+    ensures same { (exec : Exec) (chain : Chain) → ReadsAlone exec → AllCurrent [] (history chain) → AllHandedOut exec chain (history chain) → AllSame exec chain empty (history chain) }
+    ensures map { (exec : Exec) (chain : Chain) → ReadsAlone exec → AllCurrent [] (history chain) → AllHandedOut exec chain (history chain) → values_of (state (history chain)) ≡ serial exec (history chain) }
 {}

@@ -1,0 +1,5 @@
+pub mod Answers
+pub mod System
+pub mod Inside
+pub mod Headline
+pub mod Audit
