@@ -2,6 +2,12 @@ pub mod Words
 pub mod Plugs
 pub mod Marking
 pub mod Leaves
+pub mod Operands
+pub mod Numeric
+pub mod Globals
+pub mod Accesses
+pub mod FuncTypes
+pub mod Indirect
 pub mod Entry
 pub mod Branches
 pub mod Calls

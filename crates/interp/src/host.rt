@@ -18,6 +18,10 @@ pub trait Host {
     ghost records: { Self → Self.Records };
     // What it answers.
     ghost answers: { Self → Answering Self.Records };
+    // What else it was opened with.
+    ghost Context: { Type 0 };
+    // What it was opened with, which no call changes.
+    ghost context: { Self → Self.Context };
 
     /// One call, with its arguments in order and the memory, which it may write.
     ///
@@ -30,5 +34,6 @@ pub trait Host {
     ) -> Result<HostAnswer, AllocError>
         requires { length args.now ≡ arity which }
         ensures answer { IfOk result (λ a. Self.answers self.old which args.now memory.old (Self.records self.old) ≡ record { answer = a; memory = memory.new; records = Self.records self.new }) }
-        ensures stays { IfOk result (λ _. Self.answers self.new ≡ Self.answers self.old) };
+        ensures stays { IfOk result (λ _. Self.answers self.new ≡ Self.answers self.old) }
+        ensures keeps { IfOk result (λ _. Self.context self.new ≡ Self.context self.old) };
 }

@@ -5,10 +5,14 @@ use seq::Seq;
 use std::alloc::{AllocError, Global};
 use std::test::Fail;
 use wasm_ast::{
-    Block, Body, Export, ExternalKind, Func, FuncType, Import, ImportKind, Instr, Module, Name,
-    Trap, ValueType,
+    BinaryOp, Block, Body, Export, ExternalKind, Func, FuncType, Import, ImportKind, Instr, Limits,
+    Module, Name, Trap, ValueType,
 };
 use wasm_validate::validate;
+
+mod instructions;
+mod tables;
+mod traps;
 
 /// A host that answers 5.
 #[derive(Drop)]
@@ -23,6 +27,10 @@ impl Host for Five {
     ghost records = { λ _. 0 };
 
     ghost answers = { λ _ which args memory records. record { answer = answer.Value 5; memory = memory; records = 0 } };
+
+    ghost Context = { Unit {0} };
+
+    ghost context = { λ _. tt };
 
     fn call(
         &mut self,
@@ -66,10 +74,24 @@ fn module(
         types: Seq::new(types),
         imports: Seq::new(imports),
         functions: Seq::new(vec![in alloc; function]?),
+        tables: Seq::empty(alloc),
         memories: Seq::empty(alloc),
+        globals: Seq::empty(alloc),
         exports: Seq::new(vec![in alloc; export]?),
+        elements: Seq::empty(alloc),
         data: Seq::empty(alloc),
     })
+}
+
+/// A module of one function with these instructions, and one page of memory without a greatest size.
+fn plain(alloc: Global, body: Vec<Instr>) -> Result<Module, AllocError> {
+    let page = Limits {
+        least: 1,
+        greatest: None,
+    };
+    let mut made = module(alloc, Vec::new(alloc), 0, body)?;
+    made.memories = Seq::new(vec![in alloc; page]?);
+    Ok(made)
 }
 
 fn outcome(alloc: Global, module: Module, fuel: u64) -> Result<Outcome, Fail> {
@@ -83,7 +105,7 @@ fn counting(alloc: Global) -> Result<Module, AllocError> {
     let turn = vec![in alloc;
         Instr::LocalGet(0),
         Instr::I32Const(1),
-        Instr::I32Add,
+        Instr::I32Binary(BinaryOp::Add),
         Instr::LocalTee(0),
         Instr::BrIf(0),
     ]?;
@@ -97,7 +119,7 @@ fn counting(alloc: Global) -> Result<Module, AllocError> {
         Instr::Loop(Box::new(alloc, turns)?),
         Instr::I32Const(7),
         Instr::I32Const(35),
-        Instr::I32Add,
+        Instr::I32Binary(BinaryOp::Add),
     ]?;
     module(alloc, Vec::new(alloc), 0, body)
 }

@@ -3,6 +3,7 @@
 ghost use Rattle.std.specs.Prelude.{◌≡◌};
 ghost use Rattle.wasm_ast.specs.View.{code_of};
 
+use crate::operators::{BinaryOp, CompareOp, ConvertOp, LoadOp, StoreOp, UnaryOp};
 use crate::types::BlockType;
 use seq::Seq;
 use std::marker::Model;
@@ -21,12 +22,39 @@ pub enum Instr {
     BrTable(Box<BranchTable>),
     Return,
     Call(u32),
+    /// Of a function of the type at this index, which an operand chooses from the table.
+    CallIndirect(u32),
     Drop,
+    Select,
     LocalGet(u32),
     LocalSet(u32),
     LocalTee(u32),
+    GlobalGet(u32),
+    GlobalSet(u32),
+    Load(LoadOp, MemoryArgument),
+    Store(StoreOp, MemoryArgument),
+    MemorySize,
+    MemoryGrow,
     I32Const(u32),
-    I32Add,
+    I64Const(u64),
+    /// Whether a word is 0.
+    I32Eqz,
+    I64Eqz,
+    I32Compare(CompareOp),
+    I64Compare(CompareOp),
+    I32Unary(UnaryOp),
+    I64Unary(UnaryOp),
+    I32Binary(BinaryOp),
+    I64Binary(BinaryOp),
+    Convert(ConvertOp),
+}
+
+/// Where a load or a store accesses the memory: at its operand plus `offset`. The address is said to be a
+/// multiple of 2 to the power of `align`; this is a hint without effect.
+#[derive(Clone, Copy, Debug, PartialEq, Eq)]
+pub struct MemoryArgument {
+    pub align: u32,
+    pub offset: u32,
 }
 
 /// The body of a `block` or a `loop`, and what the block leaves.

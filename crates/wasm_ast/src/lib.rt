@@ -15,11 +15,13 @@ mod position;
 mod trap;
 mod types;
 
-pub use body::{Block, Body, BranchTable, Conditional, Instr};
+pub use body::{Block, Body, BranchTable, Conditional, Instr, MemoryArgument};
 pub use host_call::{HostAnswer, HostCall};
-pub use module::{DataSegment, Export, ExternalKind, Func, Import, ImportKind, Module};
+pub use module::{
+    DataSegment, ElementSegment, Export, ExternalKind, Func, Global, Import, ImportKind, Module,
+};
 pub use name::Name;
-pub use operators::{BinaryOp, CompareOp, ConvertOp, UnaryOp};
+pub use operators::{BinaryOp, CompareOp, ConvertOp, LoadOp, StoreOp, UnaryOp};
 pub use position::Position;
 pub use trap::Trap;
 pub use types::{BlockType, FuncType, GlobalType, Limits, ValueType};
@@ -37,6 +39,10 @@ mod tests {
         let name = Name::new(String::from_str(rt.alloc(), "invoke")?);
         assert_eq!(rt; name.as_str(), "invoke");
         assert_eq!(rt; Trap::CallDepth.number(), 8);
+        assert_eq!(rt; LoadOp::I64From16S.width(), 2);
+        assert_eq!(rt; LoadOp::I64From16S.value_type(), ValueType::I64);
+        assert_eq!(rt; StoreOp::I32To8.width(), 1);
+        assert_eq!(rt; StoreOp::I32To8.value_type(), ValueType::I32);
         Ok(())
     }
 }

@@ -34,6 +34,13 @@ pub struct Func {
     pub body: Body,
 }
 
+/// A global, with the expression of the value that it starts with.
+#[derive(Debug, Drop)]
+pub struct Global {
+    pub global_type: GlobalType,
+    pub initializer: Body,
+}
+
 /// What an export names.
 #[derive(Clone, Copy, Debug, PartialEq, Eq)]
 pub enum ExternalKind {
@@ -51,6 +58,16 @@ pub struct Export {
     pub index: u32,
 }
 
+/// Functions that a table starts with.
+#[derive(Debug, Drop)]
+pub struct ElementSegment {
+    pub table: u32,
+    /// The expression of the place where they begin.
+    pub offset: Body,
+    /// The indices of the functions.
+    pub functions: Seq<u32>,
+}
+
 /// Bytes that a memory starts with.
 #[derive(Debug, Drop)]
 pub struct DataSegment {
@@ -66,7 +83,10 @@ pub struct Module {
     pub types: Seq<FuncType>,
     pub imports: Seq<Import>,
     pub functions: Seq<Func>,
+    pub tables: Seq<Limits>,
     pub memories: Seq<Limits>,
+    pub globals: Seq<Global>,
     pub exports: Seq<Export>,
+    pub elements: Seq<ElementSegment>,
     pub data: Seq<DataSegment>,
 }

@@ -1,4 +1,4 @@
--- The reading functions of functions and data read their spellings.
+-- The reading functions of globals, functions and segments read their spellings.
 use Rattle.std.proofs.Common.{◌≡◌, ℕ, zero, suc, ◌+◌, ◌-◌, ◌^◌, ◌≤◌, Bool, cond, eqb, List, [], ◌∷◌, ◌++◌, length, map, replicate, Option, Some, None, refl, sym, ap, ap₂, subst, ◌∙◌, append_assoc, arith}
 use Rattle.std.proofs.lemmas.Bool.{eqb-true, eq-eqb}
 use Rattle.std.proofs.lemmas.Option.{some_pair_parts}
@@ -12,14 +12,18 @@ use Rattle.wasm_bytes.specs.Spelling.{IsU32, IsList}
 use Rattle.wasm_bytes.specs.Reading.{u32_at, list_at}
 use Rattle.wasm_ast.specs.Code.{Code}
 use Rattle.wasm_ast.specs.declared.types.ValueType.{ValueType}
+use Rattle.wasm_ast.specs.declared.types.GlobalType.{GlobalType}
+use Rattle.wasm_ast.specs.declared.module.Global.{Global}
+use Rattle.wasm_ast.specs.declared.module.ElementSegment.{ElementSegment}
 use Rattle.wasm_ast.specs.declared.module.Func.{Func}
 use Rattle.wasm_ast.specs.declared.module.DataSegment.{DataSegment}
-use Rattle.wasm_decode.specs.TypeReading.{value_type_at}
+use Rattle.wasm_decode.specs.TypeSpelling.{IsGlobalType}
+use Rattle.wasm_decode.specs.TypeReading.{value_type_at, global_type_at}
 use Rattle.wasm_decode.specs.CodeSpelling.{IsExpression}
 use Rattle.wasm_decode.specs.CodeReading.{expression_at}
-use Rattle.wasm_decode.specs.FunctionSpelling.{Group, IsGroup, locals_of, IsLocals, IsFunctionCode, IsFunctions, IsDataSegment}
-use Rattle.wasm_decode.specs.FunctionReading.{groups_at, locals_at, code_parts_at, code_at, codes_at, functions_at, data_at}
-use Rattle.wasm_decode.proofs.TypeLaws.{u32_reads, number_reads, list_reads, value_type_reads}
+use Rattle.wasm_decode.specs.FunctionSpelling.{Group, IsGroup, locals_of, IsLocals, IsFunctionCode, IsFunctions, IsGlobal, IsElementSegment, IsDataSegment}
+use Rattle.wasm_decode.specs.FunctionReading.{groups_at, locals_at, code_parts_at, code_at, codes_at, functions_at, global_at, element_at, data_at}
+use Rattle.wasm_decode.proofs.TypeLaws.{u32_reads, number_reads, list_reads, value_type_reads, global_type_reads}
 use Rattle.wasm_decode.proofs.CodeAgain.{expression_reads}
 
 -- ---- locals
@@ -156,3 +160,20 @@ data_reads =
     (λ memory. then_reads (λ (d : DataSegment). Any d × (d.memory ≡ memory)) IsExpression expression_at (λ d. d.offset) _ (λ offset bytes. list_at (2 ^ 32 - 1) byte_at bytes >>= λ bytes. Some (record { memory = memory; offset = offset; bytes = bytes.0 }, bytes.1)) expression_reads
     (λ offset. last_reads (λ (d : DataSegment). (Any d × (d.memory ≡ memory)) × (d.offset ≡ offset)) (IsList (2 ^ 32 - 1) IsByte) (list_at (2 ^ 32 - 1) byte_at) (λ d. d.bytes) (λ bytes. record { memory = memory; offset = offset; bytes = bytes }) (list_reads (2 ^ 32 - 1) IsByte byte_at byte_reads)
     (λ bytes. (((tt, refl), refl), refl)) (λ d k. ap₂ (λ (m : ℕ) (o : Code). let made : DataSegment = record { memory = m; offset = o; bytes = d.bytes } in made) (sym k.0.1) (sym k.1))))
+
+-- ---- globals and element segments
+
+pub global_reads : Reads IsGlobal global_at
+unfolding global_at
+global_reads =
+    then_reads Any IsGlobalType global_type_at (λ (g : Global). g.global_type) _ (λ type bytes. expression_at bytes >>= λ init. Some (record { global_type = type; initializer = init.0 }, init.1)) global_type_reads
+    (λ type. last_reads (λ (g : Global). Any g × (g.global_type ≡ type)) IsExpression expression_at (λ g. g.initializer) (λ init. record { global_type = type; initializer = init }) expression_reads (λ init. ((tt, refl), refl))
+    (λ g k. ap (λ (type : GlobalType). let made : Global = record { global_type = type; initializer = g.initializer } in made) (sym k.1)))
+
+pub element_reads : Reads IsElementSegment element_at
+unfolding element_at
+element_reads =
+    then_reads Any IsU32 u32_at (λ (e : ElementSegment). e.table) _ (λ table bytes. expression_at bytes >>= λ offset. (list_at 1024 u32_at offset.1 >>= λ functions. Some (record { table = table; offset = offset.0; functions = functions.0 }, functions.1))) u32_reads
+    (λ table. then_reads (λ (e : ElementSegment). Any e × (e.table ≡ table)) IsExpression expression_at (λ e. e.offset) _ (λ offset bytes. list_at 1024 u32_at bytes >>= λ functions. Some (record { table = table; offset = offset; functions = functions.0 }, functions.1)) expression_reads
+    (λ offset. last_reads (λ (e : ElementSegment). (Any e × (e.table ≡ table)) × (e.offset ≡ offset)) (IsList 1024 IsU32) (list_at 1024 u32_at) (λ e. e.functions) (λ functions. record { table = table; offset = offset; functions = functions }) (list_reads 1024 IsU32 u32_at u32_reads)
+    (λ functions. (((tt, refl), refl), refl)) (λ e k. ap₂ (λ (t : ℕ) (o : Code). let made : ElementSegment = record { table = t; offset = o; functions = e.functions } in made) (sym k.0.1) (sym k.1))))

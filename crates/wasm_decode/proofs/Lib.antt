@@ -1,3 +1,5 @@
+pub mod Rows
+pub mod OperatorRows
 pub mod Loop
 pub mod Groups
 pub mod Turns
@@ -8,4 +10,8 @@ pub mod OpLaws
 pub mod CodeTakes
 pub mod CodeAgain
 pub mod FunctionLaws
+pub mod Built
+pub mod Order
+pub mod Sequence
 pub mod ModuleLaws
+pub mod ModuleTheorem

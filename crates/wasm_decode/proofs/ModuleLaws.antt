@@ -1,6 +1,5 @@
 -- The module that is read is spelled so, and each that is spelled is read.
-use Rattle.std.proofs.Common.{◌≡◌, ℕ, zero, suc, ◌+◌, ◌-◌, ◌<◌, ◌≤◌, false, cond, eqb, ltb, List, [], ◌∷◌, ◌++◌, length, Some, None, Result, Ok, Err, refl, sym, ap, subst, ◌∙◌, arith}
-use Rattle.std.specs.Prelude.{IfOk}
+use Rattle.std.proofs.Common.{◌≡◌, ℕ, zero, suc, ◌+◌, ◌-◌, ◌<◌, ◌≤◌, false, cond, eqb, ltb, List, [], ◌∷◌, ◌++◌, length, Some, None, refl, sym, ap, subst, ◌∙◌, arith}
 use Rattle.std.proofs.lemmas.Bool.{eqb-true, eq-eqb, ltb-true, ltb-false, lt-ltb, le-ltb}
 use Rattle.std.proofs.lemmas.Option.{some_pair_parts, cond_some, same_Some}
 use Rattle.std.proofs.lemmas.List.{length-append}
@@ -15,19 +14,16 @@ use Rattle.wasm_bytes.specs.Spelling.{IsU32, IsName}
 use Rattle.wasm_bytes.specs.Reading.{u32_at, name_at, sized_at}
 use Rattle.wasm_bytes.specs.Names.{name_reads}
 use Rattle.wasm_ast.specs.declared.module.Module.{Module}
-use Rattle.wasm_decode.specs.declared.fault.DecodeFault.{DecodeFault}
 use Rattle.wasm_decode.specs.declared.sections.Kind.{Kind}
-use Rattle.wasm_decode.specs.declared.sections.Kind.TheVariants.{Types, Imports, TypeIndices, Memories, Exports, Functions, Data}
+use Rattle.wasm_decode.specs.declared.sections.Kind.TheVariants.{Types, Imports, TypeIndices, Tables, Memories, Globals, Exports, Elements, Functions, Data}
 use Rattle.wasm_decode.specs.declared.sections.Parts.{Parts}
-use Rattle.wasm_decode.specs.Parses.{Makes}
-use Rattle.wasm_decode.specs.Tables.{section_rows}
 use Rattle.wasm_decode.specs.PartsOf.{no_parts}
-use Rattle.wasm_decode.specs.SectionReading.{fill_at, custom_at, section_at, sections_at}
-use Rattle.wasm_decode.specs.ModuleSpelling.{Fills, Section, custom, known, IsSection, Builds, IsModule}
+use Rattle.wasm_decode.specs.SectionReading.{section_rows, fill_at, custom_at, section_at, sections_at}
+use Rattle.wasm_decode.proofs.Built.{Fills, Section, custom, known, IsOne, Builds, IsBuilt}
 use Rattle.wasm_decode.specs.ModuleReading.{header_bytes, module_at}
-use Rattle.wasm_decode.proofs.TypeLaws.{u32_reads, list_reads, func_type_reads, memory_type_reads}
+use Rattle.wasm_decode.proofs.TypeLaws.{u32_reads, list_reads, func_type_reads, table_type_reads, memory_type_reads}
 use Rattle.wasm_decode.proofs.ExternalLaws.{import_reads, export_reads}
-use Rattle.wasm_decode.proofs.FunctionLaws.{functions_reads, data_reads}
+use Rattle.wasm_decode.proofs.FunctionLaws.{global_reads, functions_reads, element_reads, data_reads}
 use Rattle.wasm_decode.proofs.Walks.{another, all_read}
 
 -- ---- sections
@@ -36,8 +32,11 @@ fill_reads : (k : Kind) (p : Parts) → Reads (Fills k p) (fill_at k p)
 fill_reads Types p = made_reads _ _ _ (list_reads 1024 _ _ func_type_reads)
 fill_reads Imports p = made_reads _ _ _ (list_reads 64 _ _ import_reads)
 fill_reads TypeIndices p = made_reads _ _ _ (list_reads 1024 _ _ u32_reads)
+fill_reads Tables p = made_reads _ _ _ (list_reads 64 _ _ table_type_reads)
 fill_reads Memories p = made_reads _ _ _ (list_reads 64 _ _ memory_type_reads)
+fill_reads Globals p = made_reads _ _ _ (list_reads 64 _ _ global_reads)
 fill_reads Exports p = made_reads _ _ _ (list_reads 64 _ _ export_reads)
+fill_reads Elements p = made_reads _ _ _ (list_reads 64 _ _ element_reads)
 fill_reads Functions p = made_reads _ _ _ (functions_reads p.type_indices)
 fill_reads Data p = made_reads _ _ _ (list_reads 64 _ _ data_reads)
 
@@ -60,7 +59,7 @@ adds last p (known c k content) ss end b = (c, b.0, (b.1, b.2, b.3, refl), b.4)
 record IsNext (last : ℕ) (p : Parts) (bytes : List ℕ) (id : ℕ) (new : Parts) (rest : List ℕ) : Type 0 where
   section : Section
   text : List ℕ
-  spelled : IsSection section text
+  spelled : IsOne section text
   split : bytes ≡ text ++ rest
   added : Adds last p section id new
 
@@ -103,7 +102,7 @@ section_takes last p (b ∷ bytes) id new rest e =
     })
     e
 
-section_again : (last : ℕ) (p : Parts) (s : Section) (text : List ℕ) (id : ℕ) (new : Parts) (rest : List ℕ) → IsSection s text → Adds last p s id new → (0 < length text) × (section_at last p (text ++ rest) ≡ Some ((id, new), rest))
+section_again : (last : ℕ) (p : Parts) (s : Section) (text : List ℕ) (id : ℕ) (new : Parts) (rest : List ℕ) → IsOne s text → Adds last p s id new → (0 < length text) × (section_at last p (text ++ rest) ≡ Some ((id, new), rest))
 unfolding section_at
 section_again last p (custom content) text id new rest h a =
     let c = h.3 in
@@ -119,7 +118,7 @@ section_again last p (known b k content) text id new rest h a =
     let filled = whole_again (Fills k p) (fill_at k p) (fill_reads k p) content new a.2 in
     (rw whole (omega arith), ap (λ (x : List ℕ). section_at last p (x ++ rest)) whole ∙ rw (row_is_not section_rows b 0 k refl found, found, lt-ltb last b a.1, measured_again IsU32 u32_at u32_reads (whole_at (fill_at k p)) content h.1 rest new filled sized, a.3) refl)
 
-sections_take : (n last : ℕ) (p : Parts) (bytes : List ℕ) (end : Parts) → sections_at n last p bytes ≡ Some end → (ss : List Section) × Repeats IsSection ss bytes × Builds last p ss end
+sections_take : (n last : ℕ) (p : Parts) (bytes : List ℕ) (end : Parts) → sections_at n last p bytes ≡ Some end → (ss : List Section) × Repeats IsOne ss bytes × Builds last p ss end
 unfolding sections_at
 sections_take zero last p [] end e = ([], refl, same_Some p end e)
 sections_take zero last p (b ∷ bytes) end e = absurd cc
@@ -130,7 +129,7 @@ sections_take (suc n) last p (b ∷ bytes) end e =
     let i = sections_take n s.0.0.0 s.0.0.1 s.0.1 end s.2 in
     (t.section ∷ i.0, (t.text, s.0.1, t.spelled, i.1, t.split), builds last p t.section s.0.0.0 s.0.0.1 i.0 end t.added i.2)
 
-sections_again : (ss : List Section) (n last : ℕ) (p : Parts) (bytes : List ℕ) (end : Parts) → Repeats IsSection ss bytes → Builds last p ss end → length bytes ≤ n → sections_at n last p bytes ≡ Some end
+sections_again : (ss : List Section) (n last : ℕ) (p : Parts) (bytes : List ℕ) (end : Parts) → Repeats IsOne ss bytes → Builds last p ss end → length bytes ≤ n → sections_at n last p bytes ≡ Some end
 sections_again [] n last p bytes end h b le = all_read n last p bytes h ∙ ap (λ (x : Parts). Some x) b
 sections_again (s ∷ ss) n last p bytes end h b le =
     let a = adds last p s ss end b in
@@ -141,9 +140,9 @@ sections_again (s ∷ ss) n last p bytes end h b le =
 
 -- ---- the module
 
-pub module_takes : (bytes : List ℕ) (m : Module) → module_at bytes ≡ Some m → IsModule m bytes
+pub module_built : (bytes : List ℕ) (m : Module) → module_at bytes ≡ Some m → (length bytes ≤ 262144) × IsBuilt m bytes
 unfolding module_at
-module_takes bytes m e =
+module_built bytes m e =
     let whole = λ (p : Parts). cond (eqb (length p.type_indices) (length p.«module».functions)) (Some p.«module») None in
     let after = λ (h : Unit {0} × List ℕ). sections_at (length h.1) 0 no_parts h.1 >>= whole in
     let short = refused_past (ltb 262144 (length bytes)) (text_at header_bytes bytes >>= after) m e in
@@ -153,20 +152,22 @@ module_takes bytes m e =
     let g = cond_some (eqb (length p.type_indices) (length p.«module».functions)) p.«module» m s.2 in
     let t = sections_take (length h.0.1) 0 no_parts h.0.1 p s.1 in
     let front = (text_reads header_bytes).takes bytes h.0.0 h.0.1 h.1 in
-    let spelled : IsModule p.«module» bytes = (ltb-false 262144 (length bytes) short.0, t.0, p.type_indices, (front.1, h.0.1, front.2, t.1, front.3), t.2, eqb-true _ _ g.0) in
-    subst (λ (x : Module). IsModule x bytes) g.1 spelled
+    let built : IsBuilt p.«module» bytes = record {
+      sections = t.0;
+      type_indices = p.type_indices;
+      text = h.0.1;
+      split = (front.1, h.0.1, front.2, refl, front.3);
+      spelled = t.1;
+      builds = t.2;
+      counted = eqb-true _ _ g.0;
+    } in
+    (ltb-false 262144 (length bytes) short.0, subst (λ (x : Module). IsBuilt x bytes) g.1 built)
 
-pub module_again : (bytes : List ℕ) (m : Module) → IsModule m bytes → module_at bytes ≡ Some m
+pub module_read : (bytes : List ℕ) (m : Module) → length bytes ≤ 262144 → IsBuilt m bytes → module_at bytes ≡ Some m
 unfolding module_at
-module_again bytes m h =
-    let f = h.3 in
-    let short : ltb 262144 (length bytes) ≡ false = le-ltb 262144 (length bytes) h.0 in
-    let header : text_at header_bytes bytes ≡ Some (tt, f.1) = ap (text_at header_bytes) f.4 ∙ (text_reads header_bytes).again tt f.0 f.1 tt f.2 in
-    rw (short, header, sections_again h.1 (length f.1) 0 no_parts f.1 (record { type_indices = h.2; «module» = m }) f.3 h.4 (omega arith), eq-eqb _ _ h.5) refl
-
-pub is_found : (bytes : List ℕ) (r : Result Module DecodeFault) → Makes (λ m. m) r (module_at bytes) → IfOk r (λ m. IsModule m bytes)
-is_found bytes (Ok m) h = module_takes bytes m h
-is_found bytes (Err e) h = tt
-
-pub at_most_one : (bytes : List ℕ) (a b : Module) → IsModule a bytes → IsModule b bytes → a ≡ b
-at_most_one bytes a b h k = same_Some a b (sym (module_again bytes a h) ∙ module_again bytes b k)
+module_read bytes m le h =
+    let f = h.split in
+    let short : ltb 262144 (length bytes) ≡ false = le-ltb 262144 (length bytes) le in
+    let whole : bytes ≡ f.0 ++ h.text = f.4 ∙ ap (λ (x : List ℕ). f.0 ++ x) f.3 in
+    let header : text_at header_bytes bytes ≡ Some (tt, h.text) = ap (text_at header_bytes) whole ∙ (text_reads header_bytes).again tt f.0 h.text tt f.2 in
+    rw (short, header, sections_again h.sections (length h.text) 0 no_parts h.text (record { type_indices = h.type_indices; «module» = m }) h.spelled h.builds (omega arith), eq-eqb _ _ h.counted) refl

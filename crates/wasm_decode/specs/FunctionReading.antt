@@ -1,11 +1,13 @@
--- Reading functions and data from left to right.
+-- Reading globals, functions and segments from left to right.
 use Rattle.std.specs.Prelude.{ℕ, zero, suc, ◌-◌, ◌^◌, List, [], ◌∷◌, ◌++◌, length, replicate, Option, Some, None, ◌==◌, if◌then◌else◌}
 use Rattle.grammar.specs.Reading.{◌>>=◌, byte_at, at_most, whole_at}
 use Rattle.wasm_bytes.specs.Reading.{u32_at, list_at, sized_at}
 use Rattle.wasm_ast.specs.declared.types.ValueType.{ValueType}
 use Rattle.wasm_ast.specs.declared.module.Func.{Func}
+use Rattle.wasm_ast.specs.declared.module.Global.{Global}
+use Rattle.wasm_ast.specs.declared.module.ElementSegment.{ElementSegment}
 use Rattle.wasm_ast.specs.declared.module.DataSegment.{DataSegment}
-use Rattle.wasm_decode.specs.TypeReading.{value_type_at}
+use Rattle.wasm_decode.specs.TypeReading.{value_type_at, global_type_at}
 use Rattle.wasm_decode.specs.CodeReading.{expression_at}
 
 -- so many groups, where there is room for so many locals
@@ -28,6 +30,12 @@ codes_at (i ∷ is) bytes = code_at i bytes >>= λ f. (codes_at is f.1 >>= λ fs
 
 unfoldable pub functions_at : List ℕ → List ℕ → Option (List Func × List ℕ)
 functions_at type_indices bytes = at_most 1024 u32_at bytes >>= λ n. if n.0 == length type_indices then codes_at type_indices n.1 else None
+
+unfoldable pub global_at : List ℕ → Option (Global × List ℕ)
+global_at bytes = global_type_at bytes >>= λ type. (expression_at type.1 >>= λ init. Some (record { global_type = type.0; initializer = init.0 }, init.1))
+
+unfoldable pub element_at : List ℕ → Option (ElementSegment × List ℕ)
+element_at bytes = u32_at bytes >>= λ table. (expression_at table.1 >>= λ offset. (list_at 1024 u32_at offset.1 >>= λ functions. Some (record { table = table.0; offset = offset.0; functions = functions.0 }, functions.1)))
 
 unfoldable pub data_at : List ℕ → Option (DataSegment × List ℕ)
 data_at bytes = u32_at bytes >>= λ memory. (expression_at memory.1 >>= λ offset. (list_at (2 ^ 32 - 1) byte_at offset.1 >>= λ bytes. Some (record { memory = memory.0; offset = offset.0; bytes = bytes.0 }, bytes.1)))

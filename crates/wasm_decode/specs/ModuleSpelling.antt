@@ -1,51 +1,54 @@
 -- Which bytes spell which module (Core 1.0, section 5.5), within the limits of the profile.
-use Rattle.std.specs.Prelude.{◌≡◌, ℕ, ◌<◌, ◌≤◌, List, [], ◌∷◌, ◌++◌, length}
-use Rattle.grammar.specs.Spelling.{◌⟫◌, IsByte, IsText, IsMade, Repeats}
-use Rattle.grammar.specs.Table.{HasRow}
+use Rattle.std.specs.Prelude.{◌≡◌, ℕ, ◌≤◌, ◌⊎◌, List, [], ◌∷◌, length, map}
+use Rattle.grammar.specs.Spelling.{◌⟫◌, IsByte, IsEmpty, IsText, Repeats}
 use Rattle.wasm_bytes.specs.Spelling.{IsU32, IsName, IsList, IsSized}
 use Rattle.wasm_ast.specs.declared.module.Module.{Module}
-use Rattle.wasm_decode.specs.declared.sections.Kind.{Kind}
-use Rattle.wasm_decode.specs.declared.sections.Kind.TheVariants.{Types, Imports, TypeIndices, Memories, Exports, Functions, Data}
-use Rattle.wasm_decode.specs.declared.sections.Parts.{Parts}
-use Rattle.wasm_decode.specs.Tables.{section_rows}
-use Rattle.wasm_decode.specs.TypeSpelling.{IsFuncType, IsMemoryType}
+use Rattle.wasm_decode.specs.TypeSpelling.{IsFuncType, IsTableType, IsMemoryType}
 use Rattle.wasm_decode.specs.ExternalSpelling.{IsImport, IsExport}
-use Rattle.wasm_decode.specs.FunctionSpelling.{IsFunctions, IsDataSegment}
-use Rattle.wasm_decode.specs.PartsOf.{no_parts, with_module}
+use Rattle.wasm_decode.specs.FunctionSpelling.{IsGlobal, IsFunctionCode, IsElementSegment, IsDataSegment}
 
--- what a section of a kind makes of the parts (5.5.4 to 5.5.14)
-abbrev pub Fills : Kind → Parts → Parts → List ℕ → Type 0
-Fills Types p = IsMade (λ x. with_module p (record p.«module» { types = x })) (IsList 1024 IsFuncType)
-Fills Imports p = IsMade (λ x. with_module p (record p.«module» { imports = x })) (IsList 64 IsImport)
-Fills TypeIndices p = IsMade (λ x. record p { type_indices = x }) (IsList 1024 IsU32)
-Fills Memories p = IsMade (λ x. with_module p (record p.«module» { memories = x })) (IsList 64 IsMemoryType)
-Fills Exports p = IsMade (λ x. with_module p (record p.«module» { exports = x })) (IsList 64 IsExport)
-Fills Functions p = IsMade (λ x. with_module p (record p.«module» { functions = x })) (IsFunctions p.type_indices)
-Fills Data p = IsMade (λ x. with_module p (record p.«module» { «data» = x })) (IsList 64 IsDataSegment)
+-- a section (5.5.2): its id, the size of its content, and its content
+abbrev pub IsSection : ℕ → (List ℕ → Type 0) → List ℕ → Type 0
+IsSection id IsContent = IsByte id ⟫ IsSized IsContent
 
--- a section (5.5.2): its id, its size and its content; 0 is the id of custom ones
-pub data Section : Type 0 where
-  custom : (content : List ℕ) → Section
-  known : (id : ℕ) → Kind → (content : List ℕ) → Section
+-- any bytes at all
+abbrev pub AnyBytes : List ℕ → Type 0
+AnyBytes text = Unit {0}
 
-abbrev pub IsSection : Section → List ℕ → Type 0
-IsSection (custom content) = IsByte 0 ⟫ IsSized (IsText content)
-IsSection (known id k content) = IsByte id ⟫ IsSized (IsText content)
+-- a custom section (5.5.3): a name, and any bytes
+abbrev pub IsCustom : List ℕ → List ℕ → Type 0
+IsCustom name = IsSection 0 (IsName name ⟫ AnyBytes)
 
--- The sections build the last parts from the first. A custom section (5.5.3) begins with a name and changes nothing; the ids of the others ascend.
-abbrev pub Builds : ℕ → Parts → List Section → Parts → Type 0
-Builds last p [] end = p ≡ end
-Builds last p (custom content ∷ ss) end = (name text rest : List ℕ) × IsName name text × (content ≡ text ++ rest) × Builds last p ss end
-Builds last p (known id k content ∷ ss) end = (next : Parts) × HasRow section_rows id k × (last < id) × Fills k p next content × Builds id next ss end
+-- any custom sections, one after another
+abbrev pub IsCustoms : List ℕ → Type 0
+IsCustoms text = (names : List (List ℕ)) × Repeats IsCustom names text
+
+-- a section of a list, which may be left out where the list is empty
+abbrev pub IsOptional : {A : Type 0} → ℕ → (List A → List ℕ → Type 0) → List A → List ℕ → Type 0
+IsOptional id IsContent xs text = IsSection id (IsContent xs) text ⊎ ((xs ≡ []) × IsEmpty text)
+
+-- the same, and any custom sections after it
+abbrev pub IsPart : {A : Type 0} → ℕ → (List A → List ℕ → Type 0) → List A → List ℕ → Type 0
+IsPart id IsContent xs = IsOptional id IsContent xs ⟫ IsCustoms
 
 -- four bytes by which a module is known, and the version
 abbrev pub IsHeader : List ℕ → Type 0
 IsHeader = IsText (0x00 ∷ 0x61 ∷ 0x73 ∷ 0x6d ∷ 0x01 ∷ 0x00 ∷ 0x00 ∷ 0x00 ∷ [])
 
--- 5.5.16, with at most 262,144 bytes: there is code for each function that has a type
+-- 5.5.4 to 5.5.14: the types of functions stand apart from their code. A start section is not in the profile.
+abbrev pub IsSections : List ℕ → Module → List ℕ → Type 0
+IsSections type_indices m =
+    IsPart 1 (IsList 1024 IsFuncType) m.types
+    ⟫ IsPart 2 (IsList 64 IsImport) m.imports
+    ⟫ IsPart 3 (IsList 1024 IsU32) type_indices
+    ⟫ IsPart 4 (IsList 64 IsTableType) m.tables
+    ⟫ IsPart 5 (IsList 64 IsMemoryType) m.memories
+    ⟫ IsPart 6 (IsList 64 IsGlobal) m.globals
+    ⟫ IsPart 7 (IsList 64 IsExport) m.exports
+    ⟫ IsPart 9 (IsList 64 IsElementSegment) m.elements
+    ⟫ IsPart 10 (IsList 1024 IsFunctionCode) m.functions
+    ⟫ IsPart 11 (IsList 64 IsDataSegment) m.«data»
+
+-- 5.5.16, with at most 262,144 bytes
 abbrev pub IsModule : Module → List ℕ → Type 0
-IsModule m bytes =
-    (length bytes ≤ 262144) × (sections : List Section) × (type_indices : List ℕ)
-    × (IsHeader ⟫ Repeats IsSection sections) bytes
-    × Builds 0 no_parts sections (record { type_indices = type_indices; «module» = m })
-    × (length type_indices ≡ length m.functions)
+IsModule m bytes = (length bytes ≤ 262144) × (IsHeader ⟫ IsCustoms ⟫ IsSections (map (λ f. f.type_index) m.functions) m) bytes

@@ -4,23 +4,29 @@ use Rattle.grammar.specs.Reading.{◌>>=◌, byte_at, made_at, whole_at}
 use Rattle.grammar.specs.Table.{row_at}
 use Rattle.wasm_bytes.specs.Reading.{u32_at, name_at, list_at, sized_at}
 use Rattle.wasm_decode.specs.declared.sections.Kind.{Kind}
-use Rattle.wasm_decode.specs.declared.sections.Kind.TheVariants.{Types, Imports, TypeIndices, Memories, Exports, Functions, Data}
+use Rattle.wasm_decode.specs.declared.sections.Kind.TheVariants.{Types, Imports, TypeIndices, Tables, Memories, Globals, Exports, Elements, Functions, Data}
 use Rattle.wasm_decode.specs.declared.sections.Parts.{Parts}
-use Rattle.wasm_decode.specs.Tables.{section_rows}
-use Rattle.wasm_decode.specs.PartsOf.{with_module}
-use Rattle.wasm_decode.specs.TypeReading.{func_type_at, memory_type_at}
+use Rattle.wasm_decode.specs.PartsOf.{with_types, with_imports, with_type_indices, with_tables, with_memories, with_globals, with_exports, with_elements, with_functions, with_data}
+use Rattle.wasm_decode.specs.TypeReading.{func_type_at, table_type_at, memory_type_at}
 use Rattle.wasm_decode.specs.ExternalReading.{import_at, export_at}
-use Rattle.wasm_decode.specs.FunctionReading.{functions_at, data_at}
+use Rattle.wasm_decode.specs.FunctionReading.{global_at, functions_at, element_at, data_at}
+
+-- sections of the profile, but for custom ones
+abbrev pub section_rows : List (ℕ × Kind)
+section_rows = (1, Types) ∷ (2, Imports) ∷ (3, TypeIndices) ∷ (4, Tables) ∷ (5, Memories) ∷ (6, Globals) ∷ (7, Exports) ∷ (9, Elements) ∷ (10, Functions) ∷ (11, Data) ∷ []
 
 -- the parts after a section of a kind
 abbrev pub fill_at : Kind → Parts → List ℕ → Option (Parts × List ℕ)
-fill_at Types p bytes = made_at (λ x. with_module p (record p.«module» { types = x })) (list_at 1024 func_type_at) bytes
-fill_at Imports p bytes = made_at (λ x. with_module p (record p.«module» { imports = x })) (list_at 64 import_at) bytes
-fill_at TypeIndices p bytes = made_at (λ x. record p { type_indices = x }) (list_at 1024 u32_at) bytes
-fill_at Memories p bytes = made_at (λ x. with_module p (record p.«module» { memories = x })) (list_at 64 memory_type_at) bytes
-fill_at Exports p bytes = made_at (λ x. with_module p (record p.«module» { exports = x })) (list_at 64 export_at) bytes
-fill_at Functions p bytes = made_at (λ x. with_module p (record p.«module» { functions = x })) (functions_at p.type_indices) bytes
-fill_at Data p bytes = made_at (λ x. with_module p (record p.«module» { «data» = x })) (list_at 64 data_at) bytes
+fill_at Types p bytes = made_at (with_types p) (list_at 1024 func_type_at) bytes
+fill_at Imports p bytes = made_at (with_imports p) (list_at 64 import_at) bytes
+fill_at TypeIndices p bytes = made_at (with_type_indices p) (list_at 1024 u32_at) bytes
+fill_at Tables p bytes = made_at (with_tables p) (list_at 64 table_type_at) bytes
+fill_at Memories p bytes = made_at (with_memories p) (list_at 64 memory_type_at) bytes
+fill_at Globals p bytes = made_at (with_globals p) (list_at 64 global_at) bytes
+fill_at Exports p bytes = made_at (with_exports p) (list_at 64 export_at) bytes
+fill_at Elements p bytes = made_at (with_elements p) (list_at 64 element_at) bytes
+fill_at Functions p bytes = made_at (with_functions p) (functions_at p.type_indices) bytes
+fill_at Data p bytes = made_at (with_data p) (list_at 64 data_at) bytes
 
 -- a custom section: a name, and any bytes
 abbrev pub custom_at : List ℕ → Option (Unit {0})

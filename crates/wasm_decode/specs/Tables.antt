@@ -1,12 +1,10 @@
--- The bytes that stand for types, kinds and sections (Core 1.0, sections 5.3 and 5.5).
+-- The bytes that stand for types and kinds (Core 1.0, sections 5.3 and 5.5).
 use Rattle.std.specs.Prelude.{ℕ, Bool, true, false, List, [], ◌∷◌, Some, None}
 use Rattle.wasm_ast.specs.declared.types.ValueType.{ValueType}
 use Rattle.wasm_ast.specs.declared.types.ValueType.TheVariants.{I32, I64}
 use Rattle.wasm_ast.specs.Code.{BlockType}
 use Rattle.wasm_ast.specs.declared.module.ExternalKind.{ExternalKind}
 use Rattle.wasm_ast.specs.declared.module.ExternalKind.TheVariants as external
-use Rattle.wasm_decode.specs.declared.sections.Kind.{Kind}
-use Rattle.wasm_decode.specs.declared.sections.Kind.TheVariants.{Types, Imports, TypeIndices, Memories, Exports, Functions, Data}
 
 -- value types (5.3.1)
 abbrev pub value_type_rows : List (ℕ × ValueType)
@@ -23,7 +21,3 @@ flag_rows = (0x00, false) ∷ (0x01, true) ∷ []
 -- what is imported (5.5.5) or exported (5.5.10)
 abbrev pub external_kind_rows : List (ℕ × ExternalKind)
 external_kind_rows = (0x00, external.Function) ∷ (0x01, external.Table) ∷ (0x02, external.Memory) ∷ (0x03, external.Global) ∷ []
-
--- sections of the profile (5.5.2), but for custom ones
-abbrev pub section_rows : List (ℕ × Kind)
-section_rows = (1, Types) ∷ (2, Imports) ∷ (3, TypeIndices) ∷ (5, Memories) ∷ (7, Exports) ∷ (10, Functions) ∷ (11, Data) ∷ []

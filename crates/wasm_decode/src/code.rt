@@ -5,15 +5,16 @@ ghost use Rattle.grammar.specs.Table.{row_byte_at};
 ghost use Rattle.grammar.specs.Reading.{byte_at};
 ghost use Rattle.wasm_ast.specs.View.{code_of};
 ghost use Rattle.wasm_decode.specs.Parses.{Parses};
-ghost use Rattle.wasm_decode.specs.OpReading.{branch_table_at, plain_at};
+ghost use Rattle.wasm_decode.specs.OpReading.{reserved_at, reserved_index_at, argument_at, branch_table_at, other_at, plain_at};
 ghost use Rattle.wasm_decode.specs.CodeReading.{block_at, conditional_at, step_at, body_at, below, closed_at, expression_at};
 
 use crate::fault::{DecodeFault, FaultKind, refuse};
 use crate::item::list;
 use crate::limits::{MOST_INSTRUCTIONS, MOST_LABELS, MOST_NESTING};
+use crate::operators::{load, operator, store};
 use crate::types::block_type;
 use std::alloc::Global;
-use wasm_ast::{Block, Body, BranchTable, Conditional, Instr};
+use wasm_ast::{Block, Body, BranchTable, Conditional, Instr, MemoryArgument};
 use wasm_bytes::Cursor;
 
 /// What ends a body: `end`, or `else` after the first body of an `if`.
@@ -36,18 +37,60 @@ fn next_opcode(cursor: &mut Cursor<'_>) -> Result<Opcode, DecodeFault>
     Ok(Opcode { byte, offset })
 }
 
+#[tactic(auto, unfolding(crate::specs::OpReading::branch_table_at))]
 fn branch_table(alloc: Global, cursor: &mut Cursor<'_>) -> Result<BranchTable, DecodeFault>
     ensures { Parses (λ t. (t.labels, t.default)) result cursor.new (branch_table_at cursor.old.rest) }
 {
-    let labels = list(alloc, cursor, MOST_LABELS)?;
+    let labels = list::<u32>(alloc, cursor, MOST_LABELS)?;
     let default = cursor.u32_leb()?;
     Ok(BranchTable { labels, default })
 }
 
-/// An instruction with no instruction inside, after its opcode.
-#[tactic(auto, unfolding(crate::specs::OpReading::plain_at))]
-fn plain(alloc: Global, cursor: &mut Cursor<'_>, opcode: Opcode) -> Result<Instr, DecodeFault>
-    ensures { Parses (λ i. code_of (i ∷ [])) result cursor.new (plain_at opcode.byte cursor.old.rest) }
+/// A byte that has to be 0.
+#[tactic(auto, unfolding(crate::specs::OpReading::reserved_at))]
+fn reserved(cursor: &mut Cursor<'_>) -> Result<(), DecodeFault>
+    ensures { Parses (λ u. u) result cursor.new (reserved_at cursor.old.rest) }
+{
+    let offset = cursor.offset();
+    if cursor.byte()? != 0 {
+        return refuse(FaultKind::Opcode, offset);
+    }
+    Ok(())
+}
+
+/// The index of a type, and a byte that has to be 0.
+#[tactic(auto, unfolding(crate::specs::OpReading::reserved_index_at))]
+fn reserved_index(cursor: &mut Cursor<'_>) -> Result<u32, DecodeFault>
+    ensures { Parses (λ n. n) result cursor.new (reserved_index_at cursor.old.rest) }
+{
+    let index = cursor.u32_leb()?;
+    reserved(cursor)?;
+    Ok(index)
+}
+
+/// Where a load or a store accesses the memory.
+#[tactic(auto, unfolding(crate::specs::OpReading::argument_at))]
+fn memory_argument(cursor: &mut Cursor<'_>) -> Result<MemoryArgument, DecodeFault>
+    ensures { Parses (λ a. a) result cursor.new (argument_at cursor.old.rest) }
+{
+    let align = cursor.u32_leb()?;
+    let offset = cursor.u32_leb()?;
+    Ok(MemoryArgument { align, offset })
+}
+
+/// The fault of an opcode that is not of the profile: those of floats are told apart.
+fn opcode_fault(opcode: u8) -> FaultKind {
+    match opcode {
+        0x2a | 0x2b | 0x38 | 0x39 | 0x43 | 0x44 | 0x5b..=0x66 => FaultKind::Float,
+        0x8b..=0xa6 | 0xa8..=0xab | 0xae..=0xbf => FaultKind::Float,
+        _ => FaultKind::Opcode,
+    }
+}
+
+/// An instruction with no instruction inside that is no operator, load or store, after its opcode.
+#[tactic(auto, unfolding(crate::specs::OpReading::other_at, crate::specs::Opcodes::other_rows))]
+fn other(alloc: Global, cursor: &mut Cursor<'_>, opcode: Opcode) -> Result<Instr, DecodeFault>
+    ensures { Parses (λ i. code_of (i ∷ [])) result cursor.new (other_at opcode.byte cursor.old.rest) }
 {
     Ok(match opcode.byte {
         0x00 => Instr::Unreachable,
@@ -57,14 +100,43 @@ fn plain(alloc: Global, cursor: &mut Cursor<'_>, opcode: Opcode) -> Result<Instr
         0x0e => Instr::BrTable(Box::new(alloc, branch_table(alloc, cursor)?)?),
         0x0f => Instr::Return,
         0x10 => Instr::Call(cursor.u32_leb()?),
+        0x11 => Instr::CallIndirect(reserved_index(cursor)?),
         0x1a => Instr::Drop,
+        0x1b => Instr::Select,
         0x20 => Instr::LocalGet(cursor.u32_leb()?),
         0x21 => Instr::LocalSet(cursor.u32_leb()?),
         0x22 => Instr::LocalTee(cursor.u32_leb()?),
+        0x23 => Instr::GlobalGet(cursor.u32_leb()?),
+        0x24 => Instr::GlobalSet(cursor.u32_leb()?),
+        0x3f => {
+            reserved(cursor)?;
+            Instr::MemorySize
+        }
+        0x40 => {
+            reserved(cursor)?;
+            Instr::MemoryGrow
+        }
         0x41 => Instr::I32Const(cursor.i32_leb()?.cast_unsigned()),
-        0x6a => Instr::I32Add,
-        _ => return refuse(FaultKind::Opcode, opcode.offset),
+        0x42 => Instr::I64Const(cursor.i64_leb()?.cast_unsigned()),
+        _ => return refuse(opcode_fault(opcode.byte), opcode.offset),
     })
+}
+
+/// An instruction with no instruction inside, after its opcode.
+#[tactic(auto, unfolding(crate::specs::OpReading::plain_at))]
+fn plain(alloc: Global, cursor: &mut Cursor<'_>, opcode: Opcode) -> Result<Instr, DecodeFault>
+    ensures { Parses (λ i. code_of (i ∷ [])) result cursor.new (plain_at opcode.byte cursor.old.rest) }
+{
+    if let Some(instruction) = operator(opcode.byte) {
+        return Ok(instruction);
+    }
+    if let Some(load) = load(opcode.byte) {
+        return Ok(Instr::Load(load, memory_argument(cursor)?));
+    }
+    if let Some(store) = store(opcode.byte) {
+        return Ok(Instr::Store(store, memory_argument(cursor)?));
+    }
+    other(alloc, cursor, opcode)
 }
 
 /// The body of a `block` or a `loop`, in which blocks may nest one level less.

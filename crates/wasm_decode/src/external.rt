@@ -55,6 +55,8 @@ fn import_kind(cursor: &mut Cursor<'_>, kind: ExternalKind) -> Result<ImportKind
 }
 
 impl Item for Import {
+    type Value = Import;
+
     ghost reads = { import_at };
 
     #[tactic(auto, unfolding(crate::specs::ExternalReading::import_at))]
@@ -68,6 +70,8 @@ impl Item for Import {
 }
 
 impl Item for Export {
+    type Value = Export;
+
     ghost reads = { export_at };
 
     #[tactic(auto, unfolding(crate::specs::ExternalReading::export_at))]

@@ -22,13 +22,13 @@ pub enum FaultKind {
     SectionOrder = 105,
     /// A section or a body is longer than what holds it, or does not use all its bytes.
     Length = 106,
-    /// An opcode is not of the profile.
+    /// An opcode stands for no instruction, or a reserved byte is not 0.
     Opcode = 107,
     /// A byte stands for no type, kind, limits or mutability.
     TypeByte = 108,
     /// A name is not UTF-8.
     NotUtf8 = 109,
-    /// A type of floats.
+    /// A type of floats, or an instruction on them.
     Float = 110,
     /// A limit of the profile is passed.
     Limit = 111,

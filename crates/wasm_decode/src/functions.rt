@@ -1,17 +1,17 @@
-//! The code of functions, and data (WebAssembly Core 1.0, sections 5.5.13 and 5.5.14).
+//! Globals, the code of functions, and segments (WebAssembly Core 1.0, sections 5.5.9 and 5.5.12 to 5.5.14).
 
 ghost use Rattle.std.specs.Prelude.{◌≡◌, ◌^◌, ◌-◌, ◌++◌, ℕ, List, Option, Some, IfOk, replicate, length};
 ghost use Rattle.wasm_decode.specs.Parses.{Parses};
-ghost use Rattle.wasm_decode.specs.FunctionReading.{groups_at, locals_at, code_parts_at, code_at, codes_at, functions_at, data_at};
+ghost use Rattle.wasm_decode.specs.FunctionReading.{groups_at, locals_at, code_parts_at, code_at, codes_at, functions_at, global_at, element_at, data_at};
 
 use crate::code::expression;
 use crate::fault::{DecodeFault, FaultKind, refuse};
 use crate::item::{Item, list, number};
-use crate::limits::{MOST_FUNCTIONS, MOST_LOCALS};
-use crate::types::value_type;
+use crate::limits::{MOST_ENTRIES, MOST_FUNCTIONS, MOST_LOCALS};
+use crate::types::{global_type, value_type};
 use seq::Seq;
 use std::alloc::{AllocError, Global};
-use wasm_ast::{DataSegment, Func, ValueType};
+use wasm_ast::{DataSegment, ElementSegment, Func, ValueType};
 use wasm_bytes::Cursor;
 
 fn push_locals(
@@ -112,14 +112,50 @@ pub(crate) fn functions(
     codes(alloc, cursor, type_indices)
 }
 
+impl Item for wasm_ast::Global {
+    type Value = wasm_ast::Global;
+
+    ghost reads = { global_at };
+
+    #[tactic(auto, unfolding(crate::specs::FunctionReading::global_at))]
+    fn read(alloc: Global, cursor: &mut Cursor<'_>) -> Result<wasm_ast::Global, DecodeFault> {
+        let global_type = global_type(cursor)?;
+        let initializer = expression(alloc, cursor)?;
+        Ok(wasm_ast::Global {
+            global_type,
+            initializer,
+        })
+    }
+}
+
+impl Item for ElementSegment {
+    type Value = ElementSegment;
+
+    ghost reads = { element_at };
+
+    #[tactic(auto, unfolding(crate::specs::FunctionReading::element_at))]
+    fn read(alloc: Global, cursor: &mut Cursor<'_>) -> Result<ElementSegment, DecodeFault> {
+        let table = cursor.u32_leb()?;
+        let offset = expression(alloc, cursor)?;
+        let functions = list::<u32>(alloc, cursor, MOST_ENTRIES)?;
+        Ok(ElementSegment {
+            table,
+            offset,
+            functions,
+        })
+    }
+}
+
 impl Item for DataSegment {
+    type Value = DataSegment;
+
     ghost reads = { data_at };
 
     #[tactic(auto, unfolding(crate::specs::FunctionReading::data_at))]
     fn read(alloc: Global, cursor: &mut Cursor<'_>) -> Result<DataSegment, DecodeFault> {
         let memory = cursor.u32_leb()?;
         let offset = expression(alloc, cursor)?;
-        let bytes = list(alloc, cursor, u32::MAX)?;
+        let bytes = list::<u8>(alloc, cursor, u32::MAX)?;
         Ok(DataSegment {
             memory,
             offset,

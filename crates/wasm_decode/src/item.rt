@@ -11,11 +11,13 @@ use std::alloc::Global;
 use wasm_bytes::Cursor;
 
 /// What is read at a cursor.
-pub(crate) trait Item: Drop + Sized {
-    /// The item at the front of the bytes, and those after it.
-    ghost reads: { List ℕ → Option (Self × List ℕ) };
+pub(crate) trait Item {
+    type Value: Drop;
 
-    fn read(alloc: Global, cursor: &mut Cursor<'_>) -> Result<Self, DecodeFault>
+    /// The item at the front of the bytes, and those after it.
+    ghost reads: { List ℕ → Option (Self.Value × List ℕ) };
+
+    fn read(alloc: Global, cursor: &mut Cursor<'_>) -> Result<Self::Value, DecodeFault>
         ensures { Parses (λ x. x) result cursor.new (reads cursor.old.rest) };
 }
 
@@ -35,7 +37,7 @@ fn repeated<T: Item>(
     alloc: Global,
     cursor: &mut Cursor<'_>,
     count: u32,
-) -> Result<Seq<T>, DecodeFault>
+) -> Result<Seq<T::Value>, DecodeFault>
     ensures { Parses (λ x. x) result cursor.new (repeats_at T.reads count cursor.old.rest) }
 {
     let mut items = Vec::new(alloc);
@@ -51,14 +53,16 @@ pub(crate) fn list<T: Item>(
     alloc: Global,
     cursor: &mut Cursor<'_>,
     most: u32,
-) -> Result<Seq<T>, DecodeFault>
+) -> Result<Seq<T::Value>, DecodeFault>
     ensures { Parses (λ x. x) result cursor.new (list_at most T.reads cursor.old.rest) }
 {
     let count = number(cursor, most)?;
-    repeated(alloc, cursor, count)
+    repeated::<T>(alloc, cursor, count)
 }
 
 impl Item for u32 {
+    type Value = u32;
+
     ghost reads = { u32_at };
 
     fn read(_alloc: Global, cursor: &mut Cursor<'_>) -> Result<u32, DecodeFault> {
@@ -67,6 +71,8 @@ impl Item for u32 {
 }
 
 impl Item for u8 {
+    type Value = u8;
+
     ghost reads = { byte_at };
 
     fn read(_alloc: Global, cursor: &mut Cursor<'_>) -> Result<u8, DecodeFault> {

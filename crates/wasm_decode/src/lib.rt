@@ -7,8 +7,8 @@
 //! Reading goes once from left to right, in time in proportion to the bytes. No byte is copied but
 //! into the module, no list is copied, and the recursion is as deep as blocks may nest.
 //!
-//! Each opcode, section and type byte is a row of a table (`specs/Tables.antt`, `specs/Opcodes.antt`),
-//! so that a further one is a row there and an arm of a `match` here.
+//! Each opcode and type byte is a row of a table (`specs/Tables.antt`, `specs/Opcodes.antt`,
+//! `specs/Operators.antt`), so that a further one is a row there and an arm of a `match` here.
 #![tactic(auto)]
 
 mod code;
@@ -17,6 +17,7 @@ mod fault;
 mod functions;
 mod item;
 mod limits;
+mod operators;
 mod reader;
 mod sections;
 mod types;

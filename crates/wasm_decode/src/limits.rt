@@ -6,7 +6,7 @@ pub(crate) const MODULE_BYTES: usize = 262_144;
 pub(crate) const MOST_TYPES: u32 = 1024;
 
 pub(crate) const MOST_FUNCTIONS: u32 = 1024;
-/// Imports, memories, exports and data segments of a module, each.
+/// Imports, tables, memories, globals, exports, element and data segments of a module, each.
 pub(crate) const MOST_PARTS: u32 = 64;
 /// Parameters of a type.
 pub(crate) const MOST_PARAMETERS: u32 = 64;
@@ -20,5 +20,5 @@ pub(crate) const MOST_NESTING: u32 = 64;
 pub(crate) const MOST_LABELS: u32 = 1024;
 /// Pages of a memory at its start.
 pub(crate) const MOST_PAGES: u32 = 16;
-/// Entries of a table at its start.
+/// Entries of a table at its start, and functions of an element segment.
 pub(crate) const MOST_ENTRIES: u32 = 1024;

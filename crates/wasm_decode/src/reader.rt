@@ -48,8 +48,11 @@ fn nothing(alloc: Global) -> Parts
             types: Seq::empty(alloc),
             imports: Seq::empty(alloc),
             functions: Seq::empty(alloc),
+            tables: Seq::empty(alloc),
             memories: Seq::empty(alloc),
+            globals: Seq::empty(alloc),
             exports: Seq::empty(alloc),
+            elements: Seq::empty(alloc),
             data: Seq::empty(alloc),
         },
     }

@@ -5,16 +5,16 @@ ghost use Rattle.grammar.specs.Reading.{whole_at};
 ghost use Rattle.grammar.specs.Table.{row_at};
 ghost use Rattle.wasm_bytes.specs.Reading.{sized_at};
 ghost use Rattle.wasm_decode.specs.Parses.{Parses, Makes};
-ghost use Rattle.wasm_decode.specs.Tables.{section_rows};
-ghost use Rattle.wasm_decode.specs.SectionReading.{custom_at, fill_at, section_at, sections_at};
+ghost use Rattle.wasm_decode.specs.SectionReading.{section_rows, custom_at, fill_at, section_at, sections_at};
 
 use crate::fault::{DecodeFault, FaultKind, refuse};
 use crate::functions::functions;
 use crate::item::list;
 use crate::limits::{MOST_FUNCTIONS, MOST_PARTS, MOST_TYPES};
+use crate::types::{MemoryType, TableType};
 use seq::Seq;
 use std::alloc::Global;
-use wasm_ast::Module;
+use wasm_ast::{DataSegment, ElementSegment, Export, FuncType, Import, Module};
 use wasm_bytes::Cursor;
 
 /// What a section holds.
@@ -23,8 +23,11 @@ pub(crate) enum Kind {
     Types,
     Imports,
     TypeIndices,
+    Tables,
     Memories,
+    Globals,
     Exports,
+    Elements,
     Functions,
     Data,
 }
@@ -43,8 +46,11 @@ fn section_kind(id: u8) -> Option<Kind>
         1 => Some(Kind::Types),
         2 => Some(Kind::Imports),
         3 => Some(Kind::TypeIndices),
+        4 => Some(Kind::Tables),
         5 => Some(Kind::Memories),
+        6 => Some(Kind::Globals),
         7 => Some(Kind::Exports),
+        9 => Some(Kind::Elements),
         10 => Some(Kind::Functions),
         11 => Some(Kind::Data),
         _ => None,
@@ -70,15 +76,22 @@ fn fill(
     ensures { Parses (λ _. parts.new) result cursor.new (fill_at kind parts.old cursor.old.rest) }
 {
     match kind {
-        Kind::Types => parts.module.types = list(alloc, cursor, MOST_TYPES)?,
-        Kind::Imports => parts.module.imports = list(alloc, cursor, MOST_PARTS)?,
-        Kind::TypeIndices => parts.type_indices = list(alloc, cursor, MOST_FUNCTIONS)?,
-        Kind::Memories => parts.module.memories = list(alloc, cursor, MOST_PARTS)?,
-        Kind::Exports => parts.module.exports = list(alloc, cursor, MOST_PARTS)?,
+        Kind::Types => parts.module.types = list::<FuncType>(alloc, cursor, MOST_TYPES)?,
+        Kind::Imports => parts.module.imports = list::<Import>(alloc, cursor, MOST_PARTS)?,
+        Kind::TypeIndices => parts.type_indices = list::<u32>(alloc, cursor, MOST_FUNCTIONS)?,
+        Kind::Tables => parts.module.tables = list::<TableType>(alloc, cursor, MOST_PARTS)?,
+        Kind::Memories => parts.module.memories = list::<MemoryType>(alloc, cursor, MOST_PARTS)?,
+        Kind::Globals => parts.module.globals = list::<wasm_ast::Global>(
+            alloc, cursor, MOST_PARTS,
+        )?,
+        Kind::Exports => parts.module.exports = list::<Export>(alloc, cursor, MOST_PARTS)?,
+        Kind::Elements => parts.module.elements = list::<ElementSegment>(
+            alloc, cursor, MOST_PARTS,
+        )?,
         Kind::Functions => {
             parts.module.functions = functions(alloc, cursor, parts.type_indices.as_slice())?;
         }
-        Kind::Data => parts.module.data = list(alloc, cursor, MOST_PARTS)?,
+        Kind::Data => parts.module.data = list::<DataSegment>(alloc, cursor, MOST_PARTS)?,
     }
     Ok(())
 }

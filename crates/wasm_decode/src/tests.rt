@@ -1,7 +1,9 @@
 use super::*;
 use std::alloc::{AllocError, Global};
 use std::test::*;
-use wasm_ast::{ImportKind, Instr, Module};
+use wasm_ast::{GlobalType, ImportKind, Instr, Limits, Module, ValueType};
+
+mod opcodes;
 
 const HEADER: [u8; 8] = [0x00, 0x61, 0x73, 0x6d, 0x01, 0x00, 0x00, 0x00];
 
@@ -55,6 +57,77 @@ fn the_whole_example(rt: HostRuntime) -> Result<(), Fail> {
     Ok(())
 }
 
+/// What `wat2wasm` writes for a module with each kind of section but a start section.
+const EACH_SECTION: [u8; 127] = [
+    0x00, 0x61, 0x73, 0x6d, 0x01, 0x00, 0x00, 0x00, 0x01, 0x0a, 0x02, 0x60, 0x02, 0x7f, 0x7e, 0x01,
+    0x7e, 0x60, 0x00, 0x00, 0x02, 0x12, 0x01, 0x06, 0x66, 0x61, 0x62, 0x72, 0x69, 0x63, 0x07, 0x67,
+    0x65, 0x74, 0x5f, 0x61, 0x72, 0x67, 0x00, 0x01, 0x03, 0x02, 0x01, 0x00, 0x04, 0x05, 0x01, 0x70,
+    0x01, 0x02, 0x08, 0x05, 0x04, 0x01, 0x01, 0x01, 0x02, 0x06, 0x0b, 0x02, 0x7e, 0x01, 0x42, 0x7e,
+    0x0b, 0x7f, 0x00, 0x41, 0x07, 0x0b, 0x07, 0x09, 0x02, 0x01, 0x74, 0x01, 0x00, 0x01, 0x67, 0x03,
+    0x01, 0x09, 0x08, 0x01, 0x00, 0x41, 0x01, 0x0b, 0x02, 0x01, 0x00, 0x0a, 0x17, 0x01, 0x15, 0x02,
+    0x02, 0x7f, 0x01, 0x7e, 0x02, 0x40, 0x03, 0x40, 0x20, 0x00, 0x0e, 0x02, 0x01, 0x00, 0x01, 0x0b,
+    0x0b, 0x20, 0x01, 0x0b, 0x0b, 0x09, 0x01, 0x00, 0x41, 0xff, 0xff, 0x03, 0x0b, 0x01, 0xff,
+];
+
+#[test]
+fn each_section(rt: HostRuntime) -> Result<(), Fail> {
+    let module = decode(rt.alloc(), &EACH_SECTION)
+        .ok()
+        .ok_or("the bytes are a module")?;
+    let table = Limits {
+        least: 2,
+        greatest: Some(8),
+    };
+    assert_eq!(rt; module.tables.as_slice(), [table].as_slice());
+    let memory = Limits {
+        least: 1,
+        greatest: Some(2),
+    };
+    assert_eq!(rt; module.memories.as_slice(), [memory].as_slice());
+    let [first, second] = module.globals.as_slice() else {
+        return Err("there are two globals".into());
+    };
+    let variable = GlobalType {
+        value_type: ValueType::I64,
+        is_variable: true,
+    };
+    assert_eq!(rt; first.global_type, variable);
+    assert!(rt;
+        matches!(
+            first.initializer.items(),
+            [Instr::I64Const(0xffff_ffff_ffff_fffe)]
+        )
+    );
+    assert_eq!(rt; second.global_type.is_variable, false);
+    assert!(rt; matches!(second.initializer.items(), [Instr::I32Const(7)]));
+    assert_eq!(rt; module.exports.len(), 2);
+    for segment in module.elements.as_slice() {
+        assert_eq!(rt; segment.table, 0);
+        assert!(rt; matches!(segment.offset.items(), [Instr::I32Const(1)]));
+        assert_eq!(rt; segment.functions.as_slice(), [1, 0].as_slice());
+    }
+    assert_eq!(rt; module.elements.len(), 1);
+    for function in module.functions.as_slice() {
+        assert_eq!(rt;
+            function.locals.as_slice(),
+            [ValueType::I32, ValueType::I32, ValueType::I64].as_slice()
+        );
+        let [Instr::Block(block), Instr::LocalGet(1)] = function.body.items() else {
+            return Err("a block and an instruction".into());
+        };
+        let [Instr::Loop(inner)] = block.body.items() else {
+            return Err("a loop".into());
+        };
+        let [Instr::LocalGet(0), Instr::BrTable(table)] = inner.body.items() else {
+            return Err("two instructions".into());
+        };
+        assert_eq!(rt; table.labels.as_slice(), [1, 0].as_slice());
+        assert_eq!(rt; table.default, 1);
+    }
+    assert_eq!(rt; module.data.len(), 1);
+    Ok(())
+}
+
 /// Where sections of the example begin, and where the last one ends.
 const STARTS: [usize; 8] = [8, 23, 45, 49, 54, 66, 85, 95];
 
@@ -89,11 +162,14 @@ fn beginnings_of_the_example(rt: HostRuntime) {
 }
 
 /// Sections, and the number and the offset of what is wrong with them.
-const FAULTS: [(&[u8], Option<(u8, usize)>); 30] = [
+const FAULTS: [(&[u8], Option<(u8, usize)>); 33] = [
     (&[1, 0x80, 0x80, 0x80, 0x80, 0x80, 0], Some((104, 9))),
     (&[1, 1, 0, 1, 1, 0], Some((105, 11))),
     (&[3, 1, 0, 1, 1, 0], Some((105, 11))),
-    (&[4, 1, 0], Some((105, 8))),
+    (&[4, 1, 0, 3, 1, 0], Some((105, 11))),
+    (&[9, 1, 0, 8, 1, 0], Some((105, 11))),
+    (&[9, 1, 0, 7, 1, 0], Some((105, 11))),
+    (&[7, 1, 0, 8, 1, 0], Some((113, 11))),
     (&[12, 1, 0], Some((105, 8))),
     (&[8, 1, 0], Some((113, 8))),
     (&[10, 1, 0, 8, 1, 0], Some((105, 11))),
@@ -136,7 +212,7 @@ const FAULTS: [(&[u8], Option<(u8, usize)>); 30] = [
     ),
     (&[7, 9, 2, 1, 97, 3, 0, 1, 97, 4, 0], Some((108, 17))),
     (&[11, 7, 1, 0, 0x41, 0, 0x0b, 9, 1], Some((103, 17))),
-    (&[11, 5, 1, 0, 0x42, 0, 0x0b], Some((107, 12))),
+    (&[11, 5, 1, 0, 0x44, 0, 0x0b], Some((110, 12))),
 ];
 
 #[test]
@@ -156,6 +232,37 @@ fn single_faults(rt: HostRuntime) -> Result<(), Fail> {
     Ok(())
 }
 
+/// Sections of tables, globals and element segments, and what is wrong with them.
+const LATER_FAULTS: [(&[u8], Option<(u8, usize)>); 12] = [
+    // Tables.
+    (&[4, 1, 65], Some((111, 10))),
+    (&[4, 4, 1, 0x6f, 0, 0], Some((108, 11))),
+    (&[4, 5, 1, 0x70, 0, 0x80, 0x08], None),
+    (&[4, 5, 1, 0x70, 0, 0x81, 0x08], Some((111, 13))),
+    // Globals.
+    (&[6, 1, 65], Some((111, 10))),
+    (&[6, 6, 1, 0x7e, 1, 0x42, 0, 0x0b], None),
+    (&[6, 6, 1, 0x7d, 1, 0x42, 0, 0x0b], Some((110, 11))),
+    (&[6, 6, 1, 0x7e, 2, 0x42, 0, 0x0b], Some((108, 12))),
+    // Element segments.
+    (&[9, 1, 65], Some((111, 10))),
+    (&[9, 8, 1, 0, 0x41, 0, 0x0b, 2, 3, 4], None),
+    (&[9, 8, 1, 0, 0x41, 0, 0x0b, 0x81, 0x08, 0], Some((111, 15))),
+    (&[9, 7, 1, 0, 0x41, 0, 0x0b, 2, 3], Some((103, 17))),
+];
+
+#[test]
+fn faults_of_tables_globals_and_elements(rt: HostRuntime) -> Result<(), Fail> {
+    for (sections, want) in LATER_FAULTS {
+        assert_eq!(rt;
+            fault_after_header(rt.alloc(), sections)?,
+            want,
+            "in {sections:?}"
+        );
+    }
+    Ok(())
+}
+
 /// The code of one function of type [] to [], which begins at offset 18, and what is wrong with it.
 const CODES: [(&[u8], Option<(u8, usize)>); 14] = [
     (&[0x0a, 1, 0], Some((112, 20))),
@@ -165,7 +272,7 @@ const CODES: [(&[u8], Option<(u8, usize)>); 14] = [
     (&[0x0a, 5, 1, 3, 0, 0x0b, 0x0b], Some((106, 21))),
     (&[0x0a, 5, 1, 3, 0, 0x01, 0x01], Some((103, 25))),
     (&[0x0a, 5, 1, 3, 0, 0x05, 0x0b], Some((107, 23))),
-    (&[0x0a, 5, 1, 3, 0, 0x43, 0x0b], Some((107, 23))),
+    (&[0x0a, 5, 1, 3, 0, 0x43, 0x0b], Some((110, 23))),
     (
         &[0x0a, 10, 1, 8, 1, 0xff, 0xff, 0xff, 0xff, 0x0f, 0x7f, 0x0b],
         Some((111, 23)),
@@ -216,13 +323,63 @@ fn two_bytes(number: usize) -> [u8; 2] {
     [(number % 128) as u8 + 128, (number / 128 % 128) as u8]
 }
 
+/// A module of one function of type [] to [], whose locals and instructions begin at offset 24.
+fn module_of_body(alloc: Global, body: &[u8]) -> Result<Vec<u8>, AllocError> {
+    let mut bytes = Vec::from_slice(alloc, &HEADER)?;
+    bytes.extend_from_slice(&[1, 4, 1, 0x60, 0, 0, 3, 2, 1, 0, 0x0a])?;
+    bytes.extend_from_slice(&two_bytes(body.len().saturating_add(3)))?;
+    bytes.push(1)?;
+    bytes.extend_from_slice(&two_bytes(body.len()))?;
+    bytes.extend_from_slice(body)?;
+    Ok(bytes)
+}
+
 fn fault_in_body(alloc: Global, body: &[u8]) -> Result<Option<(u8, usize)>, AllocError> {
-    let mut sections = Vec::from_slice(alloc, &[1, 4, 1, 0x60, 0, 0, 3, 2, 1, 0, 0x0a])?;
-    sections.extend_from_slice(&two_bytes(body.len().saturating_add(3)))?;
-    sections.push(1)?;
-    sections.extend_from_slice(&two_bytes(body.len()))?;
-    sections.extend_from_slice(body)?;
-    fault_after_header(alloc, sections.as_slice())
+    Ok(fault(alloc, module_of_body(alloc, body)?.as_slice()))
+}
+
+/// Locals and instructions from offset 24, and what is wrong with them.
+const BODIES: [(&[u8], Option<(u8, usize)>); 14] = [
+    // The operand of a constant is too long, or its unused bits are wrong.
+    (
+        &[0, 0x41, 0x80, 0x80, 0x80, 0x80, 0x80, 0x00, 0x0b],
+        Some((104, 26)),
+    ),
+    (
+        &[0, 0x41, 0x80, 0x80, 0x80, 0x80, 0x10, 0x0b],
+        Some((104, 26)),
+    ),
+    (&[0, 0x41, 0x80, 0x80, 0x80, 0x80, 0x00, 0x0b], None),
+    (
+        &[
+            0, 0x42, 0x80, 0x80, 0x80, 0x80, 0x80, 0x80, 0x80, 0x80, 0x80, 0x01, 0x0b,
+        ],
+        Some((104, 26)),
+    ),
+    // Reserved bytes.
+    (&[0, 0x11, 0, 0, 0x0b], None),
+    (&[0, 0x11, 0, 1, 0x0b], Some((107, 27))),
+    (&[0, 0x3f, 1, 0x0b], Some((107, 26))),
+    (&[0, 0x40, 1, 0x0b], Some((107, 26))),
+    (&[0, 0x40], Some((103, 26))),
+    // The alignment and the offset of an access.
+    (&[0, 0x28, 0x02, 0x80, 0x01, 0x0b], None),
+    (
+        &[0, 0x28, 0x02, 0x80, 0x80, 0x80, 0x80, 0x10, 0x0b],
+        Some((104, 27)),
+    ),
+    (&[0, 0x36, 0x02], Some((103, 27))),
+    // The type of a block.
+    (&[0, 0x02, 0x7d, 0x0b, 0x0b], Some((110, 26))),
+    (&[0, 0x03, 0x41, 0x0b, 0x0b], Some((108, 26))),
+];
+
+#[test]
+fn faults_in_bodies(rt: HostRuntime) -> Result<(), Fail> {
+    for (body, want) in BODIES {
+        assert_eq!(rt; fault_in_body(rt.alloc(), body)?, want, "in {body:?}");
+    }
+    Ok(())
 }
 
 #[test]

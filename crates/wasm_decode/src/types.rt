@@ -45,6 +45,8 @@ pub(crate) fn value_type(cursor: &mut Cursor<'_>) -> Result<ValueType, DecodeFau
 }
 
 impl Item for ValueType {
+    type Value = ValueType;
+
     ghost reads = { value_type_at };
 
     fn read(_alloc: Global, cursor: &mut Cursor<'_>) -> Result<ValueType, DecodeFault> {
@@ -88,6 +90,8 @@ fn result_type(cursor: &mut Cursor<'_>) -> Result<Option<ValueType>, DecodeFault
 }
 
 impl Item for FuncType {
+    type Value = FuncType;
+
     ghost reads = { func_type_at };
 
     #[tactic(auto, unfolding(crate::specs::TypeReading::func_type_at))]
@@ -96,7 +100,7 @@ impl Item for FuncType {
         if cursor.byte()? != 0x60 {
             return refuse(FaultKind::TypeByte, offset);
         }
-        let params = list(alloc, cursor, MOST_PARAMETERS)?;
+        let params = list::<ValueType>(alloc, cursor, MOST_PARAMETERS)?;
         let result = result_type(cursor)?;
         Ok(FuncType { params, result })
     }
@@ -160,7 +164,25 @@ pub(crate) fn memory_type(cursor: &mut Cursor<'_>) -> Result<Limits, DecodeFault
     limits(cursor, MOST_PAGES)
 }
 
-impl Item for Limits {
+/// The type of a table, as an item.
+pub(crate) enum TableType {}
+
+impl Item for TableType {
+    type Value = Limits;
+
+    ghost reads = { table_type_at };
+
+    fn read(_alloc: Global, cursor: &mut Cursor<'_>) -> Result<Limits, DecodeFault> {
+        table_type(cursor)
+    }
+}
+
+/// The type of a memory, as an item.
+pub(crate) enum MemoryType {}
+
+impl Item for MemoryType {
+    type Value = Limits;
+
     ghost reads = { memory_type_at };
 
     fn read(_alloc: Global, cursor: &mut Cursor<'_>) -> Result<Limits, DecodeFault> {

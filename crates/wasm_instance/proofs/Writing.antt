@@ -1,41 +1,25 @@
--- Bytes that are written one by one, and segments one after another.
-use Rattle.std.proofs.Common.{◌≡◌, ◌≤◌, ◌+◌, ◌*◌, ℕ, zero, suc, List, [], ◌∷◌, length, drop, Some, refl, sym, ap, ◌∙◌, subst, arith}
-use Rattle.std.specs.Prelude.{slice_set, slice_get}
-use Rattle.std.proofs.lemmas.Grind.{common_steps}
-use Rattle.wasm_ast.specs.declared.types.Limits.{Limits}
-use Rattle.wasm_ast.specs.declared.module.Module.{Module}
-use Rattle.wasm_validate.specs.ModuleRules.{IsValid}
-use Rattle.wasm_meaning.specs.Program.{written, least_pages}
-use Rattle.wasm_instance.specs.Segments.{AreWithin}
-use Rattle.wasm_instance.specs.Lending.{in_place}
+-- Bytes that are written from a place on.
+use Rattle.std.proofs.Common.{◌≡◌, ◌≤◌, ◌<◌, ◌+◌, ℕ, suc, List, [], ◌∷◌, ◌++◌, length, take, drop, sym, ap, ◌∙◌, arith, append_assoc, add-zero}
+use Rattle.std.specs.Prelude.{slice_set}
+use Rattle.std.proofs.lemmas.List.{take-append-drop, take_more_set, drop-set-lt, length-set, drop-drop}
+use Rattle.wasm_meaning.specs.Memory.{written}
 
-pub in_place_same : (old bytes : List ℕ) → length bytes ≡ length old → in_place old bytes ≡ bytes
-in_place_same old bytes e = grind (arith, common_steps)
+-- one by one they take the place of those that were there
+pub written-is : (m bytes : List ℕ) (p : ℕ) → p + length bytes ≤ length m → written m p bytes ≡ take p m ++ (bytes ++ drop (p + length bytes) m)
+written-is m [] p h = sym (ap (λ k. take p m ++ drop k m) (add-zero p) ∙ take-append-drop p m)
+written-is m (b ∷ bytes) p h =
+    let at : p < length m = omega arith in
+    let rest = written-is (slice_set m p b) bytes (p + 1) (omega (arith, length-set m p b)) in
+    let front = take_more_set m p b at in
+    let back = drop-set-lt (p + 1 + length bytes) m p b (omega arith) in
+    let n : p + 1 + length bytes ≡ p + suc (length bytes) = omega arith in
+    rest ∙ ap (λ xs. xs ++ (bytes ++ drop (p + 1 + length bytes) (slice_set m p b))) front
+    ∙ append_assoc (take p m) (b ∷ []) _
+    ∙ ap (λ xs. take p m ++ (b ∷ (bytes ++ xs))) (back ∙ ap (λ k. drop k m) n)
 
-pub written_next : (m bytes : List ℕ) (p i b : ℕ) → drop i bytes ≡ b ∷ drop (i + 1) bytes → written (slice_set m (p + i) b) (p + (i + 1)) (drop (i + 1) bytes) ≡ written m (p + i) (drop i bytes)
-written_next m bytes p i b e =
-    let k : p + (i + 1) ≡ (p + i) + 1 = omega arith in
-    ap (λ k. written (slice_set m (p + i) b) k (drop (i + 1) bytes)) k ∙ sym (ap (written m (p + i)) e)
-
-pub written_all : (m bytes : List ℕ) (p i : ℕ) → i ≡ length bytes → written m p (drop i bytes) ≡ m
-written_all m bytes p i e = ap (λ i. written m p (drop i bytes)) e ∙ ap (written m p) (drop_all bytes)
-  where
-    drop_all : (bs : List ℕ) → drop (length bs) bs ≡ []
-    drop_all [] = refl
-    drop_all (b ∷ bs) = grind (arith, common_steps)
-
--- the segments of a valid module lie in its memory
-pub segments_within : (m : Module) → IsValid m → AreWithin m.data (65536 * least_pages m.memories)
-segments_within m valid k d e =
-    let found = valid.segments k d e in
-    record {
-      offset = found.offset;
-      constant = found.constant;
-      within = subst (λ n. found.offset + length d.bytes ≤ 65536 * n) (sym (only m.memories d.memory found.memory valid.one_memory found.exists)) found.within;
-    }
-  where
-    only : (ls : List Limits) (i : ℕ) (l : Limits) → length ls ≤ 1 → slice_get ls i ≡ Some l → least_pages ls ≡ l.least
-    only [] i l le g = cc
-    only (x ∷ []) zero l le g = let h : x ≡ l = cc in ap (λ z. z.least) h
-    only (x ∷ []) (suc i) l le g = cc
-    only (x ∷ y ∷ ls) i l le g = absurd (omega arith)
+-- the same in the place of the next n bytes
+pub written-part : (m bytes now : List ℕ) (p n : ℕ) → p + length bytes ≤ length m → n ≡ length bytes → now ≡ bytes → take p m ++ (now ++ drop n (drop p m)) ≡ written m p bytes
+written-part m bytes now p n h en e =
+    ap (λ xs. take p m ++ (xs ++ drop n (drop p m))) e
+    ∙ ap (λ xs. take p m ++ (bytes ++ xs)) (drop-drop n p m ∙ ap (λ k. drop (p + k) m) en)
+    ∙ sym (written-is m bytes p h)

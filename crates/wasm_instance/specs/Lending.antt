@@ -10,4 +10,4 @@ in_place old bytes = take (length old) (bytes ++ drop (length bytes) old)
 
 -- the instance ends with the bytes that were written last
 abbrev pub LendsMemory : MutBor State → MutBor (List ℕ) → Fml
-LendsMemory i r = Lends the_row (Array u8 0) i r (λ bytes. record { memory = in_place i.now.memory bytes })
+LendsMemory i r = Lends the_row (Array u8 0) i r (λ bytes. record i.now { memory = in_place i.now.memory bytes })

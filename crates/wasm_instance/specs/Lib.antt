@@ -1,3 +1,4 @@
 pub mod State
+pub mod Accesses
 pub mod Segments
 pub mod Lending

@@ -1,15 +1,16 @@
 -- How many instructions the meaning of code executes: those whose cost of 1 is paid.
-use Rattle.std.specs.Prelude.{ℕ, zero, suc, ◌+◌, ◌-◌, List, [], ◌∷◌, ◌++◌, Option, Some, None, cond, ◌&&◌, nat_lt, nat_eq, length, take, drop, reverse, slice_get, map}
+use Rattle.std.specs.Prelude.{ℕ, zero, suc, ◌+◌, ◌-◌, List, [], ◌∷◌, ◌++◌, Option, Some, None, cond, ◌&&◌, nat_lt, nat_eq, length, take, reverse, slice_get, map}
 use Rattle.wasm_ast.specs.declared.types.ValueType.{ValueType}
 use Rattle.wasm_ast.specs.declared.types.ValueType.TheVariants.{I32}
 use Rattle.wasm_ast.specs.declared.module.Module.{Module}
 use Rattle.wasm_ast.specs.Types.{words, same_type}
-use Rattle.wasm_ast.specs.Op.{Op, Call}
+use Rattle.wasm_ast.specs.declared.types.FuncType.{FuncType}
+use Rattle.wasm_ast.specs.Op.{Op, Call, CallIndirect}
 use Rattle.wasm_ast.specs.Code.{Code, End, Do, Block, Loop, If}
 use Rattle.wasm_validate.specs.HostCalls.{host_calls}
 use Rattle.wasm_validate.specs.ModuleRules.{invoke_of}
 use Rattle.wasm_meaning.specs.Values.{Val, World, Answer, Next, Branch, Returns, Trapped, Spent, Stuck, Answering, Function, Program, zeros}
-use Rattle.wasm_meaning.specs.Meaning.{greatest_depth, block_end, loop_end, leaf, tree, meaning}
+use Rattle.wasm_meaning.specs.Meaning.{greatest_depth, same_func_type, block_end, loop_end, type_of, leaf, tree, meaning}
 use Rattle.wasm_meaning.specs.Program.{function_of, program_of, fresh_world}
 
 -- a count for what comes next
@@ -61,10 +62,23 @@ module _ {R : Type 0} where
       let n = length fn.type.params in cond (nat_lt (length s) n) 0 (cond (nat_lt d greatest_depth) (count (d + 1) fn.body f [] (reverse (take n s) ++ zeros fn.locals) w) 0)
 
 module _ {R : Type 0} (p : Program R) where
-  -- only a call of a module function executes instructions beyond itself
-  abbrev pub in_leaf : Counts R → ℕ → Op → Count R
-  in_leaf count d (Call i) f s l w =
+  -- a call of a function: only one of a module function executes instructions
+  abbrev pub in_call : Counts R → ℕ → ℕ → Count R
+  in_call count d i f s l w =
       cond (nat_lt i (length p.imports)) 0 (if_some (slice_get p.functions (i - length p.imports)) (λ fn. in_function count d fn f s l w))
+
+  -- a call by an entry of the table
+  abbrev pub in_entry : Counts R → ℕ → FuncType → Option (Option ℕ) → Count R
+  in_entry count d t None f s l w = 0
+  in_entry count d t (Some None) f s l w = 0
+  in_entry count d t (Some (Some i)) f s l w =
+      if_some (type_of p i) (λ u. cond (same_func_type t u) (in_call count d i f s l w) 0)
+
+  -- only a call executes instructions beyond itself
+  abbrev pub in_leaf : Counts R → ℕ → Op → Count R
+  in_leaf count d (Call i) f s l w = in_call count d i f s l w
+  in_leaf count d (CallIndirect x) f s l w =
+      if_top s (λ v s. if_word I32 v (λ n. if_some (slice_get p.types x) (λ t. in_entry count d t (slice_get p.table n) f s l w)))
   in_leaf count d _ f s l w = 0
 
   -- a tree, where `count` is for loops that are executed again and for calls

@@ -1,5 +1,5 @@
 -- No more instructions are executed than fuel is used: each pays at least 1.
-use Rattle.std.proofs.Common.{◌≡◌, ℕ, zero, suc, ◌+◌, ◌-◌, ◌<◌, ◌≤◌, Bool, true, false, cond, Option, Some, None, List, [], ◌∷◌, ◌++◌, length, refl, sym, ap, subst, arith, take, drop, reverse, map}
+use Rattle.std.proofs.Common.{◌≡◌, ℕ, zero, suc, ◌+◌, ◌-◌, ◌≤◌, Bool, true, false, cond, Option, Some, None, List, [], ◌∷◌, ◌++◌, length, refl, sym, subst, arith, take, drop, reverse, map}
 use Rattle.std.specs.Prelude.{◌&&◌, nat_lt, nat_eq, slice_get}
 use Rattle.std.proofs.lemmas.Bool.Decides.{nat_tests}
 use Rattle.wasm_ast.specs.declared.types.ValueType.{ValueType}
@@ -8,16 +8,17 @@ use Rattle.wasm_ast.specs.declared.trap.Trap.TheVariants as trap
 use Rattle.wasm_ast.specs.declared.module.Module.{Module}
 use Rattle.wasm_ast.specs.declared.host_call.HostCall.{HostCall}
 use Rattle.wasm_ast.specs.Types.{words, same_type}
-use Rattle.wasm_ast.specs.Op.{Op, Unreachable, Nop, Drop, Return, Br, BrIf, BrTable, Call, LocalGet, LocalSet, LocalTee, Const, Binary}
+use Rattle.wasm_ast.specs.declared.types.FuncType.{FuncType}
+use Rattle.wasm_ast.specs.Op.{Op, Unreachable, Nop, Drop, Select, Return, Br, BrIf, BrTable, Call, CallIndirect, LocalGet, LocalSet, LocalTee, GlobalGet, GlobalSet, MemorySize, MemoryGrow, Load, Store, Const, Eqz, Unary, Compare, Binary, Convert}
 use Rattle.wasm_ast.specs.Code.{BlockType, Code, End, Do, Block, Loop, If}
 use Rattle.wasm_validate.specs.HostCalls.{host_calls}
 use Rattle.wasm_validate.specs.ModuleRules.{invoke_of}
 use Rattle.wasm_meaning.specs.Values.{Val, World, Answer, Next, Branch, Returns, Trapped, Spent, Stuck, Answering, Function, Program, Then, all_of, top_of, zeros}
-use Rattle.wasm_meaning.specs.Meaning.{greatest_depth, then_do, pay, on_top, as_word, with_some, block_end, loop_end, call_end, with_args, call_host, call_function, leaf, tree, meaning}
+use Rattle.wasm_meaning.specs.Meaning.{greatest_depth, same_func_type, then_do, pay, on_top, as_word, with_some, block_end, loop_end, call_end, call_host, call_function, type_of, call, call_entry, leaf, tree, meaning}
 use Rattle.wasm_meaning.specs.Program.{function_of, program_of, fresh_world, invocation}
 use Rattle.wasm_meaning.specs.Fuel.{fuel_left}
 use Rattle.wasm_meaning.specs.Unfold.{meaning-is, meaning-left, leaf_left, host_left}
-use Rattle.wasm_meaning.specs.Executed.{Count, Counts, paid, if_some, if_top, if_word, if_next, if_again, in_function, in_leaf, in_tree, in_bounded, executed, executed_by}
+use Rattle.wasm_meaning.specs.Executed.{Count, Counts, paid, if_some, if_top, if_word, if_next, if_again, in_function, in_call, in_entry, in_leaf, in_tree, in_bounded, executed, executed_by}
 
 module _ {R : Type 0} where
   -- k instructions were executed from fuel n to an answer
@@ -108,10 +109,28 @@ module _ {R : Type 0} (p : Program R) where
   alone : (d : ℕ) (o : Op) (f : ℕ) (s l : List Val) (w : World R) → Fits f 0 (leaf p (meaning p) d o f s l w)
   alone d o f s l w = none_fits f (leaf p (meaning p) d o f s l w) (leaf_left p d o f s l w)
 
+  call_fits : (count : Counts R) → AllFit count → (d i f : ℕ) (s l : List Val) (w : World R) → Fits f (in_call p count d i f s l w) (call p (meaning p) d i f s l w)
+  call_fits count k d i f s l w =
+      cond_fits f (nat_lt i (length p.imports)) 0 _ _ _ (imported (slice_get p.imports i)) (some_fits f (slice_get p.functions (i - length p.imports)) _ _ (λ fn. function_fits count k d fn f s l w))
+    where
+      imported : (o : Option HostCall) → Fits f 0 (with_some o (λ which. call_host p.host which f s l w))
+      imported None = record { fits = omega arith }
+      imported (Some which) = none_fits f (call_host p.host which f s l w) (host_left f p.host which s l w)
+
+  entry_fits : (count : Counts R) → AllFit count → (d : ℕ) (t : FuncType) (e : Option (Option ℕ)) (f : ℕ) (s l : List Val) (w : World R) → Fits f (in_entry p count d t e f s l w) (call_entry p (meaning p) d t e f s l w)
+  entry_fits count k d t None f s l w = record { fits = omega arith }
+  entry_fits count k d t (Some None) f s l w = record { fits = omega arith }
+  entry_fits count k d t (Some (Some i)) f s l w =
+      some_fits f (type_of p i) _ _ (λ u. cond_fits f (same_func_type t u) _ 0 _ (Trapped trap.IndirectCallType f w) (call_fits count k d i f s l w) (record { fits = omega arith }))
+
   leaf_fits : (count : Counts R) → AllFit count → (d : ℕ) (o : Op) (f : ℕ) (s l : List Val) (w : World R) → Fits f (in_leaf p count d o f s l w) (leaf p (meaning p) d o f s l w)
+  leaf_fits count k d (Call i) f s l w = call_fits count k d i f s l w
+  leaf_fits count k d (CallIndirect x) f s l w =
+      top_fits f s _ _ (λ v s. word_fits f I32 v _ _ (λ n. some_fits f (slice_get p.types x) _ _ (λ t. entry_fits count k d t (slice_get p.table n) f s l w)))
   leaf_fits count k d Unreachable f s l w = alone d Unreachable f s l w
   leaf_fits count k d Nop f s l w = alone d Nop f s l w
   leaf_fits count k d Drop f s l w = alone d Drop f s l w
+  leaf_fits count k d Select f s l w = alone d Select f s l w
   leaf_fits count k d Return f s l w = alone d Return f s l w
   leaf_fits count k d (Br n) f s l w = alone d (Br n) f s l w
   leaf_fits count k d (BrIf n) f s l w = alone d (BrIf n) f s l w
@@ -119,14 +138,18 @@ module _ {R : Type 0} (p : Program R) where
   leaf_fits count k d (LocalGet n) f s l w = alone d (LocalGet n) f s l w
   leaf_fits count k d (LocalSet n) f s l w = alone d (LocalSet n) f s l w
   leaf_fits count k d (LocalTee n) f s l w = alone d (LocalTee n) f s l w
+  leaf_fits count k d (GlobalGet n) f s l w = alone d (GlobalGet n) f s l w
+  leaf_fits count k d (GlobalSet n) f s l w = alone d (GlobalSet n) f s l w
+  leaf_fits count k d MemorySize f s l w = alone d MemorySize f s l w
+  leaf_fits count k d MemoryGrow f s l w = alone d MemoryGrow f s l w
+  leaf_fits count k d (Load o align offset) f s l w = alone d (Load o align offset) f s l w
+  leaf_fits count k d (Store o align offset) f s l w = alone d (Store o align offset) f s l w
   leaf_fits count k d (Const t n) f s l w = alone d (Const t n) f s l w
+  leaf_fits count k d (Eqz t) f s l w = alone d (Eqz t) f s l w
+  leaf_fits count k d (Unary t o) f s l w = alone d (Unary t o) f s l w
+  leaf_fits count k d (Compare t o) f s l w = alone d (Compare t o) f s l w
   leaf_fits count k d (Binary t o) f s l w = alone d (Binary t o) f s l w
-  leaf_fits count k d (Call i) f s l w =
-      cond_fits f (nat_lt i (length p.imports)) 0 _ _ _ (imported (slice_get p.imports i)) (some_fits f (slice_get p.functions (i - length p.imports)) _ _ (λ fn. function_fits count k d fn f s l w))
-    where
-      imported : (o : Option HostCall) → Fits f 0 (with_some o (λ which. call_host p.host which f s l w))
-      imported None = record { fits = omega arith }
-      imported (Some which) = none_fits f (call_host p.host which f s l w) (host_left f p.host which s l w)
+  leaf_fits count k d (Convert o) f s l w = alone d (Convert o) f s l w
 
   tree_fits : (count : Counts R) → AllFit count → (d : ℕ) (c : Code) (f : ℕ) (s l : List Val) (w : World R) → Fits f (in_tree p count d c f s l w) (tree p (meaning p) d c f s l w)
   tree_fits count k d End f s l w = record { fits = omega arith }

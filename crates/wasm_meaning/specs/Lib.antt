@@ -1,4 +1,5 @@
 pub mod Values
+pub mod Memory
 pub mod Meaning
 pub mod Program
 pub mod Fuel
@@ -7,6 +8,7 @@ pub mod Following
 pub mod Unfold
 pub mod Executed
 pub mod ExecutedFits
+pub mod Loads
 pub mod Sound
 pub mod NeverStuck
 pub mod Alike

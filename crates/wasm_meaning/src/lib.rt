@@ -7,25 +7,39 @@
 //! # The definitions, in reading order
 //!
 //! - `Values.antt`: values, and where instructions lead (sections 4.2.1, 4.2.2); the world outside a
-//!   frame, which is the memory and what the host has recorded; a host, as a function of the call, its
-//!   arguments, the memory and the records alone; a program, as what code may call.
+//!   frame, which is the memory, the globals and what the host has recorded; a host, as a function of the
+//!   call, its arguments, the memory and the records alone; a program, as what code may call.
+//! - `Memory.antt`: the bytes that loads read and stores write, and how a memory grows (4.2.8, 4.4.4).
 //! - `Meaning.antt`: what code does, by recursion on its tree: `leaf` for plain instructions (sections
-//!   4.4.1 to 4.4.5), `tree` for lists and blocks (4.4.6), `call_function` and `call_host` for calls
-//!   (4.4.7). A loop and a call go on by `again`, the meaning with less fuel.
-//! - `Program.antt`: a module as a program, its fresh memory (4.5.4), and `invocation`: what its `invoke`
-//!   does with a host, its records and fuel (4.5.5).
+//!   4.4.1 to 4.4.5), `tree` for lists and blocks (4.4.6), `call_function`, `call_host` and `call_entry`
+//!   for calls (4.4.7). A loop and a call go on by `again`, the meaning with less fuel.
+//! - `Program.antt`: a module as a program, its fresh table, globals and memory (4.5.4), and `invocation`:
+//!   what its `invoke` does with a host, its records and fuel (4.5.5).
 //! - `Fuel.antt`, `Fine.antt`, `Following.antt`: the words in which the laws are said.
 //!
 //! # Costs
 //!
 //! An instruction costs 1, and `end` and `else` cost nothing. A branch to a loop executes `loop` again,
 //! which pays again. A call of the host costs 64 more, and `range_state` with a limit of 1 to 64 a
-//! further 64 for each entry that the limit allows. The invocation itself costs nothing.
+//! further 64 for each entry that the limit allows. `memory.grow` by up to 16 pages costs 64 more for each.
+//! An indirect call costs what the call costs, and 1 where it traps before. The invocation itself costs
+//! nothing.
 //!
 //! The cost is taken before any effect and before any trap. With less fuel left than the cost, the run ends
-//! as `Spent` and the instruction has no effect. A host call pays its 1 first and the rest once its
-//! operands are known. These two payments are as good as one: `Spent` carries no fuel, and nothing
-//! has an effect between them.
+//! as `Spent` and the instruction has no effect. A host call and `memory.grow` pay their 1 first and the rest
+//! once their operands are known. These two payments are as good as one: `Spent` carries no fuel, and
+//! nothing has an effect between them.
+//!
+//! # Memory
+//!
+//! A memory grows to its declared maximum, and to 16 pages at most. `memory.grow` answers the old size, or
+//! -1 where the new one would be above that, and nothing else makes it fail. An access is at the operand
+//! plus the offset, as an unbounded sum, and traps where some byte of it lies past the end.
+//!
+//! # Indirect calls
+//!
+//! An indirect call is tested in this order: the table has no such entry (`UndefinedElement`), the entry has
+//! no function (`UninitializedElement`), its function is of another type (`IndirectCallType`), and the depth.
 //!
 //! # Depth
 //!
@@ -36,6 +50,7 @@
 ghost use Rattle.std.specs.Prelude.{◌≡◌, ◌≢◌, ◌≤◌, ◌+◌, ℕ, List};
 ghost use Rattle.wasm_ast.specs.declared.module.Module.{Module};
 ghost use Rattle.wasm_ast.specs.Code.{Code};
+ghost use Rattle.wasm_validate.specs.Typing.{Context};
 ghost use Rattle.wasm_validate.specs.ModuleRules.{IsValid};
 ghost use Rattle.wasm_meaning.specs.Values.{Val, World, Stuck, Answering, Program};
 ghost use Rattle.wasm_meaning.specs.Meaning.{tree, meaning};
@@ -63,10 +78,11 @@ pub fn instructions_within_fuel<R>()
     ensures invocation { (m : Module) (host : Answering R) (records : R) (fuel : ℕ) → executed_by m host records fuel + fuel_left (invocation m host records fuel) ≤ fuel }
 {}
 
-/// Code that is typed, on operands and locals of its types, leads to operands and locals of the types
-/// that the rules say, whatever the host answers.
+/// Code that is typed, on operands, locals and globals of its types, leads to operands, locals and globals
+/// of the types that the rules say, whatever the host answers. The context says what the module of the
+/// program has.
 pub fn typed_is_fine<R>()
-    ensures { (p : Program R) → IsTypedProgram p → IsSound p (meaning p) }
+    ensures { (c : Context) (p : Program R) → IsTypedProgram c p → IsSound c (meaning p) }
 {}
 
 /// `invoke` of a valid module is never stuck, whatever the host answers. It ends with one i32, a trap or

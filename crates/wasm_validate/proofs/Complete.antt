@@ -1,15 +1,18 @@
 -- What is typed by the rules the algorithm accepts.
-use Rattle.std.proofs.Common.{◌≡◌, ◌<◌, ℕ, List, [], ◌∷◌, ◌++◌, refl, sym, ap, ◌∙◌, subst, Option, Some, None, append-nil, append_assoc, arith}
-use Rattle.std.specs.Prelude.{Bool, true, false, ◌&&◌, nat_lt}
+use Rattle.std.proofs.Common.{◌≡◌, ◌<◌, ◌≤◌, ◌^◌, ℕ, List, [], ◌∷◌, ◌++◌, refl, sym, ap, ◌∙◌, subst, Option, Some, None, append-nil, append_assoc, arith}
+use Rattle.std.specs.Prelude.{Bool, true, false, ◌&&◌, nat_lt, nat_le}
 use Rattle.std.proofs.lemmas.Bool.Decides.{nat_tests}
 use Rattle.wasm_ast.specs.declared.types.ValueType.{ValueType}
 use Rattle.wasm_ast.specs.declared.types.ValueType.TheVariants.{I32, I64}
+use Rattle.wasm_ast.specs.declared.types.Limits.{Limits}
+use Rattle.wasm_ast.specs.Access.{load_type, load_width, store_type, store_width}
+use Rattle.wasm_ast.specs.Conversions.{operand_type, result_type}
 use Rattle.wasm_ast.specs.Types.{words}
-use Rattle.wasm_ast.specs.Op.{Op, Unreachable, Nop, Drop, Return, Br, BrIf, BrTable, Call, LocalGet, LocalSet, LocalTee, Const, Binary}
+use Rattle.wasm_ast.specs.Op.{Op, Unreachable, Nop, Drop, Select, Return, Br, BrIf, BrTable, Call, CallIndirect, LocalGet, LocalSet, LocalTee, GlobalGet, GlobalSet, MemorySize, MemoryGrow, Load, Store, Const, Eqz, Unary, Compare, Binary, Convert}
 use Rattle.wasm_ast.specs.Code.{BlockType, Code, End, Do, Block, Loop, If}
 use Rattle.wasm_validate.specs.Typing.{Context, at, results, under, arguments, EachLabel, Rule, Types}
-use Rattle.wasm_validate.specs.Operands.{Operands, then, matches, if_true, push, pop_from, pop, pop_as, pop_all, push_result, pop_result, no_operands, from_here, is_none, finish, label_is, named_is}
-use Rattle.wasm_validate.specs.Algorithm.{each_label, step, check, whole_body}
+use Rattle.wasm_validate.specs.Operands.{Operands, then, matches, if_true, push, pop_from, pop, pop_as, pop_all, push_result, pop_result, apply, shared, no_operands, from_here, is_none, finish, label_is, named_is}
+use Rattle.wasm_validate.specs.Algorithm.{each_label, select, access, step, check, whole_body}
 use Rattle.wasm_validate.proofs.Stands.{Stands, StandsFor, For}
 
 -- there is a value, and a fact of it
@@ -87,26 +90,71 @@ split s ins ts below lower e f = subst (For s) (append_assoc ts below lower) (su
 lt_is : (n m : ℕ) → n < m → nat_lt n m ≡ true
 lt_is n m h = grind (arith, nat_tests)
 
--- two operands of a type, and one of it after them
-binary_ahead : (t : ValueType) (s : Operands) (ins outs lower : List ValueType) → ins ≡ t ∷ t ∷ [] → outs ≡ t ∷ [] → For s (ins ++ lower) → Yields (then (pop_as t s) (λ s. then (pop_as t s) (λ s. Some (push (Some t) s)))) (λ s'. For s' (outs ++ lower))
-binary_ahead t s ins outs lower p q f =
-    by_rule s ins (t ∷ t ∷ []) outs (t ∷ []) lower (then (pop_as t s) (λ s. then (pop_as t s) (λ s. Some (push (Some t) s)))) p q f (λ f. on (pop_as t s) _ _ _ (pop_as_ahead t s (t ∷ lower) f) (λ s1 f1.
-    on (pop_as t s1) _ _ _ (pop_as_ahead t s1 lower f1) (λ s2 f2. (refl, f2))))
+le_is : (n m : ℕ) → n ≤ m → nat_le n m ≡ true
+le_is n m h = grind (arith, nat_tests)
+
+-- operands of known types, and a result in their place
+apply_ahead : (ins : List ValueType) (l : BlockType) (s : Operands) (lower : List ValueType) → For s (ins ++ lower) → Yields (apply ins l s) (λ s'. For s' (results l ++ lower))
+apply_ahead ins l s lower f =
+    on (pop_all ins s) _ _ _ (pop_all_ahead ins s lower f) (λ s1 g. push_result_ahead l s1 lower g)
+
+apply_rule : (s : Operands) (ins ins' outs lower : List ValueType) (l : BlockType) → ins ≡ ins' → outs ≡ results l → For s (ins ++ lower) → Yields (apply ins' l s) (λ s'. For s' (outs ++ lower))
+apply_rule s ins ins' outs lower l e e' f =
+    by_rule s ins ins' outs (results l) lower (apply ins' l s) e e' f (λ f. apply_ahead ins' l s lower f)
+
+-- after a test that holds
+then_is : {A B : Type 0} (b : Bool) (a : A) (f : A → Option B) (P : B → Type 0) → b ≡ true → Yields (f a) P → Yields (then (if_true b a) f) P
+then_is b a f P e h = subst (λ b. Yields (then (if_true b a) f) P) (sym e) h
+
+shared_ahead : (a b : Option ValueType) (t : ValueType) → Stands a t → Stands b t → Yields (shared a b) (λ o. Stands o t)
+shared_ahead None b t h k = k
+shared_ahead (Some u) None t h k = h
+shared_ahead (Some u) (Some v) t h k = if_matches (Some u) v (Some v) (λ o. Stands o t) (h ∙ sym k) k
+
+select_ahead : (t : ValueType) (s : Operands) (lower : List ValueType) → For s (I32 ∷ t ∷ t ∷ lower) → Yields (select s) (λ s'. For s' (t ∷ lower))
+select_ahead t s lower f =
+    on (pop_as I32 s) _ _ _ (pop_as_ahead I32 s (t ∷ t ∷ lower) f) (λ s1 f1.
+    on (pop s1) _ _ _ (pop_ahead s1.types s1.unreachable t (t ∷ lower) f1) (λ p hp.
+    on (pop p.1) _ _ _ (pop_ahead p.1.types p.1.unreachable t lower hp.1) (λ q hq.
+    on (shared p.0 q.0) _ _ _ (shared_ahead p.0 q.0 t hp.0 hq.0) (λ o h. (h, hq.1)))))
+
+access_ahead : (c : Context) (s : Operands) (align width : ℕ) (m : Limits) (ins ins' outs lower : List ValueType) (l : BlockType) → at c.memories 0 ≡ Some m → 2 ^ align ≤ width → ins ≡ ins' → outs ≡ results l → For s (ins ++ lower) → Yields (access c align width ins' l s) (λ s'. For s' (outs ++ lower))
+access_ahead c s align width m ins ins' outs lower l e le p q f =
+    on_some (at c.memories 0) m _ _ e (then_is (nat_le (2 ^ align) width) s _ _ (le_is (2 ^ align) width le) (apply_rule s ins ins' outs lower l p q f))
 
 step_ahead : (c : Context) (o : Op) (s : Operands) (ins outs lower : List ValueType) → Rule c o ins outs → For s (ins ++ lower) → Yields (step c o s) (λ s'. For s' (outs ++ lower))
 step_ahead c Unreachable s ins outs lower r f = tt
 step_ahead c Nop s ins outs lower r f = by_rule s ins [] outs [] lower (step c Nop s) r.0 r.1 f (λ f. f)
 step_ahead c Drop s ins outs lower r f =
     by_rule s ins (r.0 ∷ []) outs [] lower (step c Drop s) r.1 r.2 f (λ f. on (pop s) _ _ _ (pop_ahead s.types s.unreachable r.0 lower f) (λ p h. h.1))
+step_ahead c Select s ins outs lower r f =
+    by_rule s ins (I32 ∷ r.0 ∷ r.0 ∷ []) outs (r.0 ∷ []) lower (select s) r.1 r.2 f (λ f. select_ahead r.0 s lower f)
 step_ahead c (Const t n) s ins outs lower r f =
     by_rule s ins [] outs (t ∷ []) lower (step c (Const t n) s) r.1 r.2 f (λ f. let g : For (push (Some t) s) (t ∷ lower) = (refl, f) in if_is (nat_lt n (words t)) (push (Some t) s) (λ s'. For s' (t ∷ lower)) (lt_is n (words t) r.0) g)
-step_ahead c (Binary t o) s ins outs lower r f = binary_ahead t s ins outs lower r.0 r.1 f
+step_ahead c (Eqz t) s ins outs lower r f = apply_rule s ins (t ∷ []) outs lower (Some I32) r.0 r.1 f
+step_ahead c (Unary t o) s ins outs lower r f = apply_rule s ins (t ∷ []) outs lower (Some t) r.0 r.1 f
+step_ahead c (Compare t o) s ins outs lower r f = apply_rule s ins (t ∷ t ∷ []) outs lower (Some I32) r.0 r.1 f
+step_ahead c (Binary t o) s ins outs lower r f = apply_rule s ins (t ∷ t ∷ []) outs lower (Some t) r.0 r.1 f
+step_ahead c (Convert o) s ins outs lower r f =
+    apply_rule s ins (operand_type o ∷ []) outs lower (Some (result_type o)) r.0 r.1 f
 step_ahead c (LocalGet x) s ins outs lower r f =
-    by_rule s ins [] outs (r.0 ∷ []) lower (step c (LocalGet x) s) r.2 r.3 f (λ f. let g : For (push (Some r.0) s) (r.0 ∷ lower) = (refl, f) in on_some (at c.locals x) r.0 (λ t. Some (push (Some t) s)) (λ s'. For s' (r.0 ∷ lower)) r.1 g)
+    on_some (at c.locals x) r.0 _ _ r.1 (apply_rule s ins [] outs lower (Some r.0) r.2 r.3 f)
 step_ahead c (LocalSet x) s ins outs lower r f =
-    by_rule s ins (r.0 ∷ []) outs [] lower (step c (LocalSet x) s) r.2 r.3 f (λ f. on_some (at c.locals x) r.0 _ _ r.1 (pop_as_ahead r.0 s lower f))
+    on_some (at c.locals x) r.0 _ _ r.1 (apply_rule s ins (r.0 ∷ []) outs lower None r.2 r.3 f)
 step_ahead c (LocalTee x) s ins outs lower r f =
-    by_rule s ins (r.0 ∷ []) outs (r.0 ∷ []) lower (step c (LocalTee x) s) r.2 r.3 f (λ f. on_some (at c.locals x) r.0 (λ t. then (pop_as t s) (λ s. Some (push (Some t) s))) (λ s'. For s' (r.0 ∷ lower)) r.1 (on (pop_as r.0 s) (λ s. Some (push (Some r.0) s)) _ _ (pop_as_ahead r.0 s lower f) (λ s1 f1. (refl, f1))))
+    on_some (at c.locals x) r.0 _ _ r.1 (apply_rule s ins (r.0 ∷ []) outs lower (Some r.0) r.2 r.3 f)
+step_ahead c (GlobalGet x) s ins outs lower r f =
+    on_some (at c.globals x) r.0 _ _ r.1 (apply_rule s ins [] outs lower (Some r.0.value_type) r.2 r.3 f)
+step_ahead c (GlobalSet x) s ins outs lower r f =
+    on_some (at c.globals x) r.0 _ _ r.1 (then_is r.0.is_variable s _ _ r.2 (apply_rule s ins (r.0.value_type ∷ []) outs lower None r.3 r.4 f))
+step_ahead c (Load o align offset) s ins outs lower r f =
+    access_ahead c s align (load_width o) r.0 ins (I32 ∷ []) outs lower (Some (load_type o)) r.1 r.2 r.3 r.4 f
+step_ahead c (Store o align offset) s ins outs lower r f =
+    access_ahead c s align (store_width o) r.0 ins (store_type o ∷ I32 ∷ []) outs lower None r.1 r.2 r.3 r.4 f
+step_ahead c MemorySize s ins outs lower r f =
+    on_some (at c.memories 0) r.0 _ _ r.1 (apply_rule s ins [] outs lower (Some I32) r.2 r.3 f)
+step_ahead c MemoryGrow s ins outs lower r f =
+    on_some (at c.memories 0) r.0 _ _ r.1 (apply_rule s ins (I32 ∷ []) outs lower (Some I32) r.2 r.3 f)
 step_ahead c (Br n) s ins outs lower r f =
     on_some (at c.labels n) r.0 _ _ r.1 (on (pop_result r.0 s) _ _ _ (pop_result_ahead r.0 s (r.2 ++ lower) (split s ins (results r.0) r.2 lower r.3 f)) (λ _ _. tt))
 step_ahead c (BrIf n) s ins outs lower r f =
@@ -118,7 +166,9 @@ step_ahead c (BrTable ns n) s ins outs lower r f =
 step_ahead c Return s ins outs lower r f =
     on (pop_result c.result s) _ _ _ (pop_result_ahead c.result s (r.0 ++ lower) (split s ins (results c.result) r.0 lower r.1 f)) (λ _ _. tt)
 step_ahead c (Call x) s ins outs lower r f =
-    by_rule s ins (arguments r.0) outs (results r.0.result) lower (step c (Call x) s) r.2 r.3 f (λ f. on_some (at c.functions x) r.0 _ _ r.1 (on (pop_all (arguments r.0) s) _ _ _ (pop_all_ahead (arguments r.0) s lower f) (λ s1 f1. push_result_ahead r.0.result s1 lower f1)))
+    on_some (at c.functions x) r.0 _ _ r.1 (apply_rule s ins (arguments r.0) outs lower r.0.result r.2 r.3 f)
+step_ahead c (CallIndirect x) s ins outs lower r f =
+    by_rule s ins (I32 ∷ arguments r.2) outs (results r.2.result) lower (step c (CallIndirect x) s) r.4 r.5 f (λ f. on_some (at c.tables 0) r.0 _ _ r.1 (on_some (at c.types x) r.2 _ _ r.3 (on (pop_as I32 s) _ _ _ (pop_as_ahead I32 s (arguments r.2 ++ lower) f) (λ s1 f1. apply_ahead (arguments r.2) r.2.result s1 lower f1))))
 
 -- a body that is typed is accepted to its end
 body_ahead : (c : Context) (l : BlockType) (body : Code) → Yields (check c body no_operands) (λ e. For e (results l)) → Yields (whole_body c l body) (λ _. Unit {0})

@@ -3,64 +3,79 @@ use Rattle.std.proofs.Common.{◌≡◌, ◌<◌, ◌+◌, ℕ, List, [], ◌∷
 use Rattle.std.specs.Prelude.{IsSome}
 use Rattle.wasm_ast.specs.declared.types.ValueType.{ValueType}
 use Rattle.wasm_ast.specs.declared.types.FuncType.{FuncType}
+use Rattle.wasm_ast.specs.declared.types.Limits.{Limits}
 use Rattle.wasm_ast.specs.declared.module.Func.{Func}
+use Rattle.wasm_ast.specs.declared.module.Global.{Global}
 use Rattle.wasm_ast.specs.declared.module.Module.{Module}
 use Rattle.wasm_ast.specs.Code.{BlockType}
 use Rattle.wasm_validate.specs.declared.fault.ValidateFault.{ValidateFault}
-use Rattle.wasm_validate.specs.declared.fault.ValidateFault.TheVariants.{Memory, TypeMismatch, Index}
+use Rattle.wasm_validate.specs.declared.fault.ValidateFault.TheVariants.{Memory, TypeMismatch, Index, ImmutableGlobal, Alignment}
 use Rattle.wasm_validate.specs.Typing.{Context, Types, at, results}
 use Rattle.wasm_validate.specs.ModuleRules.{imported, type_indices, type_at, function_context, no_type, IsFunction}
 use Rattle.wasm_validate.specs.Indices.{AreTypes}
 use Rattle.wasm_validate.specs.Algorithm.{whole_body}
-use Rattle.wasm_validate.specs.Missing.{MissingIn}
+use Rattle.wasm_validate.specs.Breaks.{BreaksIn}
 use Rattle.wasm_validate.specs.Refused.{Refused}
-use Rattle.wasm_validate.specs.Broken.{Broken, InBody}
+use Rattle.wasm_validate.specs.Broken.{Broken, BrokenBody, InBody}
 use Rattle.wasm_validate.proofs.Lists.{index_is, at_append, at_map}
 use Rattle.wasm_validate.proofs.Sound.{accepted_is_typed}
 use Rattle.wasm_validate.proofs.Complete.{none_is_untyped}
 
 -- the context of a function's body, by its parts
-abbrev pub inside : List FuncType → List ℕ → List ValueType → List BlockType → BlockType → Context
-inside types functions locals labels left =
-    record { functions = map (type_at types) functions; locals = locals; labels = left ∷ labels; result = left }
+abbrev pub inside : List FuncType → List ℕ → (tables memories : List Limits) → List Global → List ValueType → List BlockType → BlockType → Context
+inside types functions tables memories globals locals labels left =
+    record { types = types; functions = map (type_at types) functions; tables = tables; memories = memories; globals = map (λ (g : Global). g.global_type) globals; locals = locals; labels = left ∷ labels; result = left }
 
 -- what is known of the parts
-pub record Parts (m : Module) (f : Func) (t : FuncType) (types : List FuncType) (functions : List ℕ) (locals : List ValueType) (labels : List BlockType) : Type 0 where
+pub record Parts (m : Module) (f : Func) (t : FuncType) (types : List FuncType) (functions : List ℕ) (tables memories : List Limits) (globals : List Global) (locals : List ValueType) (labels : List BlockType) : Type 0 where
   pub types_are : types ≡ m.types
   pub functions_are : functions ≡ type_indices m
+  pub tables_are : tables ≡ m.tables
+  pub memories_are : memories ≡ m.memories
+  pub globals_are : globals ≡ m.globals
   pub bound : f.type_index < length m.types
   pub type_is : t ≡ slice_index_or types f.type_index t
   pub locals_are : locals ≡ t.params ++ f.locals
   pub no_label : labels ≡ []
 
-module _ (m : Module) (f : Func) (t : FuncType) (types : List FuncType) (functions : List ℕ) (locals : List ValueType) (labels : List BlockType) (p : Parts m f t types functions locals labels) where
+module _ (m : Module) (f : Func) (t : FuncType) (types : List FuncType) (functions : List ℕ) (tables memories : List Limits) (globals : List Global) (locals : List ValueType) (labels : List BlockType) (p : Parts m f t types functions tables memories globals locals labels) where
   its_type : t ≡ type_at m.types f.type_index
   its_type =
       index_is m.types f.type_index t no_type p.bound (p.type_is ∙ ap (λ ts. slice_index_or ts f.type_index t) p.types_are)
 
   -- a function's context by its type
   abbrev by_type : FuncType → Context
-  by_type t = inside m.types (type_indices m) (t.params ++ f.locals) [] t.result
+  by_type t = inside m.types (type_indices m) m.tables m.memories m.globals (t.params ++ f.locals) [] t.result
 
-  context_is : inside types functions locals labels t.result ≡ function_context m f
+  context_is : inside types functions tables memories globals locals labels t.result ≡ function_context m f
   context_is =
-      ap (λ ts. inside ts functions locals labels t.result) p.types_are ∙ ap (λ is. inside m.types is locals labels t.result) p.functions_are ∙ ap (λ ls. inside m.types (type_indices m) ls labels t.result) p.locals_are ∙ ap (λ ls. inside m.types (type_indices m) (t.params ++ f.locals) ls t.result) p.no_label ∙ ap by_type its_type
+      ap (λ ts. inside ts functions tables memories globals locals labels t.result) p.types_are ∙ ap (λ is. inside m.types is tables memories globals locals labels t.result) p.functions_are ∙ ap (λ ls. inside m.types (type_indices m) ls memories globals locals labels t.result) p.tables_are ∙ ap (λ ls. inside m.types (type_indices m) m.tables ls globals locals labels t.result) p.memories_are ∙ ap (λ gs. inside m.types (type_indices m) m.tables m.memories gs locals labels t.result) p.globals_are ∙ ap (λ ls. inside m.types (type_indices m) m.tables m.memories m.globals ls labels t.result) p.locals_are ∙ ap (λ ls. inside m.types (type_indices m) m.tables m.memories m.globals (t.params ++ f.locals) ls t.result) p.no_label ∙ ap by_type its_type
+
+  abbrev context : Context
+  context = inside types functions tables memories globals locals labels t.result
 
   abbrev Whole : Context → BlockType → Type 0
   Whole c l = Types c f.body [] (results l)
 
-  pub function_typed : IsSome (whole_body (inside types functions locals labels t.result) t.result f.body) → IsFunction m f
+  pub function_typed : IsSome (whole_body context t.result f.body) → IsFunction m f
   function_typed h =
       record {
         type = p.bound;
-        body = subst (λ (t : FuncType). Whole (function_context m f) t.result) its_type (subst (λ c. Whole c t.result) context_is (accepted_is_typed (inside types functions locals labels t.result) t.result f.body h));
+        body = subst (λ (t : FuncType). Whole (function_context m f) t.result) its_type (subst (λ c. Whole c t.result) context_is (accepted_is_typed context t.result f.body h));
       }
 
-  pub function_broken : (e : ValidateFault) → Refused e (MissingIn (inside types functions locals labels t.result) f.body) (whole_body (inside types functions locals labels t.result) t.result f.body) → (k : ℕ) → at m.functions k ≡ Some f → Broken e m
+  -- some instruction breaks the rule of a fault
+  broken_body : (e : ValidateFault) → BreaksIn e context f.body → (k : ℕ) → at m.functions k ≡ Some f → BrokenBody e m
+  broken_body e r k h =
+      record { place = k; function = f; exists = h; breaks = subst (λ c. BreaksIn e c f.body) context_is r }
+
+  pub function_broken : (e : ValidateFault) → Refused e (BreaksIn e context f.body) (whole_body context t.result f.body) → (k : ℕ) → at m.functions k ≡ Some f → Broken e m
   function_broken Memory r k h = tt
   function_broken TypeMismatch r k h =
-      (k, f, h, λ typed. none_is_untyped (inside types functions locals labels t.result) t.result f.body r (subst (λ c. Whole c t.result) (sym context_is) (subst (λ (t : FuncType). Whole (function_context m f) t.result) (sym its_type) typed)))
-  function_broken Index r k h = InBody k f h (subst (λ c. MissingIn c f.body) context_is r)
+      (k, f, h, λ typed. none_is_untyped context t.result f.body r (subst (λ c. Whole c t.result) (sym context_is) (subst (λ (t : FuncType). Whole (function_context m f) t.result) (sym its_type) typed)))
+  function_broken Index r k h = InBody (broken_body Index r k h)
+  function_broken ImmutableGlobal r k h = broken_body ImmutableGlobal r k h
+  function_broken Alignment r k h = broken_body Alignment r k h
   function_broken _ r k h = absurd r
 
 -- a defined function's type is among those of all functions

@@ -8,9 +8,9 @@ use Rattle.wasm_ast.specs.View.{then_code, code_of}
 use Rattle.wasm_validate.specs.Typing.{Context, under}
 use Rattle.wasm_validate.specs.Operands.{Operands, then, pop_as, push_result, no_operands, finish}
 use Rattle.wasm_validate.specs.Algorithm.{check, whole_body, first, instruction}
-use Rattle.wasm_validate.specs.Missing.{MissingIn, MissingFirst, MissingInstr}
+use Rattle.wasm_validate.specs.Breaks.{BreaksIn, BreaksFirst, BreaksInstr}
 use Rattle.wasm_validate.specs.declared.fault.ValidateFault.{ValidateFault}
-use Rattle.wasm_validate.specs.declared.fault.ValidateFault.TheVariants.{Memory, TypeMismatch, Index}
+use Rattle.wasm_validate.specs.declared.fault.ValidateFault.TheVariants.{Memory, TypeMismatch, Index, ImmutableGlobal, Alignment}
 use Rattle.wasm_validate.specs.Refused.{Refused}
 use Rattle.wasm_validate.proofs.Lists.{next}
 
@@ -82,40 +82,42 @@ pub check_next : (c : Context) (i : ℕ) (is : List Instr) (x : Instr) (s new : 
 check_next c i is x s new lt e h =
     sym (ap (λ xs. check c (code_of xs) s) (next i is x lt e) ∙ check_first c x (code_of (drop (i + 1) is)) s ∙ ap (λ o. then o (check c (code_of (drop (i + 1) is)))) h)
 
--- what one instruction misses, the code misses
-missing_after : (c : Context) (code : Code) → MissingFirst c code → MissingIn c code
-missing_after c End m = m
-missing_after c (Do o rest) m = inl m
-missing_after c (Block t b rest) m = inl m
-missing_after c (Loop t b rest) m = inl m
-missing_after c (If t a b rest) m = inl m
+-- what one instruction breaks, the code breaks
+breaks_after : (f : ValidateFault) (c : Context) (code : Code) → BreaksFirst f c code → BreaksIn f c code
+breaks_after f c End m = m
+breaks_after f c (Do o rest) m = inl m
+breaks_after f c (Block t b rest) m = inl m
+breaks_after f c (Loop t b rest) m = inl m
+breaks_after f c (If t a b rest) m = inl m
 
-missing_later : (c : Context) (code : Code) → MissingIn c (after code) → MissingIn c code
-missing_later c End m = m
-missing_later c (Do o rest) m = inr m
-missing_later c (Block t b rest) m = inr m
-missing_later c (Loop t b rest) m = inr m
-missing_later c (If t a b rest) m = inr m
+breaks_later : (f : ValidateFault) (c : Context) (code : Code) → BreaksIn f c (after code) → BreaksIn f c code
+breaks_later f c End m = m
+breaks_later f c (Do o rest) m = inr m
+breaks_later f c (Block t b rest) m = inr m
+breaks_later f c (Loop t b rest) m = inr m
+breaks_later f c (If t a b rest) m = inr m
 
-missing_alone : (c : Context) (i : Instr) (rest : Code) → MissingInstr c i → MissingFirst c (then_code i rest)
-missing_alone c instr.Unreachable rest m = m
-missing_alone c _ rest m = m
+breaks_alone : (f : ValidateFault) (c : Context) (i : Instr) (rest : Code) → BreaksInstr f c i → BreaksFirst f c (then_code i rest)
+breaks_alone f c instr.Unreachable rest m = m
+breaks_alone f c _ rest m = m
 
-missing_from : (c : Context) (n : ℕ) (is : List Instr) → MissingIn c (code_of (drop n is)) → MissingIn c (code_of is)
-missing_from c zero is m = m
-missing_from c (suc n) [] m = m
-missing_from c (suc n) (i ∷ is) m =
-    missing_later c (then_code i (code_of is)) (subst (MissingIn c) (sym (after_first i (code_of is))) (missing_from c n is m))
+breaks_from : (f : ValidateFault) (c : Context) (n : ℕ) (is : List Instr) → BreaksIn f c (code_of (drop n is)) → BreaksIn f c (code_of is)
+breaks_from f c zero is m = m
+breaks_from f c (suc n) [] m = m
+breaks_from f c (suc n) (i ∷ is) m =
+    breaks_later f c (then_code i (code_of is)) (subst (BreaksIn f c) (sym (after_first i (code_of is))) (breaks_from f c n is m))
 
-pub missing_item : (c : Context) (i : ℕ) (is : List Instr) (x : Instr) → i < length is → x ≡ slice_index_or is i x → MissingInstr c x → MissingIn c (code_of is)
-missing_item c i is x lt e m =
-    missing_from c i is (subst (λ xs. MissingIn c (code_of xs)) (sym (next i is x lt e)) (missing_after c (then_code x (code_of (drop (i + 1) is))) (missing_alone c x (code_of (drop (i + 1) is)) m)))
+pub breaks_item : (f : ValidateFault) (c : Context) (i : ℕ) (is : List Instr) (x : Instr) → i < length is → x ≡ slice_index_or is i x → BreaksInstr f c x → BreaksIn f c (code_of is)
+breaks_item f c i is x lt e m =
+    breaks_from f c i is (subst (λ xs. BreaksIn f c (code_of xs)) (sym (next i is x lt e)) (breaks_after f c (then_code x (code_of (drop (i + 1) is))) (breaks_alone f c x (code_of (drop (i + 1) is)) m)))
 
 -- a refused instruction refuses the body
-pub refused_next : (c : Context) (t : BlockType) (body : Code) (i : ℕ) (is : List Instr) (x : Instr) (s : Operands) (f : ValidateFault) → code_of is ≡ body → i < length is → x ≡ slice_index_or is i x → check c (code_of (drop i is)) s ≡ check c body no_operands → Refused f (MissingInstr c x) (instruction c x s) → Refused f (MissingIn c body) (whole_body c t body)
+pub refused_next : (c : Context) (t : BlockType) (body : Code) (i : ℕ) (is : List Instr) (x : Instr) (s : Operands) (f : ValidateFault) → code_of is ≡ body → i < length is → x ≡ slice_index_or is i x → check c (code_of (drop i is)) s ≡ check c body no_operands → Refused f (BreaksInstr f c x) (instruction c x s) → Refused f (BreaksIn f c body) (whole_body c t body)
 refused_next c t body i is x s Memory e lt ei inv h = tt
 refused_next c t body i is x s TypeMismatch e lt ei inv h =
     let none : check c body no_operands ≡ None = sym inv ∙ ap (λ xs. check c (code_of xs) s) (next i is x lt ei) ∙ check_first c x (code_of (drop (i + 1) is)) s ∙ ap (λ o. then o (check c (code_of (drop (i + 1) is)))) h in
     ap (λ o. then o (finish t)) none
-refused_next c t body i is x s Index e lt ei inv h = subst (MissingIn c) e (missing_item c i is x lt ei h)
+refused_next c t body i is x s Index e lt ei inv h = subst (BreaksIn Index c) e (breaks_item Index c i is x lt ei h)
+refused_next c t body i is x s ImmutableGlobal e lt ei inv h = subst (BreaksIn ImmutableGlobal c) e (breaks_item ImmutableGlobal c i is x lt ei h)
+refused_next c t body i is x s Alignment e lt ei inv h = subst (BreaksIn Alignment c) e (breaks_item Alignment c i is x lt ei h)
 refused_next c t body i is x s _ e lt ei inv h = absurd h

@@ -21,6 +21,15 @@ at_index [] i x lt e = absurd (omega arith)
 at_index (y ∷ xs) zero x lt e = ap Some (sym e)
 at_index (y ∷ xs) (suc i) x lt e = at_index xs i x (omega arith) e
 
+-- the item that an index reads, or what stands for one past the end
+pub at_get : {A : Type 0} (items xs : List A) (i : ℕ) (d : A) → items ≡ xs → i < length items → at xs i ≡ Some (get_or items i d)
+at_get items xs i d same lt = ap (λ xs. at xs i) (sym same) ∙ get_below items i d lt
+  where
+    get_below : {A : Type 0} (xs : List A) (i : ℕ) (d : A) → i < length xs → at xs i ≡ Some (get_or xs i d)
+    get_below [] i d lt = absurd (omega arith)
+    get_below (x ∷ xs) zero d lt = refl
+    get_below (x ∷ xs) (suc i) d lt = get_below xs i d (omega arith)
+
 pub at_none : {A : Type 0} (xs : List A) (i : ℕ) → length xs ≤ i → at xs i ≡ None
 at_none [] i le = refl
 at_none (y ∷ xs) zero le = absurd (omega arith)

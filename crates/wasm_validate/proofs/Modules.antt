@@ -18,9 +18,10 @@ use Rattle.wasm_validate.specs.Typing.{at, results}
 use Rattle.wasm_validate.specs.ModuleRules.{imported, type_indices, type_at, function_context, IsImport, IsValid}
 use Rattle.wasm_validate.specs.Indices.{AreTypes}
 use Rattle.wasm_validate.specs.HostCalls.{call_type, call_named, then_call, host_calls}
-use Rattle.wasm_validate.specs.Broken.{Broken, MissingIndex, ImportType, FunctionType, Exported, InBody, DataMemory}
+use Rattle.wasm_validate.specs.Broken.{Broken, BrokenBody, MissingIndex, ImportType, FunctionType, Exported, ElementTable, ElementFunction, InBody, DataMemory, BadLimits, NotConstant, PassesEnd}
+use Rattle.wasm_validate.specs.Broken as broken
 use Rattle.wasm_validate.proofs.Lists.{at_below, at_either, at_map_back, next_item}
-use Rattle.wasm_validate.proofs.Untyped.{missing_is_untyped}
+use Rattle.wasm_validate.proofs.Untyped.{broken_is_untyped}
 
 none_some : {A : Type 0} (o : Option A) (a : A) → o ≡ None → o ≡ Some a → ⊥
 none_some o a e h = cc
@@ -90,35 +91,60 @@ below_some [] i lt e = omega arith
 below_some (t ∷ ts) zero lt e = none_some (at (t ∷ ts) 0) t e refl
 below_some (t ∷ ts) (suc i) lt e = below_some ts i (omega arith) e
 
+body_is_valid : (e : ValidateFault) (m : Module) → BrokenBody e m → IsValid m → ⊥
+body_is_valid e m b v =
+    let f = b.function in
+    broken_is_untyped e (function_context m f) f.body [] (results (type_at m.types f.type_index).result) b.breaks (v.functions b.place f b.exists).body
+
+index_is_valid : (m : Module) → MissingIndex m → IsValid m → ⊥
+index_is_valid m (ImportType k i t h d none) v =
+    let r = v.imports k i h in
+    none_some (at m.types t) _ none (ap (at m.types) (same_type_index i.kind t r.type_index d r.function) ∙ r.type)
+index_is_valid m (FunctionType k f h none) v =
+    let r = v.functions k f h in below_some m.types f.type_index r.type none
+index_is_valid m (Exported k e h le) v = omega (arith, v.exports k e h)
+index_is_valid m (ElementTable k e h none) v =
+    let r = v.elements k e h in none_some (at m.tables e.table) r.table none r.exists
+index_is_valid m (ElementFunction k e j f h g le) v = omega (arith, (v.elements k e h).functions j f g)
+index_is_valid m (InBody b) v = body_is_valid fault.Index m b v
+index_is_valid m (DataMemory k d h none) v =
+    let r = v.segments k d h in none_some (at m.memories d.memory) r.memory none r.exists
+
+limits_are_valid : (m : Module) → BadLimits m → IsValid m → ⊥
+limits_are_valid m (broken.Tables many) v = omega (arith, v.one_table)
+limits_are_valid m (broken.Table k l h n) v = n (v.tables k l h)
+limits_are_valid m (broken.Memories many) v = omega (arith, v.one_memory)
+limits_are_valid m (broken.Memory k l h n) v = n (v.memories k l h)
+
+constants_are_valid : (m : Module) → NotConstant m → IsValid m → ⊥
+constants_are_valid m (broken.GlobalValue k g h n) v = let r = v.globals k g h in n r.word r.constant
+constants_are_valid m (broken.ElementPlace k e h n) v = let r = v.elements k e h in n r.offset r.constant
+constants_are_valid m (broken.DataPlace k d h n) v = let r = v.segments k d h in n r.offset r.constant
+
+segments_are_valid : (m : Module) → PassesEnd m → IsValid m → ⊥
+segments_are_valid m (broken.ElementsPass k e l n h exists constant over) v =
+    let r = v.elements k e h in
+    let table : r.table ≡ l = some_same (at m.tables e.table) r.table l r.exists exists in
+    let least : r.table.least ≡ l.least = ap (λ (l : Limits). l.least) table in
+    let offset : r.offset ≡ n = same_word e.offset r.offset n r.constant constant in
+    omega (arith, r.within, over)
+segments_are_valid m (broken.DataPasses k d l n h exists constant over) v =
+    let r = v.segments k d h in
+    let memory : r.memory ≡ l = some_same (at m.memories d.memory) r.memory l r.exists exists in
+    let least : r.memory.least ≡ l.least = ap (λ (l : Limits). l.least) memory in
+    let offset : r.offset ≡ n = same_word d.offset r.offset n r.constant constant in
+    omega (arith, r.within, over)
+
 -- what is broken is not valid
 pub broken_is_invalid : (e : ValidateFault) (m : Module) → Broken e m → e ≢ fault.Memory → ¬ IsValid m
 broken_is_invalid fault.Memory m b n v = n refl
 broken_is_invalid fault.TypeMismatch m b n v = b.3 (v.functions b.0 b.1 b.2).body
-broken_is_invalid fault.Index m b n v = index_is_valid b
-  where
-    index_is_valid : MissingIndex m → ⊥
-    index_is_valid (ImportType k i t h d none) =
-        let r = v.imports k i h in
-        none_some (at m.types t) _ none (ap (at m.types) (same_type_index i.kind t r.type_index d r.function) ∙ r.type)
-    index_is_valid (FunctionType k f h none) =
-        let r = v.functions k f h in below_some m.types f.type_index r.type none
-    index_is_valid (Exported k e h le) = omega (arith, v.exports k e h)
-    index_is_valid (InBody k f h missing) =
-        missing_is_untyped (function_context m f) f.body [] (results (type_at m.types f.type_index).result) missing (v.functions k f h).body
-    index_is_valid (DataMemory k d h none) =
-        let r = v.segments k d h in none_some (at m.memories d.memory) r.memory none r.exists
-broken_is_invalid fault.ImmutableGlobal m b n v = b
-broken_is_invalid fault.Alignment m b n v = b
+broken_is_invalid fault.Index m b n v = index_is_valid m b v
+broken_is_invalid fault.ImmutableGlobal m b n v = body_is_valid fault.ImmutableGlobal m b v
+broken_is_invalid fault.Alignment m b n v = body_is_valid fault.Alignment m b v
 broken_is_invalid fault.DuplicateExport m b n v = b.7 (v.names b.0 b.1 b.2 b.3 b.4 b.5 b.6)
 broken_is_invalid fault.Import m b n v = b.3 (v.imports b.0 b.1 b.2)
 broken_is_invalid fault.NoInvoke m b n v = b v.entry v.invokes v.entry_type
-broken_is_invalid fault.Segment m b n v =
-    let r = v.segments b.0 b.1 b.4 in
-    let memory : r.memory ≡ b.2 = some_same (at m.memories b.1.memory) r.memory b.2 r.exists b.5 in
-    let least : r.memory.least ≡ b.2.least = ap (λ (l : Limits). l.least) memory in
-    let offset : r.offset ≡ b.3 = same_word b.1.offset r.offset b.3 r.constant b.6 in
-    omega (arith, r.within, b.7)
-broken_is_invalid fault.Initializer m b n v =
-    let r = v.segments b.0 b.1 b.2 in b.3 r.offset r.constant
-broken_is_invalid fault.Limits m (inl many) n v = omega (arith, v.one_memory)
-broken_is_invalid fault.Limits m (inr b) n v = b.3 (v.memories b.0 b.1 b.2)
+broken_is_invalid fault.Segment m b n v = segments_are_valid m b v
+broken_is_invalid fault.Initializer m b n v = constants_are_valid m b v
+broken_is_invalid fault.Limits m b n v = limits_are_valid m b v

@@ -1,16 +1,19 @@
 -- What the algorithm accepts is typed by the rules.
-use Rattle.std.proofs.Common.{◌≡◌, ◌<◌, ℕ, List, [], ◌∷◌, ◌++◌, refl, sym, subst, Option, Some, None, append-nil, true≢false, arith}
-use Rattle.std.specs.Prelude.{Bool, true, false, nat_lt, IsSome}
+use Rattle.std.proofs.Common.{◌≡◌, ◌<◌, ◌≤◌, ◌^◌, ℕ, List, [], ◌∷◌, ◌++◌, refl, sym, subst, Option, Some, None, append-nil, true≢false, arith}
+use Rattle.std.specs.Prelude.{Bool, true, false, nat_lt, nat_le, IsSome}
 use Rattle.std.proofs.lemmas.Bool.Decides.{nat_tests}
 use Rattle.wasm_ast.specs.declared.types.ValueType.{ValueType}
 use Rattle.wasm_ast.specs.declared.types.ValueType.TheVariants.{I32}
+use Rattle.wasm_ast.specs.declared.types.Limits.{Limits}
+use Rattle.wasm_ast.specs.Access.{load_type, load_width, store_type, store_width}
+use Rattle.wasm_ast.specs.Conversions.{operand_type, result_type}
 use Rattle.wasm_ast.specs.Types.{words}
-use Rattle.wasm_ast.specs.Op.{Op, Unreachable, Nop, Drop, Return, Br, BrIf, BrTable, Call, LocalGet, LocalSet, LocalTee, Const, Binary}
+use Rattle.wasm_ast.specs.Op.{Op, Unreachable, Nop, Drop, Select, Return, Br, BrIf, BrTable, Call, CallIndirect, LocalGet, LocalSet, LocalTee, GlobalGet, GlobalSet, MemorySize, MemoryGrow, Load, Store, Const, Eqz, Unary, Compare, Binary, Convert}
 use Rattle.wasm_ast.specs.Code.{BlockType, Code, End, Do, Block, Loop, If}
 use Rattle.wasm_validate.specs.Typing.{Context, at, results, under, arguments, Rule, Types}
-use Rattle.wasm_validate.specs.Operands.{Operands, then, if_true, push, pop, pop_as, pop_all, push_result, pop_result, no_operands, from_here, finish}
-use Rattle.wasm_validate.specs.Algorithm.{step, check, whole_body}
-use Rattle.wasm_validate.proofs.Stands.{Holds, bind, weaker, Stands, For, pop_sound, pop_as_sound, pop_all_sound, pop_result_sound, push_known, push_result_sound, finish_sound, some_stack, at_sound, each_label_sound}
+use Rattle.wasm_validate.specs.Operands.{Operands, then, if_true, pop, pop_as, apply, shared, push_result, pop_result, no_operands, from_here, finish}
+use Rattle.wasm_validate.specs.Algorithm.{select, with_memory, access, step, check, whole_body}
+use Rattle.wasm_validate.proofs.Stands.{Holds, bind, weaker, Stands, For, pop_sound, pop_as_sound, pop_result_sound, apply_sound, shared_sound, push_sound, push_known, push_result_sound, finish_sound, some_stack, at_sound, each_label_sound}
 
 -- the instruction takes the first stack to the second
 abbrev pub Fits : Context → Op → List ValueType → List ValueType → Type 0
@@ -28,6 +31,13 @@ if_holds : {A : Type 0} (b : Bool) (a : A) (P : A → Type 0) → (b ≡ true �
 if_holds true a P h = h refl
 if_holds false a P h = tt
 
+then_if : {A B : Type 0} (b : Bool) (a : A) (f : A → Option B) (P : B → Type 0) → (b ≡ true → Holds (f a) P) → Holds (then (if_true b a) f) P
+then_if true a f P h = h refl
+then_if false a f P h = tt
+
+le_of : (n m : ℕ) → nat_le n m ≡ true → n ≤ m
+le_of n m h = grind (arith, nat_tests)
+
 module _ (c : Context) (s : Operands) where
   drop_back : Holds (step c Drop s) (Back c Drop s)
   drop_back = bind (pop s) _ _ _ (pop_sound s.types s.unreachable) (λ p h. some_type p h)
@@ -43,27 +53,36 @@ module _ (c : Context) (s : Operands) where
   const_back t n =
       if_holds (nat_lt n (words t)) _ _ (λ e. let lt : n < words t = grind (arith, nat_tests) in push_known t s (From c (Const t n) s) (λ ts f. (ts, f, ([], t ∷ [], ts, (lt, refl, refl), refl, refl))))
 
-  -- two operands of a type, and one of it after them
-  binary_back : (t : ValueType) (o : Op) → Rule c o (t ∷ t ∷ []) (t ∷ []) → Holds (then (pop_as t s) (λ s. then (pop_as t s) (λ s. Some (push (Some t) s)))) (Back c o s)
-  binary_back t o r =
-      bind (pop_as t s) _ _ _ (pop_as_sound t s) (λ s1 h1. bind (pop_as t s1) _ _ _ (pop_as_sound t s1) (λ s2 h2.
-      push_known t s2 (From c o s) (λ ts f. (t ∷ t ∷ ts, h1 (t ∷ ts) (h2 ts f), (t ∷ t ∷ [], t ∷ [], ts, r, refl, refl)))))
+  -- what takes operands of known types and leaves a result
+  apply_back : (o : Op) (ins : List ValueType) (l : BlockType) → Rule c o ins (results l) → Holds (apply ins l s) (Back c o s)
+  apply_back o ins l r =
+      apply_sound ins l s (From c o s) (λ ts f. (ins ++ ts, f, (ins, results l, ts, r, refl, refl)))
 
-  get_back : (x : ℕ) → Holds (step c (LocalGet x) s) (Back c (LocalGet x) s)
-  get_back x =
-      bind (at c.locals x) _ _ _ (at_sound c.locals x) (λ t e. push_known t s (From c (LocalGet x) s) (λ ts f.
-      (ts, f, ([], t ∷ [], ts, (t, e, refl, refl), refl, refl))))
+  select_back : Holds (select s) (Back c Select s)
+  select_back =
+      bind (pop_as I32 s) _ _ _ (pop_as_sound I32 s) (λ s1 h1. bind (pop s1) _ _ _ (pop_sound s1.types s1.unreachable) (λ p hp. bind (pop p.1) _ _ _ (pop_sound p.1.types p.1.unreachable) (λ q hq. bind (shared p.0 q.0) _ _ _ (shared_sound p.0 q.0) (λ o both.
+      push_sound o q.1 (From c Select s) (λ t ts e f.
+      let stands = both t e in
+      (I32 ∷ t ∷ t ∷ ts, h1 (t ∷ t ∷ ts) (hp t (t ∷ ts) stands.0 (hq t ts stands.1 f)), (I32 ∷ t ∷ t ∷ [], t ∷ [], ts, (t, refl, refl), refl, refl)))))))
 
-  set_back : (x : ℕ) → Holds (step c (LocalSet x) s) (Back c (LocalSet x) s)
-  set_back x =
-      bind (at c.locals x) _ _ _ (at_sound c.locals x) (λ t e. weaker (pop_as t s) _ _ (pop_as_sound t s) (λ s1 h. λ ts f.
-      (t ∷ ts, h ts f, (t ∷ [], [], ts, (t, e, refl, refl), refl, refl))))
+  local_back : (x : ℕ) (o : Op) (ins : ValueType → List ValueType) (l : ValueType → BlockType) → ((t : ValueType) → at c.locals x ≡ Some t → Rule c o (ins t) (results (l t))) → Holds (then (at c.locals x) (λ t. apply (ins t) (l t) s)) (Back c o s)
+  local_back x o ins l r =
+      bind (at c.locals x) _ _ _ (at_sound c.locals x) (λ t e. apply_back o (ins t) (l t) (r t e))
 
-  tee_back : (x : ℕ) → Holds (step c (LocalTee x) s) (Back c (LocalTee x) s)
-  tee_back x =
-      bind (at c.locals x) _ _ _ (at_sound c.locals x) (λ t e. bind (pop_as t s) _ _ _ (pop_as_sound t s) (λ s1 h.
-      push_known t s1 (From c (LocalTee x) s) (λ ts f.
-      (t ∷ ts, h ts f, (t ∷ [], t ∷ [], ts, (t, e, refl, refl), refl, refl)))))
+  global_get_back : (x : ℕ) → Holds (step c (GlobalGet x) s) (Back c (GlobalGet x) s)
+  global_get_back x =
+      bind (at c.globals x) _ _ _ (at_sound c.globals x) (λ g e. apply_back (GlobalGet x) [] (Some g.value_type) (g, e, refl, refl))
+
+  global_set_back : (x : ℕ) → Holds (step c (GlobalSet x) s) (Back c (GlobalSet x) s)
+  global_set_back x =
+      bind (at c.globals x) _ _ _ (at_sound c.globals x) (λ g e. then_if g.is_variable s _ _ (λ variable. apply_back (GlobalSet x) (g.value_type ∷ []) None (g, e, variable, refl, refl)))
+
+  memory_back : (o : Op) (ins : List ValueType) (l : BlockType) → ((m : Limits) → at c.memories 0 ≡ Some m → Rule c o ins (results l)) → Holds (with_memory c ins l s) (Back c o s)
+  memory_back o ins l r = bind (at c.memories 0) _ _ _ (at_sound c.memories 0) (λ m e. apply_back o ins l (r m e))
+
+  access_back : (o : Op) (align width : ℕ) (ins : List ValueType) (l : BlockType) → ((m : Limits) → at c.memories 0 ≡ Some m → 2 ^ align ≤ width → Rule c o ins (results l)) → Holds (access c align width ins l s) (Back c o s)
+  access_back o align width ins l r =
+      bind (at c.memories 0) _ _ _ (at_sound c.memories 0) (λ m e. then_if (nat_le (2 ^ align) width) s _ _ (λ le. apply_back o ins l (r m e (le_of (2 ^ align) width le))))
 
   -- what never goes on, above any stack that it takes
   never : (o : Op) (below : List ValueType) (ins : List ValueType) → For s (ins ++ below) → ((outs : List ValueType) → Rule c o (ins ++ below) outs) → Back c o s from_here
@@ -96,24 +115,42 @@ module _ (c : Context) (s : Operands) where
 
   call_back : (x : ℕ) → Holds (step c (Call x) s) (Back c (Call x) s)
   call_back x =
-      bind (at c.functions x) _ _ _ (at_sound c.functions x) (λ t e. bind (pop_all (arguments t) s) _ _ _ (pop_all_sound (arguments t) s) (λ s1 h.
-      push_result_sound t.result s1 (From c (Call x) s) (λ ts f.
-      (arguments t ++ ts, h ts f, (arguments t, results t.result, ts, (t, e, refl, refl), refl, refl)))))
+      bind (at c.functions x) _ _ _ (at_sound c.functions x) (λ t e. apply_back (Call x) (arguments t) t.result (t, e, refl, refl))
+
+  call_indirect_back : (x : ℕ) → Holds (step c (CallIndirect x) s) (Back c (CallIndirect x) s)
+  call_indirect_back x =
+      bind (at c.tables 0) _ _ _ (at_sound c.tables 0) (λ l el. bind (at c.types x) _ _ _ (at_sound c.types x) (λ t e. bind (pop_as I32 s) _ _ _ (pop_as_sound I32 s) (λ s1 h.
+      apply_sound (arguments t) t.result s1 (From c (CallIndirect x) s) (λ ts f.
+      (I32 ∷ (arguments t ++ ts), h (arguments t ++ ts) f, (I32 ∷ arguments t, results t.result, ts, (l, el, t, e, refl, refl), refl, refl))))))
 
   step_sound : (o : Op) → Holds (step c o s) (Back c o s)
   step_sound Unreachable = unreachable_back
   step_sound Nop = λ ts f. (ts, f, ([], [], ts, (refl, refl), refl, refl))
   step_sound Drop = drop_back
+  step_sound Select = select_back
   step_sound (Const t n) = const_back t n
-  step_sound (Binary t o) = binary_back t (Binary t o) (refl, refl)
-  step_sound (LocalGet x) = get_back x
-  step_sound (LocalSet x) = set_back x
-  step_sound (LocalTee x) = tee_back x
+  step_sound (Eqz t) = apply_back (Eqz t) (t ∷ []) (Some I32) (refl, refl)
+  step_sound (Unary t o) = apply_back (Unary t o) (t ∷ []) (Some t) (refl, refl)
+  step_sound (Compare t o) = apply_back (Compare t o) (t ∷ t ∷ []) (Some I32) (refl, refl)
+  step_sound (Binary t o) = apply_back (Binary t o) (t ∷ t ∷ []) (Some t) (refl, refl)
+  step_sound (Convert o) = apply_back (Convert o) (operand_type o ∷ []) (Some (result_type o)) (refl, refl)
+  step_sound (LocalGet x) = local_back x (LocalGet x) (λ t. []) Some (λ t e. (t, e, refl, refl))
+  step_sound (LocalSet x) = local_back x (LocalSet x) (λ t. t ∷ []) (λ t. None) (λ t e. (t, e, refl, refl))
+  step_sound (LocalTee x) = local_back x (LocalTee x) (λ t. t ∷ []) Some (λ t e. (t, e, refl, refl))
+  step_sound (GlobalGet x) = global_get_back x
+  step_sound (GlobalSet x) = global_set_back x
+  step_sound (Load o align offset) =
+      access_back (Load o align offset) align (load_width o) (I32 ∷ []) (Some (load_type o)) (λ m e le. (m, e, le, refl, refl))
+  step_sound (Store o align offset) =
+      access_back (Store o align offset) align (store_width o) (store_type o ∷ I32 ∷ []) None (λ m e le. (m, e, le, refl, refl))
+  step_sound MemorySize = memory_back MemorySize [] (Some I32) (λ m e. (m, e, refl, refl))
+  step_sound MemoryGrow = memory_back MemoryGrow (I32 ∷ []) (Some I32) (λ m e. (m, e, refl, refl))
   step_sound (Br n) = br_back n
   step_sound (BrIf n) = br_if_back n
   step_sound (BrTable ns n) = br_table_back ns n
   step_sound Return = return_back
   step_sound (Call f) = call_back f
+  step_sound (CallIndirect x) = call_indirect_back x
 
 -- some stack that the operands stand for is taken to this one
 abbrev FromCode : Context → Code → Operands → List ValueType → Type 0

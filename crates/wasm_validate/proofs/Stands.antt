@@ -1,10 +1,10 @@
 -- The stacks that an operand stack of the algorithm stands for, and what a pop and a push do to them.
-use Rattle.std.proofs.Common.{◌≡◌, ℕ, List, [], ◌∷◌, ◌++◌, refl, ap, subst, Option, Some, None}
+use Rattle.std.proofs.Common.{◌≡◌, ℕ, List, [], ◌∷◌, ◌++◌, refl, ap, ◌∙◌, subst, Option, Some, None}
 use Rattle.std.specs.Prelude.{Bool, true, false, ◌&&◌}
 use Rattle.wasm_ast.specs.declared.types.ValueType.{ValueType}
 use Rattle.wasm_ast.specs.declared.types.ValueType.TheVariants.{I32, I64}
 use Rattle.wasm_validate.specs.Typing.{Context, at, results, EachLabel}
-use Rattle.wasm_validate.specs.Operands.{Operands, then, matches, if_true, push, pop_from, pop, pop_as, pop_all, push_result, pop_result, no_operands, is_none, finish, label_is, named_is}
+use Rattle.wasm_validate.specs.Operands.{Operands, then, matches, if_true, push, pop_from, pop, pop_as, pop_all, push_result, pop_result, apply, shared, no_operands, is_none, finish, label_is, named_is}
 use Rattle.wasm_validate.specs.Algorithm.{each_label}
 
 -- a fact of the value, if there is one
@@ -72,6 +72,17 @@ push_known t s P h = push_sound (Some t) s P (λ t' ts e f. subst (λ x. P (x �
 pub push_result_sound : (l : Option ValueType) (s : Operands) (P : List ValueType → Type 0) → ((ts : List ValueType) → For s ts → P (results l ++ ts)) → (ts : List ValueType) → For (push_result l s) ts → P ts
 push_result_sound None s P h = h
 push_result_sound (Some t) s P h = push_known t s P h
+
+-- the operands before each stack that a result is left on
+pub apply_sound : (ins : List ValueType) (l : Option ValueType) (s : Operands) (P : List ValueType → Type 0) → ((ts : List ValueType) → For s (ins ++ ts) → P (results l ++ ts)) → Holds (apply ins l s) (λ s'. (ts : List ValueType) → For s' ts → P ts)
+apply_sound ins l s P h =
+    bind (pop_all ins s) _ _ _ (pop_all_sound ins s) (λ s1 k. push_result_sound l s1 P (λ ts f. h ts (k ts f)))
+
+-- what stands for the type in common stands for both
+pub shared_sound : (a b : Option ValueType) → Holds (shared a b) (λ o. (t : ValueType) → Stands o t → Stands a t × Stands b t)
+shared_sound None b = λ t h. (tt, h)
+shared_sound (Some t) None = λ u h. (h, tt)
+shared_sound (Some t) (Some t') = if_matches (Some t) t' (Some t') _ (λ e. λ u h. (e ∙ h, h))
 
 -- the operands of which nothing is left stand for the empty stack
 pub is_none_sound : (s : Operands) → Holds (if_true (is_none s.types) s) (λ s'. For s [])

@@ -1,27 +1,38 @@
 -- The rule that each fault says is broken.
-use Rattle.std.specs.Prelude.{◌≡◌, ◌≢◌, ◌<◌, ◌≤◌, ◌+◌, ◌*◌, ◌⊎◌, ℕ, [], length, Some, None}
+use Rattle.std.specs.Prelude.{◌≡◌, ◌≢◌, ◌<◌, ◌≤◌, ◌+◌, ◌*◌, ℕ, [], length, Some, None}
 use Rattle.wasm_ast.specs.declared.types.ValueType.TheVariants.{I32}
 use Rattle.wasm_ast.specs.declared.types.Limits.{Limits}
 use Rattle.wasm_ast.specs.declared.module.ImportKind.TheVariants as kind
 use Rattle.wasm_ast.specs.declared.module.Import.{Import}
 use Rattle.wasm_ast.specs.declared.module.Func.{Func}
+use Rattle.wasm_ast.specs.declared.module.Global.{Global}
 use Rattle.wasm_ast.specs.declared.module.Export.{Export}
+use Rattle.wasm_ast.specs.declared.module.ElementSegment.{ElementSegment}
 use Rattle.wasm_ast.specs.declared.module.DataSegment.{DataSegment}
 use Rattle.wasm_ast.specs.declared.module.Module.{Module}
 use Rattle.wasm_ast.specs.Op.{Const}
-use Rattle.wasm_ast.specs.Code.{End, Do}
+use Rattle.wasm_ast.specs.Code.{Code, End, Do}
 use Rattle.wasm_validate.specs.declared.fault.ValidateFault.{ValidateFault}
 use Rattle.wasm_validate.specs.declared.fault.ValidateFault.TheVariants as fault
 use Rattle.wasm_validate.specs.Typing.{Types, at, results}
-use Rattle.wasm_validate.specs.ModuleRules.{IsImport, IsMemory, type_at, function_types, function_context, count_of, invoke_of, invoke_type}
-use Rattle.wasm_validate.specs.Missing.{MissingIn}
+use Rattle.wasm_validate.specs.ModuleRules.{IsImport, IsTable, IsMemory, type_at, type_indices, function_types, function_context, count_of, invoke_of, invoke_type}
+use Rattle.wasm_validate.specs.Breaks.{BreaksIn}
+
+-- some function's body breaks, in some instruction, the rule that a fault names
+pub record BrokenBody (e : ValidateFault) (m : Module) : Type 0 where
+  pub place : ℕ
+  pub function : Func
+  pub exists : at m.functions place ≡ Some function
+  pub breaks : BreaksIn e (function_context m function) function.body
 
 -- something is named that does not exist
 pub data MissingIndex (m : Module) : Type 0 where
   ImportType : (k : ℕ) (i : Import) (t : ℕ) → at m.imports k ≡ Some i → i.kind ≡ kind.Function t → at m.types t ≡ None → MissingIndex m
   FunctionType : (k : ℕ) (f : Func) → at m.functions k ≡ Some f → at m.types f.type_index ≡ None → MissingIndex m
   Exported : (k : ℕ) (e : Export) → at m.exports k ≡ Some e → count_of m e.kind ≤ e.index → MissingIndex m
-  InBody : (k : ℕ) (f : Func) → at m.functions k ≡ Some f → MissingIn (function_context m f) f.body → MissingIndex m
+  ElementTable : (k : ℕ) (e : ElementSegment) → at m.elements k ≡ Some e → at m.tables e.table ≡ None → MissingIndex m
+  ElementFunction : (k : ℕ) (e : ElementSegment) (j f : ℕ) → at m.elements k ≡ Some e → at e.functions j ≡ Some f → length (type_indices m) ≤ f → MissingIndex m
+  InBody : BrokenBody fault.Index m → MissingIndex m
   DataMemory : (k : ℕ) (d : DataSegment) → at m.data k ≡ Some d → at m.memories d.memory ≡ None → MissingIndex m
 
 -- some function's body has no typing
@@ -40,27 +51,38 @@ SameName m =
 abbrev pub NoEntry : Module → Type 0
 NoEntry m = (entry : ℕ) → invoke_of m ≡ Some entry → at (function_types m) entry ≢ Some invoke_type
 
-abbrev pub BadMemory : Module → Type 0
-BadMemory m = (1 < length m.memories) ⊎ ((k : ℕ) × (l : Limits) × (at m.memories k ≡ Some l) × ¬ IsMemory l)
+-- there is more than one table or memory, or one has limits out of order or range
+pub data BadLimits (m : Module) : Type 0 where
+  Tables : 1 < length m.tables → BadLimits m
+  Table : (k : ℕ) (l : Limits) → at m.tables k ≡ Some l → ¬ IsTable l → BadLimits m
+  Memories : 1 < length m.memories → BadLimits m
+  Memory : (k : ℕ) (l : Limits) → at m.memories k ≡ Some l → ¬ IsMemory l → BadLimits m
 
--- the place of some segment is not one constant
-abbrev pub NotConstant : Module → Type 0
-NotConstant m = (k : ℕ) × (d : DataSegment) × (at m.data k ≡ Some d) × ((n : ℕ) → d.offset ≢ Do (Const I32 n) End)
+-- a body is not one i32 constant
+abbrev pub NoPlace : Code → Type 0
+NoPlace c = (n : ℕ) → c ≢ Do (Const I32 n) End
 
-abbrev pub PassesEnd : Module → Type 0
-PassesEnd m =
-    (k : ℕ) × (d : DataSegment) × (l : Limits) × (n : ℕ) × (at m.data k ≡ Some d) × (at m.memories d.memory ≡ Some l) × (d.offset ≡ Do (Const I32 n) End) × (65536 * l.least < n + length d.bytes)
+-- a global's value is not one constant of its type, or a segment's place not one i32 constant
+pub data NotConstant (m : Module) : Type 0 where
+  GlobalValue : (k : ℕ) (g : Global) → at m.globals k ≡ Some g → ((n : ℕ) → g.initializer ≢ Do (Const g.global_type.value_type n) End) → NotConstant m
+  ElementPlace : (k : ℕ) (e : ElementSegment) → at m.elements k ≡ Some e → NoPlace e.offset → NotConstant m
+  DataPlace : (k : ℕ) (d : DataSegment) → at m.data k ≡ Some d → NoPlace d.offset → NotConstant m
 
--- want of memory says nothing of the module; no module has globals, loads or stores yet
+-- a segment passes the least size of its table or memory
+pub data PassesEnd (m : Module) : Type 0 where
+  ElementsPass : (k : ℕ) (e : ElementSegment) (l : Limits) (n : ℕ) → at m.elements k ≡ Some e → at m.tables e.table ≡ Some l → e.offset ≡ Do (Const I32 n) End → l.least < n + length e.functions → PassesEnd m
+  DataPasses : (k : ℕ) (d : DataSegment) (l : Limits) (n : ℕ) → at m.data k ≡ Some d → at m.memories d.memory ≡ Some l → d.offset ≡ Do (Const I32 n) End → 65536 * l.least < n + length d.bytes → PassesEnd m
+
+-- want of memory says nothing of the module
 abbrev pub Broken : ValidateFault → Module → Type 0
 Broken fault.Memory m = Unit {0}
 Broken fault.TypeMismatch m = UntypedBody m
 Broken fault.Index m = MissingIndex m
-Broken fault.ImmutableGlobal m = ⊥
-Broken fault.Alignment m = ⊥
+Broken fault.ImmutableGlobal m = BrokenBody fault.ImmutableGlobal m
+Broken fault.Alignment m = BrokenBody fault.Alignment m
 Broken fault.DuplicateExport m = SameName m
 Broken fault.Import m = UnlistedImport m
 Broken fault.NoInvoke m = NoEntry m
 Broken fault.Segment m = PassesEnd m
 Broken fault.Initializer m = NotConstant m
-Broken fault.Limits m = BadMemory m
+Broken fault.Limits m = BadLimits m

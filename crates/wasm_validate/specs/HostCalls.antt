@@ -33,7 +33,7 @@ name_of SetResult = codes "set_result"
 
 -- the calls that the profile has
 abbrev pub listed : List HostCall
-listed = PutState ∷ []
+listed = GetState ∷ PutState ∷ DelState ∷ RangeState ∷ GetArg ∷ SetResult ∷ []
 
 abbrev pub named_in : List HostCall → List ℕ → Option HostCall
 named_in [] name = None

@@ -1,5 +1,6 @@
 -- The context that a scope and its labels are.
 use Rattle.std.specs.Prelude.{List, map}
+use Rattle.wasm_ast.specs.declared.module.Global.{Global}
 use Rattle.wasm_ast.specs.Code.{BlockType}
 use Rattle.wasm_validate.specs.declared.scope.Scope.{Scope}
 use Rattle.wasm_validate.specs.Typing.{Context}
@@ -7,4 +8,4 @@ use Rattle.wasm_validate.specs.ModuleRules.{type_at}
 
 abbrev pub context_of : Scope → List BlockType → Context
 context_of s labels =
-    record { functions = map (type_at s.types.now) s.functions.now; locals = s.locals.now; labels = labels; result = s.result }
+    record { types = s.types.now; functions = map (type_at s.types.now) s.functions.now; tables = s.tables.now; memories = s.memories.now; globals = map (λ (g : Global). g.global_type) s.globals.now; locals = s.locals.now; labels = labels; result = s.result }

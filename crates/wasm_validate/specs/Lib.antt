@@ -5,7 +5,7 @@ pub mod Indices
 pub mod FaultNumbers
 pub mod Operands
 pub mod Algorithm
-pub mod Missing
+pub mod Breaks
 pub mod Refused
 pub mod Inside
 pub mod Marks

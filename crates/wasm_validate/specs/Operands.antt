@@ -62,6 +62,16 @@ abbrev pub pop_result : BlockType → Operands → Option Operands
 pop_result None s = Some s
 pop_result (Some t) s = pop_as t s
 
+-- operands of the given types, the top first, for what is left in their place
+abbrev pub apply : List ValueType → BlockType → Operands → Option Operands
+apply ins out s = then (pop_all ins s) (λ s. Some (push_result out s))
+
+-- the type that two operands have in common
+abbrev pub shared : Option ValueType → Option ValueType → Option (Option ValueType)
+shared None o = Some o
+shared (Some t) None = Some (Some t)
+shared (Some t) (Some t') = if_true (same_type t t') (Some t')
+
 abbrev pub is_none : List (Option ValueType) → Bool
 is_none [] = true
 is_none (o ∷ os) = false

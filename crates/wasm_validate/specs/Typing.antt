@@ -1,16 +1,24 @@
 -- The declarative typing of code (Core 1.0, chapter 3). A stack of operands is a list of types, the top first.
-use Rattle.std.specs.Prelude.{◌≡◌, ◌<◌, ℕ, List, [], ◌∷◌, ◌++◌, reverse, Option, Some, None, slice_get}
+use Rattle.std.specs.Prelude.{◌≡◌, ◌<◌, ◌≤◌, ◌^◌, true, ℕ, List, [], ◌∷◌, ◌++◌, reverse, Option, Some, None, slice_get}
 use Rattle.wasm_ast.specs.declared.types.ValueType.{ValueType}
 use Rattle.wasm_ast.specs.declared.types.ValueType.TheVariants.{I32}
 use Rattle.wasm_ast.specs.declared.types.FuncType.{FuncType}
+use Rattle.wasm_ast.specs.declared.types.GlobalType.{GlobalType}
+use Rattle.wasm_ast.specs.declared.types.Limits.{Limits}
 use Rattle.wasm_ast.specs.Types.{words}
-use Rattle.wasm_ast.specs.Op.{Op, Unreachable, Nop, Drop, Return, Br, BrIf, BrTable, Call, LocalGet, LocalSet, LocalTee, Const, Binary}
+use Rattle.wasm_ast.specs.Access.{load_type, load_width, store_type, store_width}
+use Rattle.wasm_ast.specs.Conversions.{operand_type, result_type}
+use Rattle.wasm_ast.specs.Op.{Op, Unreachable, Nop, Drop, Select, Return, Br, BrIf, BrTable, Call, CallIndirect, LocalGet, LocalSet, LocalTee, GlobalGet, GlobalSet, MemorySize, MemoryGrow, Load, Store, Const, Eqz, Unary, Compare, Binary, Convert}
 use Rattle.wasm_ast.specs.Code.{BlockType, Code, End, Do, Block, Loop, If}
 
 -- what code may refer to (section 3.1.1)
 pub record Context : Type 0 where
+  pub types : List FuncType
   -- the type of each function, the imported ones first
   pub functions : List FuncType
+  pub tables : List Limits
+  pub memories : List Limits
+  pub globals : List GlobalType
   -- the types of the parameters and of the other locals
   pub locals : List ValueType
   -- what a branch to each label carries, the innermost label first
@@ -45,16 +53,31 @@ abbrev pub Rule : Context → Op → (ins outs : List ValueType) → Type 0
 Rule c Unreachable ins outs = Unit {0}
 Rule c Nop ins outs = (ins ≡ []) × (outs ≡ [])
 Rule c Drop ins outs = (t : ValueType) × (ins ≡ t ∷ []) × (outs ≡ [])
+Rule c Select ins outs = (t : ValueType) × (ins ≡ I32 ∷ t ∷ t ∷ []) × (outs ≡ t ∷ [])
 Rule c (Const t n) ins outs = (n < words t) × (ins ≡ []) × (outs ≡ t ∷ [])
+Rule c (Eqz t) ins outs = (ins ≡ t ∷ []) × (outs ≡ I32 ∷ [])
+Rule c (Unary t o) ins outs = (ins ≡ t ∷ []) × (outs ≡ t ∷ [])
+Rule c (Compare t o) ins outs = (ins ≡ t ∷ t ∷ []) × (outs ≡ I32 ∷ [])
 Rule c (Binary t o) ins outs = (ins ≡ t ∷ t ∷ []) × (outs ≡ t ∷ [])
+Rule c (Convert o) ins outs = (ins ≡ operand_type o ∷ []) × (outs ≡ result_type o ∷ [])
 Rule c (LocalGet x) ins outs = (t : ValueType) × (at c.locals x ≡ Some t) × (ins ≡ []) × (outs ≡ t ∷ [])
 Rule c (LocalSet x) ins outs = (t : ValueType) × (at c.locals x ≡ Some t) × (ins ≡ t ∷ []) × (outs ≡ [])
 Rule c (LocalTee x) ins outs = (t : ValueType) × (at c.locals x ≡ Some t) × (ins ≡ t ∷ []) × (outs ≡ t ∷ [])
+Rule c (GlobalGet x) ins outs = (g : GlobalType) × (at c.globals x ≡ Some g) × (ins ≡ []) × (outs ≡ g.value_type ∷ [])
+Rule c (GlobalSet x) ins outs = (g : GlobalType) × (at c.globals x ≡ Some g) × (g.is_variable ≡ true) × (ins ≡ g.value_type ∷ []) × (outs ≡ [])
+Rule c (Load o align offset) ins outs =
+    (l : Limits) × (at c.memories 0 ≡ Some l) × (2 ^ align ≤ load_width o) × (ins ≡ I32 ∷ []) × (outs ≡ load_type o ∷ [])
+Rule c (Store o align offset) ins outs =
+    (l : Limits) × (at c.memories 0 ≡ Some l) × (2 ^ align ≤ store_width o) × (ins ≡ store_type o ∷ I32 ∷ []) × (outs ≡ [])
+Rule c MemorySize ins outs = (l : Limits) × (at c.memories 0 ≡ Some l) × (ins ≡ []) × (outs ≡ I32 ∷ [])
+Rule c MemoryGrow ins outs = (l : Limits) × (at c.memories 0 ≡ Some l) × (ins ≡ I32 ∷ []) × (outs ≡ I32 ∷ [])
 Rule c (Br n) ins outs = (l : BlockType) × (at c.labels n ≡ Some l) × (below : List ValueType) × (ins ≡ results l ++ below)
 Rule c (BrIf n) ins outs = (l : BlockType) × (at c.labels n ≡ Some l) × (ins ≡ I32 ∷ results l) × (outs ≡ results l)
 Rule c (BrTable ns n) ins outs = (l : BlockType) × (at c.labels n ≡ Some l) × EachLabel c ns l × (below : List ValueType) × (ins ≡ I32 ∷ results l ++ below)
 Rule c Return ins outs = (below : List ValueType) × (ins ≡ results c.result ++ below)
 Rule c (Call f) ins outs = (t : FuncType) × (at c.functions f ≡ Some t) × (ins ≡ arguments t) × (outs ≡ results t.result)
+Rule c (CallIndirect x) ins outs =
+    (l : Limits) × (at c.tables 0 ≡ Some l) × (t : FuncType) × (at c.types x ≡ Some t) × (ins ≡ I32 ∷ arguments t) × (outs ≡ results t.result)
 
 -- C ⊢ code : from → to (section 3.3.6), each instruction above a lower stack that it leaves alone.
 -- The bodies of a block start on an empty stack and leave its result; a branch to a loop carries nothing.

@@ -6,19 +6,21 @@ ghost use Rattle.wasm_ast.specs.declared.module.Func.{Func};
 ghost use Rattle.wasm_validate.specs.Typing.{at, under};
 ghost use Rattle.wasm_validate.specs.ModuleRules.{type_indices, IsFunction};
 ghost use Rattle.wasm_validate.specs.Algorithm.{step, instruction, conditional, whole_body};
-ghost use Rattle.wasm_validate.specs.Missing.{MissingIn, MissingInstr, MissingFirst};
+ghost use Rattle.wasm_validate.specs.Breaks.{BreaksIn, BreaksInstr, BreaksFirst};
 ghost use Rattle.wasm_validate.specs.Refused.{Refused};
 ghost use Rattle.wasm_validate.specs.Indices.{AreTypes};
 ghost use Rattle.wasm_validate.specs.Broken.{Broken};
+ghost use Rattle.wasm_validate.specs.Operands.{then, push_result};
 ghost use Rattle.wasm_validate.specs.Inside.{context_of};
 
 use crate::fault::ValidateFault;
 use crate::labels::Labels;
 use crate::operands::OperandStack;
 use crate::scope::Scope;
-use crate::shapes;
+use crate::{accesses, numbers, shapes, variables};
 use std::alloc::Global;
-use wasm_ast::{BlockType, Body, Conditional, Func, Instr, Module, ValueType};
+use wasm_ast::ValueType::{I32, I64};
+use wasm_ast::{Block, BlockType, Body, Conditional, Func, Instr, Module};
 
 /// Whether each function's body is typed. The indices are those of all functions' types, the imported ones first.
 pub fn check_code(alloc: Global, given: &Module, functions: &[u32]) -> Result<(), ValidateFault>
@@ -53,6 +55,9 @@ fn check_function(
     let scope = Scope {
         types,
         functions,
+        tables: given.tables.as_slice(),
+        memories: given.memories.as_slice(),
+        globals: given.globals.as_slice(),
         locals: &locals,
         result: function_type.result,
     };
@@ -73,40 +78,59 @@ fn check_instr(
     ensures ok { IfOk result (λ _. instruction (context_of scope.now labels.old) instr.now stack.old.here ≡ Some stack.new.here) }
     ensures lower { IfOk result (λ _. stack.new.lower ≡ stack.old.lower) }
     ensures labels { IfOk result (λ _. labels.new ≡ labels.old) }
-    ensures refused { IfErr result (λ e. Refused e (MissingInstr (context_of scope.now labels.old) instr.now) (instruction (context_of scope.now labels.old) instr.now stack.old.here)) }
+    ensures refused { IfErr result (λ e. Refused e (BreaksInstr e (context_of scope.now labels.old) instr.now) (instruction (context_of scope.now labels.old) instr.now stack.old.here)) }
 {
     match instr {
-        Instr::Unreachable => {
-            stack.leave();
-            Ok(())
-        }
+        Instr::Unreachable => shapes::check_unreachable(stack),
         Instr::Nop => Ok(()),
-        Instr::Block(block) => {
-            let left = block.result;
-            check_body(scope, labels, stack, left, left, &block.body)?;
-            stack.push_result(left)
-        }
-        Instr::Loop(block) => {
-            let left = block.result;
-            check_body(scope, labels, stack, None, left, &block.body)?;
-            stack.push_result(left)
-        }
+        Instr::Block(block) => check_block(scope, labels, stack, block.result, block),
+        Instr::Loop(block) => check_block(scope, labels, stack, None, block),
         Instr::If(choice) => check_if(scope, labels, stack, choice),
         Instr::Br(label) => shapes::check_br(scope, labels, stack, *label),
         Instr::BrIf(label) => shapes::check_br_if(scope, labels, stack, *label),
         Instr::BrTable(table) => shapes::check_br_table(scope, labels, stack, table),
         Instr::Return => shapes::check_return(scope, labels, stack),
         Instr::Call(function) => shapes::check_call(scope, labels, stack, *function),
-        Instr::Drop => {
-            let _ = stack.pop()?;
-            Ok(())
-        }
-        Instr::LocalGet(local) => shapes::check_local_get(scope, labels, stack, *local),
-        Instr::LocalSet(local) => shapes::check_local_set(scope, labels, stack, *local),
-        Instr::LocalTee(local) => shapes::check_local_tee(scope, labels, stack, *local),
-        Instr::I32Const(word) => shapes::check_constant(ValueType::I32, *word as u64, stack),
-        Instr::I32Add => shapes::check_binary(ValueType::I32, stack),
+        Instr::CallIndirect(index) => shapes::check_call_indirect(scope, labels, stack, *index),
+        Instr::Drop => shapes::check_drop(stack),
+        Instr::Select => shapes::check_select(stack),
+        Instr::LocalGet(local) => variables::check_local_get(scope, labels, stack, *local),
+        Instr::LocalSet(local) => variables::check_local_set(scope, labels, stack, *local),
+        Instr::LocalTee(local) => variables::check_local_tee(scope, labels, stack, *local),
+        Instr::GlobalGet(global) => variables::check_global_get(scope, labels, stack, *global),
+        Instr::GlobalSet(global) => variables::check_global_set(scope, labels, stack, *global),
+        Instr::Load(load, at) => accesses::check_load(scope, labels, stack, *load, *at),
+        Instr::Store(store, at) => accesses::check_store(scope, labels, stack, *store, *at),
+        Instr::MemorySize => accesses::check_memory_size(scope, labels, stack),
+        Instr::MemoryGrow => accesses::check_memory_grow(scope, labels, stack),
+        Instr::I32Const(word) => numbers::check_constant(I32, *word as u64, stack),
+        Instr::I64Const(word) => numbers::check_constant(I64, *word, stack),
+        Instr::I32Eqz | Instr::I32Unary(_) => numbers::check_one(I32, I32, stack),
+        Instr::I64Eqz => numbers::check_one(I64, I32, stack),
+        Instr::I64Unary(_) => numbers::check_one(I64, I64, stack),
+        Instr::I32Compare(_) | Instr::I32Binary(_) => numbers::check_two(I32, I32, stack),
+        Instr::I64Compare(_) => numbers::check_two(I64, I32, stack),
+        Instr::I64Binary(_) => numbers::check_two(I64, I64, stack),
+        Instr::Convert(conversion) => numbers::check_convert(*conversion, stack),
     }
+}
+
+// A `block` or a `loop`. A branch to its label carries `carried`.
+#[cycle(check)]
+fn check_block(
+    scope: &Scope,
+    labels: &mut Labels,
+    stack: &mut OperandStack,
+    carried: BlockType,
+    block: &Block,
+) -> Result<(), ValidateFault>
+    ensures ok { IfOk result (λ _. then (whole_body (under carried (context_of scope.now labels.old)) block.now.result block.now.body) (λ _. Some (push_result block.now.result stack.old.here)) ≡ Some stack.new.here) }
+    ensures lower { IfOk result (λ _. stack.new.lower ≡ stack.old.lower) }
+    ensures labels { IfOk result (λ _. labels.new ≡ labels.old) }
+    ensures refused { IfErr result (λ e. Refused e (BreaksIn e (under carried (context_of scope.now labels.old)) block.now.body) (then (whole_body (under carried (context_of scope.now labels.old)) block.now.result block.now.body) (λ _. Some (push_result block.now.result stack.old.here)))) }
+{
+    check_body(scope, labels, stack, carried, block.result, &block.body)?;
+    stack.push_result(block.result)
 }
 
 // An `if`: the operand, and both bodies.
@@ -120,10 +144,10 @@ fn check_if(
     ensures ok { IfOk result (λ _. conditional (context_of scope.now labels.old) choice.now.result choice.now.yes choice.now.no stack.old.here ≡ Some stack.new.here) }
     ensures lower { IfOk result (λ _. stack.new.lower ≡ stack.old.lower) }
     ensures labels { IfOk result (λ _. labels.new ≡ labels.old) }
-    ensures refused { IfErr result (λ e. Refused e (MissingIn (under choice.now.result (context_of scope.now labels.old)) choice.now.yes ⊎ MissingIn (under choice.now.result (context_of scope.now labels.old)) choice.now.no) (conditional (context_of scope.now labels.old) choice.now.result choice.now.yes choice.now.no stack.old.here)) }
+    ensures refused { IfErr result (λ e. Refused e (BreaksIn e (under choice.now.result (context_of scope.now labels.old)) choice.now.yes ⊎ BreaksIn e (under choice.now.result (context_of scope.now labels.old)) choice.now.no) (conditional (context_of scope.now labels.old) choice.now.result choice.now.yes choice.now.no stack.old.here)) }
 {
     let left = choice.result;
-    stack.pop_as(ValueType::I32)?;
+    stack.pop_as(I32)?;
     check_body(scope, labels, stack, left, left, &choice.yes)?;
     check_body(scope, labels, stack, left, left, &choice.no)?;
     stack.push_result(left)
@@ -142,7 +166,7 @@ fn check_body(
     ensures ok { IfOk result (λ _. IsSome (whole_body (under carried (context_of scope.now labels.old)) left body.now)) }
     ensures stack { IfOk result (λ _. stack.new ≡ stack.old) }
     ensures labels { IfOk result (λ _. labels.new ≡ labels.old) }
-    ensures refused { IfErr result (λ e. Refused e (MissingIn (under carried (context_of scope.now labels.old)) body.now) (whole_body (under carried (context_of scope.now labels.old)) left body.now)) }
+    ensures refused { IfErr result (λ e. Refused e (BreaksIn e (under carried (context_of scope.now labels.old)) body.now) (whole_body (under carried (context_of scope.now labels.old)) left body.now)) }
 {
     labels.enter(carried)?;
     let outer = stack.enter();

@@ -39,8 +39,9 @@ fn count_of(given: &Module, functions: &[u32], kind: ExternalKind) -> usize
 {
     match kind {
         ExternalKind::Function => functions.len(),
+        ExternalKind::Table => given.tables.len(),
         ExternalKind::Memory => given.memories.len(),
-        ExternalKind::Table | ExternalKind::Global => 0,
+        ExternalKind::Global => given.globals.len(),
     }
 }
 

@@ -13,7 +13,7 @@ pub enum ValidateFault {
     Memory,
     /// An instruction, or the end of a body, does not fit the operands before it.
     TypeMismatch,
-    /// A type, function, local, label or memory is named that does not exist.
+    /// A type, function, local, label, global, table or memory is named that does not exist.
     Index,
     /// A constant global is written.
     ImmutableGlobal,
@@ -25,11 +25,11 @@ pub enum ValidateFault {
     Import,
     /// No function of the type [] to [i32] is exported as `invoke`.
     NoInvoke,
-    /// A data segment passes the end of its memory.
+    /// A segment passes the least size of its table or memory.
     Segment,
-    /// The place of a data segment is not one constant.
+    /// The value of a global, or the place of a segment, is not one constant of its type.
     Initializer,
-    /// There is more than one memory, or the limits of one are out of order or too large.
+    /// There is more than one table or memory, or the limits of one are out of order or too large.
     Limits,
 }
 

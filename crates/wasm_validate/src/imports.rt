@@ -54,7 +54,12 @@ fn call_named(name: &str) -> Option<HostCall>
     ensures { result ≡ call_named name.now }
 {
     match name {
+        "get_state" => Some(HostCall::GetState),
         "put_state" => Some(HostCall::PutState),
+        "del_state" => Some(HostCall::DelState),
+        "range_state" => Some(HostCall::RangeState),
+        "get_arg" => Some(HostCall::GetArg),
+        "set_result" => Some(HostCall::SetResult),
         _ => None,
     }
 }

@@ -3,7 +3,7 @@
 ghost use Rattle.std.specs.Prelude.{◌≡◌, ◌∷◌, [], List, Option, Some, IfOk, IfErr, IsTrue, false};
 ghost use Rattle.wasm_ast.specs.Code.{BlockType};
 ghost use Rattle.wasm_validate.specs.Algorithm.{each_label};
-ghost use Rattle.wasm_validate.specs.Missing.{AnyMissing};
+ghost use Rattle.wasm_validate.specs.Breaks.{AnyMissing};
 ghost use Rattle.wasm_validate.specs.Typing.{at};
 
 use crate::fault::ValidateFault;

@@ -15,18 +15,23 @@
 //!   `invoke`, a `ValidModule` keeps.
 #![tactic(auto)]
 
+mod accesses;
 mod code;
 mod exports;
 mod fault;
+mod globals;
 mod imports;
 mod labels;
-mod memories;
+mod limits;
+mod numbers;
 mod operands;
 mod scope;
+mod segments;
 mod shapes;
 #[cfg(test)]
 mod tests;
 mod valid;
+mod variables;
 
 pub use fault::ValidateFault;
 pub use valid::{ValidModule, validate};

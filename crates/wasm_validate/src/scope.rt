@@ -2,7 +2,7 @@
 
 ghost use Rattle.wasm_validate.specs.Indices.{AreTypes};
 
-use wasm_ast::{BlockType, FuncType, ValueType};
+use wasm_ast::{BlockType, FuncType, Global, GlobalType, Limits, ValueType};
 
 /// What a function's body may refer to, its labels aside.
 #[derive(Clone, Copy)]
@@ -11,6 +11,9 @@ pub struct Scope<'a> {
     pub types: &'a [FuncType],
     /// The index of the type of each function, the imported ones first.
     pub functions: &'a [u32],
+    pub tables: &'a [Limits],
+    pub memories: &'a [Limits],
+    pub globals: &'a [Global],
     /// The types of the parameters and of the other locals.
     pub locals: &'a [ValueType],
     /// What the function returns.
@@ -22,6 +25,7 @@ impl<'a> Scope<'a> {
     ghost use Rattle.std.specs.Prelude.{◌≡◌, Some, None, MatchOption, map};
     ghost use Rattle.wasm_validate.specs.Typing.{at};
     ghost use Rattle.wasm_validate.specs.ModuleRules.{type_at};
+    ghost use Rattle.wasm_ast.specs.declared.module.Global.{Global};
 
     /// The type of a function.
     pub fn type_of(&self, function: u32) -> Option<&'a FuncType>
@@ -29,5 +33,12 @@ impl<'a> Scope<'a> {
     {
         let type_index = *self.functions.get(function as usize)?;
         Some(&self.types[type_index as usize])
+    }
+
+    /// The type of a global.
+    pub fn type_of_global(&self, global: u32) -> Option<GlobalType>
+        ensures { result ≡ at (map (λ (g : Global). g.global_type) self.now.globals.now) global }
+    {
+        Some(self.globals.get(global as usize)?.global_type)
     }
 }

@@ -1,12 +1,12 @@
 //! The rules of instructions without a body (Core 1.0, sections 3.3.1 to 3.3.5), a function for a shape.
 
 ghost use Rattle.std.specs.Prelude.{◌≡◌, ◌<◌, ◌≤◌, length, IfOk, IfErr, Some};
-ghost use Rattle.wasm_ast.specs.Types.{words};
 ghost use Rattle.wasm_ast.specs.Op as op;
 ghost use Rattle.wasm_validate.specs.Typing.{at, results};
-ghost use Rattle.wasm_validate.specs.Algorithm.{step, constant, binary};
-ghost use Rattle.wasm_validate.specs.Missing.{NamesMissing};
+ghost use Rattle.wasm_validate.specs.Algorithm.{step, select};
+ghost use Rattle.wasm_validate.specs.Breaks.{Breaks};
 ghost use Rattle.wasm_validate.specs.Refused.{Refused};
+ghost use Rattle.wasm_validate.specs.Operands.{from_here, then, pop};
 ghost use Rattle.wasm_validate.specs.Inside.{context_of};
 
 use crate::fault::ValidateFault;
@@ -15,82 +15,39 @@ use crate::operands::OperandStack;
 use crate::scope::Scope;
 use wasm_ast::{BranchTable, ValueType};
 
-/// A constant. Its word is one of the type.
-pub fn check_constant(
-    of_type: ValueType,
-    word: u64,
-    stack: &mut OperandStack,
-) -> Result<(), ValidateFault>
-    requires { word < words of_type }
-    ensures ok { IfOk result (λ _. constant of_type word stack.old.here ≡ Some stack.new.here) }
+/// `unreachable`: what follows cannot be reached.
+pub fn check_unreachable(stack: &mut OperandStack) -> Result<(), ValidateFault>
+    ensures ok { IfOk result (λ _. stack.new.here ≡ from_here) }
     ensures lower { IfOk result (λ _. stack.new.lower ≡ stack.old.lower) }
-    ensures refused { IfErr result (λ e. e ≡ ValidateFault.Memory) }
+    ensures refused { IfErr result (λ _. ⊥) }
 {
-    stack.push(Some(of_type))
+    stack.leave();
+    Ok(())
 }
 
-/// An operator on two words of a type, which gives one of it.
-pub fn check_binary(of_type: ValueType, stack: &mut OperandStack) -> Result<(), ValidateFault>
-    ensures ok { IfOk result (λ _. binary of_type stack.old.here ≡ Some stack.new.here) }
+/// `drop`: takes an operand of any type off.
+pub fn check_drop(stack: &mut OperandStack) -> Result<(), ValidateFault>
+    ensures ok { IfOk result (λ _. then (pop stack.old.here) (λ p. Some p.1) ≡ Some stack.new.here) }
     ensures lower { IfOk result (λ _. stack.new.lower ≡ stack.old.lower) }
-    ensures refused { IfErr result (λ e. Refused e ⊥ (binary of_type stack.old.here)) }
+    ensures refused { IfErr result (λ e. Refused e ⊥ (then (pop stack.old.here) (λ p. Some p.1))) }
 {
-    stack.pop_as(of_type)?;
-    stack.pop_as(of_type)?;
-    stack.push(Some(of_type))
+    let _ = stack.pop()?;
+    Ok(())
 }
 
-/// `local.get`: the value of a local.
-pub fn check_local_get(
-    scope: &Scope,
-    labels: &Labels,
-    stack: &mut OperandStack,
-    local: u32,
-) -> Result<(), ValidateFault>
-    ensures ok { IfOk result (λ _. step (context_of scope.now labels.now) (op.LocalGet local) stack.old.here ≡ Some stack.new.here) }
+/// `select`: one of two operands of one type, which an i32 above them picks.
+pub fn check_select(stack: &mut OperandStack) -> Result<(), ValidateFault>
+    ensures ok { IfOk result (λ _. select stack.old.here ≡ Some stack.new.here) }
     ensures lower { IfOk result (λ _. stack.new.lower ≡ stack.old.lower) }
-    ensures refused { IfErr result (λ e. Refused e (NamesMissing (context_of scope.now labels.now) (op.LocalGet local)) (step (context_of scope.now labels.now) (op.LocalGet local) stack.old.here)) }
+    ensures refused { IfErr result (λ e. Refused e ⊥ (select stack.old.here)) }
 {
-    match scope.locals.get(local as usize) {
-        None => Err(ValidateFault::Index),
-        Some(value_type) => stack.push(Some(*value_type)),
-    }
-}
-
-/// `local.set`: takes a value off for a local.
-pub fn check_local_set(
-    scope: &Scope,
-    labels: &Labels,
-    stack: &mut OperandStack,
-    local: u32,
-) -> Result<(), ValidateFault>
-    ensures ok { IfOk result (λ _. step (context_of scope.now labels.now) (op.LocalSet local) stack.old.here ≡ Some stack.new.here) }
-    ensures lower { IfOk result (λ _. stack.new.lower ≡ stack.old.lower) }
-    ensures refused { IfErr result (λ e. Refused e (NamesMissing (context_of scope.now labels.now) (op.LocalSet local)) (step (context_of scope.now labels.now) (op.LocalSet local) stack.old.here)) }
-{
-    match scope.locals.get(local as usize) {
-        None => Err(ValidateFault::Index),
-        Some(value_type) => stack.pop_as(*value_type),
-    }
-}
-
-/// `local.tee`: sets a local to the value on top.
-pub fn check_local_tee(
-    scope: &Scope,
-    labels: &Labels,
-    stack: &mut OperandStack,
-    local: u32,
-) -> Result<(), ValidateFault>
-    ensures ok { IfOk result (λ _. step (context_of scope.now labels.now) (op.LocalTee local) stack.old.here ≡ Some stack.new.here) }
-    ensures lower { IfOk result (λ _. stack.new.lower ≡ stack.old.lower) }
-    ensures refused { IfErr result (λ e. Refused e (NamesMissing (context_of scope.now labels.now) (op.LocalTee local)) (step (context_of scope.now labels.now) (op.LocalTee local) stack.old.here)) }
-{
-    match scope.locals.get(local as usize) {
-        None => Err(ValidateFault::Index),
-        Some(value_type) => {
-            stack.pop_as(*value_type)?;
-            stack.push(Some(*value_type))
-        }
+    stack.pop_as(ValueType::I32)?;
+    let upper = stack.pop()?;
+    let lower = stack.pop()?;
+    match (upper, lower) {
+        (None, _) => stack.push(lower),
+        (Some(found), Some(other)) if found != other => Err(ValidateFault::TypeMismatch),
+        _ => stack.push(upper),
     }
 }
 
@@ -103,7 +60,7 @@ pub fn check_br(
 ) -> Result<(), ValidateFault>
     ensures ok { IfOk result (λ _. step (context_of scope.now labels.now) (op.Br label) stack.old.here ≡ Some stack.new.here) }
     ensures lower { IfOk result (λ _. stack.new.lower ≡ stack.old.lower) }
-    ensures refused { IfErr result (λ e. Refused e (NamesMissing (context_of scope.now labels.now) (op.Br label)) (step (context_of scope.now labels.now) (op.Br label) stack.old.here)) }
+    ensures refused { IfErr result (λ e. Refused e (Breaks e (context_of scope.now labels.now) (op.Br label)) (step (context_of scope.now labels.now) (op.Br label) stack.old.here)) }
 {
     let Some(carried) = labels.get(label) else {
         return Err(ValidateFault::Index);
@@ -122,7 +79,7 @@ pub fn check_br_if(
 ) -> Result<(), ValidateFault>
     ensures ok { IfOk result (λ _. step (context_of scope.now labels.now) (op.BrIf label) stack.old.here ≡ Some stack.new.here) }
     ensures lower { IfOk result (λ _. stack.new.lower ≡ stack.old.lower) }
-    ensures refused { IfErr result (λ e. Refused e (NamesMissing (context_of scope.now labels.now) (op.BrIf label)) (step (context_of scope.now labels.now) (op.BrIf label) stack.old.here)) }
+    ensures refused { IfErr result (λ e. Refused e (Breaks e (context_of scope.now labels.now) (op.BrIf label)) (step (context_of scope.now labels.now) (op.BrIf label) stack.old.here)) }
 {
     let Some(carried) = labels.get(label) else {
         return Err(ValidateFault::Index);
@@ -141,7 +98,7 @@ pub fn check_br_table(
 ) -> Result<(), ValidateFault>
     ensures ok { IfOk result (λ _. step (context_of scope.now labels.now) (op.BrTable table.now.labels table.now.default) stack.old.here ≡ Some stack.new.here) }
     ensures lower { IfOk result (λ _. stack.new.lower ≡ stack.old.lower) }
-    ensures refused { IfErr result (λ e. Refused e (NamesMissing (context_of scope.now labels.now) (op.BrTable table.now.labels table.now.default)) (step (context_of scope.now labels.now) (op.BrTable table.now.labels table.now.default) stack.old.here)) }
+    ensures refused { IfErr result (λ e. Refused e (Breaks e (context_of scope.now labels.now) (op.BrTable table.now.labels table.now.default)) (step (context_of scope.now labels.now) (op.BrTable table.now.labels table.now.default) stack.old.here)) }
 {
     let Some(carried) = labels.get(table.default) else {
         return Err(ValidateFault::Index);
@@ -166,7 +123,7 @@ pub fn check_return(
 ) -> Result<(), ValidateFault>
     ensures ok { IfOk result (λ _. step (context_of scope.now labels.now) (op.Return) stack.old.here ≡ Some stack.new.here) }
     ensures lower { IfOk result (λ _. stack.new.lower ≡ stack.old.lower) }
-    ensures refused { IfErr result (λ e. Refused e (NamesMissing (context_of scope.now labels.now) (op.Return)) (step (context_of scope.now labels.now) (op.Return) stack.old.here)) }
+    ensures refused { IfErr result (λ e. Refused e (Breaks e (context_of scope.now labels.now) (op.Return)) (step (context_of scope.now labels.now) (op.Return) stack.old.here)) }
 {
     stack.pop_result(scope.result)?;
     stack.leave();
@@ -182,11 +139,33 @@ pub fn check_call(
 ) -> Result<(), ValidateFault>
     ensures ok { IfOk result (λ _. step (context_of scope.now labels.now) (op.Call function) stack.old.here ≡ Some stack.new.here) }
     ensures lower { IfOk result (λ _. stack.new.lower ≡ stack.old.lower) }
-    ensures refused { IfErr result (λ e. Refused e (NamesMissing (context_of scope.now labels.now) (op.Call function)) (step (context_of scope.now labels.now) (op.Call function) stack.old.here)) }
+    ensures refused { IfErr result (λ e. Refused e (Breaks e (context_of scope.now labels.now) (op.Call function)) (step (context_of scope.now labels.now) (op.Call function) stack.old.here)) }
 {
     let Some(function_type) = scope.type_of(function) else {
         return Err(ValidateFault::Index);
     };
     stack.pop_arguments(function_type.params.as_slice())?;
     stack.push_result(function_type.result)
+}
+
+/// `call_indirect`: takes the place in the table and the arguments off, and leaves the result of a type.
+pub fn check_call_indirect(
+    scope: &Scope,
+    labels: &Labels,
+    stack: &mut OperandStack,
+    type_index: u32,
+) -> Result<(), ValidateFault>
+    ensures ok { IfOk result (λ _. step (context_of scope.now labels.now) (op.CallIndirect type_index) stack.old.here ≡ Some stack.new.here) }
+    ensures lower { IfOk result (λ _. stack.new.lower ≡ stack.old.lower) }
+    ensures refused { IfErr result (λ e. Refused e (Breaks e (context_of scope.now labels.now) (op.CallIndirect type_index)) (step (context_of scope.now labels.now) (op.CallIndirect type_index) stack.old.here)) }
+{
+    if scope.tables.is_empty() {
+        return Err(ValidateFault::Index);
+    }
+    let Some(called) = scope.types.get(type_index as usize) else {
+        return Err(ValidateFault::Index);
+    };
+    stack.pop_as(ValueType::I32)?;
+    stack.pop_arguments(called.params.as_slice())?;
+    stack.push_result(called.result)
 }

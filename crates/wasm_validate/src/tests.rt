@@ -5,8 +5,9 @@ use seq::Seq;
 use std::alloc::{AllocError, Global};
 use std::test::*;
 use wasm_ast::{
-    Block, BlockType, Body, BranchTable, Conditional, DataSegment, Export, ExternalKind, Func,
-    FuncType, Import, ImportKind, Instr, Limits, Module, Name, ValueType,
+    BinaryOp, Block, BlockType, Body, BranchTable, CompareOp, Conditional, ConvertOp, DataSegment,
+    ElementSegment, Export, ExternalKind, Func, FuncType, GlobalType, Import, ImportKind, Instr,
+    Limits, LoadOp, MemoryArgument, Module, Name, StoreOp, UnaryOp, ValueType,
 };
 
 fn name(alloc: Global, text: &str) -> Result<Name, AllocError> {
@@ -46,25 +47,130 @@ fn function_types(alloc: Global) -> Result<Seq<FuncType>, AllocError> {
     Ok(Seq::new(vec![in alloc; put_state, invoke]?))
 }
 
+fn global(value_type: ValueType, is_variable: bool, initializer: Vec<Instr>) -> wasm_ast::Global {
+    wasm_ast::Global {
+        global_type: GlobalType {
+            value_type,
+            is_variable,
+        },
+        initializer: Body::new(initializer),
+    }
+}
+
 // A module that imports `put_state`, and exports as `invoke` this body with an i32 and an i64 as locals.
+// It has a table of two entries, a memory of one page, a variable i32 and a constant i64.
 fn module_of(alloc: Global, body: Vec<Instr>) -> Result<Module, AllocError> {
     let invoke = Func {
         type_index: 1,
         locals: Seq::new(vec![in alloc; ValueType::I32, ValueType::I64]?),
         body: Body::new(body),
     };
+    let variable = global(ValueType::I32, true, vec![in alloc; zero()]?);
+    let constant = global(ValueType::I64, false, vec![in alloc; wide()]?);
     Ok(Module {
         types: function_types(alloc)?,
         imports: Seq::new(vec![in alloc; put_state(alloc)?]?),
         functions: Seq::new(vec![in alloc; invoke]?),
-        memories: Seq::new(vec![in alloc; pages(1, None)]?),
+        tables: Seq::new(vec![in alloc; limits(2, None)]?),
+        memories: Seq::new(vec![in alloc; limits(1, None)]?),
+        globals: Seq::new(vec![in alloc; variable, constant]?),
         exports: Seq::new(vec![in alloc; exported(alloc, "invoke", ExternalKind::Function, 1)?]?),
+        elements: Seq::empty(alloc),
         data: Seq::empty(alloc),
     })
 }
 
 fn zero() -> Instr {
     Instr::I32Const(0)
+}
+
+fn wide() -> Instr {
+    Instr::I64Const(u64::MAX)
+}
+
+// A control instruction or one on locals or globals, by its name and its index.
+fn indexed(alloc: Global, name: &str, index: u32) -> Result<Option<Instr>, AllocError> {
+    Ok(Some(match name {
+        "br" => Instr::Br(index),
+        "br_if" => Instr::BrIf(index),
+        "br_table" => table(alloc, index, 0)?,
+        "call" => Instr::Call(index),
+        "call_indirect" => Instr::CallIndirect(index),
+        "local.get" => Instr::LocalGet(index),
+        "local.set" => Instr::LocalSet(index),
+        "local.tee" => Instr::LocalTee(index),
+        "global.get" => Instr::GlobalGet(index),
+        "global.set" => Instr::GlobalSet(index),
+        "i32.const" => Instr::I32Const(index),
+        _ => return Ok(None),
+    }))
+}
+
+// An access to memory, by its name and its alignment.
+fn accessing(name: &str, align: u32) -> Option<Instr> {
+    let argument = MemoryArgument { align, offset: 4 };
+    Some(match name {
+        "i32.load" => Instr::Load(LoadOp::I32, argument),
+        "i64.load" => Instr::Load(LoadOp::I64, argument),
+        "i32.load8_u" => Instr::Load(LoadOp::I32From8U, argument),
+        "i32.store" => Instr::Store(StoreOp::I32, argument),
+        "i64.store" => Instr::Store(StoreOp::I64, argument),
+        "i32.store16" => Instr::Store(StoreOp::I32To16, argument),
+        "i64.store8" => Instr::Store(StoreOp::I64To8, argument),
+        "i64.store32" => Instr::Store(StoreOp::I64To32, argument),
+        _ => return None,
+    })
+}
+
+// An instruction by its name alone.
+fn plain(name: &str) -> Option<Instr> {
+    Some(match name {
+        "unreachable" => Instr::Unreachable,
+        "nop" => Instr::Nop,
+        "return" => Instr::Return,
+        "drop" => Instr::Drop,
+        "select" => Instr::Select,
+        "memory.size" => Instr::MemorySize,
+        "memory.grow" => Instr::MemoryGrow,
+        "zero" => zero(),
+        "wide" => wide(),
+        "i32.eqz" => Instr::I32Eqz,
+        "i64.eqz" => Instr::I64Eqz,
+        "i32.clz" => Instr::I32Unary(UnaryOp::Clz),
+        "i64.popcnt" => Instr::I64Unary(UnaryOp::Popcnt),
+        "i32.lt_u" => Instr::I32Compare(CompareOp::LtU),
+        "i64.eq" => Instr::I64Compare(CompareOp::Eq),
+        "i32.add" => Instr::I32Binary(BinaryOp::Add),
+        "i64.mul" => Instr::I64Binary(BinaryOp::Mul),
+        "wrap" => Instr::Convert(ConvertOp::WrapI64),
+        "extend_s" => Instr::Convert(ConvertOp::ExtendI32S),
+        "extend_u" => Instr::Convert(ConvertOp::ExtendI32U),
+        _ => return None,
+    })
+}
+
+// The instruction of a word, as `br:1`. A word that is none calls a function that is not there.
+fn instr_of(alloc: Global, word: &str) -> Result<Instr, AllocError> {
+    let found = match word.split_once(':') {
+        None => plain(word),
+        Some((name, digits)) => {
+            let index = digits.parse().unwrap_or(u32::MAX);
+            match accessing(name, index) {
+                None => indexed(alloc, name, index)?,
+                access => access,
+            }
+        }
+    };
+    Ok(found.unwrap_or(Instr::Call(u32::MAX)))
+}
+
+// Instructions by their words.
+fn body_of(alloc: Global, text: &str) -> Result<Vec<Instr>, AllocError> {
+    let mut body = Vec::new(alloc);
+    for word in text.split_whitespace() {
+        body.push(instr_of(alloc, word)?)?;
+    }
+    Ok(body)
 }
 
 fn block(alloc: Global, left: BlockType, body: Vec<Instr>) -> Result<Box<Block>, AllocError> {
@@ -104,99 +210,160 @@ fn number_of(validated: Result<ValidModule, ValidateFault>) -> u16 {
 
 const WORD: BlockType = Some(ValueType::I32);
 
-// Bodies without blocks, and the number that each is given.
-fn plain_rows(alloc: Global) -> Result<Vec<(Vec<Instr>, u16)>, AllocError> {
-    let mut rows = vec![in alloc; (vec![in alloc; zero()]?, 0), (vec![in alloc]?, 201)]?;
-    rows.push((vec![in alloc; zero(), zero()]?, 201))?;
-    rows.push((vec![in alloc; zero(), zero(), Instr::I32Add]?, 0))?;
-    rows.push((vec![in alloc; zero(), Instr::I32Add]?, 201))?;
-    rows.push((vec![in alloc; zero(), Instr::Nop]?, 0))?;
-    rows.push((vec![in alloc; zero(), zero(), Instr::Drop]?, 0))?;
-    rows.push((vec![in alloc; Instr::Drop, zero()]?, 201))?;
-    rows.push((vec![in alloc; Instr::LocalGet(0)]?, 0))?;
-    rows.push((vec![in alloc; Instr::LocalGet(1)]?, 201))?;
-    rows.push((vec![in alloc; Instr::LocalGet(2)]?, 202))?;
-    rows.push((vec![in alloc; zero(), Instr::LocalSet(1), zero()]?, 201))?;
-    rows.push((vec![in alloc; zero(), Instr::LocalTee(0)]?, 0))?;
-    rows.push((vec![in alloc; zero(), zero(), zero(), Instr::Call(0)]?, 201))?;
-    rows.push((
-        vec![in alloc; zero(), zero(), zero(), zero(), Instr::Call(0)]?,
-        0,
-    ))?;
-    rows.push((vec![in alloc; Instr::Call(2)]?, 202))?;
-    Ok(rows)
-}
-
-// Bodies with branches.
-fn branch_rows(alloc: Global) -> Result<Vec<(Vec<Instr>, u16)>, AllocError> {
-    let mut rows = vec![in alloc; (vec![in alloc; Instr::Unreachable]?, 0)]?;
-    rows.push((vec![in alloc; Instr::Unreachable, Instr::I32Add]?, 0))?;
-    rows.push((vec![in alloc; Instr::Unreachable, zero(), zero()]?, 201))?;
-    rows.push((
-        vec![in alloc; Instr::Unreachable, Instr::LocalGet(1), Instr::I32Add]?,
-        201,
-    ))?;
-    rows.push((vec![in alloc; zero(), Instr::Br(0)]?, 0))?;
-    rows.push((vec![in alloc; Instr::Br(0)]?, 201))?;
-    rows.push((vec![in alloc; zero(), Instr::Br(1)]?, 202))?;
-    rows.push((vec![in alloc; zero(), zero(), Instr::BrIf(0)]?, 0))?;
-    rows.push((vec![in alloc; zero(), Instr::BrIf(0), zero()]?, 201))?;
-    rows.push((vec![in alloc; zero(), Instr::Return]?, 0))?;
-    rows.push((vec![in alloc; Instr::Return]?, 201))?;
-    rows.push((vec![in alloc; zero(), zero(), table(alloc, 0, 0)?]?, 0))?;
-    rows.push((vec![in alloc; table(alloc, 1, 0)?]?, 202))?;
-    Ok(rows)
-}
+// Bodies of instructions, and the number that each is given.
+const BODIES: [(&str, u16); 84] = [
+    ("zero", 0),
+    ("", 201),
+    ("zero zero", 201),
+    ("zero zero i32.add", 0),
+    ("zero i32.add", 201),
+    ("zero nop", 0),
+    ("zero zero drop", 0),
+    ("drop zero", 201),
+    ("local.get:0", 0),
+    ("local.get:1", 201),
+    ("local.get:2", 202),
+    ("zero local.set:1 zero", 201),
+    ("zero local.tee:0", 0),
+    ("zero zero zero call:0", 201),
+    ("zero zero zero zero call:0", 0),
+    ("call:2", 202),
+    ("unreachable", 0),
+    ("unreachable i32.add", 0),
+    ("unreachable zero zero", 201),
+    ("unreachable local.get:1 i32.add", 201),
+    ("zero br:0", 0),
+    ("br:0", 201),
+    ("zero br:1", 202),
+    ("zero zero br_if:0", 0),
+    ("zero br_if:0 zero", 201),
+    ("zero return", 0),
+    ("return", 201),
+    ("zero zero br_table:0", 0),
+    ("br_table:1", 202),
+    ("zero i32.eqz", 0),
+    ("wide i64.eqz", 0),
+    ("zero i64.eqz", 201),
+    ("zero i32.clz", 0),
+    ("wide i64.popcnt wrap", 0),
+    ("zero zero i32.lt_u", 0),
+    ("wide wide i64.eq", 0),
+    ("zero wide i64.eq", 201),
+    ("wide wide i64.mul wrap", 0),
+    ("wide wide i64.mul", 201),
+    ("zero wrap", 201),
+    ("zero extend_s wrap", 0),
+    ("zero extend_u", 201),
+    ("zero zero zero select", 0),
+    ("zero zero select", 201),
+    ("zero wide zero select", 201),
+    ("zero zero wide select", 201),
+    ("unreachable select", 0),
+    ("unreachable zero zero select", 0),
+    ("unreachable wide zero select", 201),
+    ("global.get:0", 0),
+    ("global.get:1", 201),
+    ("global.get:1 wrap", 0),
+    ("global.get:2", 202),
+    ("zero global.set:0 zero", 0),
+    ("wide global.set:0 zero", 201),
+    ("wide global.set:1 zero", 203),
+    ("global.set:1", 203),
+    ("global.set:2", 202),
+    ("zero i32.load:2", 0),
+    ("zero i32.load:3", 204),
+    ("zero i64.load:3 wrap", 0),
+    ("zero i64.load:3", 201),
+    ("zero i32.load8_u:0", 0),
+    ("zero i32.load8_u:1", 204),
+    ("wide i32.load:0", 201),
+    ("i32.load:4294967295", 204),
+    ("zero zero i32.store:2 zero", 0),
+    ("zero zero i32.store:3 zero", 204),
+    ("zero zero i32.store16:1 zero", 0),
+    ("zero zero i32.store16:2 zero", 204),
+    ("zero zero i64.store:3 zero", 201),
+    ("zero wide i64.store8:0 zero", 0),
+    ("i64.store8:1", 204),
+    ("zero wide i64.store32:2 zero", 0),
+    ("memory.size", 0),
+    ("zero memory.grow", 0),
+    ("memory.grow", 201),
+    ("wide memory.grow", 201),
+    ("zero call_indirect:1", 0),
+    ("call_indirect:1", 201),
+    ("wide call_indirect:1", 201),
+    ("zero call_indirect:0", 201),
+    ("zero zero zero zero zero call_indirect:0", 0),
+    ("call_indirect:2", 202),
+];
 
 // Bodies with blocks.
 fn block_rows(alloc: Global) -> Result<Vec<(Vec<Instr>, u16)>, AllocError> {
-    let leaves = vec![in alloc; zero(), Instr::Br(0)]?;
-    let mut rows = vec![in alloc;
-        (
-            vec![in alloc; Instr::Block(block(alloc, WORD, leaves)?)]?,
-            0
-        ),
-    ]?;
-    let branch = vec![in alloc; Instr::Br(0)]?;
-    rows.push((
-        vec![in alloc; Instr::Block(block(alloc, WORD, branch)?)]?,
-        201,
-    ))?;
-    let branch = vec![in alloc; Instr::Br(0)]?;
-    rows.push((vec![in alloc; Instr::Loop(block(alloc, WORD, branch)?)]?, 0))?;
-    let outside = vec![in alloc; Instr::Drop, zero()]?;
-    rows.push((
-        vec![in alloc; zero(), Instr::Block(block(alloc, WORD, outside)?)]?,
-        201,
-    ))?;
-    let mixed = vec![in alloc; zero(), table(alloc, 0, 1)?]?;
-    rows.push((
-        vec![in alloc; Instr::Block(block(alloc, None, mixed)?), zero()]?,
-        201,
-    ))?;
-    let both = choice(
-        alloc,
-        WORD,
-        vec![in alloc; zero()]?,
-        vec![in alloc; zero()]?,
-    )?;
-    rows.push((vec![in alloc; zero(), both]?, 0))?;
-    let without_else = choice(alloc, WORD, vec![in alloc; zero()]?, vec![in alloc]?)?;
-    rows.push((vec![in alloc; zero(), without_else]?, 201))?;
-    let empty = choice(alloc, None, vec![in alloc]?, vec![in alloc]?)?;
-    rows.push((vec![in alloc; empty, zero()]?, 201))?;
+    let mut rows = Vec::new(alloc);
+    for (before, left, body, after, want) in [
+        ("", WORD, "zero br:0", "", 0),
+        ("", WORD, "br:0", "", 201),
+        ("zero", WORD, "drop zero", "", 201),
+        ("", None, "zero br_table:1", "zero", 201),
+    ] {
+        let inner = block(alloc, left, body_of(alloc, body)?)?;
+        let mut row = body_of(alloc, before)?;
+        row.push(Instr::Block(inner))?;
+        row.append(&mut body_of(alloc, after)?)?;
+        rows.push((row, want))?;
+    }
+    let again = block(alloc, WORD, body_of(alloc, "br:0")?)?;
+    rows.push((vec![in alloc; Instr::Loop(again)]?, 0))?;
+    for (before, left, yes, no, after, want) in [
+        ("zero", WORD, "zero", "zero", "", 0),
+        ("zero", WORD, "zero", "", "", 201),
+        ("zero", None, "", "", "zero", 0),
+        ("", None, "", "", "zero", 201),
+    ] {
+        let mut row = body_of(alloc, before)?;
+        row.push(choice(alloc, left, body_of(alloc, yes)?, body_of(alloc, no)?)?)?;
+        row.append(&mut body_of(alloc, after)?)?;
+        rows.push((row, want))?;
+    }
     Ok(rows)
 }
 
 #[test]
 fn bodies_by_the_rules(rt: HostRuntime) -> Result<(), AllocError> {
     let alloc = rt.alloc();
-    let mut rows = plain_rows(alloc)?;
-    rows.append(&mut branch_rows(alloc)?)?;
-    rows.append(&mut block_rows(alloc)?)?;
-    for (row, (body, want)) in rows.into_iter().enumerate() {
+    for (text, want) in BODIES {
+        let body = body_of(alloc, text)?;
+        let got = number_of(validate(alloc, module_of(alloc, body)?));
+        assert_eq!(rt; got, want, "for {text}");
+    }
+    for (row, (body, want)) in block_rows(alloc)?.into_iter().enumerate() {
         let got = number_of(validate(alloc, module_of(alloc, body)?));
         assert_eq!(rt; got, want, "in row {row}");
+    }
+    Ok(())
+}
+
+// Bodies in a module without tables, memories and globals.
+const LACKING: [&str; 7] = [
+    "i32.load:9",
+    "i32.store:9",
+    "memory.size",
+    "memory.grow",
+    "call_indirect:1",
+    "global.get:0",
+    "global.set:0",
+];
+
+#[test]
+fn what_a_module_lacks(rt: HostRuntime) -> Result<(), AllocError> {
+    let alloc = rt.alloc();
+    for text in LACKING {
+        let mut module = module_of(alloc, body_of(alloc, text)?)?;
+        module.tables = Seq::empty(alloc);
+        module.memories = Seq::empty(alloc);
+        module.globals = Seq::empty(alloc);
+        assert_eq!(rt; number_of(validate(alloc, module)), 202, "for {text}");
     }
     Ok(())
 }
@@ -213,6 +380,11 @@ fn import_rows(alloc: Global) -> Result<Vec<(Module, u16)>, AllocError> {
     let mut rows = Vec::new(alloc);
     for (from, called, kind, want) in [
         ("fabric", "put_state", ImportKind::Function(0), 0),
+        ("fabric", "get_state", ImportKind::Function(0), 0),
+        ("fabric", "del_state", ImportKind::Function(0), 206),
+        ("fabric", "range_state", ImportKind::Function(0), 206),
+        ("fabric", "get_arg", ImportKind::Function(0), 206),
+        ("fabric", "set_result", ImportKind::Function(0), 206),
         ("fabric", "put_state", ImportKind::Function(1), 206),
         ("fabric", "put_state", ImportKind::Function(2), 202),
         ("fabric", "put_states", ImportKind::Function(0), 206),
@@ -220,7 +392,7 @@ fn import_rows(alloc: Global) -> Result<Vec<(Module, u16)>, AllocError> {
         (
             "fabric",
             "put_state",
-            ImportKind::Memory(pages(1, None)),
+            ImportKind::Memory(limits(1, None)),
             206,
         ),
     ] {
@@ -234,22 +406,84 @@ fn import_rows(alloc: Global) -> Result<Vec<(Module, u16)>, AllocError> {
     Ok(rows)
 }
 
-fn pages(least: u32, greatest: Option<u32>) -> Limits {
+fn limits(least: u32, greatest: Option<u32>) -> Limits {
     Limits { least, greatest }
 }
 
-// Memories, and the number that they are given.
+// How many memories of which limits, and the number that they are given.
 fn memory_rows(alloc: Global) -> Result<Vec<(Module, u16)>, AllocError> {
     let mut rows = Vec::new(alloc);
-    for (memories, want) in [
-        (vec![in alloc]?, 0),
-        (vec![in alloc; pages(1, Some(65_536))]?, 0),
-        (vec![in alloc; pages(1, Some(65_537))]?, 210),
-        (vec![in alloc; pages(2, Some(1))]?, 210),
-        (vec![in alloc; pages(1, None), pages(1, None)]?, 210),
+    for (count, pages, want) in [
+        (0, limits(1, None), 0),
+        (1, limits(1, Some(65_536)), 0),
+        (1, limits(1, Some(65_537)), 210),
+        (1, limits(2, Some(1)), 210),
+        (2, limits(1, None), 210),
     ] {
-        let mut module = module_of(alloc, vec![in alloc; zero()]?)?;
-        module.memories = Seq::new(memories);
+        let mut module = module_of(alloc, body_of(alloc, "zero")?)?;
+        module.memories = Seq::new(vec![in alloc; pages; count]?);
+        rows.push((module, want))?;
+    }
+    Ok(rows)
+}
+
+// How many tables of which limits, and the number that they are given.
+fn table_rows(alloc: Global) -> Result<Vec<(Module, u16)>, AllocError> {
+    let mut rows = Vec::new(alloc);
+    for (count, entries, want) in [
+        (0, limits(1, None), 0),
+        (1, limits(1, Some(1)), 0),
+        (1, limits(1, Some(u32::MAX)), 0),
+        (1, limits(2, Some(1)), 210),
+        (2, limits(1, None), 210),
+    ] {
+        let mut module = module_of(alloc, body_of(alloc, "zero")?)?;
+        module.tables = Seq::new(vec![in alloc; entries; count]?);
+        rows.push((module, want))?;
+    }
+    Ok(rows)
+}
+
+// What an i32 global starts with, and the number that it is given. The body is not typed.
+fn initializer_rows(alloc: Global) -> Result<Vec<(Module, u16)>, AllocError> {
+    let mut rows = Vec::new(alloc);
+    for (initializer, want) in [
+        ("zero", 201),
+        ("wide", 209),
+        ("", 209),
+        ("zero nop", 209),
+        ("global.get:0", 209),
+    ] {
+        let mut module = module_of(alloc, Vec::new(alloc))?;
+        let global = global(ValueType::I32, false, body_of(alloc, initializer)?);
+        module.globals = Seq::new(vec![in alloc; global]?);
+        rows.push((module, want))?;
+    }
+    Ok(rows)
+}
+
+// Segments of so many entries for a function in a table of two, and the number that each is given. The
+// body is not typed.
+fn element_rows(alloc: Global) -> Result<Vec<(Module, u16)>, AllocError> {
+    let mut rows = Vec::new(alloc);
+    for (table, offset, function, count, want) in [
+        (0, "i32.const:0", 1, 2, 201),
+        (0, "i32.const:1", 1, 2, 208),
+        (0, "i32.const:2", 1, 0, 201),
+        (0, "i32.const:3", 1, 0, 208),
+        (0, "i32.const:4294967295", 0, 1, 208),
+        (0, "wide", 1, 1, 209),
+        (0, "zero zero", 1, 1, 209),
+        (0, "", 2, 1, 202),
+        (1, "zero", 1, 1, 202),
+    ] {
+        let mut module = module_of(alloc, Vec::new(alloc))?;
+        let segment = ElementSegment {
+            table,
+            offset: Body::new(body_of(alloc, offset)?),
+            functions: Seq::new(vec![in alloc; function; count]?),
+        };
+        module.elements = Seq::new(vec![in alloc; segment]?);
         rows.push((module, want))?;
     }
     Ok(rows)
@@ -262,7 +496,10 @@ fn export_rows(alloc: Global) -> Result<Vec<(Module, u16)>, AllocError> {
         ("memory", ExternalKind::Memory, 0, 201),
         ("memory", ExternalKind::Memory, 1, 202),
         ("put", ExternalKind::Function, 2, 202),
-        ("table", ExternalKind::Table, 0, 202),
+        ("table", ExternalKind::Table, 0, 201),
+        ("table", ExternalKind::Table, 1, 202),
+        ("global", ExternalKind::Global, 1, 201),
+        ("global", ExternalKind::Global, 2, 202),
         ("invoke", ExternalKind::Memory, 0, 205),
     ] {
         let mut module = module_of(alloc, vec![in alloc]?)?;
@@ -278,16 +515,17 @@ fn export_rows(alloc: Global) -> Result<Vec<(Module, u16)>, AllocError> {
 fn data_rows(alloc: Global) -> Result<Vec<(Module, u16)>, AllocError> {
     let mut rows = Vec::new(alloc);
     for (memory, offset, want) in [
-        (0, vec![in alloc; Instr::I32Const(65_534)]?, 0),
-        (0, vec![in alloc; Instr::I32Const(65_535)]?, 208),
-        (0, vec![in alloc; Instr::I32Const(u32::MAX)]?, 208),
-        (0, vec![in alloc; zero(), Instr::Nop]?, 209),
-        (1, vec![in alloc; zero()]?, 202),
+        (0, "i32.const:65534", 0),
+        (0, "i32.const:65535", 208),
+        (0, "i32.const:4294967295", 208),
+        (0, "zero nop", 209),
+        (0, "wide", 209),
+        (1, "zero", 202),
     ] {
-        let mut module = module_of(alloc, vec![in alloc; zero()]?)?;
+        let mut module = module_of(alloc, body_of(alloc, "zero")?)?;
         let segment = DataSegment {
             memory,
-            offset: Body::new(offset),
+            offset: Body::new(body_of(alloc, offset)?),
             bytes: Seq::new(Vec::from_slice(alloc, b"a1")?),
         };
         module.data = Seq::new(vec![in alloc; segment]?);
@@ -302,8 +540,11 @@ fn entry_rows(alloc: Global) -> Result<Vec<(Module, u16)>, AllocError> {
         types: Seq::empty(alloc),
         imports: Seq::empty(alloc),
         functions: Seq::empty(alloc),
+        tables: Seq::empty(alloc),
         memories: Seq::empty(alloc),
+        globals: Seq::empty(alloc),
         exports: Seq::empty(alloc),
+        elements: Seq::empty(alloc),
         data: Seq::empty(alloc),
     };
     let mut rows = vec![in alloc; (shortest, 207)]?;
@@ -323,7 +564,10 @@ fn entry_rows(alloc: Global) -> Result<Vec<(Module, u16)>, AllocError> {
 fn modules_by_the_rules(rt: HostRuntime) -> Result<(), AllocError> {
     let alloc = rt.alloc();
     let mut rows = import_rows(alloc)?;
+    rows.append(&mut table_rows(alloc)?)?;
     rows.append(&mut memory_rows(alloc)?)?;
+    rows.append(&mut initializer_rows(alloc)?)?;
+    rows.append(&mut element_rows(alloc)?)?;
     rows.append(&mut export_rows(alloc)?)?;
     rows.append(&mut data_rows(alloc)?)?;
     rows.append(&mut entry_rows(alloc)?)?;

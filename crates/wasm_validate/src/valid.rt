@@ -8,8 +8,10 @@ ghost use Rattle.wasm_validate.specs.Broken.{Broken};
 use crate::code::check_code;
 use crate::exports::{check_exports, find_entry};
 use crate::fault::ValidateFault;
+use crate::globals::check_globals;
 use crate::imports::{check_imports, function_indices};
-use crate::memories::{check_data, check_memories};
+use crate::limits::{check_memories, check_tables};
+use crate::segments::{check_data, check_elements};
 use std::alloc::Global;
 use std::marker::Model;
 use wasm_ast::{HostCall, Module};
@@ -68,9 +70,9 @@ impl ValidModule {
 
 /// Takes a module in where it is valid.
 ///
-/// Rules are tested in the order of the sections: imports, functions, memories, exports, code, data,
-/// and in each item by item. An import's, a function's, an export's or a segment's index is tested
-/// before its other rules, and an instruction's before its operands.
+/// Rules are tested in the order of the sections: imports, functions, tables, memories, globals, exports,
+/// elements, code, data, and in each item by item. An import's, a function's, an export's or a segment's
+/// indices are tested before its other rules, and an instruction's before its operands.
 ///
 /// # Errors
 ///
@@ -99,9 +101,12 @@ fn check_module(alloc: Global, given: &Module) -> Result<(Vec<HostCall>, u32), V
 {
     let calls = check_imports(alloc, given)?;
     let functions = function_indices(alloc, given)?;
+    check_tables(given)?;
     check_memories(given)?;
+    check_globals(given)?;
     check_exports(given, &functions)?;
     let invoke = find_entry(given, &functions)?;
+    check_elements(given, &functions)?;
     check_code(alloc, given, &functions)?;
     check_data(given)?;
     Ok((calls, invoke))

@@ -1,6 +1,6 @@
 use Rattle.std.proofs.Common.{subst}
 use Rattle.wasm_decode.specs.Parses.{Makes}
-use Rattle.wasm_decode.proofs.ModuleLaws.{is_found, module_again}
+use Rattle.wasm_decode.proofs.ModuleTheorem.{is_found, module_again}
 use Rattle.wasm_decode.proofs.reader.decode.Goals as goal
 
 pub returns-clause-found : goal.returns-clause-found

@@ -3,11 +3,14 @@ use Rattle.std.proofs.lemmas.Result.{IfOk-weaker, IfErr-weaker}
 use Rattle.wasm_validate.proofs.Functions.{Parts, function_typed, function_broken}
 use Rattle.wasm_validate.proofs.code.check_function.Goals as goal
 
-parts : (c : goal.After-drop-locals-2) → Parts c.args.given.now c.args.function.now c.index-types-function.result c.as_slice-types.result.now c.args.functions.now c.deref.result.now c.new-labels.result
+parts : (c : goal.After-drop-locals-2) → Parts c.args.given.now c.args.function.now c.index-types-function.result c.as_slice-types.result.now c.args.functions.now c.as_slice-3.result.now c.as_slice-4.result.now c.as_slice-5.result.now c.deref.result.now c.new-labels.result
 parts c =
     record {
       types_are = c.as_slice-types.ensures;
       functions_are = c.requires.indices;
+      tables_are = c.as_slice-3.ensures;
+      memories_are = c.as_slice-4.ensures;
+      globals_are = c.as_slice-5.ensures;
       bound = c.requires.has_type;
       type_is = c.index-types-function.is;
       locals_are = c.deref.ensures.value ∙ c.in_ok-extend_from_slice.ensures.items ∙ ap (λ z. z ++ c.as_slice-2.result.now) (c.in_ok-locals.ensures.items ∙ c.as_slice.ensures) ∙ ap (λ z. c.index-types-function.result.params ++ z) c.as_slice-2.ensures;
@@ -16,8 +19,8 @@ parts c =
 
 pub returns-clause-typed : goal.returns-clause-typed
 returns-clause-typed c =
-    IfOk-weaker c.check_body.result _ _ (λ x h. function_typed _ _ _ _ _ _ _ (parts c) h) c.check_body.ensures.ok
+    IfOk-weaker c.check_body.result _ _ (λ x h. function_typed _ _ _ _ _ _ _ _ _ _ (parts c) h) c.check_body.ensures.ok
 
 pub returns-clause-broken : goal.returns-clause-broken
 returns-clause-broken c =
-    IfErr-weaker c.check_body.result _ _ (λ e h. function_broken _ _ _ _ _ _ _ (parts c) e h) c.check_body.ensures.refused
+    IfErr-weaker c.check_body.result _ _ (λ e h. function_broken _ _ _ _ _ _ _ _ _ _ (parts c) e h) c.check_body.ensures.refused

@@ -1,5 +1,5 @@
 use Rattle.std.proofs.Common.{◌↔◌, drop}
-use Rattle.wasm_validate.specs.Missing.{AnyMissing}
+use Rattle.wasm_validate.specs.Breaks.{AnyMissing}
 use Rattle.wasm_validate.proofs.labels.Labels.have_all.Given as goal
 
 abbrev pub invariant-loop-label : goal.invariant-loop-label

@@ -1,6 +1,0 @@
-use Rattle.std.proofs.Common.{◌≡◌, drop}
-use Rattle.wasm_meaning.specs.Program.{with_segments}
-use Rattle.wasm_instance.proofs.instance.write_segments.Given as goal
-
-abbrev pub invariant-loop-segment : goal.invariant-loop-segment
-invariant-loop-segment l = with_segments l.memory (drop l.segment-index l.segments) ≡ with_segments l.initial.memory l.segments
