@@ -9,10 +9,11 @@ use Rattle.ledger_model.specs.State.{state}
 use Rattle.ledger_model.specs.Flags.{reads_current, ranges_current}
 use Rattle.ledger_model.specs.Execution.{Unknown, Trapped, Spent, Status, Done, Exec, ReadsAlone, payload_of, range_item}
 use Rattle.ledger_model.specs.Serial.{IsPrefix, IsHandedOut, AllHandedOut}
-use Rattle.ledger_model.specs.Judged.{Rule, by_reads, HasFlagsBy, IsCurrent, AllCurrent, judged_chain}
-use Rattle.ledger_model.proofs.Judged.{flags_judged, judged_onto-append, judged_grows}
+use Rattle.ledger_model.specs.Judged.{Rule, HasFlagsBy, IsCurrent, AllCurrent, judged_chain}
+use Rattle.fabric_core.specs.Rule.{every_endorsed}
+use Rattle.ledger_model.proofs.Judged.{flags_judged, judged_onto-append, judged_grows, judged_current}
 use Rattle.ledger_model.proofs.Reruns.{reruns_and_map, reruns_same}
-use Rattle.fabric_core.specs.Answers.{done_or_refusal, payload_or_refusal}
+use Rattle.simulator.specs.Answers.{done_or_refusal, payload_or_refusal}
 use Rattle.fabric_core.specs.System.{Rules, Noted, PeerState, World, Event, Begin, Finish, Submit, Take, Commit, Reply, opening, Endorsed, Queued, QueueFull, Ordered, NoBlockLeft, numbered, chain_at, begin_seat, begin, finished, finish_seat, finish, commit_next, commit, at_peer, take_front, step, replies_of, world_after, chain_of}
 use Rattle.fabric_core.specs.Inside.{rules_of}
 use Rattle.fabric_core.specs.Headline.{IsRun, IsHonest, AllHandedOutBy}
@@ -172,47 +173,31 @@ all_handed_out r w es n [] h = tt
 all_handed_out r w es n (t ∷ ts) h =
     ((λ v. let a = h.0 v in handed_out r (world_after r w es) n t.envelope.payload (run_gives r w es a.0 t.envelope.payload a.1)), all_handed_out r w es n ts h.1)
 
--- a transaction that the rule of reads finds VALID has current reads
-reads_valid : (b : Bool) → cond b Valid MvccReadConflict ≡ Valid → b ≡ true
-reads_valid true e = refl
-reads_valid false e = absurd (cc)
-
-current : (exec : Exec) → ((p : Proposal) (m : Plain) → (exec p m).seen.ranges ≡ []) → (chain : Chain) (earlier : List Placed) (t : Placed) → by_reads earlier t.envelope ≡ Valid → IsHandedOut exec chain t.envelope.payload → IsCurrent earlier t.envelope.payload
-current exec none chain earlier t valid h =
-    let p = t.envelope.payload in
-    let m = state (history h.begun) in
-    let ranges : p.ranges ≡ [] = ap (λ q. q.ranges) h.payload ∙ ap (map (range_item m)) (none p.proposal (values_of m)) in
-    record { reads = reads_valid (reads_current (state earlier) p.reads) valid; ranges = ap (ranges_current (state earlier)) ranges }
-
-pub all_current : (exec : Exec) → ((p : Proposal) (m : Plain) → (exec p m).seen.ranges ≡ []) → (chain : Chain) (earlier ts : List Placed) → HasFlagsBy by_reads earlier ts → AllHandedOut exec chain ts → AllCurrent earlier ts
-all_current exec none chain earlier [] f h = tt
-all_current exec none chain earlier (t ∷ ts) f h = ((λ v. current exec none chain earlier t (sym f.0 ∙ v) (h.0 v)), all_current exec none chain (earlier ++ t ∷ []) ts f.1 h.1)
-
 -- the chain of a height is honest
-honest_at : (exec : Exec) → ReadsAlone exec → ((p : Proposal) (m : Plain) → (exec p m).seen.ranges ≡ []) → (capacity : ℕ) (w : World) (es : List Event) (n : ℕ) → IsHonest exec by_reads (replies_of (rules_of exec capacity) w es) (chain_at (rules_of exec capacity) (world_after (rules_of exec capacity) w es) n)
-honest_at exec alone none capacity w es n =
+honest_at : (exec : Exec) → ReadsAlone exec → (capacity : ℕ) (w : World) (es : List Event) (n : ℕ) → IsHonest exec every_endorsed (replies_of (rules_of exec capacity) w es) (chain_at (rules_of exec capacity) (world_after (rules_of exec capacity) w es) n)
+honest_at exec alone capacity w es n =
     let r = rules_of exec capacity in
     let taken = (world_after r w es).taken in
     let chain = chain_at r (world_after r w es) n in
-    let flags = flags_judged by_reads (numbered 1 (take n taken)) in
+    let flags = flags_judged every_endorsed (numbered 1 (take n taken)) in
     record {
       flags = flags;
       serial = λ forged.
           let handed = all_handed_out r w es n (history chain) forged in
-          let now = all_current exec none chain [] (history chain) flags handed in
+          let now = judged_current (λ e. true) [] (history chain) flags in
           let both = reruns_and_map exec chain alone now handed in
           record { agree = both.0; same = reruns_same exec chain alone now handed; map = both.1 };
     }
 
-honest_if : (exec : Exec) → ReadsAlone exec → ((p : Proposal) (m : Plain) → (exec p m).seen.ranges ≡ []) → (capacity : ℕ) (w : World) (es : List Event) (o : Option PeerState) (chain : Chain) → option_map (λ q. chain_at (rules_of exec capacity) (world_after (rules_of exec capacity) w es) q.height) o ≡ Some chain → IsHonest exec by_reads (replies_of (rules_of exec capacity) w es) chain
-honest_if exec alone none capacity w es None chain e = absurd (cc)
-honest_if exec alone none capacity w es (Some q) chain e =
-    subst (IsHonest exec by_reads (replies_of (rules_of exec capacity) w es)) (same_Some _ _ e) (honest_at exec alone none capacity w es q.height)
+honest_if : (exec : Exec) → ReadsAlone exec → (capacity : ℕ) (w : World) (es : List Event) (o : Option PeerState) (chain : Chain) → option_map (λ q. chain_at (rules_of exec capacity) (world_after (rules_of exec capacity) w es) q.height) o ≡ Some chain → IsHonest exec every_endorsed (replies_of (rules_of exec capacity) w es) chain
+honest_if exec alone capacity w es None chain e = absurd (cc)
+honest_if exec alone capacity w es (Some q) chain e =
+    subst (IsHonest exec every_endorsed (replies_of (rules_of exec capacity) w es)) (same_Some _ _ e) (honest_at exec alone capacity w es q.height)
 
 -- each chain of a run is honest
-pub honest_run : (exec : Exec) → ReadsAlone exec → ((p : Proposal) (m : Plain) → (exec p m).seen.ranges ≡ []) → (capacity : ℕ) (w : World) (es : List Event) (peer : ℕ) (chain : Chain) → chain_of (rules_of exec capacity) (world_after (rules_of exec capacity) w es) peer ≡ Some chain → IsHonest exec by_reads (replies_of (rules_of exec capacity) w es) chain
-honest_run exec alone none capacity w es peer chain e =
-    honest_if exec alone none capacity w es (slice_get (world_after (rules_of exec capacity) w es).peers peer) chain e
+pub honest_run : (exec : Exec) → ReadsAlone exec → (capacity : ℕ) (w : World) (es : List Event) (peer : ℕ) (chain : Chain) → chain_of (rules_of exec capacity) (world_after (rules_of exec capacity) w es) peer ≡ Some chain → IsHonest exec every_endorsed (replies_of (rules_of exec capacity) w es) chain
+honest_run exec alone capacity w es peer chain e =
+    honest_if exec alone capacity w es (slice_get (world_after (rules_of exec capacity) w es).peers peer) chain e
 
 -- the last step of a run
 pub replies_more : (r : Rules) (w : World) (es : List Event) (e : Event) → replies_of r w (es ++ e ∷ []) ≡ replies_of r w es ++ (step r (world_after r w es) e).0 ∷ []
@@ -266,7 +251,7 @@ run_part r peers seats events replies w refused i replied leads bad more =
     record { done = take i events; rest = drop i events; order = take-append-drop i events; replied = replied; leads = leads; whole = (λ h. absurd (true_false (sym bad ∙ h)), λ h. drop_left i events more h) }
 
 -- the chains of a run are honest
-pub honest_of : (exec : Exec) → ReadsAlone exec → ((p : Proposal) (m : Plain) → (exec p m).seen.ranges ≡ []) → (capacity peers seats : ℕ) (events : List Event) (replies : List Reply) (w : World) (refused : Bool) → IsRun (rules_of exec capacity) peers seats events replies w refused → (peer : ℕ) (chain : Chain) → chain_of (rules_of exec capacity) w peer ≡ Some chain → IsHonest exec by_reads replies chain
-honest_of exec alone none capacity peers seats events replies w refused run peer chain is =
-    subst (λ rs. IsHonest exec by_reads rs chain) (sym run.replied)
-    (honest_run exec alone none capacity (opening peers seats) run.done peer chain (ap (λ u. chain_of (rules_of exec capacity) u peer) (sym run.leads) ∙ is))
+pub honest_of : (exec : Exec) → ReadsAlone exec → (capacity peers seats : ℕ) (events : List Event) (replies : List Reply) (w : World) (refused : Bool) → IsRun (rules_of exec capacity) peers seats events replies w refused → (peer : ℕ) (chain : Chain) → chain_of (rules_of exec capacity) w peer ≡ Some chain → IsHonest exec every_endorsed replies chain
+honest_of exec alone capacity peers seats events replies w refused run peer chain is =
+    subst (λ rs. IsHonest exec every_endorsed rs chain) (sym run.replied)
+    (honest_run exec alone capacity (opening peers seats) run.done peer chain (ap (λ u. chain_of (rules_of exec capacity) u peer) (sym run.leads) ∙ is))

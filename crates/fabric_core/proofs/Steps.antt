@@ -7,10 +7,12 @@ use Rattle.ledger_model.specs.State.{state, state_at}
 use Rattle.ledger_model.specs.Flags.{version_at}
 use Rattle.ledger_model.proofs.State.{get-state}
 use Rattle.ledger_model.specs.Execution.{Exec}
-use Rattle.ledger_model.specs.Judged.{by_reads}
-use Rattle.fabric_core.specs.Answers.{Refusal, payload_or_refusal}
+use Rattle.fabric_core.specs.Rule.{every_endorsed}
+use Rattle.simulator.specs.declared.refusal.SimRefusal.{SimRefusal}
+use Rattle.simulator.specs.Answers.{payload_or_refusal}
 use Rattle.fabric_core.specs.System.{PeerState, World, Reply, Begun as IsBegun, Nothing, IsCommitted, block_of, chain_of_first, begin_seat, begin, finished, finish_seat, finish, commit_next, commit, at_peer}
 use Rattle.fabric_core.specs.Inside.{State, noted, seats_of, peer_of, world_of, IsFirst, IsSeatRight, IsPeerRight, IsRight}
+use Rattle.simulator.specs.declared.book.Chaincode.{Chaincode}
 use Rattle.fabric_core.specs.declared.peer.Begun.{Begun}
 use Rattle.fabric_core.specs.declared.peer.Peer.{Peer}
 use Rattle.fabric_core.proofs.Lists.{slice_get_map, slice_set_map, slice_set_same, all_set, all_get, all_map, at_place, last_of}
@@ -33,7 +35,7 @@ begin_free p s b height free same tall =
     ap (begin_seat (peer_of p) s b.proposal) (shown_at p.seats.items s None free)
     ∙ (λ i. (IsBegun (q i), record { height = length p.snapshot.value; seats = r i }))
 
-pub finish_held : (exec : Exec) (chain : ℕ → Chain) (p : Peer) (s : ℕ) (b : Begun) (answer : Result Payload Refusal) (reply : Reply) → IsPeerRight chain p → slice_get p.seats.items s ≡ Some (Some b) → payload_or_refusal exec b.proposal b.snapshot.value ≡ answer → finished answer ≡ reply → finish exec chain (peer_of p) s ≡ (reply, record { height = length p.snapshot.value; seats = seats_of (slice_set p.seats.items s None) })
+pub finish_held : (exec : Exec) (chain : ℕ → Chain) (p : Peer) (s : ℕ) (b : Begun) (answer : Result Payload SimRefusal) (reply : Reply) → IsPeerRight chain p → slice_get p.seats.items s ≡ Some (Some b) → payload_or_refusal exec b.proposal b.snapshot.value ≡ answer → finished answer ≡ reply → finish exec chain (peer_of p) s ≡ (reply, record { height = length p.snapshot.value; seats = seats_of (slice_set p.seats.items s None) })
 finish_held exec chain p s b answer reply right held told is =
     let of : IsFirst chain b.snapshot.value = all_get (IsSeatRight chain) p.seats.items s (Some b) right.seats held in
     let q : finished (payload_or_refusal exec b.proposal (chain (length b.snapshot.value))) ≡ reply =
@@ -54,14 +56,14 @@ in_world peers queue taken f p old new reply there told =
 -- a peer that is right where it was
 pub peer_set : (peers : List Peer) (taken : List Envelope) (p : ℕ) (old new : Peer) → IsRight peers taken → slice_get peers p ≡ Some old → ((chain : ℕ → Chain) → IsPeerRight chain old → IsPeerRight chain new) → IsRight (slice_set peers p new) taken
 peer_set peers taken p old new right there kept =
-    let P = IsPeerRight (chain_of_first by_reads taken) in
-    record { blocks = right.blocks; each = all_set P peers p new right.each (kept (chain_of_first by_reads taken) (all_get P peers p old right.each there)) }
+    let P = IsPeerRight (chain_of_first every_endorsed taken) in
+    record { blocks = right.blocks; each = all_set P peers p new right.each (kept (chain_of_first every_endorsed taken) (all_get P peers p old right.each there)) }
 
 -- a system as it is seen
-abbrev pub shown : {B : Type 0} → B → ℕ → List Peer → List Envelope → List Envelope → State B
+abbrev pub shown : List Chaincode → ℕ → List Peer → List Envelope → List Envelope → State
 shown book capacity peers queue taken = record { book = book; capacity = capacity; world = world_of peers queue taken }
 
-pub unchanged : {B : Type 0} (book : B) (capacity : ℕ) (peers : List Peer) (queue taken : List Envelope) (p : ℕ) (old new : Peer) → slice_get peers p ≡ Some old → new ≡ old → shown book capacity (slice_set peers p new) queue taken ≡ shown book capacity peers queue taken
+pub unchanged : (book : List Chaincode) (capacity : ℕ) (peers : List Peer) (queue taken : List Envelope) (p : ℕ) (old new : Peer) → slice_get peers p ≡ Some old → new ≡ old → shown book capacity (slice_set peers p new) queue taken ≡ shown book capacity peers queue taken
 unchanged book capacity peers queue taken p old new there same =
     ap (λ ps. shown book capacity ps queue taken) (ap (slice_set peers p) same ∙ slice_set_same peers p old there)
 
@@ -81,42 +83,34 @@ either_way X P Q (Err e) f g h k = g k
 -- the system is right as one envelope more is taken
 pub taken_more : (peers : List Peer) (taken : List Envelope) (e : Envelope) → IsRight peers taken → length taken < 65535 → IsRight peers (taken ++ e ∷ [])
 taken_more peers taken e right room =
-    let old = chain_of_first by_reads taken in
-    let new = chain_of_first by_reads (taken ++ e ∷ []) in
+    let old = chain_of_first every_endorsed taken in
+    let new = chain_of_first every_endorsed (taken ++ e ∷ []) in
     record {
       blocks = omega (arith, length-append taken (e ∷ []));
       each = all_map (IsPeerRight old) (IsPeerRight new) peers (λ p h. record {
-        kept = stays by_reads taken (e ∷ []) p.snapshot.value h.kept;
-        seats = all_map (IsSeatRight old) (IsSeatRight new) p.seats.items (elim [ None ↦ λ k. tt | Some b ↦ λ k. stays by_reads taken (e ∷ []) b.snapshot.value k ]) h.seats;
+        kept = stays every_endorsed taken (e ∷ []) p.snapshot.value h.kept;
+        seats = all_map (IsSeatRight old) (IsSeatRight new) p.seats.items (elim [ None ↦ λ k. tt | Some b ↦ λ k. stays every_endorsed taken (e ∷ []) b.snapshot.value k ]) h.seats;
       }) right.each;
     }
 
 -- a peer with the next block
-pub committed : (taken : List Envelope) (old new : Peer) (e : Envelope) (reply : Reply) → IsPeerRight (chain_of_first by_reads taken) old → slice_get taken (length old.snapshot.value) ≡ Some e → reply ≡ IsCommitted (by_reads (history old.snapshot.value) e ∷ []) → new.snapshot.value ≡ old.snapshot.value ++ record { block = block_of (length old.snapshot.value + 1) e; flags = by_reads (history old.snapshot.value) e ∷ [] } ∷ [] → new.seats.items ≡ old.seats.items → (commit (chain_of_first by_reads taken) (peer_of old) ≡ (reply, peer_of new)) × IsPeerRight (chain_of_first by_reads taken) new
+pub committed : (taken : List Envelope) (old new : Peer) (e : Envelope) (reply : Reply) → IsPeerRight (chain_of_first every_endorsed taken) old → slice_get taken (length old.snapshot.value) ≡ Some e → reply ≡ IsCommitted (every_endorsed (history old.snapshot.value) e ∷ []) → new.snapshot.value ≡ old.snapshot.value ++ record { block = block_of (length old.snapshot.value + 1) e; flags = every_endorsed (history old.snapshot.value) e ∷ [] } ∷ [] → new.seats.items ≡ old.seats.items → (commit (chain_of_first every_endorsed taken) (peer_of old) ≡ (reply, peer_of new)) × IsPeerRight (chain_of_first every_endorsed taken) new
 committed taken old new e reply right there told made seats =
     let c = old.snapshot.value in
-    let next : Committed = record { block = block_of (length c + 1) e; flags = by_reads (history c) e ∷ [] } in
-    let chain : chain_of_first by_reads taken (length c + 1) ≡ c ++ next ∷ [] = next_chain by_reads taken c e right.kept there in
-    let got : slice_get (chain_of_first by_reads taken (length c + 1)) (length c) ≡ Some next = ap (λ d. slice_get d (length c)) chain ∙ last_of c next in
+    let next : Committed = record { block = block_of (length c + 1) e; flags = every_endorsed (history c) e ∷ [] } in
+    let chain : chain_of_first every_endorsed taken (length c + 1) ≡ c ++ next ∷ [] = next_chain every_endorsed taken c e right.kept there in
+    let got : slice_get (chain_of_first every_endorsed taken (length c + 1)) (length c) ≡ Some next = ap (λ d. slice_get d (length c)) chain ∙ last_of c next in
     let tall : length new.snapshot.value ≡ length c + 1 = ap (λ d. length d) made ∙ length-append c (next ∷ []) in (
       ap (commit_next (peer_of old)) got ∙ (λ i. (sym told i, record { height = sym tall i; seats = seats_of (sym seats i) })),
       record {
-        kept = made ∙ sym chain ∙ ap (chain_of_first by_reads taken) (sym tall);
-        seats = subst (AllByRecursion (IsSeatRight (chain_of_first by_reads taken))) (sym seats) right.seats;
+        kept = made ∙ sym chain ∙ ap (chain_of_first every_endorsed taken) (sym tall);
+        seats = subst (AllByRecursion (IsSeatRight (chain_of_first every_endorsed taken))) (sym seats) right.seats;
       },
     )
 
 -- with nothing left to commit
-pub committed_none : (taken : List Envelope) (p : PeerState) → length taken ≤ p.height → commit (chain_of_first by_reads taken) p ≡ (Nothing, p)
-committed_none taken p short = ap (commit_next p) (past_end by_reads taken p.height short)
-
-version_under : {X : Type 0} (o : Option (X × Version)) (f : X → Bytes) → option_map (λ e. e.1) (option_map {U = Bytes × Version} (λ e. (f e.0, e.1)) o) ≡ option_map (λ e. e.1) o
-version_under None f = refl
-version_under (Some e) f = refl
-
--- a key's version, of what a snapshot answers
-pub version_shown : {X : Type 0} (ts : List Placed) (key : Bytes) (o : Option (X × Version)) (f : X → Bytes) → option_map (λ e. (f e.0, e.1)) o ≡ state_at ts key → version_at (state ts) key ≡ option_map (λ e. e.1) o
-version_shown ts key o f h = ap (option_map (λ e. e.1)) (get-state ts key ∙ sym h) ∙ version_under o f
+pub committed_none : (taken : List Envelope) (p : PeerState) → length taken ≤ p.height → commit (chain_of_first every_endorsed taken) p ≡ (Nothing, p)
+committed_none taken p short = ap (commit_next p) (past_end every_endorsed taken p.height short)
 
 pub free_seats : (n : ℕ) → seats_of (replicate n None) ≡ replicate n None
 free_seats zero = refl
@@ -127,9 +121,9 @@ free_right chain zero = tt
 free_right chain (suc n) = (tt, free_right chain n)
 
 -- what committing at a peer leaves, whether memory was refused or not
-pub commit_all : {E : Type 0} (taken : List Envelope) (old new : Peer) (e : Envelope) (r : Result Reply E) → IsPeerRight (chain_of_first by_reads taken) old → slice_get taken (length old.snapshot.value) ≡ Some e → IfOk r (λ reply. reply ≡ IsCommitted (by_reads (history old.snapshot.value) e ∷ [])) → IfOk r (λ reply. new.snapshot.value ≡ old.snapshot.value ++ record { block = block_of (length old.snapshot.value + 1) e; flags = by_reads (history old.snapshot.value) e ∷ [] } ∷ []) → new.seats.items ≡ old.seats.items → OnErr r (new ≡ old) → IfOk r (λ reply. commit (chain_of_first by_reads taken) (peer_of old) ≡ (reply, peer_of new)) × IsPeerRight (chain_of_first by_reads taken) new
+pub commit_all : {E : Type 0} (taken : List Envelope) (old new : Peer) (e : Envelope) (r : Result Reply E) → IsPeerRight (chain_of_first every_endorsed taken) old → slice_get taken (length old.snapshot.value) ≡ Some e → IfOk r (λ reply. reply ≡ IsCommitted (every_endorsed (history old.snapshot.value) e ∷ [])) → IfOk r (λ reply. new.snapshot.value ≡ old.snapshot.value ++ record { block = block_of (length old.snapshot.value + 1) e; flags = every_endorsed (history old.snapshot.value) e ∷ [] } ∷ []) → new.seats.items ≡ old.seats.items → OnErr r (new ≡ old) → IfOk r (λ reply. commit (chain_of_first every_endorsed taken) (peer_of old) ≡ (reply, peer_of new)) × IsPeerRight (chain_of_first every_endorsed taken) new
 commit_all taken old new e (Ok reply) right there told made seats same = committed taken old new e reply right there told made seats
-commit_all taken old new e (Err x) right there told made seats same = (tt, subst (IsPeerRight (chain_of_first by_reads taken)) (sym same) right)
+commit_all taken old new e (Err x) right there told made seats same = (tt, subst (IsPeerRight (chain_of_first every_endorsed taken)) (sym same) right)
 
 pub some_same : {X : Type 0} (x y : X) → Some x ≡ Some y → x ≡ y
 some_same x y e = cc

@@ -3,20 +3,21 @@ use Rattle.std.specs.Prelude.{◌≡◌, ◌≤◌, ℕ, List, Option, Some, Non
 use Rattle.std.specs.List.{AllByRecursion}
 use Rattle.ledger_model.specs.Chain.{Envelope, Chain}
 use Rattle.ledger_model.specs.Execution.{Exec}
-use Rattle.ledger_model.specs.Judged.{by_reads}
+use Rattle.simulator.specs.declared.book.Chaincode.{Chaincode}
+use Rattle.fabric_core.specs.Rule.{every_endorsed}
 use Rattle.fabric_core.specs.System.{Rules, Noted, PeerState, World, chain_of_first}
 use Rattle.fabric_core.specs.declared.peer.Begun.{Begun}
 use Rattle.fabric_core.specs.declared.peer.Peer.{Peer}
 
 -- what a system is seen as
-pub record State (B : Type 0) : Type 0 where
-  pub book : B
+pub record State : Type 0 where
+  pub book : List Chaincode
   pub capacity : ℕ
   pub world : World
 
--- the rules with these chaincodes and this queue, by which transactions are judged by their reads alone
+-- the rules with these chaincodes and this queue, by which each envelope is endorsed
 abbrev pub rules_of : Exec → ℕ → Rules
-rules_of exec capacity = record { exec = exec; rule = by_reads; capacity = capacity }
+rules_of exec capacity = record { exec = exec; rule = every_endorsed; capacity = capacity }
 
 abbrev pub noted : Begun → Noted
 noted b = record { proposal = b.proposal; height = length b.snapshot.value }
@@ -45,4 +46,4 @@ pub record IsPeerRight (chain : ℕ → Chain) (p : Peer) : Type 0 where
 
 pub record IsRight (peers : List Peer) (taken : List Envelope) : Type 0 where
   pub blocks : length taken ≤ 65535
-  pub each : AllByRecursion (IsPeerRight (chain_of_first by_reads taken)) peers
+  pub each : AllByRecursion (IsPeerRight (chain_of_first every_endorsed taken)) peers

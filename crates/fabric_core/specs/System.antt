@@ -10,7 +10,8 @@ pub use Rattle.fabric_core.specs.declared.event.Event.{Event}
 pub use Rattle.fabric_core.specs.declared.event.Event.TheVariants.{Begin, Finish, Submit, Take, Commit}
 pub use Rattle.fabric_core.specs.declared.event.Reply.{Reply}
 pub use Rattle.fabric_core.specs.declared.event.Reply.TheVariants.{NoSuchSeat, SeatBusy, Begun, NothingBegun, Refused, Endorsed, Queued, QueueFull, Nothing, Ordered, NoBlockLeft, Committed as IsCommitted}
-use Rattle.fabric_core.specs.Answers.{Refusal, payload_or_refusal}
+use Rattle.simulator.specs.declared.refusal.SimRefusal.{SimRefusal}
+use Rattle.simulator.specs.Answers.{payload_or_refusal}
 
 -- what the genesis fixes
 pub record Rules : Type 0 where
@@ -66,7 +67,7 @@ begin_seat peer seat p (Some None) =
 abbrev pub begin : PeerState → ℕ → Proposal → Reply × PeerState
 begin peer seat p = begin_seat peer seat p (slice_get peer.seats seat)
 
-abbrev pub finished : Result Payload Refusal → Reply
+abbrev pub finished : Result Payload SimRefusal → Reply
 finished (Ok p) = Endorsed p
 finished (Err r) = Refused r
 

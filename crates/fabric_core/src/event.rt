@@ -1,8 +1,8 @@
 //! What can happen to a system, and what it replies.
 
-use crate::chaincodes::Refusal;
 use fab_types::{Envelope, Flag, Payload, Proposal};
 use seq::Seq;
+use simulator::SimRefusal;
 use std::alloc::AllocError;
 
 /// One step of one actor. Peers and seats are counted from 0.
@@ -68,7 +68,7 @@ pub enum Reply {
     /// Finish: nothing was begun at the seat (453).
     NothingBegun,
     /// Finish: the simulation gave no payload (401 to 404).
-    Refused(Refusal),
+    Refused(SimRefusal),
     /// Finish: the payload of the simulation.
     Endorsed(Payload),
     /// Submit: the envelope stands last in the queue.

@@ -7,17 +7,15 @@
 //! alone on the plain state just before its place, makes the same reads, result and writes, and each peer's
 //! state is that of this serial run. `audit` tests that of one chain.
 //!
-//! What runs chaincode is a parameter, the trait `Chaincodes`. Today a transaction is judged by its reads
-//! alone, each envelope that is taken is a block of its own, and no hash links the blocks.
+//! Chaincode is run by `simulator`, and blocks are judged by `mvcc_validate`. Today no chaincode has a
+//! policy, so each envelope is endorsed; each envelope that is taken is a block of its own, and no hash links
+//! the blocks.
 #![tactic(auto)]
 
 mod auditing;
-mod chaincodes;
 mod event;
-mod flagging;
 mod laws;
 mod peer;
-mod plain_map;
 mod running;
 mod system;
 #[cfg(test)]
@@ -25,10 +23,8 @@ mod tests;
 mod verdict;
 
 pub use auditing::audit;
-pub use chaincodes::{Chaincodes, KeyRead, Record, Refusal};
 pub use event::{Event, Reply};
 pub use laws::honest_chains_pass_the_audit;
-pub use plain_map::PlainMap;
 pub use running::{Ran, run};
 pub use system::{Genesis, System};
 pub use verdict::Audit;

@@ -2,15 +2,17 @@
 
 ghost use Rattle.std.specs.Prelude.{◌≡◌, ℕ, List, [], ◌∷◌, ◌++◌, ◌+◌, ◌<◌, length, IfOk, OnErr, None, replicate};
 ghost use Rattle.ledger_model.specs.Chain.{Chain, history};
-ghost use Rattle.ledger_model.specs.Judged.{by_reads};
+ghost use Rattle.fabric_core.specs.Rule.{every_endorsed};
+ghost use Rattle.simulator.specs.Answers.{payload_or_refusal};
+ghost use Rattle.simulator.specs.Execution.{exec_of};
 ghost use Rattle.fabric_core.specs.System.{IsCommitted, block_of, begin, finish};
 ghost use Rattle.fabric_core.specs.Inside.{peer_of, IsPeerRight};
 
-use crate::chaincodes::Chaincodes;
 use crate::event::Reply;
-use crate::flagging::flag_after;
-use fab_types::{Block, BlockData, BlockNumber, Envelope, Header, Proposal};
+use fab_types::{Block, BlockData, BlockNumber, Envelope, Header, Payload, Proposal};
+use mvcc_validate::flags;
 use seq::Seq;
+use simulator::{Book, SimRefusal, simulate};
 use std::alloc::{AllocError, Global};
 use std::sync::Arc;
 use world_state::Snapshot;
@@ -41,6 +43,21 @@ fn block_of(alloc: Global, number: BlockNumber, envelope: Envelope) -> Result<Bl
         data_hash: [0; 32],
     };
     Ok(Block { header, envelopes })
+}
+
+/// A simulation, where want of memory is no refusal of the chaincode's.
+fn simulated(
+    alloc: Global,
+    book: &Book,
+    snapshot: &Snapshot,
+    proposal: &Proposal,
+) -> Result<Result<Payload, SimRefusal>, AllocError>
+    ensures { IfOk result (λ answer. payload_or_refusal (exec_of book.now) proposal.now snapshot.now ≡ answer) }
+{
+    match simulate(alloc, book, snapshot, proposal) {
+        Err(SimRefusal::Memory) => Err(AllocError),
+        answer => Ok(answer),
+    }
 }
 
 impl Peer {
@@ -79,13 +96,8 @@ impl Peer {
     }
 
     /// Simulates what a seat has begun, on the snapshot that it began on, and frees the seat.
-    pub fn finish<B: Chaincodes>(
-        &mut self,
-        alloc: Global,
-        book: &B,
-        seat: usize,
-    ) -> Result<Reply, AllocError>
-        ensures step { IfOk result (λ reply. (chain : ℕ → Chain) → IsPeerRight chain self.old → finish (B.exec book.now) chain (peer_of self.old) seat ≡ (reply, peer_of self.new)) }
+    pub fn finish(&mut self, alloc: Global, book: &Book, seat: usize) -> Result<Reply, AllocError>
+        ensures step { IfOk result (λ reply. (chain : ℕ → Chain) → IsPeerRight chain self.old → finish (exec_of book.now) chain (peer_of self.old) seat ≡ (reply, peer_of self.new)) }
         ensures right { (chain : ℕ → Chain) → IsPeerRight chain self.old → IsPeerRight chain self.new }
         ensures unchanged { OnErr result (self.new ≡ self.old) }
     {
@@ -93,7 +105,7 @@ impl Peer {
             None => Ok(Reply::NoSuchSeat),
             Some(None) => Ok(Reply::NothingBegun),
             Some(Some(begun)) => {
-                let reply = match book.simulate(alloc, &begun.snapshot, &begun.proposal)? {
+                let reply = match simulated(alloc, book, &begun.snapshot, &begun.proposal)? {
                     Ok(payload) => Reply::Endorsed(payload),
                     Err(refusal) => Reply::Refused(refusal),
                 };
@@ -106,17 +118,16 @@ impl Peer {
     /// Puts the block of this envelope on the chain, with its flag.
     pub fn commit(&mut self, alloc: Global, envelope: &Envelope) -> Result<Reply, AllocError>
         requires room { length self.old.snapshot.value < 65535 }
-        ensures reply { IfOk result (λ reply. reply ≡ IsCommitted (by_reads (history self.old.snapshot.value) envelope.now ∷ [])) }
-        ensures chain { IfOk result (λ _. self.new.snapshot.value ≡ self.old.snapshot.value ++ record { block = block_of (length self.old.snapshot.value + 1) envelope.now; flags = by_reads (history self.old.snapshot.value) envelope.now ∷ [] } ∷ []) }
+        ensures reply { IfOk result (λ reply. reply ≡ IsCommitted (every_endorsed (history self.old.snapshot.value) envelope.now ∷ [])) }
+        ensures chain { IfOk result (λ _. self.new.snapshot.value ≡ self.old.snapshot.value ++ record { block = block_of (length self.old.snapshot.value + 1) envelope.now; flags = every_endorsed (history self.old.snapshot.value) envelope.now ∷ [] } ∷ []) }
         ensures seats { self.new.seats ≡ self.old.seats }
         ensures unchanged { OnErr result (self.new ≡ self.old) }
     {
         let number = BlockNumber::new(self.snapshot.height() as u32 + 1).unwrap();
-        let flag = flag_after(&self.snapshot, envelope);
         let block = block_of(alloc, number, envelope.clone()?)?;
-        let flags = vec![in alloc; flag]?;
+        let flags = flags(alloc, &self.snapshot, &block, &[true])?;
+        let reply = Reply::Committed(Seq::new(flags.clone()?));
         let snapshot = self.snapshot.extended(alloc, block, flags)?;
-        let reply = Reply::Committed(Seq::new(vec![in alloc; flag]?));
         self.snapshot = Arc::new(alloc, snapshot)?;
         Ok(reply)
     }

@@ -2,30 +2,31 @@
 
 ghost use Rattle.std.specs.Prelude.{◌≡◌, ◌++◌, ◌∷◌, [], ℕ, Some, IfOk, OnOk, OnErr};
 ghost use Rattle.ledger_model.specs.Chain.{Chain};
-ghost use Rattle.ledger_model.specs.Judged.{by_reads};
+ghost use Rattle.fabric_core.specs.Rule.{every_endorsed};
+ghost use Rattle.simulator.specs.Execution.{exec_of};
 ghost use Rattle.fabric_core.specs.System.{Reply, step, chain_of};
 ghost use Rattle.fabric_core.specs.Inside.{rules_of};
 ghost use Rattle.fabric_core.specs.Headline.{IsRun, IsHonest};
 
-use crate::chaincodes::Chaincodes;
 use crate::event::{Event, Reply};
 use crate::system::{Genesis, System};
+use simulator::reads_alone;
 use std::alloc::{AllocError, Global};
 use std::marker::Model;
 
 /// A system after some steps, and what it replied to them.
 #[derive(Drop)]
-pub struct Ran<B: Chaincodes> {
-    pub system: System<B>,
+pub struct Ran {
+    pub system: System,
     pub replies: Vec<Reply>,
     /// Whether memory was refused, so that there are events that were no steps.
     pub refused: bool,
 }
 
-impl<B: Chaincodes> Ran<B> {
+impl Ran {
     /// One step more. Where memory is refused, the system and the replies stay.
     fn advance(&mut self, event: &Event) -> Result<(), AllocError>
-        ensures step { OnOk result ((reply : Reply) × (step (rules_of (B.exec self.old.system.book) self.old.system.capacity) self.old.system.world event.now ≡ (reply, self.new.system.world)) × (self.new.replies.items ≡ self.old.replies.items ++ reply ∷ [])) }
+        ensures step { OnOk result ((reply : Reply) × (step (rules_of (exec_of self.old.system.book) self.old.system.capacity) self.old.system.world event.now ≡ (reply, self.new.system.world)) × (self.new.replies.items ≡ self.old.replies.items ++ reply ∷ [])) }
         ensures system { OnErr result (self.new.system ≡ self.old.system) }
         ensures replies { OnErr result (self.new.replies.items ≡ self.old.replies.items) }
         ensures book { self.new.system.book ≡ self.old.system.book }
@@ -42,16 +43,13 @@ impl<B: Chaincodes> Ran<B> {
 
 /// The events in order, from the opening of the system on. Where memory is refused after the opening, the
 /// system and the replies are those after the steps done.
-pub fn run<B: Chaincodes>(
-    alloc: Global,
-    genesis: &Genesis<B>,
-    events: &[Event],
-) -> Result<Ran<B>, AllocError>
-    ensures run { IfOk result (λ ran. IsRun (rules_of (B.exec genesis.now.book.value) genesis.now.queue) genesis.now.peers genesis.now.seats events.now ran.replies.items ran.system.world ran.refused) }
+pub fn run(alloc: Global, genesis: &Genesis, events: &[Event]) -> Result<Ran, AllocError>
+    ensures run { IfOk result (λ ran. IsRun (rules_of (exec_of genesis.now.book.value) genesis.now.queue) genesis.now.peers genesis.now.seats events.now ran.replies.items ran.system.world ran.refused) }
     ensures book { IfOk result (λ ran. ran.system.book ≡ genesis.now.book.value) }
     ensures capacity { IfOk result (λ ran. ran.system.capacity ≡ genesis.now.queue) }
-    ensures honest { IfOk result (λ ran. (peer : ℕ) (chain : Chain) → chain_of (rules_of (B.exec genesis.now.book.value) genesis.now.queue) ran.system.world peer ≡ Some chain → IsHonest (B.exec genesis.now.book.value) by_reads ran.replies.items chain) }
+    ensures honest { IfOk result (λ ran. (peer : ℕ) (chain : Chain) → chain_of (rules_of (exec_of genesis.now.book.value) genesis.now.queue) ran.system.world peer ≡ Some chain → IsHonest (exec_of genesis.now.book.value) every_endorsed ran.replies.items chain) }
 {
+    reads_alone(&genesis.book);
     let mut ran = Ran {
         system: System::new(alloc, genesis)?,
         replies: Vec::new(alloc),

@@ -1,13 +1,14 @@
 //! The system, and its steps.
 
-ghost use Rattle.std.specs.Prelude.{◌≡◌, ◌≤◌, IfOk, IfSome, OnErr, option_map, length};
+ghost use Rattle.std.specs.Prelude.{◌≡◌, IfOk, OnErr, option_map};
 ghost use Rattle.fabric_core.specs.System.{opening, step, Begin, Finish, Submit, Take, Commit, chain_of};
+ghost use Rattle.simulator.specs.Execution.{exec_of};
 ghost use Rattle.fabric_core.specs.Inside.{rules_of};
 
-use crate::chaincodes::Chaincodes;
 use crate::event::{Event, Reply};
 use crate::peer::Peer;
 use fab_types::{Envelope, Proposal};
+use simulator::Book;
 use std::alloc::{AllocError, Global};
 use std::collections::VecDeque;
 use std::marker::Model;
@@ -16,9 +17,9 @@ use world_state::Snapshot;
 
 /// What a system begins with.
 #[derive(Drop)]
-pub struct Genesis<B: Chaincodes> {
+pub struct Genesis {
     /// The chaincodes.
-    pub book: Arc<B>,
+    pub book: Arc<Book>,
     /// How many peers there are.
     pub peers: usize,
     /// How many proposals a peer can simulate at a time.
@@ -30,28 +31,32 @@ pub struct Genesis<B: Chaincodes> {
 /// Peers, the queue, and what the orderer took. Contracts see the book, the
 /// queue's capacity and the abstract world.
 #[derive(Drop)]
-pub struct System<B: Chaincodes> {
+pub struct System {
     alloc: Global,
-    book: Arc<B>,
+    book: Arc<Book>,
     capacity: usize,
     peers: Vec<Peer>,
     queue: VecDeque<Envelope>,
     taken: Vec<Envelope>,
 }
 
-impl<B: Chaincodes> Model for System<B> {
+impl Model for System {
     ghost use Rattle.fabric_core.specs.Inside.{State, world_of, IsRight};
+    ghost use Rattle.simulator.specs.contracts.book.Chaincode as chaincode;
+    ghost use Rattle.std.specs.Coded.{codes};
 
-    ghost Value = { State B };
+    ghost Value = { State };
+
+    ghost coded = { Prim.hlevel (codes, chaincode.the_row.coded) };
 
     ghost view = { λ s. record { book = s.book.value; capacity = s.capacity; world = world_of s.peers.items s.queue.items s.taken.items } };
 
     ghost invariant = { λ s. IsRight s.peers.items s.taken.items };
 }
 
-impl<B: Chaincodes> System<B> {
+impl System {
     /// The system at its opening: no blocks, free seats and an empty queue.
-    pub fn new(alloc: Global, genesis: &Genesis<B>) -> Result<System<B>, AllocError>
+    pub fn new(alloc: Global, genesis: &Genesis) -> Result<System, AllocError>
         ensures { IfOk result (λ s. s ≡ record { book = genesis.now.book.value; capacity = genesis.now.queue; world = opening genesis.now.peers genesis.now.seats }) }
     {
         let mut peers = Vec::new(alloc);
@@ -69,7 +74,7 @@ impl<B: Chaincodes> System<B> {
     }
 
     fn begin(&mut self, peer: usize, seat: usize, proposal: Proposal) -> Result<Reply, AllocError>
-        ensures step { IfOk result (λ reply. step (rules_of (B.exec self.old.book) self.old.capacity) self.old.world (Begin peer seat proposal) ≡ (reply, self.new.world)) }
+        ensures step { IfOk result (λ reply. step (rules_of (exec_of self.old.book) self.old.capacity) self.old.world (Begin peer seat proposal) ≡ (reply, self.new.world)) }
         ensures book { self.new.book ≡ self.old.book }
         ensures capacity { self.new.capacity ≡ self.old.capacity }
         ensures unchanged { OnErr result (self.new ≡ self.old) }
@@ -81,7 +86,7 @@ impl<B: Chaincodes> System<B> {
     }
 
     fn finish(&mut self, peer: usize, seat: usize) -> Result<Reply, AllocError>
-        ensures step { IfOk result (λ reply. step (rules_of (B.exec self.old.book) self.old.capacity) self.old.world (Finish peer seat) ≡ (reply, self.new.world)) }
+        ensures step { IfOk result (λ reply. step (rules_of (exec_of self.old.book) self.old.capacity) self.old.world (Finish peer seat) ≡ (reply, self.new.world)) }
         ensures book { self.new.book ≡ self.old.book }
         ensures capacity { self.new.capacity ≡ self.old.capacity }
         ensures unchanged { OnErr result (self.new ≡ self.old) }
@@ -93,7 +98,7 @@ impl<B: Chaincodes> System<B> {
     }
 
     fn submit(&mut self, envelope: Envelope) -> Result<Reply, AllocError>
-        ensures step { IfOk result (λ reply. step (rules_of (B.exec self.old.book) self.old.capacity) self.old.world (Submit envelope) ≡ (reply, self.new.world)) }
+        ensures step { IfOk result (λ reply. step (rules_of (exec_of self.old.book) self.old.capacity) self.old.world (Submit envelope) ≡ (reply, self.new.world)) }
         ensures book { self.new.book ≡ self.old.book }
         ensures capacity { self.new.capacity ≡ self.old.capacity }
         ensures unchanged { OnErr result (self.new ≡ self.old) }
@@ -106,7 +111,7 @@ impl<B: Chaincodes> System<B> {
     }
 
     fn take(&mut self) -> Result<Reply, AllocError>
-        ensures step { IfOk result (λ reply. step (rules_of (B.exec self.old.book) self.old.capacity) self.old.world Take ≡ (reply, self.new.world)) }
+        ensures step { IfOk result (λ reply. step (rules_of (exec_of self.old.book) self.old.capacity) self.old.world Take ≡ (reply, self.new.world)) }
         ensures book { self.new.book ≡ self.old.book }
         ensures capacity { self.new.capacity ≡ self.old.capacity }
         ensures unchanged { OnErr result (self.new ≡ self.old) }
@@ -123,7 +128,7 @@ impl<B: Chaincodes> System<B> {
     }
 
     fn commit(&mut self, peer: usize) -> Result<Reply, AllocError>
-        ensures step { IfOk result (λ reply. step (rules_of (B.exec self.old.book) self.old.capacity) self.old.world (Commit peer) ≡ (reply, self.new.world)) }
+        ensures step { IfOk result (λ reply. step (rules_of (exec_of self.old.book) self.old.capacity) self.old.world (Commit peer) ≡ (reply, self.new.world)) }
         ensures book { self.new.book ≡ self.old.book }
         ensures capacity { self.new.capacity ≡ self.old.capacity }
         ensures unchanged { OnErr result (self.new ≡ self.old) }
@@ -140,7 +145,7 @@ impl<B: Chaincodes> System<B> {
 
     /// One step. Where memory is refused, nothing changes, and there was no step.
     pub fn step(&mut self, event: Event) -> Result<Reply, AllocError>
-        ensures step { IfOk result (λ reply. step (rules_of (B.exec self.old.book) self.old.capacity) self.old.world event ≡ (reply, self.new.world)) }
+        ensures step { IfOk result (λ reply. step (rules_of (exec_of self.old.book) self.old.capacity) self.old.world event ≡ (reply, self.new.world)) }
         ensures book { self.new.book ≡ self.old.book }
         ensures capacity { self.new.capacity ≡ self.old.capacity }
         ensures unchanged { OnErr result (self.new ≡ self.old) }
@@ -161,8 +166,7 @@ impl<B: Chaincodes> System<B> {
     /// The newest snapshot of a peer: its chain, with the flags that the rule gives. None where there is no
     /// such peer. It takes no memory.
     pub fn snapshot(&self, peer: usize) -> Option<&Snapshot>
-        ensures chain { option_map (λ s. s.now) result ≡ chain_of (rules_of (B.exec self.now.book) self.now.capacity) self.now.world peer }
-        ensures height { IfSome result (λ s. length s.now ≤ 65535) }
+        ensures { option_map (λ s. s.now) result ≡ chain_of (rules_of (exec_of self.now.book) self.now.capacity) self.now.world peer }
     {
         match self.peers.get(peer) {
             Some(peer) => Some(&*peer.snapshot),

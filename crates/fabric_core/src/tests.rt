@@ -1,63 +1,19 @@
-//! Steps, flags and audits, with a book whose chaincodes read and write nothing.
+//! Steps, flags and audits, with a book that has no chaincode.
 
-ghost use Rattle.std.specs.Prelude.{refl, [], map};
-ghost use Rattle.ledger_model.specs.Execution.{Done};
-
-use crate::{
-    Audit, Chaincodes, Event, Genesis, PlainMap, Record, Refusal, Reply, System, audit, run,
-};
+use crate::{Audit, Event, Genesis, Reply, System, audit, run};
 use fab_types::{
-    Endorsements, Envelope, Flag, Key, Name, Payload, Proposal, Ranges, ReadItem, ReadSet, Value,
-    Version, WriteItem, WriteSet,
+    Bound, Endorsements, Envelope, Flag, Key, Name, Payload, Proposal, RangeItem, Ranges, ReadItem,
+    ReadSet, Value, Version, WriteItem, WriteSet,
 };
-use seq::Seq;
-use std::alloc::{AllocError, Global};
+use simulator::{Book, SimRefusal};
+use std::alloc::Global;
 use std::sync::Arc;
 use std::test::Fail;
-use world_state::Snapshot;
 
-#[derive(Drop)]
-struct Blank;
-
-impl Chaincodes for Blank {
-    ghost exec = { λ book p m. record { ending = Done; seen = record { reads = []; ranges = []; result = []; writes = [] } } };
-
-    fn simulate(
-        &self,
-        alloc: Global,
-        _snapshot: &Snapshot,
-        proposal: &Proposal,
-    ) -> Result<Result<Payload, Refusal>, AllocError> {
-        Ok(Ok(Payload {
-            proposal: proposal.clone()?,
-            result: Value::new(Vec::new(alloc)).unwrap(),
-            reads: ReadSet::new(Vec::new(alloc)).unwrap(),
-            ranges: Ranges::new(Vec::new(alloc)).unwrap(),
-            writes: WriteSet::new(Vec::new(alloc)).unwrap(),
-        }))
-    }
-
-    fn rerun(
-        &self,
-        alloc: Global,
-        _state: &PlainMap,
-        _proposal: &Proposal,
-    ) -> Result<Result<Record, Refusal>, AllocError> {
-        Ok(Ok(Record {
-            reads: Seq::empty(alloc),
-            result: Value::new(Vec::new(alloc)).unwrap(),
-            writes: WriteSet::new(Vec::new(alloc)).unwrap(),
-        }))
-    }
-
-    ghost reads_alone = { λ book. record { truthful = λ p m. record { reads = tt; ranges = tt }; only = λ p m n h. refl } };
-
-    ghost no_ranges = { λ book p m. refl };
-}
-
-fn genesis(alloc: Global) -> Result<Genesis<Blank>, Fail> {
+fn genesis(alloc: Global) -> Result<Genesis, Fail> {
+    let book = Book::new(Vec::new(alloc)).ok_or("no chaincodes")?;
     Ok(Genesis {
-        book: Arc::new(alloc, Blank)?,
+        book: Arc::new(alloc, book)?,
         peers: 1,
         seats: 1,
         queue: 4,
@@ -80,11 +36,21 @@ fn key(alloc: Global) -> Result<Key, Fail> {
 
 /// A transaction with these reads and writes.
 fn envelope(alloc: Global, reads: Vec<ReadItem>, writes: Vec<WriteItem>) -> Result<Envelope, Fail> {
+    transaction(alloc, reads, Vec::new(alloc), writes)
+}
+
+/// A transaction with these reads, ranges and writes.
+fn transaction(
+    alloc: Global,
+    reads: Vec<ReadItem>,
+    ranges: Vec<RangeItem>,
+    writes: Vec<WriteItem>,
+) -> Result<Envelope, Fail> {
     let payload = Payload {
         proposal: proposal(alloc)?,
         result: Value::new(Vec::new(alloc)).ok_or("a result")?,
         reads: ReadSet::new(reads).ok_or("reads")?,
-        ranges: Ranges::new(Vec::new(alloc)).ok_or("no ranges")?,
+        ranges: Ranges::new(ranges).ok_or("ranges")?,
         writes: WriteSet::new(writes).ok_or("writes")?,
     };
     let endorsements = Endorsements::new(Vec::new(alloc)).ok_or("no endorsements")?;
@@ -112,7 +78,7 @@ fn delete(alloc: Global) -> Result<Vec<WriteItem>, Fail> {
 }
 
 /// Submits, takes and commits an envelope, and answers its flag.
-fn ordered(system: &mut System<Blank>, envelope: Envelope) -> Result<Flag, Fail> {
+fn ordered(system: &mut System, envelope: Envelope) -> Result<Flag, Fail> {
     system.step(Event::Submit(envelope))?;
     system.step(Event::Take)?;
     match system.step(Event::Commit { peer: 0 })? {
@@ -122,7 +88,7 @@ fn ordered(system: &mut System<Blank>, envelope: Envelope) -> Result<Flag, Fail>
 }
 
 #[test]
-fn a_run_is_audited(rt: HostRuntime) -> Result<(), Fail> {
+fn a_run_replies_to_each_event(rt: HostRuntime) -> Result<(), Fail> {
     let alloc = rt.alloc();
     let genesis = genesis(alloc)?;
     let events = vec![in alloc;
@@ -142,7 +108,7 @@ fn a_run_is_audited(rt: HostRuntime) -> Result<(), Fail> {
     assert!(rt; !ran.refused);
     assert_eq!(rt; ran.replies.len(), 7);
     assert!(rt; matches!(ran.replies[0], Reply::Begun(0)));
-    assert!(rt; matches!(ran.replies[1], Reply::Endorsed(_)));
+    assert!(rt; matches!(ran.replies[1], Reply::Refused(SimRefusal::UnknownChaincode)));
     assert!(rt; matches!(ran.replies[2], Reply::NothingBegun));
     assert!(rt; matches!(ran.replies[3], Reply::Queued));
     assert!(rt; matches!(ran.replies[4], Reply::Ordered(1)));
@@ -150,7 +116,7 @@ fn a_run_is_audited(rt: HostRuntime) -> Result<(), Fail> {
     assert!(rt; matches!(ran.replies[6], Reply::NoSuchSeat));
     let snapshot = ran.system.snapshot(0).ok_or("a peer")?;
     let said = audit(alloc, &genesis, snapshot)?;
-    assert!(rt; said == Audit::Agrees { rerun: 1 });
+    assert!(rt; said == Audit::Differs { block: 1, tx: 0 });
     Ok(())
 }
 
@@ -187,5 +153,31 @@ fn a_key_absent_again_is_current(rt: HostRuntime) -> Result<(), Fail> {
         return Err("no key".into());
     };
     assert_eq!(rt; (version.block(), version.place()), (4, 0));
+    Ok(())
+}
+
+#[test]
+fn a_chain_without_blocks_passes_the_audit(rt: HostRuntime) -> Result<(), Fail> {
+    let alloc = rt.alloc();
+    let genesis = genesis(alloc)?;
+    let system = System::new(alloc, &genesis)?;
+    let snapshot = system.snapshot(0).ok_or("a peer")?;
+    let said = audit(alloc, &genesis, snapshot)?;
+    assert!(rt; said == Audit::Agrees { rerun: 0 });
+    Ok(())
+}
+
+#[test]
+fn a_key_put_into_a_range_is_a_phantom(rt: HostRuntime) -> Result<(), Fail> {
+    let alloc = rt.alloc();
+    let mut system = System::new(alloc, &genesis(alloc)?)?;
+    let putting = envelope(alloc, Vec::new(alloc), put(alloc)?)?;
+    assert!(rt; ordered(&mut system, putting)? == Flag::Valid);
+    let start = Bound::new(Vec::new(alloc)).ok_or("a start")?;
+    let end = Bound::new(Vec::new(alloc)).ok_or("an end")?;
+    let range = RangeItem::new(start, end, 1, Vec::new(alloc)).ok_or("a range")?;
+    let ranges = vec![in alloc; range]?;
+    let reader = transaction(alloc, Vec::new(alloc), ranges, Vec::new(alloc))?;
+    assert!(rt; ordered(&mut system, reader)? == Flag::PhantomReadConflict);
     Ok(())
 }

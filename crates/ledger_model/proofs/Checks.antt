@@ -4,9 +4,9 @@ use Rattle.std.proofs.lemmas.Slice.Eq.{bytes_eq-Decides}
 use Rattle.fab_types.specs.declared.items.RangeEntry.{RangeEntry}
 use Rattle.fab_types.specs.declared.payload.Proposal.{Proposal}
 use Rattle.fab_types.specs.declared.payload.Payload.{Payload}
-use Rattle.ledger_model.specs.Chain.{Bytes, Version, Placed, Valid, EndorsementPolicyFailure, MvccReadConflict, PhantomReadConflict, DuplicateTxid}
+use Rattle.ledger_model.specs.Chain.{Bytes, Version, Placed, Flag, Valid, EndorsementPolicyFailure, MvccReadConflict, PhantomReadConflict, DuplicateTxid}
 use Rattle.ledger_model.specs.State.{state}
-use Rattle.ledger_model.specs.Flags.{version_eq, same_version, same_entries, reads_current, ranges_current, flag_at}
+use Rattle.ledger_model.specs.Flags.{version_eq, same_version, same_entries, reads_current, ranges_current, flag_by_versions, flag_at}
 
 off : false ≡ true → ⊥
 off e = cc
@@ -49,12 +49,18 @@ wrong_phantom : PhantomReadConflict ≡ Valid → ⊥
 wrong_phantom e = cc
 
 -- the last line of the table
-last_line : (d e r g : Bool) → cond d DuplicateTxid (cond (not e) EndorsementPolicyFailure (cond (not r) MvccReadConflict (cond (not g) PhantomReadConflict Valid))) ≡ Valid → (r ≡ true) × (g ≡ true)
-last_line true e r g h = absurd (wrong_duplicate h)
-last_line false false r g h = absurd (wrong_policy h)
-last_line false true false g h = absurd (wrong_read h)
-last_line false true true false h = absurd (wrong_phantom h)
-last_line false true true true h = (refl, refl)
+last_line : (e r g : Bool) → cond (not e) EndorsementPolicyFailure (cond (not r) MvccReadConflict (cond (not g) PhantomReadConflict Valid)) ≡ Valid → (r ≡ true) × (g ≡ true)
+last_line false r g h = absurd (wrong_policy h)
+last_line true false g h = absurd (wrong_read h)
+last_line true true false h = absurd (wrong_phantom h)
+last_line true true true h = (refl, refl)
+
+pub versions_current : (earlier : List Placed) (endorsed : Bool) (p : Payload) → flag_by_versions earlier endorsed p ≡ Valid → (reads_current (state earlier) p.reads ≡ true) × (ranges_current (state earlier) p.ranges ≡ true)
+versions_current earlier endorsed p e = last_line endorsed (reads_current (state earlier) p.reads) (ranges_current (state earlier) p.ranges) e
+
+not_first : (d : Bool) (f : Flag) → cond d DuplicateTxid f ≡ Valid → f ≡ Valid
+not_first true f h = absurd (wrong_duplicate h)
+not_first false f h = h
 
 pub valid_current : (id : Proposal → Bytes) (earlier : List Placed) (endorsed : Bool) (p : Payload) → flag_at id earlier endorsed p ≡ Valid → (reads_current (state earlier) p.reads ≡ true) × (ranges_current (state earlier) p.ranges ≡ true)
-valid_current id earlier endorsed p e = last_line _ endorsed (reads_current (state earlier) p.reads) (ranges_current (state earlier) p.ranges) e
+valid_current id earlier endorsed p e = versions_current earlier endorsed p (not_first _ (flag_by_versions earlier endorsed p) e)

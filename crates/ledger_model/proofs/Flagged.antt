@@ -3,7 +3,7 @@ use Rattle.std.proofs.Common.{ℕ, suc, ◌+◌, Bool, List, [], ◌∷◌, ◌+
 use Rattle.fab_types.specs.declared.block.Block.{Block}
 use Rattle.fab_types.specs.declared.payload.Proposal.{Proposal}
 use Rattle.ledger_model.specs.Chain.{Bytes, Envelope, Committed, Chain, Placed, placed, history}
-use Rattle.ledger_model.specs.Flags.{flag_at, HasFlags, flags_of, flags_after, flagged_onto, flagged}
+use Rattle.ledger_model.specs.Flags.{flag_at, HasFlags, flags_told, flags_after, flagged_onto, flagged}
 use Rattle.ledger_model.proofs.Histories.{history-push}
 
 flags_append : (id : Proposal → Bytes) (endorsed : Envelope → Bool) (earlier ts us : List Placed) → HasFlags id endorsed earlier ts → HasFlags id endorsed (earlier ++ ts) us → HasFlags id endorsed earlier (ts ++ us)
@@ -11,7 +11,7 @@ flags_append id endorsed earlier [] us h k = subst (λ e. HasFlags id endorsed e
 flags_append id endorsed earlier (t ∷ ts) us h k =
     (h.0, flags_append id endorsed (earlier ++ t ∷ []) ts us h.1 (subst (λ e. HasFlags id endorsed e us) (sym (append_assoc earlier (t ∷ []) ts)) k))
 
-flags_block : (id : Proposal → Bytes) (endorsed : Envelope → Bool) (earlier : List Placed) (block place : ℕ) (es : List Envelope) → HasFlags id endorsed earlier (placed block place es (flags_of id earlier block place es (map endorsed es)))
+flags_block : (id : Proposal → Bytes) (endorsed : Envelope → Bool) (earlier : List Placed) (block place : ℕ) (es : List Envelope) → HasFlags id endorsed earlier (placed block place es (flags_told (flag_at id) earlier block place es (map endorsed es)))
 flags_block id endorsed earlier block place [] = tt
 flags_block id endorsed earlier block place (e ∷ es) =
     let here : Placed = record { version = record { block = block; place = place }; envelope = e; flag = flag_at id earlier (endorsed e) e.payload } in

@@ -1,9 +1,11 @@
 -- Chains whose flags a rule gives.
-use Rattle.std.proofs.Common.{◌≡◌, ℕ, suc, ◌+◌, List, [], ◌∷◌, ◌++◌, length, refl, sym, ap, ◌∙◌, subst, append_assoc, append-nil, length-append, arith}
+use Rattle.std.proofs.Common.{◌≡◌, ℕ, suc, ◌+◌, Bool, List, [], ◌∷◌, ◌++◌, map, length, refl, sym, ap, ◌∙◌, subst, append_assoc, append-nil, length-append, arith}
 use Rattle.fab_types.specs.declared.block.Block.{Block}
 use Rattle.ledger_model.specs.Chain.{Envelope, Committed, Chain, Placed, placed, history}
 use Rattle.ledger_model.specs.Serial.{IsPrefix}
-use Rattle.ledger_model.specs.Judged.{Rule, HasFlagsBy, judged, judged_onto, judged_chain}
+use Rattle.ledger_model.specs.Judged.{Rule, by_versions, HasFlagsBy, judged, judged_onto, judged_chain, AllCurrent}
+use Rattle.ledger_model.specs.Flags.{flag_by_versions, flags_told}
+use Rattle.ledger_model.proofs.Checks.{versions_current}
 use Rattle.ledger_model.proofs.Histories.{history-push}
 
 flags_append : (rule : Rule) (earlier ts us : List Placed) → HasFlagsBy rule earlier ts → HasFlagsBy rule (earlier ++ ts) us → HasFlagsBy rule earlier (ts ++ us)
@@ -51,3 +53,17 @@ judged_grows rule chain (b ∷ bs) =
     let next : Committed = record { block = b; flags = judged rule (history chain) (length chain + 1) 0 b.envelopes } in
     let more = judged_grows rule (chain ++ next ∷ []) bs in
     (next ∷ more.0, sym (append_assoc chain (next ∷ []) more.0) ∙ more.1)
+
+-- where the policy's answers are those of a function of the envelope
+pub told_judged : (endorsed : Envelope → Bool) (earlier : List Placed) (block place : ℕ) (es : List Envelope) → flags_told flag_by_versions earlier block place es (map endorsed es) ≡ judged (by_versions endorsed) earlier block place es
+told_judged endorsed earlier block place [] = refl
+told_judged endorsed earlier block place (e ∷ es) =
+    let flag = by_versions endorsed earlier e in
+    let here : Placed = record { version = record { block = block; place = place }; envelope = e; flag = flag } in
+    ap (λ fs. flag ∷ fs) (told_judged endorsed (earlier ++ here ∷ []) block (suc place) es)
+
+-- a chain with the flags of its versions is current
+pub judged_current : (endorsed : Envelope → Bool) (earlier ts : List Placed) → HasFlagsBy (by_versions endorsed) earlier ts → AllCurrent earlier ts
+judged_current endorsed earlier [] h = tt
+judged_current endorsed earlier (t ∷ ts) h =
+    (λ v. let c = versions_current earlier (endorsed t.envelope) t.envelope.payload (sym h.0 ∙ v) in record { reads = c.0; ranges = c.1 }, judged_current endorsed (earlier ++ t ∷ []) ts h.1)

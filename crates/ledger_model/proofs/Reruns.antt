@@ -7,7 +7,7 @@ use Rattle.fab_types.specs.declared.payload.Payload.{Payload}
 use Rattle.ledger_model.specs.Chain.{Bytes, Version, Envelope, Flag, Valid, EndorsementPolicyFailure, MvccReadConflict, PhantomReadConflict, DuplicateTxid, Chain, Placed, history, is_valid}
 use Rattle.ledger_model.specs.Views.{Versioned, first, values_of}
 use Rattle.ledger_model.specs.State.{state}
-use Rattle.ledger_model.specs.Flags.{entry_of, version_at, entries_at, reads_current, ranges_current, flag_at, HasFlags}
+use Rattle.ledger_model.specs.Flags.{entry_of, version_at, entries_at, reads_current, ranges_current, HasFlags}
 use Rattle.ledger_model.specs.Execution.{KeySeen, RangeSeen, Done, Outcome, Exec, ReadsAlone, read_item, range_item, payload_of}
 use Rattle.ledger_model.specs.Serial.{apply, writes_of, serial_step, serial_from, serial, seen_key, read_key, seen_keys, range_keys, Agrees, AllAgree, IsHandedOut, AllHandedOut, AllSame}
 use Rattle.ledger_model.specs.Judged.{IsCurrent, AllCurrent}

@@ -46,16 +46,22 @@ reads_current m reads = list_all (λ r. same_version (version_at m r.key) r.vers
 abbrev pub ranges_current : Versioned → List Range → Bool
 ranges_current m ranges = list_all (λ g. same_entries (entries_at m g.start g.end g.limit) g.entries) ranges
 
--- The first line that applies, after the transactions `earlier`, invalid ones included. `id` gives a
--- proposal's transaction id (the ledger's is a digest of the proposal's bytes), and `endorsed` says
--- whether the policy is satisfied. The state is that of the earlier VALID transactions.
-abbrev pub flag_at : (Proposal → Bytes) → List Placed → Bool → Payload → Flag
-flag_at id earlier endorsed p =
-    if list_any (λ t. bytes_eq (id t.envelope.payload.proposal) (id p.proposal)) earlier then DuplicateTxid
-    else if not endorsed then EndorsementPolicyFailure
+-- The first line of those on the policy, the reads and the ranges that applies, after the transactions
+-- `earlier`, invalid ones included. `endorsed` says whether the policy is satisfied. The state is that of
+-- the earlier VALID transactions.
+abbrev pub flag_by_versions : List Placed → Bool → Payload → Flag
+flag_by_versions earlier endorsed p =
+    if not endorsed then EndorsementPolicyFailure
     else if not (reads_current (state earlier) p.reads) then MvccReadConflict
     else if not (ranges_current (state earlier) p.ranges) then PhantomReadConflict
     else Valid
+
+-- The first line that applies, that on transaction ids in front of the others. `id` gives a proposal's
+-- transaction id (the ledger's is a digest of the proposal's bytes).
+abbrev pub flag_at : (Proposal → Bytes) → List Placed → Bool → Payload → Flag
+flag_at id earlier endorsed p =
+    if list_any (λ t. bytes_eq (id t.envelope.payload.proposal) (id p.proposal)) earlier then DuplicateTxid
+    else flag_by_versions earlier endorsed p
 
 -- each transaction has its flag, where `endorsed` says whose policy is satisfied
 abbrev pub HasFlags : (Proposal → Bytes) → (Envelope → Bool) → List Placed → List Placed → Type 0
@@ -63,18 +69,22 @@ HasFlags id endorsed earlier [] = Unit {0}
 HasFlags id endorsed earlier (t ∷ ts) =
     (t.flag ≡ flag_at id earlier (endorsed t.envelope) t.envelope.payload) × HasFlags id endorsed (earlier ++ t ∷ []) ts
 
+-- a rule that is told whether the policy is satisfied
+abbrev pub ToldRule : Type 0
+ToldRule = List Placed → Bool → Payload → Flag
+
 -- the flags of a block's transactions from a place on, each endorsed or not as the list says
-abbrev pub flags_of : (Proposal → Bytes) → List Placed → ℕ → ℕ → List Envelope → List Bool → List Flag
-flags_of id earlier block place [] endorsed = []
-flags_of id earlier block place (e ∷ es) [] = []
-flags_of id earlier block place (e ∷ es) (b ∷ bs) =
-    let flag = flag_at id earlier b e.payload in
+abbrev pub flags_told : ToldRule → List Placed → ℕ → ℕ → List Envelope → List Bool → List Flag
+flags_told rule earlier block place [] endorsed = []
+flags_told rule earlier block place (e ∷ es) [] = []
+flags_told rule earlier block place (e ∷ es) (b ∷ bs) =
+    let flag = rule earlier b e.payload in
     let here : Placed = record { version = record { block = block; place = place }; envelope = e; flag = flag } in
-    flag ∷ flags_of id (earlier ++ here ∷ []) block (suc place) es bs
+    flag ∷ flags_told rule (earlier ++ here ∷ []) block (suc place) es bs
 
 -- the flags of the next block after a chain
 abbrev pub flags_after : (Proposal → Bytes) → (Envelope → Bool) → Chain → Block → List Flag
-flags_after id endorsed chain b = flags_of id (history chain) (length chain + 1) 0 b.envelopes (map endorsed b.envelopes)
+flags_after id endorsed chain b = flags_told (flag_at id) (history chain) (length chain + 1) 0 b.envelopes (map endorsed b.envelopes)
 
 abbrev pub flagged_onto : (Proposal → Bytes) → (Envelope → Bool) → Chain → List Block → Chain
 flagged_onto id endorsed chain [] = chain

@@ -1,19 +1,19 @@
 -- A chain whose flags a rule gives. What the reruns need of such a chain is that its VALID transactions
 -- are current, whatever the rule is.
-use Rattle.std.specs.Prelude.{◌≡◌, ℕ, suc, List, [], ◌∷◌, ◌++◌, true, ◌+◌, length, if◌then◌else◌}
+use Rattle.std.specs.Prelude.{◌≡◌, ℕ, suc, Bool, List, [], ◌∷◌, ◌++◌, true, ◌+◌, length}
 use Rattle.fab_types.specs.declared.block.Block.{Block}
 use Rattle.fab_types.specs.declared.payload.Payload.{Payload}
-use Rattle.ledger_model.specs.Chain.{Envelope, Flag, Valid, MvccReadConflict, Chain, Placed, history}
+use Rattle.ledger_model.specs.Chain.{Envelope, Flag, Valid, Chain, Placed, history}
 use Rattle.ledger_model.specs.State.{state}
-use Rattle.ledger_model.specs.Flags.{reads_current, ranges_current}
+use Rattle.ledger_model.specs.Flags.{reads_current, ranges_current, flag_by_versions}
 
 -- the flag of a transaction after these, invalid ones included
 abbrev pub Rule : Type 0
 Rule = List Placed → Envelope → Flag
 
--- the rule of reads alone: a conflict where some read's version differs from the state's
-abbrev pub by_reads : Rule
-by_reads earlier e = if reads_current (state earlier) e.payload.reads then Valid else MvccReadConflict
+-- the rule of the policy, the reads and the ranges, where `endorsed` says whose policy is satisfied
+abbrev pub by_versions : (Envelope → Bool) → Rule
+by_versions endorsed earlier e = flag_by_versions earlier (endorsed e) e.payload
 
 -- each transaction has the flag that the rule gives it at its place
 abbrev pub HasFlagsBy : Rule → List Placed → List Placed → Type 0

@@ -13,17 +13,17 @@
 //! proposal's bytes is one.
 #![tactic(auto)]
 
-ghost use Rattle.std.specs.Prelude.{◌≡◌, ℕ, List, [], ◌∷◌, ◌++◌, Bool};
+ghost use Rattle.std.specs.Prelude.{◌≡◌, ℕ, List, [], ◌∷◌, ◌++◌, Bool, map};
 ghost use Rattle.std.specs.FinMap.{get, empty};
 ghost use Rattle.fab_types.specs.declared.block.Block.{Block};
 ghost use Rattle.fab_types.specs.declared.payload.Proposal.{Proposal};
 ghost use Rattle.ledger_model.specs.Chain.{Bytes, Envelope, Chain, Placed, history, Begins};
 ghost use Rattle.ledger_model.specs.Views.{first, values_of};
 ghost use Rattle.ledger_model.specs.State.{state, state_at};
-ghost use Rattle.ledger_model.specs.Flags.{version_at, entries_at, HasFlags, flags_after, flagged};
+ghost use Rattle.ledger_model.specs.Flags.{version_at, entries_at, HasFlags, flags_after, flagged, flags_told, flag_by_versions};
 ghost use Rattle.ledger_model.specs.Execution.{Exec, ReadsAlone};
 ghost use Rattle.ledger_model.specs.Serial.{AllHandedOut, AllAgree, AllSame, serial};
-ghost use Rattle.ledger_model.specs.Judged.{AllCurrent};
+ghost use Rattle.ledger_model.specs.Judged.{AllCurrent, HasFlagsBy, by_versions, judged};
 
 /// The state as a map has at each key what its last writer left there.
 pub fn state_is_by_the_last_writer()
@@ -57,6 +57,14 @@ pub fn reruns_agree()
     ensures agree { (exec : Exec) (id : Proposal → Bytes) (endorsed : Envelope → Bool) (chain : Chain) → ReadsAlone exec → HasFlags id endorsed [] (history chain) → AllHandedOut exec chain (history chain) → AllAgree exec empty (history chain) }
     ensures same { (exec : Exec) (id : Proposal → Bytes) (endorsed : Envelope → Bool) (chain : Chain) → ReadsAlone exec → HasFlags id endorsed [] (history chain) → AllHandedOut exec chain (history chain) → AllSame exec chain empty (history chain) }
     ensures map { (exec : Exec) (id : Proposal → Bytes) (endorsed : Envelope → Bool) (chain : Chain) → ReadsAlone exec → HasFlags id endorsed [] (history chain) → AllHandedOut exec chain (history chain) → values_of (state (history chain)) ≡ serial exec (history chain) }
+{}
+
+/// What the policy, the reads and the ranges say of a chain's transactions: the flags computed from the
+/// policy's answers are the rule's, where a function of the envelope gives those answers (`told`), and each
+/// VALID transaction of a chain with the rule's flags is current at its place (`current`).
+pub fn versions_judge()
+    ensures told { (endorsed : Envelope → Bool) (earlier : List Placed) (block : ℕ) (place : ℕ) (es : List Envelope) → flags_told flag_by_versions earlier block place es (map endorsed es) ≡ judged (by_versions endorsed) earlier block place es }
+    ensures current { (endorsed : Envelope → Bool) (chain : Chain) → HasFlagsBy (by_versions endorsed) [] (history chain) → AllCurrent [] (history chain) }
 {}
 
 /// The same of every chain whose VALID transactions are current at their places, whatever rule gave its

@@ -5,10 +5,13 @@
 //! never changes; a longer chain is a new one, which shares the blocks.
 #![tactic(auto)]
 
+mod ranges;
 mod snapshot;
 mod writes;
 
+pub use ranges::{first_entries, range_of};
 pub use snapshot::Snapshot;
+pub use writes::StateMap;
 
 #[cfg(test)]
 mod tests;

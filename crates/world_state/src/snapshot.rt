@@ -1,18 +1,20 @@
 //! Snapshots.
 
-ghost use Rattle.std.specs.Prelude.{◌≡◌, ◌+◌, [], ◌∷◌, ◌++◌, length, map, IfOk, option_map};
+ghost use Rattle.std.specs.Prelude.{◌≡◌, ◌≤◌, ◌+◌, [], ◌∷◌, ◌++◌, length, map, IfOk, option_map};
 ghost use Rattle.std.specs.FinMap.{entries};
 ghost use Rattle.std.specs.BTreeMap.{IsOrdered};
 ghost use Rattle.std.specs.Map.Iter.{deref_pair};
 ghost use Rattle.ledger_model.specs.Chain.{history};
-ghost use Rattle.ledger_model.specs.Views.{key_cmp};
+ghost use Rattle.ledger_model.specs.Views.{key_cmp, first, within};
 ghost use Rattle.ledger_model.specs.State.{state, state_at};
 ghost use Rattle.world_state.specs.Shared.{blocks_in};
 
+use crate::ranges::{first_entries, range_of};
 use crate::writes::{StateMap, apply_block};
-use fab_types::{Block, CommittedBlock, Flag, Key, Value, Version};
+use fab_types::{Block, Bound, CommittedBlock, Flag, Key, Value, Version};
 use std::alloc::{AllocError, Global};
 use std::collections::BTreeMap;
+use std::collections::btree_map::Range;
 use std::marker::Model;
 use std::sync::Arc;
 
@@ -35,17 +37,15 @@ pub struct Snapshot {
 }
 
 impl Model for Snapshot {
-    ghost use Rattle.std.specs.Prelude.{◌≡◌};
-    ghost use Rattle.ledger_model.specs.Chain.{Chain, history};
-    ghost use Rattle.ledger_model.specs.State.{state};
+    ghost use Rattle.ledger_model.specs.Chain.{Chain};
     ghost use Rattle.world_state.specs.Shared.{blocks_in};
-    ghost use Rattle.world_state.specs.Writing.{as_state};
+    ghost use Rattle.world_state.specs.Inside.{IsRight};
 
     ghost Value = { Chain };
 
     ghost view = { λ s. blocks_in s.blocks.items };
 
-    ghost invariant = { λ s. as_state s.map.entries ≡ state (history (blocks_in s.blocks.items)) };
+    ghost invariant = { λ s. IsRight (blocks_in s.blocks.items) s.map.entries };
 }
 
 impl Snapshot {
@@ -59,16 +59,18 @@ impl Snapshot {
         }
     }
 
-    /// How many blocks there are.
+    /// How many blocks there are, at most 65,535.
     pub fn height(&self) -> usize
-        ensures { result ≡ length self.now }
+        ensures value { result ≡ length self.now }
+        ensures limits { length self.now ≤ 65535 }
     {
         self.blocks.len()
     }
 
-    /// The blocks with their flags, from block 1 on.
+    /// The blocks with their flags, from block 1 on. There are at most 65,535.
     pub fn blocks(&self) -> &[Arc<CommittedBlock>]
-        ensures { blocks_in result.now ≡ self.now }
+        ensures value { blocks_in result.now ≡ self.now }
+        ensures limits { length self.now ≤ 65535 }
     {
         &self.blocks
     }
@@ -88,6 +90,33 @@ impl Snapshot {
         ensures { IfOk result (λ v. map deref_pair v.items ≡ entries (state (history self.now))) }
     {
         all_entries(alloc, &self.map)
+    }
+
+    /// The entries of a range, in key order, as far as the caller asks for them. The bounds are as in
+    /// `range`.
+    pub fn entries_in(
+        &self,
+        alloc: Global,
+        start: &Bound,
+        end: &Bound,
+    ) -> Result<Range<'_, Key, (Value, Version)>, AllocError>
+        ensures { IfOk result (λ r. r ≡ within start.now end.now (entries (state (history self.now)))) }
+    {
+        range_of(alloc, &self.map, start, end)
+    }
+
+    /// The first `n` entries of a range, in key order: from `start` on, or from the first key where it is
+    /// empty, and below `end`, or without a bound where it is empty. Nothing else of the state is visited.
+    pub fn range(
+        &self,
+        alloc: Global,
+        start: &Bound,
+        end: &Bound,
+        n: usize,
+    ) -> Result<Vec<(&Key, &(Value, Version))>, AllocError>
+        ensures { IfOk result (λ v. map deref_pair v.items ≡ first (state (history self.now)) start.now end.now n) }
+    {
+        first_entries(alloc, &self.map, start, end, n)
     }
 
     /// The snapshot after one block more, which is the next in number. This one stays as it is.

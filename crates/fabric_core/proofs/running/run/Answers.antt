@@ -1,4 +1,6 @@
-use Rattle.std.proofs.Common.{◌≡◌, ◌∙◌, ap, sym, Some, slice_get, arith}
+use Rattle.std.proofs.Common.{◌≡◌, ◌∙◌, ap, sym, subst, Some, slice_get, arith}
+use Rattle.ledger_model.specs.Execution.{ReadsAlone}
+use Rattle.simulator.specs.Execution.{exec_of}
 use Rattle.fabric_core.specs.System.{step}
 use Rattle.fabric_core.specs.Inside.{rules_of}
 use Rattle.fabric_core.specs.System.{opening}
@@ -8,14 +10,14 @@ use Rattle.fabric_core.proofs.running.run.Goals as goal
 use Rattle.fabric_core.proofs.running.run.Goals.{else-loop-event-test, then-loop-event-test+then-is_err}
 
 pub loop-event-preserved : goal.loop-event-preserved
-loop-event-preserved g c =
+loop-event-preserved c =
     let inv = c.loop-event.invariant in
     let old = c.loop-event.ran in
     let new = c.advance.new.self in
     let i = c.loop-event.event-index in
     let events = c.args.events.now in
     let e = c.event-item.result in
-    let exec = g.B.Chaincodes.exec in
+    let exec = exec_of in
     let r = rules_of (exec c.args.genesis.now.book.value) c.args.genesis.now.queue in
     let start = opening c.args.genesis.now.peers c.args.genesis.now.seats in
     let h = ok_of _ c.advance.result (sym c.is_err.ensures.value ∙ c.if-is_err.false) c.advance.ensures.step in
@@ -31,8 +33,8 @@ loop-event-preserved g c =
     }
 
 pub returns-clause-run : goal.returns-clause-run
-returns-clause-run g c =
-    let r = rules_of (g.B.Chaincodes.exec c.args.genesis.now.book.value) c.args.genesis.now.queue in
+returns-clause-run c =
+    let r = rules_of (exec_of c.args.genesis.now.book.value) c.args.genesis.now.queue in
     let inv = c.loop-event.invariant in
     let genesis = c.args.genesis.now in
     let events = c.args.events.now in
@@ -49,8 +51,10 @@ returns-clause-run g c =
     ]
 
 pub returns-clause-honest : goal.returns-clause-honest
-returns-clause-honest g c peer chain is =
+returns-clause-honest c peer chain is =
     let genesis = c.args.genesis.now in
     let ran = c.loop-event-test.ran in
-    let laws = g.met.B.Chaincodes in
-    honest_of (g.B.Chaincodes.exec genesis.book.value) (laws.reads_alone genesis.book.value) (laws.no_ranges genesis.book.value) genesis.queue genesis.peers genesis.seats c.args.events.now ran.replies.items ran.system.world ran.refused (returns-clause-run g c) peer chain is
+    let alone : ReadsAlone (exec_of genesis.book.value) =
+    subst (λ b. ReadsAlone (exec_of b)) c.deref.ensures (record { truthful = c.reads_alone.ensures.truthful; only = c.reads_alone.ensures.only })
+    in
+    honest_of (exec_of genesis.book.value) alone genesis.queue genesis.peers genesis.seats c.args.events.now ran.replies.items ran.system.world ran.refused (returns-clause-run c) peer chain is

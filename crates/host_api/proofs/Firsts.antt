@@ -1,0 +1,87 @@
+-- The first entries of a range are what an item of a payload may hold.
+use Rattle.std.proofs.Common.{◌≡◌, ℕ, zero, suc, ◌≤◌, Bool, true, false, cond, T, ◌&&◌, List, [], ◌∷◌, map, filter, take, length, refl, ap, ◌∙◌, is_lt, arith}
+use Rattle.std.specs.declared.cmp.Ordering.{Ordering}
+use Rattle.std.specs.List.{list_all}
+use Rattle.std.specs.FinMap.{entries, entries_sorted, is_sorted}
+use Rattle.std.specs.FinMap.Entries.{below_all}
+use Rattle.fab_types.specs.Order.{key_cmp, is_before, are_ascending, is_within}
+use Rattle.fab_types.specs.Sets.{Range, IsRange, entry_keys}
+use Rattle.fab_types.specs.declared.items.RangeEntry.{RangeEntry}
+use Rattle.ledger_model.specs.Chain.{Bytes, Version}
+use Rattle.ledger_model.specs.Views.{Versioned, within, first}
+use Rattle.ledger_model.specs.Flags.{entry_of, entries_at}
+
+abbrev Entry : Type 0
+Entry = Bytes × (Bytes × Version)
+
+and_first : (a b : Bool) → T (a && b) → T a
+and_first true b h = tt
+and_first false b h = h
+
+and_second : (a b : Bool) → T (a && b) → T b
+and_second true b h = h
+and_second false b h = absurd h
+
+both : (a b : Bool) → T a → T b → T (a && b)
+both true b h k = k
+both false b h k = absurd h
+
+is_true : (b : Bool) → T b → b ≡ true
+is_true true h = refl
+is_true false h = absurd h
+
+join : (a b : Bool) → a ≡ true → b ≡ true → (a && b) ≡ true
+join true b e f = f
+join false b e f = cc
+
+below-filter : (p : Entry → Bool) (k : Bytes) (es : List Entry) → T (below_all key_cmp k es) → T (below_all key_cmp k (filter p es))
+below-filter p k [] h = tt
+below-filter p k (e ∷ es) h =
+    let rest = below-filter p k es (and_second _ _ h) in
+    elim (p e) as (λ b. T (below_all key_cmp k (cond b (e ∷ filter p es) (filter p es)))) [ true ↦ both _ _ (and_first _ _ h) rest | false ↦ rest ]
+
+sorted-filter : (p : Entry → Bool) (es : List Entry) → T (is_sorted key_cmp es) → T (is_sorted key_cmp (filter p es))
+sorted-filter p [] h = tt
+sorted-filter p (e ∷ es) h =
+    let rest = sorted-filter p es (and_second _ _ h) in
+    elim (p e) as (λ b. T (is_sorted key_cmp (cond b (e ∷ filter p es) (filter p es)))) [ true ↦ both _ _ (below-filter p e.0 es (and_first _ _ h)) rest | false ↦ rest ]
+
+below-take : (n : ℕ) (k : Bytes) (es : List Entry) → T (below_all key_cmp k es) → T (below_all key_cmp k (take n es))
+below-take zero k es h = tt
+below-take (suc n) k [] h = tt
+below-take (suc n) k (e ∷ es) h = both _ _ (and_first _ _ h) (below-take n k es (and_second _ _ h))
+
+sorted-take : (n : ℕ) (es : List Entry) → T (is_sorted key_cmp es) → T (is_sorted key_cmp (take n es))
+sorted-take zero es h = tt
+sorted-take (suc n) [] h = tt
+sorted-take (suc n) (e ∷ es) h =
+    both _ _ (below-take n e.0 es (and_first _ _ h)) (sorted-take n es (and_second _ _ h))
+
+ascends : (es : List Entry) → T (is_sorted key_cmp es) → are_ascending (entry_keys (map entry_of es)) ≡ true
+ascends [] h = refl
+ascends (e ∷ []) h = refl
+ascends (e ∷ d ∷ es) h =
+    join (is_before e.0 d.0) _ (is_true _ (and_first _ _ (and_first _ _ h))) (ascends (d ∷ es) (and_second _ _ h))
+
+length-first : (n : ℕ) (es : List Entry) → length (map entry_of (take n es)) ≤ n
+length-first zero es = omega arith
+length-first (suc n) [] = omega arith
+length-first (suc n) (e ∷ es) = let i = length-first n es in omega (arith, i)
+
+held-filter : (start end : Bytes) (n : ℕ) (es : List Entry) → list_all (λ (e : RangeEntry). is_within start end e.key) (map entry_of (take n (within start end es))) ≡ true
+held-filter start end zero es = refl
+held-filter start end (suc n) [] = refl
+held-filter start end (suc n) (e ∷ es) =
+    elim (is_within start end e.0) as (λ b. is_within start end e.0 ≡ b → list_all (λ (e : RangeEntry). is_within start end e.key) (map entry_of (take (suc n) (cond b (e ∷ within start end es) (within start end es)))) ≡ true) [
+      | true ↦ λ is. join (is_within start end e.0) _ is (held-filter start end n es)
+      | false ↦ λ _. held-filter start end (suc n) es
+    ] refl
+
+pub is_range : (m : Versioned) (start end : Bytes) (n : ℕ) → 1 ≤ n → n ≤ 64 → IsRange (record { start = start; end = end; limit = n; entries = entries_at m start end n })
+is_range m start end n lo hi = record {
+  least = lo;
+  greatest = hi;
+  count = length-first n (within start end (entries m));
+  order = ascends (take n (within start end (entries m))) (sorted-take n _ (sorted-filter (λ (e : Entry). is_within start end e.0) (entries m) (entries_sorted m)));
+  held = held-filter start end n (entries m);
+}

@@ -1,0 +1,42 @@
+-- The execution of a chaincode's module, and that it depends only on what it read.
+use Rattle.std.specs.Prelude.{◌≡◌, ℕ, ◌-◌, [], ◌∷◌, ◌==◌, cond}
+use Rattle.wasm_ast.specs.declared.module.Module.{Module}
+use Rattle.wasm_ast.specs.Traps.{trap_number}
+use Rattle.wasm_meaning.specs.Values.{Answer, Next, Branch, Returns, Trapped, Spent, Stuck}
+use Rattle.wasm_meaning.specs.Program.{invocation}
+use Rattle.ledger_model.specs.Chain.{Bytes}
+use Rattle.ledger_model.specs.Views.{Plain}
+use Rattle.ledger_model.specs.Execution as ledger
+use Rattle.host_api.specs.Recorded.{Recorded, nothing_recorded, seen_on}
+use Rattle.host_api.specs.HostStep.{host_step}
+
+abbrev pub ended : ledger.Ending → Plain → Recorded → ledger.Outcome
+ended ending m s = record { ending = ending; seen = seen_on m s }
+
+-- status 0 is success
+abbrev pub ending_of : (status : ℕ) → ledger.Ending
+ending_of status = cond (status == 0) ledger.Done (ledger.Status status)
+
+-- How an execution that was given this fuel ended on a plain state, and what it saw there. That of a valid module ends with one
+-- word, a trap or its fuel spent; the other cases stand for nothing.
+abbrev pub outcome_of : (fuel : ℕ) → Plain → Answer Recorded → ledger.Outcome
+outcome_of fuel m (Next left (v ∷ []) l w) = ended (ending_of v.word) m w.records
+outcome_of fuel m (Trapped why left w) = ended (ledger.Trapped (trap_number why) (fuel - left)) m w.records
+outcome_of fuel m (Spent w) = ended ledger.Spent m w.records
+outcome_of fuel m (Next left [] l w) = ended ledger.Unknown m nothing_recorded
+outcome_of fuel m (Next left (v ∷ u ∷ s) l w) = ended ledger.Unknown m nothing_recorded
+outcome_of fuel m (Branch k left s l w) = ended ledger.Unknown m nothing_recorded
+outcome_of fuel m (Returns left s l w) = ended ledger.Unknown m nothing_recorded
+outcome_of fuel m Stuck = ended ledger.Unknown m nothing_recorded
+
+-- `invoke` on a fresh instance, with a host that has recorded nothing
+abbrev pub execution : Module → (fuel : ℕ) → (argument : Bytes) → Plain → Answer Recorded
+execution wasm fuel argument m = invocation wasm (host_step m argument) nothing_recorded fuel
+
+abbrev pub outcome : Module → (fuel : ℕ) → (argument : Bytes) → Plain → ledger.Outcome
+outcome wasm fuel argument m = outcome_of fuel m (execution wasm fuel argument m)
+
+-- what it saw is so, and on each state where that is so it comes to the same
+pub record ReadsAlone (wasm : Module) (fuel : ℕ) (argument : Bytes) : Type 0 where
+  pub truthful : (m : Plain) → ledger.Answers m (outcome wasm fuel argument m).seen
+  pub only : (m n : Plain) → ledger.Answers n (outcome wasm fuel argument m).seen → outcome wasm fuel argument n ≡ outcome wasm fuel argument m

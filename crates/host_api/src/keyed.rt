@@ -1,0 +1,51 @@
+//! Items in key order.
+
+ghost use Rattle.std.specs.Prelude.{◌≡◌, ℕ, List};
+ghost use Rattle.host_api.specs.Places.{place_of, found_at};
+
+use fab_types::{Key, ReadItem, WriteItem};
+
+/// An item that is filed under a key.
+pub trait Keyed {
+    ghost key_of: { Self → List ℕ };
+
+    fn key(&self) -> &Key
+        ensures { result.now ≡ key_of self.now };
+}
+
+impl Keyed for ReadItem {
+    ghost key_of = { λ r. r.key };
+
+    fn key(&self) -> &Key {
+        &self.key
+    }
+}
+
+impl Keyed for WriteItem {
+    ghost key_of = { λ w. w.key };
+
+    fn key(&self) -> &Key {
+        &self.key
+    }
+}
+
+/// The place of the item with these bytes as its key, or else the place where one would stand.
+pub fn search<T: Keyed>(items: &[T], key: &[u8]) -> Result<usize, usize>
+    ensures { result ≡ found_at T.key_of key.now items.now }
+{
+    let place = count_before(items, key);
+    match items.get(place) {
+        Some(item) if item.key().as_slice().cmp(key).is_eq() => Ok(place),
+        _ => Err(place),
+    }
+}
+
+// How many of the first items have a key before these bytes.
+fn count_before<T: Keyed>(items: &[T], key: &[u8]) -> usize
+    ensures { result ≡ place_of T.key_of key.now items.now }
+{
+    items
+        .iter()
+        .take_while(|item| item.key().as_slice().cmp(key).is_lt())
+        .count()
+}

@@ -1,0 +1,35 @@
+//! The host of chaincode: what the functions that it imports answer, and what they record.
+//!
+//! `specs/HostStep.antt` has the meaning of each call, as a step on the memory and on what was recorded,
+//! over a plain state and the proposal's argument. `Recorder` does these steps over any `View` of a state,
+//! and gives at the end what a payload is made of. `specs/Executing.antt` says what the execution of a
+//! module comes to, and `reads_alone` that it depends only on what it read.
+//!
+//! Reads look at the state alone, also after the same run wrote the key. Writes are recorded, and change
+//! nothing that a run sees.
+#![tactic(auto)]
+
+ghost use Rattle.std.specs.Prelude.{ℕ};
+ghost use Rattle.wasm_ast.specs.declared.module.Module.{Module};
+ghost use Rattle.wasm_validate.specs.ModuleRules.{IsValid};
+ghost use Rattle.ledger_model.specs.Chain.{Bytes};
+ghost use Rattle.host_api.specs.Executing.{ReadsAlone};
+
+mod keyed;
+mod memory;
+mod plain_map;
+mod ranges;
+mod recorder;
+#[cfg(test)]
+mod tests;
+mod view;
+
+pub use plain_map::PlainMap;
+pub use recorder::{Parts, Recorder};
+pub use view::View;
+
+/// The execution of a valid module depends only on what it read: what it saw is so, and on each state
+/// where that is so it comes to the same.
+pub fn reads_alone()
+    ensures { (wasm : Module) (fuel : ℕ) (argument : Bytes) → IsValid wasm → ReadsAlone wasm fuel argument }
+{}

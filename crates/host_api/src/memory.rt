@@ -1,0 +1,47 @@
+//! The memory of chaincode.
+
+ghost use Rattle.std.specs.Prelude.{◌≡◌, ◌≤◌, ◌<◌, ◌+◌, ◌-◌, ◌^◌, length, option_map};
+ghost use Rattle.wasm_ast.specs.declared.host_call.HostAnswer.TheVariants as host_answer;
+ghost use Rattle.wasm_meaning.specs.Memory.{written};
+ghost use Rattle.host_api.specs.Recorded.{Recorded};
+ghost use Rattle.host_api.specs.HostStep.{bytes_at, replies};
+
+use wasm_ast::HostAnswer;
+
+/// The bytes of a pointer and a length. None where they do not lie within the memory.
+pub fn bytes_at(memory: &[u8], pointer: u32, len: u32) -> Option<&[u8]>
+    ensures { option_map (λ b. b.now) result ≡ bytes_at pointer len memory.now }
+{
+    let start = pointer as usize;
+    memory.get(start..start + len as usize)
+}
+
+/// The answer -k, as a word.
+pub fn negative(k: u32) -> HostAnswer
+    requires { 0 < k }
+    ensures { result ≡ host_answer.Value (2 ^ 32 - k) }
+{
+    HostAnswer::Value(u32::MAX - (k - 1))
+}
+
+/// Answers the length of a reply, which is written only if it fits whole.
+pub fn reply(bytes: &[u8], target: u32, capacity: u32, memory: &mut [u8]) -> HostAnswer
+    requires room { target + capacity ≤ length memory.old }
+    requires small { length bytes.now < 2 ^ 32 }
+    ensures { (s : Recorded) → replies bytes.now target capacity memory.old s ≡ record { answer = result; memory = memory.new; records = s } }
+{
+    if bytes.len() <= capacity as usize {
+        write_bytes(memory, target as usize, bytes);
+    }
+    HostAnswer::Value(bytes.len() as u32)
+}
+
+/// Writes bytes from a place on.
+pub fn write_bytes(memory: &mut [u8], at: usize, bytes: &[u8])
+    requires { at + length bytes.now ≤ length memory.old }
+    ensures { memory.new ≡ written memory.old at bytes.now }
+{
+    for i in 0..bytes.len() {
+        memory[at + i] = bytes[i];
+    }
+}

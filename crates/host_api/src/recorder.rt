@@ -1,0 +1,353 @@
+//! The host that records what chaincode does.
+
+ghost use Rattle.std.specs.Prelude.{◌≡◌, ◌≤◌, ℕ, List, IfOk, IfSome, length, map, option_map};
+ghost use Rattle.std.specs.FinMap.{get};
+ghost use Rattle.std.specs.Map.Iter.{deref_pair};
+ghost use Rattle.fab_types.specs.Limits.{IsKey, IsBound, IsValue};
+ghost use Rattle.wasm_ast.specs.declared.host_call.HostCall.TheVariants as host_call;
+ghost use Rattle.ledger_model.specs.Views.{values_of};
+ghost use Rattle.ledger_model.specs.Flags.{version_at};
+ghost use Rattle.host_api.specs.Recorded.{Recorded, nothing_recorded, seen_on};
+ghost use Rattle.host_api.specs.HostStep.{host_step, read_key, write, ask_range};
+ghost use Rattle.host_api.specs.Recording.{read_reply, range_reply, entry_of};
+
+use crate::keyed::search;
+use crate::memory::{bytes_at, negative, reply};
+use crate::ranges::{range_entries, range_reply};
+use crate::view::View;
+use fab_types::{
+    Bound, Key, RangeItem, Ranges, ReadItem, ReadSet, Value, Version, WriteItem, WriteSet,
+};
+use interp::{Host, HostAnswer, HostCall};
+use std::alloc::{AllocError, Global};
+use std::marker::Model;
+
+/// The most keys that a run may read.
+const MOST_READS: usize = 256;
+/// The most ranges that a run may ask for.
+const MOST_RANGES: usize = 16;
+/// The most keys that a run may write.
+const MOST_WRITES: usize = 64;
+
+/// Answers -1 to -5: the key is absent, a key or a bound has a wrong length, there is no room for one more,
+/// the value is too long, the limit is not 1 to 64.
+const ABSENT: u32 = 1;
+
+const KEY_LENGTH: u32 = 2;
+
+const NO_ROOM: u32 = 3;
+
+const VALUE_LENGTH: u32 = 4;
+
+const WRONG_LIMIT: u32 = 5;
+
+/// Answers chaincode from a view of the state, and records what it reads and writes. The items are kept
+/// as a payload has them: in key order, with the view's versions.
+#[derive(Drop)]
+pub struct Recorder<'v, V: View> {
+    alloc: Global,
+    view: &'v V,
+    argument: &'v Value,
+    reads: Vec<ReadItem>,
+    ranges: Vec<RangeItem>,
+    result: Value,
+    writes: Vec<WriteItem>,
+}
+
+impl<'v, V: View> Model for Recorder<'v, V> {
+    ghost use Rattle.host_api.specs.Recording.{Recording, AreItems, recorded_of};
+
+    ghost Value = { Recording V };
+
+    ghost view = { λ r. record { opened = record { view = r.view.now; argument = r.argument.now }; records = recorded_of r.reads.items r.ranges.items r.result r.writes.items } };
+
+    ghost invariant = { λ r. AreItems (V.state r.view.now) r.reads.items r.ranges.items r.writes.items };
+}
+
+/// What a payload is made of, besides its proposal.
+#[derive(Debug, Drop)]
+pub struct Parts {
+    pub reads: ReadSet,
+    pub ranges: Ranges,
+    pub result: Value,
+    pub writes: WriteSet,
+}
+
+impl<'v, V: View> Recorder<'v, V> {
+    ghost use Rattle.host_api.specs.Parts.{parts_of};
+
+    /// Nothing recorded yet, for a call with this argument. It takes no memory.
+    pub fn new(alloc: Global, view: &'v V, argument: &'v Value) -> Self
+        ensures { result ≡ record { opened = record { view = view.now; argument = argument.now }; records = nothing_recorded } }
+    {
+        Recorder {
+            alloc,
+            view,
+            argument,
+            reads: Vec::new(alloc),
+            ranges: Vec::new(alloc),
+            result: Value::new(Vec::new(alloc)).unwrap(),
+            writes: Vec::new(alloc),
+        }
+    }
+
+    /// What was recorded, with the view's answers and versions.
+    pub fn into_parts(self) -> Parts
+        ensures { result ≡ parts_of (V.state self.entry.opened.view) (seen_on (values_of (V.state self.entry.opened.view)) self.entry.records) }
+    {
+        Parts {
+            reads: ReadSet::new(self.reads).unwrap(),
+            ranges: Ranges::new(self.ranges).unwrap(),
+            result: self.result,
+            writes: WriteSet::new(self.writes).unwrap(),
+        }
+    }
+
+    /// The value of a key, by the view alone.
+    fn get_state(&mut self, args: &[u32], memory: &mut [u8]) -> Result<HostAnswer, AllocError>
+        requires { length args.now ≡ 4 }
+        ensures answer { IfOk result (λ a. host_step (values_of (V.state self.old.opened.view)) self.old.opened.argument host_call.GetState args.now memory.old self.old.records ≡ record { answer = a; memory = memory.new; records = self.new.records }) }
+        ensures opened { self.new.opened ≡ self.old.opened }
+    {
+        let Some(key) = bytes_at(memory, args[0], args[1]) else {
+            return Ok(HostAnswer::OutOfBounds);
+        };
+        if bytes_at(memory, args[2], args[3]).is_none() {
+            return Ok(HostAnswer::OutOfBounds);
+        }
+        if key.is_empty() || key.len() > 64 {
+            return Ok(negative(KEY_LENGTH));
+        }
+        match self.read(key)? {
+            None => Ok(negative(NO_ROOM)),
+            Some(None) => Ok(negative(ABSENT)),
+            Some(Some(value)) => Ok(reply(value.as_slice(), args[2], args[3], memory)),
+        }
+    }
+
+    /// The value of a key, which is recorded once. None where there is no room for one more key.
+    fn read(&mut self, key: &[u8]) -> Result<Option<Option<&'v Value>>, AllocError>
+        requires { IsKey key.now }
+        ensures answer { IfOk result (λ found. (target capacity : ℕ) (memory : List ℕ) → read_key (values_of (V.state self.old.opened.view)) key.now target capacity memory self.old.records ≡ read_reply (option_map (option_map (λ v. v.now)) found) target capacity memory self.new.records) }
+        ensures opened { self.new.opened ≡ self.old.opened }
+    {
+        match search(&self.reads, key) {
+            Ok(at) => Ok(Some(look_up(self.view, &self.reads[at].key).0)),
+            Err(_) if self.reads.len() == MOST_READS => Ok(None),
+            Err(at) => {
+                let key = copied_key(self.alloc, key)?;
+                let (value, version) = look_up(self.view, &key);
+                self.reads.insert(at, ReadItem { key, version })?;
+                Ok(Some(value))
+            }
+        }
+    }
+
+    /// Puts a value at a key.
+    fn put_state(&mut self, args: &[u32], memory: &[u8]) -> Result<HostAnswer, AllocError>
+        requires { length args.now ≡ 4 }
+        ensures answer { IfOk result (λ a. host_step (values_of (V.state self.old.opened.view)) self.old.opened.argument host_call.PutState args.now memory.now self.old.records ≡ record { answer = a; memory = memory.now; records = self.new.records }) }
+        ensures opened { self.new.opened ≡ self.old.opened }
+    {
+        let Some(key) = bytes_at(memory, args[0], args[1]) else {
+            return Ok(HostAnswer::OutOfBounds);
+        };
+        let Some(value) = bytes_at(memory, args[2], args[3]) else {
+            return Ok(HostAnswer::OutOfBounds);
+        };
+        if key.is_empty() || key.len() > 64 {
+            return Ok(negative(KEY_LENGTH));
+        }
+        if value.len() > 4096 {
+            return Ok(negative(VALUE_LENGTH));
+        }
+        self.write(key, Some(value))
+    }
+
+    /// Deletes a key.
+    fn del_state(&mut self, args: &[u32], memory: &[u8]) -> Result<HostAnswer, AllocError>
+        requires { length args.now ≡ 2 }
+        ensures answer { IfOk result (λ a. host_step (values_of (V.state self.old.opened.view)) self.old.opened.argument host_call.DelState args.now memory.now self.old.records ≡ record { answer = a; memory = memory.now; records = self.new.records }) }
+        ensures opened { self.new.opened ≡ self.old.opened }
+    {
+        let Some(key) = bytes_at(memory, args[0], args[1]) else {
+            return Ok(HostAnswer::OutOfBounds);
+        };
+        if key.is_empty() || key.len() > 64 {
+            return Ok(negative(KEY_LENGTH));
+        }
+        self.write(key, None)
+    }
+
+    /// Records a write of a key, in place of an earlier one.
+    fn write(&mut self, key: &[u8], value: Option<&[u8]>) -> Result<HostAnswer, AllocError>
+        requires key { IsKey key.now }
+        requires value { IfSome value (λ v. IsValue v.now) }
+        ensures answer { IfOk result (λ a. (memory : List ℕ) → write (record { key = key.now; value = option_map (λ v. v.now) value.entry }) memory self.old.records ≡ record { answer = a; memory = memory; records = self.new.records }) }
+        ensures opened { self.new.opened ≡ self.old.opened }
+    {
+        match search(&self.writes, key) {
+            Ok(at) => self.writes[at].value = copied(self.alloc, value)?,
+            Err(_) if self.writes.len() == MOST_WRITES => return Ok(negative(NO_ROOM)),
+            Err(at) => {
+                let key = copied_key(self.alloc, key)?;
+                let value = copied(self.alloc, value)?;
+                self.writes.insert(at, WriteItem { key, value })?;
+            }
+        }
+        Ok(HostAnswer::Value(0))
+    }
+
+    /// The first entries of a range, by the view alone.
+    fn range_state(&mut self, args: &[u32], memory: &mut [u8]) -> Result<HostAnswer, AllocError>
+        requires { length args.now ≡ 7 }
+        ensures answer { IfOk result (λ a. host_step (values_of (V.state self.old.opened.view)) self.old.opened.argument host_call.RangeState args.now memory.old self.old.records ≡ record { answer = a; memory = memory.new; records = self.new.records }) }
+        ensures opened { self.new.opened ≡ self.old.opened }
+    {
+        let Some(start) = bytes_at(memory, args[0], args[1]) else {
+            return Ok(HostAnswer::OutOfBounds);
+        };
+        let Some(end) = bytes_at(memory, args[2], args[3]) else {
+            return Ok(HostAnswer::OutOfBounds);
+        };
+        if bytes_at(memory, args[5], args[6]).is_none() {
+            return Ok(HostAnswer::OutOfBounds);
+        }
+        if start.len() > 64 || end.len() > 64 {
+            return Ok(negative(KEY_LENGTH));
+        }
+        if args[4] == 0 || args[4] > 64 {
+            return Ok(negative(WRONG_LIMIT));
+        }
+        match self.ask(start, end, args[4])? {
+            None => Ok(negative(NO_ROOM)),
+            Some(entries) => Ok(range_reply(&entries, args[5], args[6], memory)),
+        }
+    }
+
+    /// The first entries of a range, which is recorded. None where there is no room for one more range.
+    fn ask(
+        &mut self,
+        start: &[u8],
+        end: &[u8],
+        limit: u32,
+    ) -> Result<Option<Vec<(&'v Key, &'v (Value, Version))>>, AllocError>
+        requires start { IsBound start.now }
+        requires end { IsBound end.now }
+        requires least { 1 ≤ limit }
+        requires greatest { limit ≤ 64 }
+        ensures answer { IfOk result (λ found. (target capacity : ℕ) (memory : List ℕ) → ask_range (values_of (V.state self.old.opened.view)) (record { start = start.now; end = end.now; limit = limit }) target capacity memory self.old.records ≡ range_reply (option_map (λ v. map entry_of (map deref_pair v.items)) found) target capacity memory self.new.records) }
+        ensures count { IfOk result (λ found. IfSome found (λ v. length v.items ≤ 64)) }
+        ensures opened { self.new.opened ≡ self.old.opened }
+    {
+        if self.ranges.len() == MOST_RANGES {
+            return Ok(None);
+        }
+        let start = copied_bound(self.alloc, start)?;
+        let end = copied_bound(self.alloc, end)?;
+        let entries = self.view.range(self.alloc, &start, &end, limit as usize)?;
+        let items = range_entries(self.alloc, &entries)?;
+        let range = RangeItem::new(start, end, limit as u8, items).unwrap();
+        self.ranges.push(range)?;
+        Ok(Some(entries))
+    }
+
+    /// The argument of the proposal.
+    fn get_arg(&mut self, args: &[u32], memory: &mut [u8]) -> Result<HostAnswer, AllocError>
+        requires { length args.now ≡ 2 }
+        ensures answer { IfOk result (λ a. host_step (values_of (V.state self.old.opened.view)) self.old.opened.argument host_call.GetArg args.now memory.old self.old.records ≡ record { answer = a; memory = memory.new; records = self.new.records }) }
+        ensures opened { self.new.opened ≡ self.old.opened }
+    {
+        if bytes_at(memory, args[0], args[1]).is_none() {
+            return Ok(HostAnswer::OutOfBounds);
+        }
+        let argument = self.argument.as_slice();
+        Ok(reply(argument, args[0], args[1], memory))
+    }
+
+    /// The result of the chaincode, in place of an earlier one.
+    fn set_result(&mut self, args: &[u32], memory: &[u8]) -> Result<HostAnswer, AllocError>
+        requires { length args.now ≡ 2 }
+        ensures answer { IfOk result (λ a. host_step (values_of (V.state self.old.opened.view)) self.old.opened.argument host_call.SetResult args.now memory.now self.old.records ≡ record { answer = a; memory = memory.now; records = self.new.records }) }
+        ensures opened { self.new.opened ≡ self.old.opened }
+    {
+        let Some(bytes) = bytes_at(memory, args[0], args[1]) else {
+            return Ok(HostAnswer::OutOfBounds);
+        };
+        if bytes.len() > 4096 {
+            return Ok(negative(VALUE_LENGTH));
+        }
+        self.result = Value::new(bytes.to_vec(self.alloc)?).unwrap();
+        Ok(HostAnswer::Value(0))
+    }
+}
+
+/// The value and the version of a key in a view.
+fn look_up<'v, V: View>(view: &'v V, key: &Key) -> (Option<&'v Value>, Option<Version>)
+    ensures value { option_map (λ v. v.now) result.0 ≡ get (values_of (V.state view.now)) key.now }
+    ensures version { result.1 ≡ version_at (V.state view.now) key.now }
+{
+    match view.get(key) {
+        Some((value, version)) => (Some(value), Some(version)),
+        None => (None, None),
+    }
+}
+
+/// A key of these bytes.
+fn copied_key(alloc: Global, bytes: &[u8]) -> Result<Key, AllocError>
+    requires { IsKey bytes.now }
+    ensures { IfOk result (λ k. k ≡ bytes.now) }
+{
+    Ok(Key::new(bytes.to_vec(alloc)?).unwrap())
+}
+
+/// A bound of these bytes.
+fn copied_bound(alloc: Global, bytes: &[u8]) -> Result<Bound, AllocError>
+    requires { IsBound bytes.now }
+    ensures { IfOk result (λ b. b ≡ bytes.now) }
+{
+    Ok(Bound::new(bytes.to_vec(alloc)?).unwrap())
+}
+
+/// A copy of the bytes of a value, where there is one.
+fn copied(alloc: Global, bytes: Option<&[u8]>) -> Result<Option<Value>, AllocError>
+    requires { IfSome bytes (λ b. IsValue b.now) }
+    ensures { IfOk result (λ v. v ≡ option_map (λ b. b.now) bytes.entry) }
+{
+    match bytes {
+        None => Ok(None),
+        Some(bytes) => Ok(Some(Value::new(bytes.to_vec(alloc)?).unwrap())),
+    }
+}
+
+impl<'v, V: View> Host for Recorder<'v, V> {
+    ghost use Rattle.host_api.specs.Recorded.{Recorded};
+    ghost use Rattle.host_api.specs.HostStep.{host_step};
+    ghost use Rattle.host_api.specs.Recording.{Opened};
+
+    ghost Records = { Recorded };
+
+    ghost records = { λ r. r.records };
+
+    ghost answers = { λ r. host_step (values_of (V.state r.opened.view)) r.opened.argument };
+
+    ghost Context = { Opened V };
+
+    ghost context = { λ r. r.opened };
+
+    fn call(
+        &mut self,
+        which: HostCall,
+        args: &[u32],
+        memory: &mut [u8],
+    ) -> Result<HostAnswer, AllocError> {
+        match which {
+            HostCall::GetState => self.get_state(args, memory),
+            HostCall::PutState => self.put_state(args, memory),
+            HostCall::DelState => self.del_state(args, memory),
+            HostCall::RangeState => self.range_state(args, memory),
+            HostCall::GetArg => self.get_arg(args, memory),
+            HostCall::SetResult => self.set_result(args, memory),
+        }
+    }
+}

@@ -1,0 +1,5 @@
+pub mod Books
+pub mod RefusalNumber
+pub mod Execution
+pub mod Answers
+pub mod Success

@@ -1,0 +1,68 @@
+//! Why a call of a chaincode gives no payload.
+
+ghost use Rattle.std.specs.Prelude.{◌≡◌};
+ghost use Rattle.simulator.specs.RefusalNumber.{refusal_number};
+
+use std::alloc::AllocError;
+use std::error::Error;
+use std::fmt::{self, Display, Formatter, Write};
+use wasm_ast::Trap;
+
+/// Why a call of a chaincode gives no payload.
+#[derive(Clone, Copy, Debug, PartialEq, Eq)]
+pub enum SimRefusal {
+    /// The book has no chaincode of the proposal's name.
+    UnknownChaincode,
+    /// The execution was cut off, after it had used this fuel.
+    Trapped { kind: Trap, used: u64 },
+    /// The execution had less fuel than the next cost.
+    Spent,
+    /// The execution returned this status, which is not 0.
+    Status(u32),
+    /// Want of memory.
+    Memory,
+}
+
+impl SimRefusal {
+    /// The number by which the program names the refusal: 401 to 404, or 9 for want of memory.
+    pub fn number(self) -> u16
+        ensures { result ≡ refusal_number self }
+    {
+        match self {
+            SimRefusal::UnknownChaincode => 401,
+            SimRefusal::Trapped { .. } => 402,
+            SimRefusal::Spent => 403,
+            SimRefusal::Status(_) => 404,
+            SimRefusal::Memory => 9,
+        }
+    }
+}
+
+/// The word as a signed number (two's complement).
+fn signed(word: u32) -> i32 {
+    i32::from_be_bytes(word.to_be_bytes())
+}
+
+impl Display for SimRefusal {
+    fn fmt<W: Write>(&self, f: &mut Formatter<W>) -> fmt::Result {
+        write!(f, "refused {}", self.number())?;
+        match self {
+            SimRefusal::Trapped { kind, .. } => write!(f, " trap {}", kind.number()),
+            SimRefusal::Status(status) => write!(f, " status {}", signed(*status)),
+            _ => Ok(()),
+        }
+    }
+}
+
+impl Error for SimRefusal {}
+
+impl From<AllocError> for SimRefusal {
+    ghost use Rattle.std.specs.Prelude.{◌≡◌};
+    ghost use Rattle.simulator.specs.declared.refusal.SimRefusal.TheVariants as refusal;
+
+    ghost from_gives = { λ _ r. r ≡ refusal.Memory };
+
+    fn from(_error: AllocError) -> Self {
+        SimRefusal::Memory
+    }
+}
