@@ -1,22 +1,21 @@
 //! The program of the ledger.
 //!
-//! `first MODULE FUEL` runs one module on the empty state and commits what it wrote as block 1. `program`
-//! is all of it but the machine that it runs on, `first_module` the path from the module's bytes to the
-//! block.
-//!
-//! Two groups of modules here will become crates of their own: `host_api`, what chaincode's host answers
-//! and records, and `simulator`, from a proposal to a payload.
+//! `check MODULE` tells whether the bytes of a file are a valid module, and how many functions it defines.
+//! `first MODULE FUEL WORDS..` runs words on a system of one peer whose only chaincode is the module, and
+//! prints what each comes to, the state after them and the audit of the peer's chain. `program` is all of
+//! it but the machine that it runs on.
 #![tactic(auto)]
 
+mod check;
+mod failure;
 mod files;
 mod first;
-mod host_api;
 mod program;
-mod simulator;
-mod snapshot_view;
+mod session;
 #[cfg(test)]
 mod tests;
 mod text;
+mod word;
 mod words;
 
 use crate::files::Files;

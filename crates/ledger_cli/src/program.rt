@@ -1,75 +1,22 @@
 //! The program, but for the machine that it runs on.
 
-use crate::files::{FileFault, Files, read_at_most};
-use crate::first::{First, FirstRefusal, first_module};
-use crate::text::hex_of;
-use crate::words::{self, Task, WordsFault};
-use fab_types::{CommittedBlock, WriteItem};
-use std::alloc::{AllocError, Global};
-use std::io::{self, ErrorKind, Write};
-use world_state::Snapshot;
+use crate::check::defined_functions;
+use crate::failure::Failure;
+use crate::files::{Files, read_at_most};
+use crate::first::first_book;
+use crate::session::Session;
+use crate::words::{self, Task};
+use std::alloc::Global;
+use std::io::Write;
 
 /// A module has at most 262,144 bytes. One byte more is read, so that a longer file is told apart.
 const MOST_READ: u64 = 262_145;
 
 const USAGE: &str =
-    "usage: ledger first MODULE FUEL\n  MODULE  the file of a WebAssembly module\n  FUEL    1 to 10000000";
-
-/// Why a task was not done.
-enum Failure {
-    /// The words name no task.
-    Usage,
-    /// There was no memory.
-    Memory,
-    /// A file could not be opened or read.
-    File,
-    Refused(FirstRefusal),
-    /// A line could not be written.
-    Output,
-}
-
-impl From<WordsFault> for Failure {
-    fn from(fault: WordsFault) -> Failure {
-        match fault {
-            WordsFault::Memory => Failure::Memory,
-            WordsFault::Usage => Failure::Usage,
-        }
-    }
-}
-
-impl From<FileFault> for Failure {
-    fn from(fault: FileFault) -> Failure {
-        match fault {
-            FileFault::Memory => Failure::Memory,
-            FileFault::Device => Failure::File,
-        }
-    }
-}
-
-impl From<FirstRefusal> for Failure {
-    fn from(refusal: FirstRefusal) -> Failure {
-        Failure::Refused(refusal)
-    }
-}
-
-impl From<AllocError> for Failure {
-    fn from(_refused: AllocError) -> Failure {
-        Failure::Memory
-    }
-}
-
-impl From<io::Error> for Failure {
-    fn from(error: io::Error) -> Failure {
-        if error.kind() == ErrorKind::OutOfMemory {
-            Failure::Memory
-        } else {
-            Failure::Output
-        }
-    }
-}
+    "usage: ledger check MODULE\n       ledger first MODULE FUEL WORDS..\n  MODULE  the file of a WebAssembly module\n  FUEL    1 to 10000000\n  WORDS   b<seat> f<seat> s<payload> t c";
 
 /// Does what the words ask for, the command first, and answers the exit status: 0 for done, 1 for a
-/// refusal, which is printed, and 2 where the words name no task.
+/// refusal, which is printed, or a difference, and 2 where the words name no task.
 pub fn program<F: Files, W: Write>(
     alloc: Global,
     words: &[String],
@@ -84,7 +31,8 @@ pub fn program<F: Files, W: Write>(
         Failure::Memory => (1, writeln!(out, "refused 9")),
         Failure::File => (1, writeln!(out, "refused 703")),
         Failure::Refused(refusal) => (1, writeln!(out, "{refusal}")),
-        Failure::Output => (1, Ok(())),
+        Failure::BadWord(number) => (1, writeln!(out, "bad word {number}")),
+        Failure::Differs | Failure::Output => (1, Ok(())),
     };
     match printed {
         Ok(()) => status,
@@ -99,52 +47,21 @@ fn carry_out<F: Files, W: Write>(
     out: &mut W,
 ) -> Result<(), Failure> {
     match words::parse(alloc, words)? {
-        Task::First { module, fuel } => {
+        Task::Check { module } => {
             let bytes = read_at_most(alloc, files, module, MOST_READ)?;
-            let first = first_module(alloc, &bytes, fuel.get())?;
-            print_first(alloc, &first, out)
+            let functions = defined_functions(alloc, &bytes)?;
+            let length = bytes.len();
+            writeln!(out, "valid functions={functions} bytes={length}")?;
+            Ok(())
+        }
+        Task::First {
+            module,
+            fuel,
+            words,
+        } => {
+            let bytes = read_at_most(alloc, files, module, MOST_READ)?;
+            let book = first_book(alloc, &bytes, fuel.get())?;
+            Session::open(alloc, book)?.run(&words, out)
         }
     }
-}
-
-/// Prints how the run ended, what it wrote, the block and the state after it.
-fn print_first<W: Write>(alloc: Global, first: &First, out: &mut W) -> Result<(), Failure> {
-    writeln!(out, "returned 0 used {}", first.used)?;
-    for item in first.writes.as_slice() {
-        print_write(alloc, item, out)?;
-    }
-    for block in first.snapshot.blocks() {
-        print_block(block, out)?;
-    }
-    print_state(alloc, &first.snapshot, out)
-}
-
-/// Prints a write.
-fn print_write<W: Write>(alloc: Global, item: &WriteItem, out: &mut W) -> Result<(), Failure> {
-    let key = hex_of(alloc, item.key.as_slice())?;
-    match &item.value {
-        Some(value) => writeln!(out, "write {key} put {}", hex_of(alloc, value.as_slice())?)?,
-        None => writeln!(out, "write {key} delete")?,
-    }
-    Ok(())
-}
-
-/// Prints a committed block's number and flags.
-fn print_block<W: Write>(block: &CommittedBlock, out: &mut W) -> io::Result<()> {
-    write!(out, "committed {} flags", block.block().header.number.get())?;
-    for flag in block.flags() {
-        write!(out, " {flag}")?;
-    }
-    writeln!(out)
-}
-
-/// Prints each key of the state with its version and value, in key order.
-fn print_state<W: Write>(alloc: Global, snapshot: &Snapshot, out: &mut W) -> Result<(), Failure> {
-    for (key, (value, version)) in snapshot.entries(alloc)? {
-        let key = hex_of(alloc, key.as_slice())?;
-        let value = hex_of(alloc, value.as_slice())?;
-        let (block, place) = (version.block(), version.place());
-        writeln!(out, "state {key} {block}.{place} {value}")?;
-    }
-    Ok(())
 }

@@ -38,10 +38,18 @@ impl Fuel {
 }
 
 /// What the words ask for.
-#[derive(Clone, Copy)]
+#[derive(Drop)]
 pub enum Task<'a> {
-    /// Run the module of a file with this fuel, and commit what it writes as block 1.
-    First { module: &'a str, fuel: Fuel },
+    /// Tell whether the bytes of a file are a valid module.
+    Check {
+        module: &'a str,
+    },
+    /// Run a script on a system whose chaincode is the module of a file, with this fuel.
+    First {
+        module: &'a str,
+        fuel: Fuel,
+        words: Vec<&'a str>,
+    },
 }
 
 /// Why the words name no task.
@@ -67,19 +75,31 @@ impl From<clap::Error> for WordsFault {
     }
 }
 
+/// The file of a module, which each command has.
+fn module_file<'a>(alloc: Global) -> Arg<'a> {
+    Arg::new(alloc, "MODULE")
+        .required(true)
+        .action(ArgAction::Set)
+}
+
 /// The commands, as `clap` reads them.
 fn commands<'a>(alloc: Global) -> Result<Command<'a>, AllocError> {
-    let module = Arg::new(alloc, "MODULE")
-        .required(true)
-        .action(ArgAction::Set);
+    let check = Command::new(alloc, "check").arg(module_file(alloc))?;
     let fuel = Arg::new(alloc, "FUEL")
         .required(true)
         .action(ArgAction::Set)
         .value_parser(clap::value_parser!(u64));
-    let first = Command::new(alloc, "first").arg(module)?.arg(fuel)?;
+    let words = Arg::new(alloc, "WORDS")
+        .num_args(1..)
+        .action(ArgAction::Append);
+    let first = Command::new(alloc, "first")
+        .arg(module_file(alloc))?
+        .arg(fuel)?
+        .arg(words)?;
     let ledger = Command::new(alloc, "ledger")
         .no_binary_name(true)
         .subcommand_required(true)
+        .subcommand(check)?
         .subcommand(first)?;
     Ok(ledger)
 }
@@ -89,6 +109,10 @@ fn commands<'a>(alloc: Global) -> Result<Command<'a>, AllocError> {
 /// Usage where they are no command, or a word is missing, left over or no number within its limits.
 pub fn parse<'a>(alloc: Global, words: &'a [String]) -> Result<Task<'a>, WordsFault> {
     let matches = commands(alloc)?.try_get_matches_from(words)?;
+    if let Some(check) = matches.subcommand_matches("check") {
+        let module = check.get_str("MODULE").ok_or(WordsFault::Usage)?;
+        return Ok(Task::Check { module });
+    }
     let Some(first) = matches.subcommand_matches("first") else {
         return Err(WordsFault::Usage);
     };
@@ -96,8 +120,13 @@ pub fn parse<'a>(alloc: Global, words: &'a [String]) -> Result<Task<'a>, WordsFa
     else {
         return Err(WordsFault::Usage);
     };
-    match Fuel::new(amount) {
-        Some(fuel) => Ok(Task::First { module, fuel }),
-        None => Err(WordsFault::Usage),
-    }
+    let Some(fuel) = Fuel::new(amount) else {
+        return Err(WordsFault::Usage);
+    };
+    let words = first.get_strs("WORDS").unwrap_or(&[]).to_vec(alloc)?;
+    Ok(Task::First {
+        module,
+        fuel,
+        words,
+    })
 }

@@ -1,5 +1,0 @@
-use Rattle.std.proofs.Common.{length}
-use Rattle.ledger_cli.proofs.simulator.book.+have_own_names.Given as goal
-
-abbrev pub decreases-have_own_names : goal.decreases-have_own_names
-decreases-have_own_names l = length l.chaincodes.now
