@@ -17,7 +17,7 @@ abbrev pub IsBookOf : List ℕ → ℕ → List Chaincode → Type 0
 IsBookOf bytes fuel book =
     (m : Module) × IsModule m bytes × IsValid m × (book ≡ record { name = first_name; «module» = m; fuel = fuel } ∷ [])
 
--- the module that the bytes spell is valid, and defines this many functions (2.5.3), the imports left out
+-- the module that the bytes spell is valid, and defines this many functions, imports left out (Core 1.0, section 2.5.3)
 abbrev pub IsDefinedBy : List ℕ → ℕ → Type 0
 IsDefinedBy bytes count = (m : Module) × IsModule m bytes × IsValid m × (count ≡ length m.functions)
 

@@ -1,0 +1,8 @@
+use Rattle.std.proofs.Common.{◌∙◌, length, ap}
+use Rattle.ledger_bench.proofs.Told.{told_length}
+use Rattle.ledger_bench.proofs.register.judge.Goals as goal
+
+pub returns : goal.returns
+returns c =
+    ap (λ fs. length fs) c.in_ok-flags.ensures
+    ∙ told_length _ _ _ _ c.args.block.now.envelopes c.deref.result.now (c.deref.ensures.len ∙ c.in_ok-endorsed.ensures.len ∙ ap (λ es. length es) c.as_slice.ensures.value)

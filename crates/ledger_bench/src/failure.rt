@@ -1,0 +1,53 @@
+//! Why nothing was measured.
+
+use simulator::SimRefusal;
+use std::alloc::{AllocError, AllocFailed};
+use std::fmt::{self, Display, Formatter, Write};
+
+/// Why nothing was measured.
+#[derive(Clone, Copy, Debug, PartialEq, Eq)]
+pub enum Failure {
+    /// Want of memory.
+    Memory,
+    /// The file cannot be read.
+    File,
+    /// The bytes spell no module of the profile, or the module is not valid.
+    Module,
+    /// A call gave no payload.
+    Refused(SimRefusal),
+    /// A value is out of its limits.
+    Limit,
+    /// A transaction that should be VALID is not.
+    Invalid,
+}
+
+impl Display for Failure {
+    fn fmt<W: Write>(&self, f: &mut Formatter<W>) -> fmt::Result {
+        match self {
+            Failure::Memory => write!(f, "refused 9"),
+            Failure::File => write!(f, "refused 703"),
+            Failure::Module => write!(f, "no valid module"),
+            Failure::Refused(refusal) => write!(f, "{refusal}"),
+            Failure::Limit => write!(f, "a value is out of its limits"),
+            Failure::Invalid => write!(f, "a transaction is not VALID"),
+        }
+    }
+}
+
+impl From<AllocError> for Failure {
+    fn from(_error: AllocError) -> Failure {
+        Failure::Memory
+    }
+}
+
+impl<T: Drop> From<AllocFailed<T>> for Failure {
+    fn from(_error: AllocFailed<T>) -> Failure {
+        Failure::Memory
+    }
+}
+
+impl From<SimRefusal> for Failure {
+    fn from(refusal: SimRefusal) -> Failure {
+        Failure::Refused(refusal)
+    }
+}
