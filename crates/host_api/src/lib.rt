@@ -9,11 +9,13 @@
 //! nothing that a run sees.
 #![tactic(auto)]
 
-ghost use Rattle.std.specs.Prelude.{ℕ};
+ghost use Rattle.std.specs.Prelude.{◌≡◌, ℕ};
 ghost use Rattle.wasm_ast.specs.declared.module.Module.{Module};
 ghost use Rattle.wasm_validate.specs.ModuleRules.{IsValid};
 ghost use Rattle.ledger_model.specs.Chain.{Bytes};
-ghost use Rattle.host_api.specs.Executing.{ReadsAlone};
+ghost use Rattle.ledger_model.specs.Views.{Versioned, values_of};
+ghost use Rattle.host_api.specs.HostStep.{host_step};
+ghost use Rattle.host_api.specs.Executing.{ReadsAlone, outcome};
 
 mod keyed;
 mod memory;
@@ -32,4 +34,11 @@ pub use view::View;
 /// where that is so it comes to the same.
 pub fn reads_alone()
     ensures { (wasm : Module) (fuel : ℕ) (argument : Bytes) → IsValid wasm → ReadsAlone wasm fuel argument }
+{}
+
+/// Views whose states have the same values answer and record alike, whatever their versions: in each call
+/// (`step`) and over a whole execution (`execution`).
+pub fn equal_views()
+    ensures step { (a b : Versioned) → values_of a ≡ values_of b → (argument : Bytes) → host_step (values_of a) argument ≡ host_step (values_of b) argument }
+    ensures execution { (a b : Versioned) → values_of a ≡ values_of b → (wasm : Module) (fuel : ℕ) (argument : Bytes) → outcome wasm fuel argument (values_of a) ≡ outcome wasm fuel argument (values_of b) }
 {}
