@@ -12,8 +12,6 @@ mod files;
 mod first;
 mod program;
 mod session;
-#[cfg(test)]
-mod tests;
 mod text;
 mod word;
 mod words;

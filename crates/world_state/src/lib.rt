@@ -12,6 +12,3 @@ mod writes;
 pub use ranges::{first_entries, range_of};
 pub use snapshot::Snapshot;
 pub use writes::StateMap;
-
-#[cfg(test)]
-mod tests;
