@@ -18,6 +18,8 @@ mod laws;
 mod peer;
 mod running;
 mod system;
+#[cfg(test)]
+mod tests;
 mod verdict;
 
 pub use auditing::audit;

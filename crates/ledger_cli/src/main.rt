@@ -12,6 +12,8 @@ mod files;
 mod first;
 mod program;
 mod session;
+#[cfg(test)]
+mod tests;
 mod text;
 mod word;
 mod words;

@@ -9,6 +9,8 @@ mod book;
 mod laws;
 mod refusal;
 mod simulation;
+#[cfg(test)]
+mod tests;
 
 pub use book::{Book, Chaincode};
 pub use laws::reads_alone;

@@ -12,3 +12,6 @@ mod writes;
 pub use ranges::{first_entries, range_of};
 pub use snapshot::Snapshot;
 pub use writes::StateMap;
+
+#[cfg(test)]
+mod tests;
