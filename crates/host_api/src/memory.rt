@@ -41,7 +41,5 @@ pub fn write_bytes(memory: &mut [u8], at: usize, bytes: &[u8])
     requires { at + length bytes.now ≤ length memory.old }
     ensures { memory.new ≡ written memory.old at bytes.now }
 {
-    for i in 0..bytes.len() {
-        memory[at + i] = bytes[i];
-    }
+    memory[at..at + bytes.len()].copy_from_slice(bytes);
 }

@@ -1,6 +1,6 @@
 //! A state of values alone.
 
-ghost use Rattle.std.specs.Prelude.{◌≡◌, option_map, OnOk};
+ghost use Rattle.std.specs.Prelude.{◌≡◌, option_map, OnOk, OnErr};
 ghost use Rattle.std.specs.FinMap.{empty, get};
 ghost use Rattle.ledger_model.specs.Serial.{write};
 ghost use Rattle.host_api.specs.Plain.{plain_of};
@@ -48,9 +48,10 @@ impl PlainMap {
         }
     }
 
-    /// Puts the key's value, or takes the key out.
+    /// Puts the key's value, or takes the key out. Where memory is refused the state stays as it was.
     pub fn write(&mut self, item: &WriteItem) -> Result<(), AllocError>
-        ensures { OnOk result (plain_of self.new ≡ write (plain_of self.old) item.now.key item.now.value) }
+        ensures written { OnOk result (plain_of self.new ≡ write (plain_of self.old) item.now.key item.now.value) }
+        ensures refused { OnErr result (self.new ≡ self.old) }
     {
         match &item.value {
             Some(value) => {

@@ -1,12 +1,15 @@
 //! The simulation of a proposal, and its rerun.
 
-ghost use Rattle.std.specs.Prelude.{◌≡◌};
+ghost use Rattle.std.specs.Prelude.{◌≡◌, ◌↔◌, None, Err};
 ghost use Rattle.ledger_model.specs.Views.{values_of};
+ghost use Rattle.world_state.specs.Writing.{as_state};
 ghost use Rattle.host_api.specs.Plain.{plain_of};
 ghost use Rattle.host_api.specs.Parts.{parts_of};
+ghost use Rattle.simulator.specs.Books.{chaincode_at};
 ghost use Rattle.simulator.specs.Execution.{exec_of};
 ghost use Rattle.simulator.specs.Answers.{Answers, done_or_refusal, payload_or_refusal, rerun_or_refusal, told_in};
 ghost use Rattle.simulator.specs.Success.{success_of};
+ghost use Rattle.simulator.specs.declared.refusal.SimRefusal.TheVariants.{UnknownChaincode};
 
 use crate::book::Book;
 use crate::refusal::SimRefusal;
@@ -27,7 +30,8 @@ pub fn simulate(
     snapshot: &Snapshot,
     proposal: &Proposal,
 ) -> Result<Payload, SimRefusal>
-    ensures { Answers (payload_or_refusal (exec_of book.now) proposal.now snapshot.now) result }
+    ensures answer { Answers (payload_or_refusal (exec_of book.now) proposal.now snapshot.now) result }
+    ensures unknown { result ≡ Err UnknownChaincode ↔ chaincode_at book.now proposal.now.chaincode ≡ None }
 {
     let parts = execute(alloc, book, snapshot, proposal)?;
     Ok(Payload {
@@ -39,8 +43,8 @@ pub fn simulate(
     })
 }
 
-/// What the execution of a proposal on a plain state reads, answers and writes. The versions in it say no
-/// more than that a key was there.
+/// What the execution of a proposal on a plain state reads, answers and writes. The versions in it are
+/// those of the state as a view, and say no more than that a key was there.
 ///
 /// Refused as `simulate`.
 pub fn rerun(
@@ -49,7 +53,9 @@ pub fn rerun(
     state: &PlainMap,
     proposal: &Proposal,
 ) -> Result<Parts, SimRefusal>
-    ensures { Answers (rerun_or_refusal (exec_of book.now proposal.now (plain_of state.now))) (told_in result) }
+    ensures told { Answers (rerun_or_refusal (exec_of book.now proposal.now (plain_of state.now))) (told_in result) }
+    ensures recorded { let o = exec_of book.now proposal.now (plain_of state.now) in Answers (done_or_refusal o.ending (parts_of (as_state state.now) o.seen)) result }
+    ensures unknown { result ≡ Err UnknownChaincode ↔ chaincode_at book.now proposal.now.chaincode ≡ None }
 {
     execute(alloc, book, state, proposal)
 }
@@ -61,7 +67,8 @@ fn execute<V: View>(
     view: &V,
     proposal: &Proposal,
 ) -> Result<Parts, SimRefusal>
-    ensures { let o = exec_of book.now proposal.now (values_of (V.state view.now)) in Answers (done_or_refusal o.ending (parts_of (V.state view.now) o.seen)) result }
+    ensures answer { let o = exec_of book.now proposal.now (values_of (V.state view.now)) in Answers (done_or_refusal o.ending (parts_of (V.state view.now) o.seen)) result }
+    ensures unknown { result ≡ Err UnknownChaincode ↔ chaincode_at book.now proposal.now.chaincode ≡ None }
 {
     let Some(chaincode) = book.get(&proposal.chaincode) else {
         return Err(SimRefusal::UnknownChaincode);

@@ -1,5 +1,5 @@
 use Rattle.std.proofs.Common.{arith}
-use Rattle.wasm_instance.proofs.Writing.{written-part}
+use Rattle.wasm_meaning.proofs.Writing.{written-part}
 use Rattle.wasm_instance.proofs.access.write.Goals as goal
 
 pub returns : goal.returns
