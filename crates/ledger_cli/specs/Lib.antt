@@ -1,1 +1,5 @@
 pub mod First
+pub mod Words
+pub mod Failures
+pub mod Script
+pub mod Sessions

@@ -1,5 +1,9 @@
 //! Why a task was not done.
 
+ghost use Rattle.std.specs.Prelude.{◌≡◌};
+ghost use Rattle.ledger_cli.specs.declared.failure.Failure.TheVariants.{Memory};
+ghost use Rattle.ledger_cli.specs.Failures.{IsOfMachine};
+
 use crate::files::FileFault;
 use crate::first::FirstRefusal;
 use crate::words::WordsFault;
@@ -53,18 +57,24 @@ impl From<FirstRefusal> for Failure {
 }
 
 impl From<AllocError> for Failure {
+    ghost from_gives = { λ _ f. f ≡ Memory };
+
     fn from(_refused: AllocError) -> Failure {
         Failure::Memory
     }
 }
 
 impl<T: Drop> From<AllocFailed<T>> for Failure {
+    ghost from_gives = { λ _ f. f ≡ Memory };
+
     fn from(_refused: AllocFailed<T>) -> Failure {
         Failure::Memory
     }
 }
 
 impl From<io::Error> for Failure {
+    ghost from_gives = { λ _ f. IsOfMachine f };
+
     fn from(error: io::Error) -> Failure {
         if error.kind() == ErrorKind::OutOfMemory {
             Failure::Memory

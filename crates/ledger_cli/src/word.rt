@@ -1,5 +1,8 @@
 //! The words of a script.
 
+ghost use Rattle.std.specs.Prelude.{◌≡◌};
+ghost use Rattle.ledger_cli.specs.Words.{number_of, word_of};
+
 /// What a word stands for. Seats are counted from 0, payloads from 1.
 #[derive(Clone, Copy, Debug, PartialEq, Eq)]
 pub enum Word {
@@ -16,30 +19,31 @@ pub enum Word {
 }
 
 /// What a word stands for. None where it is none of these forms, or its number has more than 64 bits.
-pub fn parse_word(text: &str) -> Option<Word> {
-    match text.as_bytes() {
-        b"t" => Some(Word::Take),
-        b"c" => Some(Word::Commit),
-        [b'b', digits @ ..] => Some(Word::Begin(parse_number(digits)?)),
-        [b'f', digits @ ..] => Some(Word::Finish(parse_number(digits)?)),
-        [b's', digits @ ..] => Some(Word::Submit(parse_number(digits)?)),
+pub fn parse_word(text: &str) -> Option<Word>
+    ensures { result ≡ word_of text.now }
+{
+    if let Some(digits) = text.strip_prefix('b') {
+        return Some(Word::Begin(parse_number(digits)?));
+    }
+    if let Some(digits) = text.strip_prefix('f') {
+        return Some(Word::Finish(parse_number(digits)?));
+    }
+    if let Some(digits) = text.strip_prefix('s') {
+        return Some(Word::Submit(parse_number(digits)?));
+    }
+    match text {
+        "t" => Some(Word::Take),
+        "c" => Some(Word::Commit),
         _ => None,
     }
 }
 
-/// A number in decimal digits, of which there is at least one.
-fn parse_number(digits: &[u8]) -> Option<usize> {
-    if digits.is_empty() {
+/// A number in decimal digits, of which there is at least one. No sign stands before them.
+fn parse_number(digits: &str) -> Option<usize>
+    ensures { result ≡ number_of digits.now }
+{
+    if digits.starts_with('+') {
         return None;
     }
-    let mut number: usize = 0;
-    for digit in digits {
-        if !digit.is_ascii_digit() {
-            return None;
-        }
-        number = number
-            .checked_mul(10)?
-            .checked_add(usize::from(*digit - b'0'))?;
-    }
-    Some(number)
+    digits.parse::<usize>().ok()
 }

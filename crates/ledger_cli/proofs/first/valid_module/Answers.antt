@@ -1,4 +1,4 @@
-use Rattle.std.proofs.Common.{◌≡◌, Some, None, sym, subst}
+use Rattle.std.proofs.Common.{sym, subst}
 use Rattle.wasm_decode.specs.ModuleSpelling.{IsModule}
 use Rattle.wasm_validate.specs.ModuleRules.{IsValid}
 use Rattle.ledger_cli.proofs.first.valid_module.Goals as goal
