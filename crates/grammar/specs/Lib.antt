@@ -5,3 +5,4 @@ pub mod Table
 pub mod Steps
 pub mod Rows
 pub mod Laws
+pub mod Loops

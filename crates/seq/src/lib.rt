@@ -96,21 +96,3 @@ impl<T: PartialEq> PartialEq for Seq<T> {
 impl<T: Eq> Eq for Seq<T> {
     ghost laws = { lists_equiv T.Eq.laws };
 }
-
-#[cfg(test)]
-mod tests {
-    use super::*;
-    use std::test::Fail;
-
-    #[test]
-    fn items_come_back(rt: HostRuntime) -> Result<(), Fail> {
-        let items: Seq<u8> = Seq::new([3, 1, 2].to_vec(rt.alloc())?);
-        assert_eq!(rt; items.len(), 3);
-        assert!(rt; !items.is_empty());
-        assert!(rt; items.clone()? == items);
-        assert!(rt; items != Seq::empty(rt.alloc()));
-        assert_eq!(rt; items.as_slice(), [3, 1, 2].as_slice());
-        assert_eq!(rt; items.into_vec().as_slice(), [3, 1, 2].as_slice());
-        Ok(())
-    }
-}

@@ -25,24 +25,3 @@ pub use operators::{BinaryOp, CompareOp, ConvertOp, LoadOp, StoreOp, UnaryOp};
 pub use position::Position;
 pub use trap::Trap;
 pub use types::{BlockType, FuncType, GlobalType, Limits, ValueType};
-
-#[cfg(test)]
-mod tests {
-    use super::*;
-    use std::test::Fail;
-
-    #[test]
-    fn a_body_keeps_its_instructions(rt: HostRuntime) -> Result<(), Fail> {
-        let body = Body::new(vec![in rt.alloc(); Instr::I32Const(1), Instr::Drop]?);
-        assert_eq!(rt; body.items().len(), 2);
-        assert!(rt; matches!(&body.items()[0], Instr::I32Const(1)));
-        let name = Name::new(String::from_str(rt.alloc(), "invoke")?);
-        assert_eq!(rt; name.as_str(), "invoke");
-        assert_eq!(rt; Trap::CallDepth.number(), 8);
-        assert_eq!(rt; LoadOp::I64From16S.width(), 2);
-        assert_eq!(rt; LoadOp::I64From16S.value_type(), ValueType::I64);
-        assert_eq!(rt; StoreOp::I32To8.width(), 1);
-        assert_eq!(rt; StoreOp::I32To8.value_type(), ValueType::I32);
-        Ok(())
-    }
-}

@@ -19,6 +19,3 @@ mod laws;
 pub use cursor::Cursor;
 pub use fault::{ByteFault, FaultKind};
 pub use laws::{items_once, readers, refusals};
-
-#[cfg(test)]
-mod tests;

@@ -24,6 +24,3 @@ mod types;
 
 pub use fault::{DecodeFault, FaultKind};
 pub use reader::{decode, one_module};
-
-#[cfg(test)]
-mod tests;

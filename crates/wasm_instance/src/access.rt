@@ -131,11 +131,13 @@ pub fn write(memory: &mut [u8], place: usize, bytes: &[u8])
     memory[place..place + bytes.len()].copy_from_slice(bytes);
 }
 
-/// Makes a memory longer by zeros. `AllocError` where there is no room; nothing changes then.
-pub fn add_zeros(memory: &mut Vec<u8>, count: usize) -> Result<(), AllocError>
+/// A memory made longer by zeros. Where there is no room it is given back as it was, with `AllocError`.
+#[inline(never)]
+pub fn with_zeros(mut memory: Vec<u8>, count: usize) -> (Vec<u8>, Result<(), AllocError>)
     requires { count < 2 ^ 62 }
-    ensures grown { OnOk result (memory.new.items ≡ memory.old.items ++ replicate count 0) }
-    ensures refused { OnErr result (memory.new.items ≡ memory.old.items) }
+    ensures grown { OnOk result.1 (result.0.items ≡ memory.items ++ replicate count 0) }
+    ensures refused { OnErr result.1 (result.0.items ≡ memory.items) }
 {
-    memory.resize(memory.len() + count, 0)
+    let done = memory.resize(memory.len() + count, 0);
+    (memory, done)
 }

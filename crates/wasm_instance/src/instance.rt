@@ -8,10 +8,11 @@ ghost use Rattle.wasm_instance.specs.Accesses.{within, load_at, after_store, gro
 ghost use Rattle.wasm_instance.specs.State.{fresh};
 ghost use Rattle.wasm_instance.specs.Lending.{LendsMemory};
 
-use crate::access::{PAGE, add_zeros, load_word, store_word};
+use crate::access::{PAGE, load_word, store_word, with_zeros};
 use crate::fresh::{fresh_globals, fresh_memory, fresh_table, most_pages};
 use std::alloc::{AllocError, Global};
 use std::marker::Model;
+use std::mem;
 use wasm_ast::{LoadOp, StoreOp, Trap};
 use wasm_validate::ValidModule;
 
@@ -90,7 +91,7 @@ impl Instance {
     }
 
     /// The size of the memory in pages of 65,536 bytes, modulo 2^32 (Core 1.0, section 4.4.4).
-    #[inline]
+    #[inline(always)]
     pub fn size(&self) -> u32
         ensures { result ≡ size_word self.now.memory }
     {
@@ -101,6 +102,10 @@ impl Instance {
     /// pages; else gives the word -1, and nothing changes (Core 1.0, section 4.4.4).
     ///
     /// `AllocError` where there is no room for the pages: nothing changes then either.
+    ///
+    /// The memory is moved out and back, and no address of it is lent: an instance that is a local of the
+    /// caller can stay in registers.
+    #[inline(always)]
     pub fn grow(&mut self, count: u32) -> Result<u32, AllocError>
         ensures word { IfOk result (λ word. word ≡ grow_word self.old count) }
         ensures grown { OnOk result (self.new ≡ after_grow self.old count) }
@@ -111,12 +116,16 @@ impl Instance {
             return Ok(u32::MAX);
         }
         let size = self.size();
-        add_zeros(&mut self.memory, PAGE * count as usize)?;
+        let empty = Vec::new(*self.memory.allocator());
+        let old = mem::replace(&mut self.memory, empty);
+        let (memory, done) = with_zeros(old, PAGE * count as usize);
+        self.memory = memory;
+        done?;
         Ok(size)
     }
 
     /// The word of a global.
-    #[inline]
+    #[inline(always)]
     pub fn global(&self, index: u32) -> u64
         requires { index < length self.now.globals }
         ensures { slice_get self.now.globals index ≡ Some result }
@@ -125,7 +134,7 @@ impl Instance {
     }
 
     /// Gives a global another word.
-    #[inline]
+    #[inline(always)]
     pub fn set_global(&mut self, index: u32, word: u64)
         requires { index < length self.old.globals }
         ensures { self.new ≡ record self.old { globals = slice_set self.old.globals index word } }
@@ -139,7 +148,7 @@ impl Instance {
     ///
     /// `UndefinedElement` past the end of the table, `UninitializedElement` at an entry without a
     /// function.
-    #[inline]
+    #[inline(always)]
     pub fn entry(&self, index: u32) -> Result<u32, Trap>
         ensures { result ≡ function_at (slice_get self.now.table index) }
     {
@@ -151,6 +160,7 @@ impl Instance {
     }
 
     /// The bytes of the memory.
+    #[inline(always)]
     pub fn memory(&self) -> &[u8]
         ensures { result.now ≡ self.now.memory }
     {
@@ -158,6 +168,7 @@ impl Instance {
     }
 
     /// The bytes of the memory, to be written in place.
+    #[inline(always)]
     pub fn memory_mut(&mut self) -> &mut [u8]
         ensures* writes_back { sem 𝓛 (LendsMemory self.entry result) }
         ensures value { result.now ≡ self.old.memory }

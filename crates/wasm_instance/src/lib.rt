@@ -10,7 +10,5 @@
 mod access;
 mod fresh;
 mod instance;
-#[cfg(test)]
-mod tests;
 
 pub use instance::Instance;

@@ -92,6 +92,3 @@ pub fn eqz(a: u32) -> u32
 {
     u32::from(a == 0)
 }
-
-#[cfg(test)]
-mod tests;

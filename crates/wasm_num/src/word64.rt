@@ -100,6 +100,3 @@ pub fn eqz(a: u64) -> u32
 {
     u32::from(a == 0)
 }
-
-#[cfg(test)]
-mod tests;

@@ -1,19 +1,18 @@
 //! Imports, and the types of functions (Core 1.0, sections 3.4.7 and 3.4.9).
 
-ghost use Rattle.std.specs.Prelude.{◌≡◌, ◌<◌, ℕ, length, IfOk, IfErr, IsTrue, ◌↔◌, Some, replicate};
-ghost use Rattle.std.specs.List.{All};
-ghost use Rattle.wasm_ast.specs.declared.types.ValueType.TheVariants.{I32};
+ghost use Rattle.std.specs.Prelude.{◌≡◌, ◌<◌, ℕ, length, IfOk, IfErr, Some};
 ghost use Rattle.wasm_ast.specs.declared.module.Import.{Import};
 ghost use Rattle.wasm_ast.specs.declared.module.Func.{Func};
 ghost use Rattle.wasm_validate.specs.Typing.{at};
-ghost use Rattle.wasm_validate.specs.HostCalls.{arity, call_type, call_named, host_calls};
+ghost use Rattle.wasm_validate.specs.HostCalls.{call_named, host_calls};
 ghost use Rattle.wasm_validate.specs.ModuleRules.{IsImport, imported, type_indices};
 ghost use Rattle.wasm_validate.specs.Indices.{AreTypes};
 ghost use Rattle.wasm_validate.specs.Broken.{Broken};
 
 use crate::fault::ValidateFault;
+use crate::host_calls::is_type_of_call;
 use std::alloc::Global;
-use wasm_ast::{FuncType, HostCall, Import, ImportKind, Module, ValueType};
+use wasm_ast::{HostCall, Import, ImportKind, Module};
 
 /// The host call that each import is, in the order of the imports.
 pub fn check_imports(alloc: Global, given: &Module) -> Result<Vec<HostCall>, ValidateFault>
@@ -44,7 +43,7 @@ fn check_import(given: &Module, import: &Import) -> Result<HostCall, ValidateFau
         return Err(ValidateFault::Import);
     }
     match call_named(import.name.as_str()) {
-        Some(call) if has_type(call, function_type) => Ok(call),
+        Some(call) if is_type_of_call(function_type, call) => Ok(call),
         _ => Err(ValidateFault::Import),
     }
 }
@@ -62,39 +61,6 @@ fn call_named(name: &str) -> Option<HostCall>
         "set_result" => Some(HostCall::SetResult),
         _ => None,
     }
-}
-
-// How many parameters a call has.
-fn arity(call: HostCall) -> usize
-    ensures { result ≡ arity call }
-{
-    match call {
-        HostCall::GetState | HostCall::PutState => 4,
-        HostCall::RangeState => 7,
-        HostCall::DelState | HostCall::GetArg | HostCall::SetResult => 2,
-    }
-}
-
-// Whether this is the type of a call.
-fn has_type(call: HostCall, function_type: &FuncType) -> bool
-    ensures { IsTrue result ↔ (function_type.now ≡ call_type call) }
-{
-    are_i32(function_type.params.as_slice(), arity(call))
-        && function_type.result == Some(ValueType::I32)
-}
-
-// Whether these are so many i32.
-fn are_i32(types: &[ValueType], count: usize) -> bool
-    ensures { IsTrue result ↔ (types.now ≡ replicate count I32) }
-{
-    types.len() == count && all_i32(types)
-}
-
-// Whether each of these is i32.
-fn all_i32(types: &[ValueType]) -> bool
-    ensures { IsTrue result ↔ All (λ t. t ≡ I32) types.now }
-{
-    types.iter().all(|value_type| *value_type == ValueType::I32)
 }
 
 /// The index of the type of each function, the imported ones first.

@@ -20,6 +20,7 @@ mod code;
 mod exports;
 mod fault;
 mod globals;
+mod host_calls;
 mod imports;
 mod labels;
 mod limits;
@@ -28,10 +29,9 @@ mod operands;
 mod scope;
 mod segments;
 mod shapes;
-#[cfg(test)]
-mod tests;
 mod valid;
 mod variables;
 
 pub use fault::ValidateFault;
+pub use host_calls::{arity, is_type_of_call};
 pub use valid::{ValidModule, validate};

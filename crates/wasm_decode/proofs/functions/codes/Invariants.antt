@@ -1,6 +1,6 @@
 use Rattle.std.proofs.Common.{◌≡◌, drop}
 use Rattle.wasm_decode.specs.FunctionReading.{codes_at}
-use Rattle.wasm_decode.proofs.Loop.{with_front}
+use Rattle.grammar.specs.Loops.{with_front}
 use Rattle.wasm_decode.proofs.functions.codes.Given as goal
 
 abbrev pub invariant-loop-type_index : goal.invariant-loop-type_index

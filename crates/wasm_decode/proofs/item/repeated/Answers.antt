@@ -1,7 +1,8 @@
 use Rattle.std.proofs.Common.{◌≡◌, ap, sym, ◌∙◌, Some, None}
 use Rattle.std.proofs.lemmas.Result.{err_from_is_err_and}
 use Rattle.grammar.specs.Reading.{repeats_at}
-use Rattle.wasm_decode.proofs.Loop.{goes_on, refused, is_done, Fails-weaker}
+use Rattle.grammar.specs.Loops.{goes_on, refused, is_done}
+use Rattle.wasm_decode.proofs.Loop.{Fails-weaker}
 use Rattle.wasm_decode.proofs.item.repeated.Goals as goal
 
 pub returns-in_err-read : goal.returns-in_err-read

@@ -1,0 +1,52 @@
+//! Items at the front of bytes.
+
+use crate::bytes::{bytes_of, split_word};
+use crate::fault::CaseFault;
+use std::alloc::{AllocError, Global};
+use std::fmt::Write;
+use wasm_bytes::Cursor;
+
+/// An item that was read.
+#[derive(Clone, Copy)]
+enum Item<'a> {
+    Number(i64),
+    Name(&'a str),
+}
+
+/// The items at the front of the bytes, of the kinds that the first word lists.
+pub fn read_items(alloc: Global, text: &str) -> Result<String, CaseFault> {
+    let (kinds, pieces) = split_word(text);
+    let bytes = bytes_of(alloc, pieces)?;
+    let mut cursor = Cursor::new(&bytes);
+    let mut answer = String::new(alloc);
+    for kind in kinds.split(',') {
+        if !answer.is_empty() {
+            answer.push(' ')?;
+        }
+        if kind == "at" {
+            write!(answer, "to {}", cursor.offset())?;
+        } else {
+            write_item(&mut answer, read_item(kind, &mut cursor)?)?;
+        }
+    }
+    Ok(answer)
+}
+
+fn write_item(answer: &mut String, item: Item<'_>) -> Result<(), AllocError> {
+    match item {
+        Item::Number(number) => write!(answer, "{number}"),
+        Item::Name(name) => write!(answer, "{name}"),
+    }
+}
+
+/// The item of a kind at the place.
+fn read_item<'a>(kind: &str, cursor: &mut Cursor<'a>) -> Result<Item<'a>, CaseFault> {
+    Ok(match kind {
+        "byte" => Item::Number(i64::from(cursor.byte()?)),
+        "u32" => Item::Number(i64::from(cursor.u32_leb()?)),
+        "i32" => Item::Number(i64::from(cursor.i32_leb()?)),
+        "i64" => Item::Number(cursor.i64_leb()?),
+        "name" => Item::Name(cursor.name()?),
+        _ => return Err(CaseFault::BadLine),
+    })
+}
