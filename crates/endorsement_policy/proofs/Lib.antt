@@ -1,1 +1,12 @@
 pub mod Evaluates
+pub mod Decimals
+pub mod Children
+pub mod Levels
+pub mod Fronts
+pub mod Tokens
+pub mod Texts
+pub mod Found
+pub mod Whole
+pub mod Shares
+pub mod Needed
+pub mod Rights

@@ -3,3 +3,13 @@ pub mod View
 pub mod Smaller
 pub mod GoodSets
 pub mod Evaluation
+pub mod Spelling
+pub mod Limits
+pub mod Leniency
+pub mod Reading
+pub mod Faults
+pub mod Parsing
+pub mod Operators
+pub mod TagKeys
+pub mod Endorsed
+pub mod Shares

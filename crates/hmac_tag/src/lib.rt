@@ -55,6 +55,3 @@ fn masked(key: &[u8; 64], pad: u8) -> [u8; 64]
     }
     block
 }
-
-#[cfg(test)]
-mod tests;

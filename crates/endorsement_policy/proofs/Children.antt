@@ -1,0 +1,69 @@
+-- Reading children one after another, as a loop does.
+use Rattle.std.proofs.Common.{◌≡◌, ℕ, suc, ◌-◌, ◌+◌, ◌≤◌, ◌<◌, true, false, List, [], ◌∷◌, ◌++◌, Option, Some, None, refl, sym, ap, ◌∙◌, append_assoc, arith}
+use Rattle.grammar.specs.Reading.{◌>>=◌}
+use Rattle.endorsement_policy.specs.Reading.{after_spaces, comma_at, children_at}
+use Rattle.endorsement_policy.specs.declared.policy.Policy.{Policy}
+use Rattle.endorsement_policy.specs.declared.fault.PolicyFault.{PolicyFault}
+use Rattle.endorsement_policy.specs.declared.fault.PolicyFault.TheVariants.{Memory, Syntax, UnknownOrganisation, Threshold, TooDeep}
+use Rattle.endorsement_policy.specs.Faults.{Fails}
+
+-- what was read before, and what is still read
+abbrev pub with_front : List Policy → Option (List Policy × List ℕ) → Option (List Policy × List ℕ)
+with_front front read = read >>= λ x. Some (front ++ x.0, x.1)
+
+pub Fails-weaker : (e : PolicyFault) (P Q : Type 0) → (P → Q) → Fails e P → Fails e Q
+Fails-weaker Memory P Q f h = tt
+Fails-weaker (Syntax o) P Q f h = f h
+Fails-weaker UnknownOrganisation P Q f h = f h
+Fails-weaker Threshold P Q f h = f h
+Fails-weaker TooDeep P Q f h = f h
+
+regroup : (front : List Policy) (p : Policy) (read : Option (List Policy × List ℕ)) → with_front front (read >>= λ x. Some (p ∷ x.0, x.1)) ≡ with_front (front ++ p ∷ []) read
+regroup front p (Some x) = ap (λ (ps : List Policy). Some (ps, x.1)) (simp append_assoc)
+regroup front p None = refl
+
+pub nothing_before : (read : Option (List Policy × List ℕ)) → with_front [] read ≡ read
+nothing_before (Some x) = refl
+nothing_before None = refl
+
+module _ (read : List ℕ → Option (Policy × List ℕ)) (front : List Policy) (i : ℕ) (bytes : List ℕ) (total : Option (List Policy × List ℕ)) (lt : i < 1024) (so_far : with_front front (children_at read (1024 - i) bytes) ≡ total) where
+  one : 1024 - i ≡ suc (1024 - (i + 1))
+  one = omega arith
+
+  pub goes_on : (p : Policy) (middle after : List ℕ) → read (after_spaces bytes) ≡ Some (p, middle) → comma_at middle ≡ Some (true, after) → with_front (front ++ p ∷ []) (children_at read (1024 - (i + 1)) after) ≡ total
+  unfolding children_at
+  goes_on p middle after first more =
+      let e : with_front front (children_at read (1024 - i) bytes) ≡ with_front (front ++ p ∷ []) (children_at read (1024 - (i + 1)) after) = rw (one, first, more) (regroup front p (children_at read (1024 - (i + 1)) after)) in
+      sym e ∙ so_far
+
+  pub ends : (p : Policy) (middle after : List ℕ) → read (after_spaces bytes) ≡ Some (p, middle) → comma_at middle ≡ Some (false, after) → total ≡ Some (front ++ p ∷ [], after)
+  unfolding children_at
+  ends p middle after first more =
+      let e : with_front front (children_at read (1024 - i) bytes) ≡ Some (front ++ p ∷ [], after) = rw (one, first, more) refl in
+      sym so_far ∙ e
+
+  pub refused : read (after_spaces bytes) ≡ None → total ≡ None
+  unfolding children_at
+  refused first =
+      let e : with_front front (children_at read (1024 - i) bytes) ≡ None = rw (one, first) refl in
+      sym so_far ∙ e
+
+  pub broken : (p : Policy) (middle : List ℕ) → read (after_spaces bytes) ≡ Some (p, middle) → comma_at middle ≡ None → total ≡ None
+  unfolding children_at
+  broken p middle first more =
+      let e : with_front front (children_at read (1024 - i) bytes) ≡ None = rw (one, first, more) refl in
+      sym so_far ∙ e
+
+pub too_many : (read : List ℕ → Option (Policy × List ℕ)) (front : List Policy) (i : ℕ) (bytes : List ℕ) (total : Option (List Policy × List ℕ)) → 1024 ≤ i → with_front front (children_at read (1024 - i) bytes) ≡ total → total ≡ None
+unfolding children_at
+too_many read front i bytes total le so_far =
+    let none : 1024 - i ≡ 0 = omega arith in
+    let e : with_front front (children_at read (1024 - i) bytes) ≡ None = rw none refl in
+    sym so_far ∙ e
+
+pub fails_of : (e : PolicyFault) (P : Type 0) → P → Fails e P
+fails_of Memory P h = tt
+fails_of (Syntax o) P h = h
+fails_of UnknownOrganisation P h = h
+fails_of Threshold P h = h
+fails_of TooDeep P h = h

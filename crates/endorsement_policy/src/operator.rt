@@ -1,0 +1,33 @@
+//! Operators, before their children are read.
+
+ghost use Rattle.std.specs.Prelude.{◌≡◌};
+ghost use Rattle.endorsement_policy.specs.Operators.{rule_of};
+ghost use Rattle.endorsement_policy.specs.Reading.{is_threshold, made};
+
+use crate::policy::{Policies, Policy};
+
+/// An operator over children that are still to come.
+#[derive(Clone, Copy, Drop)]
+pub(crate) enum Operator {
+    And,
+    Or,
+    OutOf(u32),
+}
+
+impl Operator {
+    /// The operator over these children. None if its threshold is 0 or above their number.
+    pub(crate) fn over(self, children: Vec<Policy>) -> Option<Policy>
+        ensures { result ≡ made is_threshold (rule_of self) children.items }
+    {
+        match self {
+            Operator::And => Some(Policy::And(Policies::new(children))),
+            Operator::Or => Some(Policy::Or(Policies::new(children))),
+            Operator::OutOf(threshold) => {
+                if threshold < 1 || threshold as usize > children.len() {
+                    return None;
+                }
+                Some(Policy::OutOf(threshold, Policies::new(children)))
+            }
+        }
+    }
+}

@@ -1,0 +1,97 @@
+//! Checks by several threads.
+
+ghost use Rattle.std.specs.Prelude.{◌≡◌, ℕ, ◌+◌, ◌*◌, ◌≤◌, ◌<◌, IfOk, length, map, slice_index_or};
+ghost use Rattle.endorsement_policy.specs.Endorsed.{is_endorsed};
+ghost use Rattle.endorsement_policy.specs.Shares.{IsShare};
+
+use crate::check::is_endorsed;
+use crate::rules::Rules;
+use fab_types::Envelope;
+use std::alloc::{AllocError, Global};
+use std::thread;
+use std::thread::Threads;
+
+/// What is called round each check of an envelope, by the thread that makes it.
+pub trait Gate: Sync {
+    /// Called before the envelope at this place is checked.
+    fn before(&self, index: usize);
+
+    /// Called once the envelope at this place is checked.
+    fn after(&self, index: usize);
+}
+
+/// For each envelope whether it is endorsed, by 1 to 16 workers at once: the same as `check_plain` for
+/// every number of them. Worker `w` of `n` checks the envelopes at the places `w`, `w + n`, `w + 2n` and
+/// so on, in this order. The caller is one of the workers, and does the checks of one that cannot be
+/// started. The only error is want of memory.
+pub fn check_all<R: Threads + Sync, G: Gate>(
+    rt: &R,
+    alloc: Global,
+    rules: &Rules,
+    envelopes: &[Envelope],
+    workers: usize,
+    gate: &G,
+) -> Result<Vec<bool>, AllocError>
+    requires least { 1 ≤ workers }
+    requires greatest { workers ≤ 16 }
+    ensures { IfOk result (λ v. v.items ≡ map (is_endorsed rules.now) envelopes.now) }
+{
+    let shares = thread::map_indices(
+        rt,
+        alloc,
+        workers,
+        &|worker: usize| -> Result<Vec<bool>, AllocError>
+            requires { (worker < workers) × (1 ≤ workers) × (workers ≤ 16) }
+            ensures { IfOk result (λ v. IsShare (map (is_endorsed rules.entry.now) envelopes.entry.now) worker workers v.items) }
+        { check_share(alloc, rules, envelopes, worker, workers, gate) },
+    )?;
+    gathered(alloc, rules, envelopes, &shares)
+}
+
+/// The answers of one worker: for the envelopes whose places are its number modulo the number of
+/// workers, in their order.
+fn check_share<G: Gate>(
+    alloc: Global,
+    rules: &Rules,
+    envelopes: &[Envelope],
+    worker: usize,
+    workers: usize,
+    gate: &G,
+) -> Result<Vec<bool>, AllocError>
+    requires worker { worker < workers }
+    requires workers { workers ≤ 16 }
+    ensures share { IfOk result (λ v. IsShare (map (is_endorsed rules.now) envelopes.now) worker workers v.items) }
+    ensures no_others { IfOk result (λ v. (turn : ℕ) → turn < length v.items → worker + workers * turn < length envelopes.now) }
+{
+    let mut answers = Vec::new(alloc);
+    let mut index = worker;
+    while index < envelopes.len() {
+        gate.before(index);
+        let answer = is_endorsed(alloc, rules, &envelopes[index]);
+        gate.after(index);
+        answers.push(answer?)?;
+        index += workers;
+    }
+    Ok(answers)
+}
+
+/// The workers' answers by the envelopes' places.
+fn gathered(
+    alloc: Global,
+    rules: &Rules,
+    envelopes: &[Envelope],
+    shares: &[Result<Vec<bool>, AllocError>],
+) -> Result<Vec<bool>, AllocError>
+    requires least { 1 ≤ length shares.now }
+    requires shares { (worker : ℕ) (none : _) → worker < length shares.now → IfOk (slice_index_or shares.now worker none) (λ v. IsShare (map (is_endorsed rules.now) envelopes.now) worker (length shares.now) v.items) }
+    ensures { IfOk result (λ v. v.items ≡ map (is_endorsed rules.now) envelopes.now) }
+{
+    let mut answers = Vec::with_capacity(alloc, envelopes.len())?;
+    for index in 0..envelopes.len() {
+        match &shares[index % shares.len()] {
+            Ok(share) => answers.push(share[index / shares.len()])?,
+            Err(error) => return Err(*error),
+        }
+    }
+    Ok(answers)
+}

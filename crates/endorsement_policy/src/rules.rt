@@ -1,0 +1,140 @@
+//! What the members of a channel agree on.
+
+ghost use Rattle.std.specs.Prelude.{◌≡◌, ◌↔◌, true, IsSome, IfSome, option_map};
+ghost use Rattle.std.specs.List.{find};
+ghost use Rattle.endorsement_policy.specs.Endorsed.{do_need_someone, is_org, is_policy_of, is_tag_of, key_of, needs_someone};
+
+use crate::evaluate::is_satisfied_by;
+use crate::policy::Policy;
+use crate::tag_key::TagKey;
+use fab_types::{Endorsement, Name, OrgName};
+use std::marker::Model;
+
+/// An organisation and the key of its tags.
+#[derive(Drop)]
+pub struct Organisation {
+    pub name: OrgName,
+    pub key: TagKey,
+}
+
+/// A chaincode and the policy of its transactions.
+#[derive(Drop)]
+pub struct ChaincodePolicy {
+    pub chaincode: Name,
+    pub policy: Policy,
+}
+
+/// The organisations with their keys, and the policy of each chaincode. Of several of one name the
+/// first counts. Each policy needs at least one endorsement.
+#[derive(Drop)]
+pub struct Rules {
+    organisations: Vec<Organisation>,
+    policies: Vec<ChaincodePolicy>,
+}
+
+impl Model for Rules {
+    ghost use Rattle.std.specs.Prelude.{◌≡◌, true};
+    ghost use Rattle.endorsement_policy.specs.Endorsed.{Listed, do_need_someone};
+    ghost use Rattle.endorsement_policy.specs.Tree.{policies_code};
+    ghost use Rattle.std.specs.Coded.{codes};
+
+    ghost Value = { Listed };
+
+    ghost coded = { Prim.hlevel (codes, policies_code) };
+
+    ghost view = { λ r. record { orgs = r.organisations.items; policies = r.policies.items } };
+
+    ghost invariant = { λ r. do_need_someone r.policies.items ≡ true };
+}
+
+/// Whether each of these needs at least one endorsement.
+fn do_need_someone(policies: &[ChaincodePolicy]) -> bool
+    ensures { result ≡ do_need_someone policies.now }
+{
+    policies.iter().all(|p| p.needs_someone())
+}
+
+impl Rules {
+    /// The rules of these organisations and policies. None where some policy is satisfied without any
+    /// endorsement, as `And` of no policies is.
+    pub fn new(organisations: Vec<Organisation>, policies: Vec<ChaincodePolicy>) -> Option<Rules>
+        ensures accepted { IsSome result ↔ (do_need_someone policies.items ≡ true) }
+        ensures value { IfSome result (λ r. r ≡ record { orgs = organisations.items; policies = policies.items }) }
+    {
+        if !do_need_someone(&policies) {
+            return None;
+        }
+        Some(Rules {
+            organisations,
+            policies,
+        })
+    }
+
+    /// The policies of chaincodes.
+    pub fn policies(&self) -> &[ChaincodePolicy]
+        ensures value { result.now ≡ self.now.policies }
+        ensures needed { do_need_someone self.now.policies ≡ true }
+    {
+        &self.policies
+    }
+
+    /// The organisation of this name.
+    pub fn organisation(&self, name: &OrgName) -> Option<&Organisation>
+        ensures { option_map (λ o. o.now) result ≡ find (is_org name.now) self.now.orgs }
+    {
+        self.organisations.iter().find(|o| o.is_named(name))
+    }
+
+    /// The policy of this chaincode.
+    pub fn policy(&self, chaincode: &Name) -> Option<&ChaincodePolicy>
+        ensures { option_map (λ p. p.now) result ≡ find (is_policy_of chaincode.now) self.now.policies }
+    {
+        self.policies.iter().find(|p| p.is_of(chaincode))
+    }
+
+    /// The key of an organisation. An unknown one has the empty key.
+    pub fn key(&self, org: &OrgName) -> &[u8]
+        ensures { result.now ≡ key_of self.now.orgs org.now }
+    {
+        match self.organisation(org) {
+            Some(organisation) => organisation.key.as_slice(),
+            None => &[],
+        }
+    }
+
+    /// Whether the organisation that an endorsement names is known, and the tag is its tag on these
+    /// bytes.
+    pub(crate) fn is_tag(&self, endorsement: &Endorsement, bytes: &[u8]) -> bool
+        ensures { result ≡ is_tag_of (find (is_org endorsement.now.org) self.now.orgs) bytes.now endorsement.now.tag }
+    {
+        match self.organisation(&endorsement.org) {
+            Some(organisation) => {
+                hmac_tag::check(organisation.key.as_slice(), bytes, &endorsement.tag)
+            }
+            None => false,
+        }
+    }
+}
+
+impl Organisation {
+    fn is_named(&self, name: &OrgName) -> bool
+        ensures { result ≡ is_org name.now self.now }
+    {
+        self.name.as_slice() == name.as_slice()
+    }
+}
+
+impl ChaincodePolicy {
+    fn is_of(&self, chaincode: &Name) -> bool
+        ensures { result ≡ is_policy_of chaincode.now self.now }
+    {
+        self.chaincode.as_slice() == chaincode.as_slice()
+    }
+
+    /// Whether the policy needs at least one endorsement.
+    fn needs_someone(&self) -> bool
+        ensures { result ≡ needs_someone self.now.policy }
+    {
+        !is_satisfied_by(&self.policy, &[])
+    }
+}
