@@ -10,21 +10,10 @@ use Rattle.fab_types.specs.declared.items.RangeEntry.{RangeEntry}
 use Rattle.ledger_model.specs.Chain.{Bytes, Version}
 use Rattle.ledger_model.specs.Views.{Versioned, within, first}
 use Rattle.ledger_model.specs.Flags.{entry_of, entries_at}
+use Rattle.ledger_model.proofs.Sorted.{both, and_first, and_second, sorted_filter}
 
 abbrev Entry : Type 0
 Entry = Bytes × (Bytes × Version)
-
-and_first : (a b : Bool) → T (a && b) → T a
-and_first true b h = tt
-and_first false b h = h
-
-and_second : (a b : Bool) → T (a && b) → T b
-and_second true b h = h
-and_second false b h = absurd h
-
-both : (a b : Bool) → T a → T b → T (a && b)
-both true b h k = k
-both false b h k = absurd h
 
 is_true : (b : Bool) → T b → b ≡ true
 is_true true h = refl
@@ -33,18 +22,6 @@ is_true false h = absurd h
 join : (a b : Bool) → a ≡ true → b ≡ true → (a && b) ≡ true
 join true b e f = f
 join false b e f = cc
-
-below-filter : (p : Entry → Bool) (k : Bytes) (es : List Entry) → T (below_all key_cmp k es) → T (below_all key_cmp k (filter p es))
-below-filter p k [] h = tt
-below-filter p k (e ∷ es) h =
-    let rest = below-filter p k es (and_second _ _ h) in
-    elim (p e) as (λ b. T (below_all key_cmp k (cond b (e ∷ filter p es) (filter p es)))) [ true ↦ both _ _ (and_first _ _ h) rest | false ↦ rest ]
-
-sorted-filter : (p : Entry → Bool) (es : List Entry) → T (is_sorted key_cmp es) → T (is_sorted key_cmp (filter p es))
-sorted-filter p [] h = tt
-sorted-filter p (e ∷ es) h =
-    let rest = sorted-filter p es (and_second _ _ h) in
-    elim (p e) as (λ b. T (is_sorted key_cmp (cond b (e ∷ filter p es) (filter p es)))) [ true ↦ both _ _ (below-filter p e.0 es (and_first _ _ h)) rest | false ↦ rest ]
 
 below-take : (n : ℕ) (k : Bytes) (es : List Entry) → T (below_all key_cmp k es) → T (below_all key_cmp k (take n es))
 below-take zero k es h = tt
@@ -82,6 +59,6 @@ is_range m start end n lo hi = record {
   least = lo;
   greatest = hi;
   count = length-first n (within start end (entries m));
-  order = ascends (take n (within start end (entries m))) (sorted-take n _ (sorted-filter (λ (e : Entry). is_within start end e.0) (entries m) (entries_sorted m)));
+  order = ascends (take n (within start end (entries m))) (sorted-take n _ (sorted_filter (λ (e : Entry). is_within start end e.0) (entries m) (entries_sorted m)));
   held = held-filter start end n (entries m);
 }

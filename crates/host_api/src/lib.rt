@@ -22,8 +22,6 @@ mod memory;
 mod plain_map;
 mod ranges;
 mod recorder;
-#[cfg(test)]
-mod tests;
 mod view;
 
 pub use plain_map::PlainMap;

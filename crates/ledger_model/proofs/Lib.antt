@@ -1,4 +1,5 @@
 pub mod Keys
+pub mod Sorted
 pub mod Views
 pub mod State
 pub mod Histories
@@ -6,7 +7,7 @@ pub mod Versions
 pub mod Alike
 pub mod Facts
 pub mod Checks
-pub mod Flagged
 pub mod Steps
 pub mod Reruns
 pub mod Judged
+pub mod Kept

@@ -3,16 +3,18 @@
 ghost use Rattle.std.specs.Prelude.{◌≡◌, IfOk, List, length};
 ghost use Rattle.ledger_model.specs.Chain.{Placed, history, is_valid};
 ghost use Rattle.ledger_model.specs.State.{state};
-ghost use Rattle.ledger_model.specs.Flags.{flag_by_versions, flags_told};
-ghost use Rattle.mvcc_validate.specs.Overlay.{IsOver};
+ghost use Rattle.ledger_model.specs.Flags.{stands_in, flag_at, flags_told};
+ghost use Rattle.wire.specs.Ids.{id_of};
+ghost use Rattle.mvcc_validate.specs.Overlay.{AreNewIds, IsOver};
 
 use crate::overlay::{Written, put_writes};
 use crate::phantoms::are_ranges_current;
 use crate::reads::are_reads_current;
 use fab_types::{Block, Flag, Payload, Version};
 use std::alloc::{AllocError, Global};
-use std::collections::BTreeMap;
-use world_state::Snapshot;
+use std::collections::{BTreeMap, BTreeSet};
+use wire::tx_id;
+use world_state::{Snapshot, TxIds, add_id, is_known};
 
 fn is_valid(flag: Flag) -> bool
     ensures { result ≡ is_valid flag }
@@ -20,16 +22,29 @@ fn is_valid(flag: Flag) -> bool
     matches!(flag, Flag::Valid)
 }
 
-/// The flag of the transaction that comes next.
+/// Whether an id stands in the chain or in the block so far.
+fn is_duplicate(snapshot: &Snapshot, ids: &TxIds, id: &[u8; 32]) -> bool
+    ensures { (earlier : List Placed) → AreNewIds ids.now.keys (history snapshot.now) earlier → result ≡ stands_in id_of earlier id.now }
+{
+    snapshot.has_tx(id) || is_known(ids, id)
+}
+
+/// The flag of the transaction that comes next, which has this id.
 fn flag_of(
     alloc: Global,
     snapshot: &Snapshot,
+    ids: &TxIds,
     written: &Written,
+    id: &[u8; 32],
     endorsed: bool,
     payload: &Payload,
 ) -> Result<Flag, AllocError>
-    ensures { IfOk result (λ flag. (earlier : List Placed) → IsOver written.now.entries (state (history snapshot.now)) (state earlier) → flag ≡ flag_by_versions earlier endorsed payload.now) }
+    requires id { id.now ≡ id_of payload.now.proposal }
+    ensures { IfOk result (λ flag. (earlier : List Placed) → AreNewIds ids.now.keys (history snapshot.now) earlier → IsOver written.now.entries (state (history snapshot.now)) (state earlier) → flag ≡ flag_at id_of earlier endorsed payload.now) }
 {
+    if is_duplicate(snapshot, ids, id) {
+        return Ok(Flag::DuplicateTxid);
+    }
     if !endorsed {
         return Ok(Flag::EndorsementPolicyFailure);
     }
@@ -46,6 +61,7 @@ fn flag_of(
 /// whether its chaincode is known and its policy satisfied. A flag is the first of these that applies on
 /// the state to which all earlier VALID transactions were applied, those of this block included:
 ///
+/// - `DuplicateTxid`: its id stands earlier in the chain or in this block, whatever flag is there.
 /// - `EndorsementPolicyFailure`: it is not endorsed.
 /// - `MvccReadConflict`: a key that it read has another version, or is absent, or is not absent any more.
 /// - `PhantomReadConflict`: a range that it read has other first keys, up to its limit, or other versions.
@@ -57,15 +73,26 @@ pub fn flags(
     endorsed: &[bool],
 ) -> Result<Vec<Flag>, AllocError>
     requires one_each { length endorsed.now ≡ length block.now.envelopes }
-    ensures { IfOk result (λ v. v.items ≡ flags_told flag_by_versions (history snapshot.now) block.now.header.number 0 block.now.envelopes endorsed.now) }
+    ensures { IfOk result (λ v. v.items ≡ flags_told id_of (history snapshot.now) block.now.header.number 0 block.now.envelopes endorsed.now) }
 {
     let number = block.header.number.get();
     let envelopes = block.envelopes.as_slice();
+    let mut ids: TxIds = BTreeSet::new(alloc);
     let mut written: Written = BTreeMap::new(alloc);
     let mut flags = Vec::new(alloc);
     for (place, envelope) in envelopes.iter().enumerate() {
         let payload = &envelope.payload;
-        let flag = flag_of(alloc, snapshot, &written, endorsed[place], payload)?;
+        let id = tx_id(alloc, &payload.proposal)?;
+        let flag = flag_of(
+            alloc,
+            snapshot,
+            &ids,
+            &written,
+            &id,
+            endorsed[place],
+            payload,
+        )?;
+        add_id(&mut ids, id)?;
         if is_valid(flag) {
             let version = Version::new(number, place as u32).unwrap();
             put_writes(&mut written, payload.writes.as_slice(), version)?;

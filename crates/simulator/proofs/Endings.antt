@@ -98,6 +98,7 @@ answers wanted (Err refusal.UnknownChaincode) e = e
 answers wanted (Err (refusal.Trapped kind used)) e = e
 answers wanted (Err refusal.Spent) e = e
 answers wanted (Err (refusal.Status n)) e = e
+answers wanted (Err refusal.Stale) e = e
 
 -- where no chaincode has the name
 pub unknown_is : {X : Type 0} (of : ledger.Outcome → X) (book : List Chaincode) (p : Proposal) (m : Plain) → None ≡ chaincode_at book p.chaincode → let e = exec_of book p m in done_or_refusal e.ending (of e) ≡ Err refusal.UnknownChaincode

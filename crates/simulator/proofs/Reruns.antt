@@ -100,6 +100,7 @@ answers_told wanted (Err refusal.UnknownChaincode) h = ap told_in h
 answers_told wanted (Err (refusal.Trapped kind used)) h = ap told_in h
 answers_told wanted (Err refusal.Spent) h = ap told_in h
 answers_told wanted (Err (refusal.Status n)) h = ap told_in h
+answers_told wanted (Err refusal.Stale) h = ap told_in h
 
 pub rerun_answers : (book : List Chaincode) (p : Proposal) (m : Versioned) (result : Result Parts SimRefusal) → let o = exec_of book p (values_of m) in Answers (done_or_refusal o.ending (parts_of m o.seen)) result → Answers (rerun_or_refusal o) (told_in result)
 rerun_answers book p m result h =

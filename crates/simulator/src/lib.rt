@@ -9,8 +9,6 @@ mod book;
 mod laws;
 mod refusal;
 mod simulation;
-#[cfg(test)]
-mod tests;
 
 pub use book::{Book, Chaincode};
 pub use laws::reads_alone;

@@ -19,12 +19,15 @@ pub enum SimRefusal {
     Spent,
     /// The execution returned this status, which is not 0.
     Status(u32),
+    /// Something that the payload read is not as it was. A simulation never answers it; a recheck on a newer
+    /// state does.
+    Stale,
     /// Want of memory.
     Memory,
 }
 
 impl SimRefusal {
-    /// The number by which the program names the refusal: 401 to 404, or 9 for want of memory.
+    /// The number by which the program names the refusal: 401 to 405, or 9 for want of memory.
     pub fn number(self) -> u16
         ensures { result ≡ refusal_number self }
     {
@@ -33,6 +36,7 @@ impl SimRefusal {
             SimRefusal::Trapped { .. } => 402,
             SimRefusal::Spent => 403,
             SimRefusal::Status(_) => 404,
+            SimRefusal::Stale => 405,
             SimRefusal::Memory => 9,
         }
     }

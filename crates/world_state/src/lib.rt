@@ -1,17 +1,16 @@
 //! `Snapshot`: the blocks of a chain with their flags, and the state after them.
 //!
 //! Contracts see a snapshot as its chain. What it answers of a key is what the last VALID writer in
-//! that chain left there, with that writer's version: this is the invariant of its map. A snapshot
-//! never changes; a longer chain is a new one, which shares the blocks.
+//! that chain left there, with that writer's version: this is the invariant of its map. It also keeps the
+//! ids of the chain's transactions. A snapshot never changes; a longer chain is a new one, which shares the blocks.
 #![tactic(auto)]
 
+mod ids;
 mod ranges;
 mod snapshot;
 mod writes;
 
+pub use ids::{TxIds, add_id, is_known};
 pub use ranges::{first_entries, range_of};
 pub use snapshot::Snapshot;
 pub use writes::StateMap;
-
-#[cfg(test)]
-mod tests;

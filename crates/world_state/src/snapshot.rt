@@ -7,14 +7,17 @@ ghost use Rattle.std.specs.Map.Iter.{deref_pair};
 ghost use Rattle.ledger_model.specs.Chain.{history};
 ghost use Rattle.ledger_model.specs.Views.{key_cmp, first, within};
 ghost use Rattle.ledger_model.specs.State.{state, state_at};
+ghost use Rattle.wire.specs.Ids.{id_of};
+ghost use Rattle.ledger_model.specs.Flags.{stands_in};
 ghost use Rattle.world_state.specs.Shared.{blocks_in};
 
+use crate::ids::{TxIds, add_ids, is_known};
 use crate::ranges::{first_entries, range_of};
 use crate::writes::{StateMap, apply_block};
 use fab_types::{Block, Bound, CommittedBlock, Flag, Key, Value, Version};
 use std::alloc::{AllocError, Global};
-use std::collections::BTreeMap;
 use std::collections::btree_map::Range;
+use std::collections::{BTreeMap, BTreeSet};
 use std::marker::Model;
 use std::sync::Arc;
 
@@ -34,10 +37,13 @@ fn all_entries(
 pub struct Snapshot {
     blocks: Vec<Arc<CommittedBlock>>,
     map: StateMap,
+    ids: TxIds,
 }
 
 impl Model for Snapshot {
     ghost use Rattle.ledger_model.specs.Chain.{Chain};
+    ghost use Rattle.wire.specs.Ids.{id_of};
+    ghost use Rattle.ledger_model.specs.Flags.{stands_in};
     ghost use Rattle.world_state.specs.Shared.{blocks_in};
     ghost use Rattle.world_state.specs.Inside.{IsRight};
 
@@ -45,7 +51,7 @@ impl Model for Snapshot {
 
     ghost view = { λ s. blocks_in s.blocks.items };
 
-    ghost invariant = { λ s. IsRight (blocks_in s.blocks.items) s.map.entries };
+    ghost invariant = { λ s. IsRight (blocks_in s.blocks.items) s.map.entries s.ids.keys };
 }
 
 impl Snapshot {
@@ -56,6 +62,7 @@ impl Snapshot {
         Snapshot {
             blocks: Vec::new(alloc),
             map: BTreeMap::new(alloc),
+            ids: BTreeSet::new(alloc),
         }
     }
 
@@ -83,6 +90,13 @@ impl Snapshot {
             Some(entry) => Some((&entry.0, entry.1)),
             None => None,
         }
+    }
+
+    /// Whether a transaction of this id is in the chain, whatever its flag. It takes no memory.
+    pub fn has_tx(&self, id: &[u8; 32]) -> bool
+        ensures { result ≡ stands_in id_of (history self.now) id.now }
+    {
+        is_known(&self.ids, id)
     }
 
     /// Each key of the state with its value and version, in key order.
@@ -132,8 +146,10 @@ impl Snapshot {
     {
         let mut blocks = self.blocks.clone()?;
         let mut map = self.map.clone()?;
+        let mut ids = self.ids.clone()?;
         apply_block(&mut map, &block, &flags)?;
+        add_ids(alloc, &mut ids, &block)?;
         blocks.push(Arc::new(alloc, CommittedBlock::new(block, flags))?)?;
-        Ok(Snapshot { blocks, map })
+        Ok(Snapshot { blocks, map, ids })
     }
 }

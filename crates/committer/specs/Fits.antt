@@ -1,0 +1,30 @@
+-- Which block fits at the end of a chain.
+use Rattle.std.specs.Prelude.{◌≡◌, ◌≢◌, ◌<◌, List, map, length}
+use Rattle.sha2.specs.Sha256.{sha256}
+use Rattle.fab_types.specs.declared.block.Block.{Block}
+use Rattle.wire.specs.Spelling.{data_bytes}
+use Rattle.wire.specs.Links.{next_link, next_number}
+use Rattle.ledger_model.specs.Chain.{Chain}
+use Rattle.committer.specs.declared.refusal.CommitRefusal.{CommitRefusal}
+use Rattle.committer.specs.declared.refusal.CommitRefusal.TheVariants.{Number, PreviousHash, DataHash, AtEnd, OutOfMemory}
+
+-- the blocks without their flags
+abbrev pub blocks_of : Chain → List Block
+blocks_of chain = map (λ c. c.block) chain
+
+-- there is room, and the block has the next number, names the hash of the last header, and says the hash of its data
+pub record Fits (blocks : List Block) (block : Block) : Type 0 where
+  pub room : length blocks < 65535
+  pub number : block.header.number ≡ next_number blocks
+  pub previous_hash : block.header.previous_hash ≡ next_link blocks
+  pub data_hash : block.header.data_hash ≡ sha256 (data_bytes block.envelopes)
+
+-- the first of these tests that fails
+abbrev pub IsRefused : CommitRefusal → List Block → Block → Type 0
+IsRefused AtEnd blocks block = length blocks ≡ 65535
+IsRefused Number blocks block = (length blocks < 65535) × (block.header.number ≢ next_number blocks)
+IsRefused PreviousHash blocks block =
+    (length blocks < 65535) × (block.header.number ≡ next_number blocks) × (block.header.previous_hash ≢ next_link blocks)
+IsRefused DataHash blocks block =
+    (length blocks < 65535) × (block.header.number ≡ next_number blocks) × (block.header.previous_hash ≡ next_link blocks) × (block.header.data_hash ≢ sha256 (data_bytes block.envelopes))
+IsRefused OutOfMemory blocks block = Unit {0}

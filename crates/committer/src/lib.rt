@@ -1,0 +1,10 @@
+//! Commits: a block is tested to be the next one of a chain, its transactions get their flags, and it joins the chain.
+#![tactic(auto)]
+
+mod commit;
+mod refusal;
+mod replay;
+
+pub use commit::commit_on;
+pub use refusal::CommitRefusal;
+pub use replay::Replay;

@@ -1,0 +1,25 @@
+//! Tags that peers put on payloads.
+
+ghost use Rattle.std.specs.Prelude.{◌≡◌, IfOk};
+ghost use Rattle.endorsement_policy.specs.Endorsed.{sealed};
+
+use fab_types::{Endorsement, OrgName, Payload};
+use std::alloc::{AllocError, Global};
+use wire::encode_payload;
+
+/// An organisation's endorsement of a payload: its tag under this key on the payload's bytes. The error is
+/// of memory.
+pub fn seal(
+    alloc: Global,
+    org: &OrgName,
+    key: &[u8],
+    payload: &Payload,
+) -> Result<Endorsement, AllocError>
+    ensures { IfOk result (λ e. e ≡ sealed org.now key.now payload.now) }
+{
+    let bytes = encode_payload(alloc, payload)?;
+    Ok(Endorsement {
+        org: org.clone()?,
+        tag: hmac_tag::tag(key, &bytes),
+    })
+}
