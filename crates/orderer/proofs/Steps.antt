@@ -1,0 +1,27 @@
+-- One batch more.
+use Rattle.std.proofs.Common.{◌≡◌, ℕ, ◌≤◌, ◌++◌, List, [], ◌∷◌, length, Some, None, refl, ap, arith}
+use Rattle.std.proofs.lemmas.List.{length-append}
+use Rattle.fab_types.specs.declared.envelope.Envelope.{Envelope}
+use Rattle.fab_types.specs.declared.block.Block.{Block}
+use Rattle.orderer.specs.Plans.{picked}
+use Rattle.orderer.specs.Adding.{IsBatchRefused}
+use Rattle.orderer.specs.declared.plan.AbortCause.{AbortCause}
+use Rattle.orderer.specs.declared.report.BatchReport.{BatchReport}
+use Rattle.orderer.specs.declared.report.OrderCause.TheVariants.{NoNumber}
+use Rattle.orderer.specs.Blocks.{next_block, next_number, with_batch, number_of}
+
+pub nothing : (chain : List Block) (es : List Envelope) → es ≡ [] → (with_batch chain es ≡ chain) × (number_of chain es ≡ None)
+nothing chain es none = rw none (refl, refl)
+
+pub something : (chain : List Block) (es : List Envelope) → 1 ≤ length es → (with_batch chain es ≡ chain ++ next_block chain es ∷ []) × (number_of chain es ≡ Some (next_number chain))
+something chain [] some = absurd omega (arith, some)
+something chain (e ∷ es) some = (refl, refl)
+
+-- a batch that needs a block after the last number
+pub needs_one : (plans : List Envelope → List ℕ → List (ℕ × AbortCause) → Type 0) (old : List Block) (batch : List Envelope) (order : List ℕ) (aborted : List (ℕ × AbortCause))
+    → plans batch order aborted → 1 ≤ length (picked batch order) → length old ≡ 65535 → IsBatchRefused plans NoNumber old batch
+needs_one plans old batch order aborted planned some full =
+    let es = picked batch order in
+    let report : BatchReport = record { block = number_of old es; aborted = aborted } in
+    let block = something old es some in
+    (report, with_batch old es, (record { order = order; planned = planned; chain = refl; number = refl }), omega (arith, full, ap length block.0, length-append old (next_block old es ∷ [])))

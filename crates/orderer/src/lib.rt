@@ -1,0 +1,14 @@
+//! The orderer: it cuts envelopes into batches, thins and orders each batch where that is asked for, and makes a chain of
+//! blocks of them, each linked to the one before by its hash.
+#![tactic(auto)]
+
+mod chain;
+mod laws;
+mod orderer;
+mod plan;
+mod report;
+
+pub use laws::ordering_laws;
+pub use orderer::Orderer;
+pub use plan::AbortCause;
+pub use report::{BatchReport, OrderCause, OrderRefusal};

@@ -1,0 +1,143 @@
+//! The keys that a batch writes, in key order.
+
+ghost use Rattle.std.specs.Prelude.{◌≡◌, ℕ, ◌≤◌, ◌<◌, ◌||◌, ◌&&◌, not, ◌==◌, ◌++◌, true, false, map, length, slice_index_or, IfOk, OnOk};
+ghost use Rattle.std.specs.List.{All, list_any};
+ghost use Rattle.std.specs.List.Sorted.{IsPermutation, IsSortedByKey, IsPartitionPoint};
+ghost use Rattle.std.specs.Ordering.{is_lt, is_le};
+ghost use Rattle.fab_types.specs.Order.{key_cmp, is_within};
+ghost use Rattle.fab_types.specs.Touched.{same_key, sees};
+ghost use Rattle.reorder.specs.Written.{written_by, written_from, as_pair, key_of, hits};
+
+use fab_types::{Envelope, Key, Payload, RangeItem, ReadItem, WriteItem};
+use std::alloc::{AllocError, Global};
+
+/// A key that a transaction writes.
+#[derive(Drop)]
+pub struct Written<'a> {
+    pub key: &'a Key,
+    pub writer: usize,
+}
+
+/// Adds the writes of one transaction.
+fn add_writes<'a>(
+    index: &mut Vec<Written<'a>>,
+    writes: &'a [WriteItem],
+    writer: usize,
+) -> Result<(), AllocError>
+    ensures { OnOk result (map as_pair index.new.items ≡ map as_pair index.old.items ++ written_by writer writes.now) }
+{
+    for write in writes {
+        index.push(Written {
+            key: &write.key,
+            writer,
+        })?;
+    }
+    Ok(())
+}
+
+/// The writes of a batch, in key order.
+pub fn writes_of<'a>(alloc: Global, batch: &'a [Envelope]) -> Result<Vec<Written<'a>>, AllocError>
+    ensures all { IfOk result (λ v. IsPermutation (written_from 0 batch.now) (map as_pair v.items)) }
+    ensures sorted { IfOk result (λ v. IsSortedByKey key_of key_cmp v.items) }
+    ensures inside { IfOk result (λ v. All (λ w. w.writer < length batch.now) v.items) }
+{
+    let mut index = Vec::new(alloc);
+    for (writer, envelope) in batch.iter().enumerate() {
+        add_writes(&mut index, envelope.payload.writes.as_slice(), writer)?;
+    }
+    index.sort_unstable_by(|a, b| a.key.cmp(b.key));
+    Ok(index)
+}
+
+/// Where the keys from a bound on begin.
+fn first_from(index: &[Written<'_>], bound: &[u8]) -> usize
+    requires { IsSortedByKey key_of key_cmp index.now }
+    ensures within { result ≤ length index.now }
+    ensures point { IsPartitionPoint (λ w. is_lt (key_cmp w.key.now bound.now) ≡ true) (λ w. is_lt (key_cmp w.key.now bound.now) ≡ false) index.now result }
+{
+    index.partition_point(|w| w.key.as_slice().cmp(bound).is_lt())
+}
+
+/// Where the keys after a bound begin.
+fn first_after(index: &[Written<'_>], bound: &[u8]) -> usize
+    requires { IsSortedByKey key_of key_cmp index.now }
+    ensures within { result ≤ length index.now }
+    ensures point { IsPartitionPoint (λ w. is_le (key_cmp w.key.now bound.now) ≡ true) (λ w. is_le (key_cmp w.key.now bound.now) ≡ false) index.now result }
+{
+    index.partition_point(|w| w.key.as_slice().cmp(bound).is_le())
+}
+
+/// Marks the writers of a stretch.
+fn mark(row: &mut [bool], stretch: &[Written<'_>])
+    requires { All (λ w. w.writer < length row.old) stretch.now }
+    ensures { (j : ℕ) → slice_index_or row.new j false ≡ (slice_index_or row.old j false || list_any (λ w. w.writer == j) stretch.now) }
+{
+    for written in stretch {
+        row[written.writer] = true;
+    }
+}
+
+/// Marks the writers of a key.
+fn mark_key(row: &mut [bool], index: &[Written<'_>], key: &Key)
+    requires inside { All (λ w. w.writer < length row.old) index.now }
+    requires sorted { IsSortedByKey key_of key_cmp index.now }
+    ensures { (j : ℕ) → slice_index_or row.new j false ≡ (slice_index_or row.old j false || hits (λ k. same_key key.now k) index.now j) }
+{
+    let first = first_from(index, key.as_slice());
+    let end = first_after(index, key.as_slice());
+    if first < end {
+        mark(row, &index[first..end]);
+    }
+}
+
+/// Marks the writers of the keys that a range holds.
+fn mark_range(row: &mut [bool], index: &[Written<'_>], range: &RangeItem)
+    requires inside { All (λ w. w.writer < length row.old) index.now }
+    requires sorted { IsSortedByKey key_of key_cmp index.now }
+    ensures { (j : ℕ) → slice_index_or row.new j false ≡ (slice_index_or row.old j false || hits (λ k. is_within range.now.start range.now.end k) index.now j) }
+{
+    let bound = range.end().as_slice();
+    let first = first_from(index, range.start().as_slice());
+    let end = if bound.is_empty() {
+        index.len()
+    } else {
+        first_from(index, bound)
+    };
+    if first < end {
+        mark(row, &index[first..end]);
+    }
+}
+
+/// Marks the writers of the keys that were read.
+fn mark_reads(row: &mut [bool], index: &[Written<'_>], reads: &[ReadItem])
+    requires inside { All (λ w. w.writer < length row.old) index.now }
+    requires sorted { IsSortedByKey key_of key_cmp index.now }
+    ensures { (j : ℕ) → slice_index_or row.new j false ≡ (slice_index_or row.old j false || hits (λ k. list_any (λ r. same_key r.key k) reads.now) index.now j) }
+{
+    for read in reads {
+        mark_key(row, index, &read.key);
+    }
+}
+
+/// Marks the writers of the keys that the ranges hold.
+fn mark_ranges(row: &mut [bool], index: &[Written<'_>], ranges: &[RangeItem])
+    requires inside { All (λ w. w.writer < length row.old) index.now }
+    requires sorted { IsSortedByKey key_of key_cmp index.now }
+    ensures { (j : ℕ) → slice_index_or row.new j false ≡ (slice_index_or row.old j false || hits (λ k. list_any (λ r. is_within r.start r.end k) ranges.now) index.now j) }
+{
+    for range in ranges {
+        mark_range(row, index, range);
+    }
+}
+
+/// Marks the other transactions of which one sees a write.
+pub fn mark_row(row: &mut [bool], index: &[Written<'_>], payload: &Payload, from: usize)
+    requires inside { All (λ w. w.writer < length row.old) index.now }
+    requires sorted { IsSortedByKey key_of key_cmp index.now }
+    requires from_in { from < length row.old }
+    ensures { (j : ℕ) → slice_index_or row.new j false ≡ (not (from == j) && (slice_index_or row.old j false || hits (sees payload.now) index.now j)) }
+{
+    mark_reads(row, index, payload.reads.as_slice());
+    mark_ranges(row, index, payload.ranges.as_slice());
+    row[from] = false;
+}
