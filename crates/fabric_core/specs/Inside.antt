@@ -1,10 +1,13 @@
 -- The world that a system's fields stand for, and what is true of them.
-use Rattle.std.specs.Prelude.{◌≡◌, ◌≤◌, ℕ, List, Option, Some, None, map, option_map, length}
+use Rattle.std.specs.Prelude.{◌≡◌, ℕ, List, Option, Some, None, map, option_map, length}
 use Rattle.std.specs.List.{AllByRecursion}
+use Rattle.fab_types.specs.declared.block.Block.{Block}
+use Rattle.orderer.specs.Ordering.{Ordering}
 use Rattle.ledger_model.specs.Chain.{Envelope, Chain}
 use Rattle.ledger_model.specs.Execution.{Exec}
 use Rattle.simulator.specs.declared.book.Chaincode.{Chaincode}
-use Rattle.fabric_core.specs.Rule.{every_endorsed}
+use Rattle.endorsement_policy.specs.Endorsed.{Listed}
+use Rattle.fabric_core.specs.Rule.{table_of, seal_of}
 use Rattle.fabric_core.specs.System.{Rules, Noted, PeerState, World, chain_of_first}
 use Rattle.fabric_core.specs.declared.peer.Begun.{Begun}
 use Rattle.fabric_core.specs.declared.peer.Peer.{Peer}
@@ -12,12 +15,13 @@ use Rattle.fabric_core.specs.declared.peer.Peer.{Peer}
 -- what a system is seen as
 pub record State : Type 0 where
   pub book : List Chaincode
+  pub rules : Listed
   pub capacity : ℕ
   pub world : World
 
--- the rules with these chaincodes and this queue, by which each envelope is endorsed
-abbrev pub rules_of : Exec → ℕ → Rules
-rules_of exec capacity = record { exec = exec; rule = every_endorsed; capacity = capacity }
+-- the rules with these chaincodes, organisations and policies, and this queue
+abbrev pub rules_of : Exec → Listed → ℕ → Rules
+rules_of exec listed capacity = record { exec = exec; rule = table_of listed; seal = seal_of listed; capacity = capacity }
 
 abbrev pub noted : Begun → Noted
 noted b = record { proposal = b.proposal; height = length b.snapshot.value }
@@ -26,10 +30,10 @@ abbrev pub seats_of : List (Option Begun) → List (Option Noted)
 seats_of seats = map (option_map noted) seats
 
 abbrev pub peer_of : Peer → PeerState
-peer_of p = record { height = length p.snapshot.value; seats = seats_of p.seats.items }
+peer_of p = record { org = p.org; height = length p.snapshot.value; seats = seats_of p.seats.items }
 
-abbrev pub world_of : List Peer → List Envelope → List Envelope → World
-world_of peers queue taken = record { peers = map peer_of peers; queue = queue; taken = taken }
+abbrev pub world_of : List Peer → List Envelope → Ordering → World
+world_of peers queue orderer = record { peers = map peer_of peers; queue = queue; orderer = orderer }
 
 -- a chain is the first blocks, where `chain n` is the first n
 abbrev pub IsFirst : (ℕ → Chain) → Chain → Type 0
@@ -44,6 +48,6 @@ pub record IsPeerRight (chain : ℕ → Chain) (p : Peer) : Type 0 where
   pub kept : IsFirst chain p.snapshot.value
   pub seats : AllByRecursion (IsSeatRight chain) p.seats.items
 
-pub record IsRight (peers : List Peer) (taken : List Envelope) : Type 0 where
-  pub blocks : length taken ≤ 65535
-  pub each : AllByRecursion (IsPeerRight (chain_of_first every_endorsed taken)) peers
+-- so it is with all peers
+abbrev pub IsRight : Listed → List Peer → List Block → Type 0
+IsRight listed peers blocks = AllByRecursion (IsPeerRight (chain_of_first (table_of listed) blocks)) peers

@@ -1,7 +1,16 @@
--- The rule by which a peer judges.
-use Rattle.std.specs.Prelude.{true}
-use Rattle.ledger_model.specs.Judged.{Rule, by_versions}
+-- The rule by which a peer judges, and what it puts on a payload.
+use Rattle.std.specs.Prelude.{List}
+use Rattle.fab_types.specs.declared.payload.Payload.{Payload}
+use Rattle.fab_types.specs.declared.envelope.Endorsement.{Endorsement}
+use Rattle.wire.specs.Ids.{id_of}
+use Rattle.endorsement_policy.specs.Endorsed.{Listed, is_endorsed, sealed, key_of}
+use Rattle.ledger_model.specs.Chain.{Bytes}
+use Rattle.ledger_model.specs.Judged.{Rule, by_table}
 
--- no chaincode has a policy yet, so each envelope is endorsed
-abbrev pub every_endorsed : Rule
-every_endorsed = by_versions (λ e. true)
+-- the table, where the genesis lists the organisations and policies
+abbrev pub table_of : Listed → Rule
+table_of listed = by_table id_of (is_endorsed listed)
+
+-- the tag of an organisation under its key
+abbrev pub seal_of : Listed → Bytes → Payload → Endorsement
+seal_of listed org p = sealed org (key_of listed.orgs org) p

@@ -1,6 +1,7 @@
 //! What can happen to a system, and what it replies.
 
-use fab_types::{Envelope, Flag, Payload, Proposal};
+use fab_types::{Endorsement, Envelope, Flag, Payload, Proposal};
+use orderer::BatchReport;
 use seq::Seq;
 use simulator::SimRefusal;
 use std::alloc::AllocError;
@@ -23,6 +24,8 @@ pub enum Event {
     Submit(Envelope),
     /// The orderer takes the front of the queue.
     Take,
+    /// The orderer's timeout.
+    Tick,
     /// A peer commits its next block.
     Commit {
         peer: usize,
@@ -51,6 +54,7 @@ impl Clone for Event {
             },
             Event::Submit(envelope) => Event::Submit(envelope.clone()?),
             Event::Take => Event::Take,
+            Event::Tick => Event::Tick,
             Event::Commit { peer } => Event::Commit { peer: *peer },
         })
     }
@@ -67,20 +71,25 @@ pub enum Reply {
     Begun(usize),
     /// Finish: nothing was begun at the seat (453).
     NothingBegun,
-    /// Finish: the simulation gave no payload (401 to 404).
+    /// Finish: the simulation gave no payload (401 to 404), or something that the payload read is not as it is
+    /// in the peer's newest state (405).
     Refused(SimRefusal),
-    /// Finish: the payload of the simulation.
-    Endorsed(Payload),
+    /// Finish: the payload of the simulation, with the tag of the peer's organisation.
+    Endorsed(Payload, Endorsement),
     /// Submit: the envelope stands last in the queue.
     Queued,
     /// Submit: the queue is full (411).
     QueueFull,
-    /// Take: the queue is empty. Commit: the peer has all blocks.
+    /// Take: the queue is empty. Tick: no envelope waits. Commit: the peer has all blocks.
     Nothing,
-    /// Take: the envelope is the block of this number.
-    Ordered(usize),
-    /// Take: there are 65,535 blocks (422). The envelope is handed back.
-    NoBlockLeft(Envelope),
+    /// Take: the orderer has the envelope. The batches that it ended, and their blocks.
+    Ordered(Seq<BatchReport>),
+    /// Tick: the batch that the timeout ended, and its block.
+    Cut(BatchReport),
+    /// Take: the envelope is above the absolute size (421). It is handed back.
+    TooLarge(Envelope),
+    /// Take, Tick: a block would be needed past the last number (422). A taken envelope is handed back.
+    NoBlockLeft(Option<Envelope>),
     /// Commit: the block is on the peer's chain, with these flags.
     Committed(Seq<Flag>),
 }

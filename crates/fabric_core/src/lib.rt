@@ -1,28 +1,28 @@
 //! The ledger as a pure state machine over events.
 //!
 //! A `System` is peers with seats, a queue and an orderer. Each event replies and leaves what
-//! `specs/System.antt` says of an abstract world of heights, seats, the queue and what was taken: contracts
+//! `specs/System.antt` says of an abstract world of heights, seats, the queue and the orderer: contracts
 //! see a system as that world. `run` is a run of those steps, and on it stands the theorem of the ledger:
-//! where each VALID payload was handed out by a Finish of the run, each VALID transaction, executed again
-//! alone on the plain state just before its place, makes the same reads, result and writes, and each peer's
-//! state is that of this serial run. `audit` tests that of one chain.
+//! where of each VALID transaction a right tag was handed out by a finish of the run, for this very payload,
+//! each VALID transaction, executed again alone on the plain state just before its place, makes the same
+//! reads, result and writes, and each peer's state is that of this serial run. `audit` tests that of one
+//! chain.
 //!
-//! Chaincode is run by `simulator`, and blocks are judged by `mvcc_validate`. Today no chaincode has a
-//! policy, so each envelope is endorsed; each envelope that is taken is a block of its own, and no hash links
-//! the blocks.
+//! Chaincode is run by `simulator`, payloads are rechecked and sealed by `endorser`, envelopes are checked by
+//! `endorsement_policy`, ordered by `orderer`, and blocks committed by `committer`.
 #![tactic(auto)]
 
 mod auditing;
+mod committing;
 mod event;
 mod laws;
 mod peer;
 mod running;
 mod system;
-#[cfg(test)]
-mod tests;
 mod verdict;
 
 pub use auditing::audit;
+pub use committing::commit_checked;
 pub use event::{Event, Reply};
 pub use laws::honest_chains_pass_the_audit;
 pub use running::{Ran, run};

@@ -1,16 +1,22 @@
 //! One peer: its snapshot and its seats.
 
-ghost use Rattle.std.specs.Prelude.{◌≡◌, ℕ, List, [], ◌∷◌, ◌++◌, ◌+◌, ◌<◌, length, IfOk, OnErr, None, replicate};
-ghost use Rattle.ledger_model.specs.Chain.{Chain, history};
-ghost use Rattle.fabric_core.specs.Rule.{every_endorsed};
+ghost use Rattle.std.specs.Prelude.{◌≡◌, ℕ, List, [], ◌∷◌, ◌++◌, ◌+◌, ◌<◌, length, Ok, IfOk, OnErr, None, replicate};
+ghost use Rattle.ledger_model.specs.Chain.{Chain, Committed, history};
+ghost use Rattle.ledger_model.specs.State.{state};
+ghost use Rattle.committer.specs.Fits.{Fits, blocks_of};
+ghost use Rattle.ledger_model.specs.Judged.{judged};
+ghost use Rattle.fabric_core.specs.Rule.{table_of, seal_of};
 ghost use Rattle.simulator.specs.Answers.{payload_or_refusal};
 ghost use Rattle.simulator.specs.Execution.{exec_of};
-ghost use Rattle.fabric_core.specs.System.{IsCommitted, block_of, begin, finish};
+ghost use Rattle.fabric_core.specs.System.{IsCommitted, fresh, begin, finished, finish};
 ghost use Rattle.fabric_core.specs.Inside.{peer_of, IsPeerRight};
 
+use crate::committing::commit_checked;
 use crate::event::Reply;
-use fab_types::{Block, BlockData, BlockNumber, Envelope, Header, Payload, Proposal};
-use mvcc_validate::flags;
+use committer::CommitRefusal;
+use endorsement_policy::Rules;
+use endorser::{recheck, seal};
+use fab_types::{Block, Flag, OrgName, Payload, Proposal};
 use seq::Seq;
 use simulator::{Book, SimRefusal, simulate};
 use std::alloc::{AllocError, Global};
@@ -24,25 +30,41 @@ pub struct Begun {
     pub snapshot: Arc<Snapshot>,
 }
 
-/// A peer's newest snapshot, and its seats: free ones are None.
+/// A peer's organisation, its newest snapshot, and its seats: free ones are None.
 #[derive(Drop)]
 pub struct Peer {
+    pub org: OrgName,
     pub snapshot: Arc<Snapshot>,
     pub seats: Vec<Option<Begun>>,
 }
 
-/// The block of one envelope.
-fn block_of(alloc: Global, number: BlockNumber, envelope: Envelope) -> Result<Block, AllocError>
-    ensures { IfOk result (λ b. b ≡ block_of number envelope) }
+/// The chain with the next block. Want of memory alone refuses it.
+fn extended(
+    alloc: Global,
+    rules: &Rules,
+    snapshot: &Snapshot,
+    block: Block,
+) -> Result<Snapshot, AllocError>
+    requires fits { Fits (blocks_of snapshot.now) block }
+    ensures { IfOk result (λ s. s ≡ snapshot.now ++ record { block = block; flags = judged (table_of rules.now) (history snapshot.now) (length snapshot.now + 1) 0 block.envelopes } ∷ []) }
 {
-    prove!(envelope.size() <= 524_288);
-    let envelopes = BlockData::new(vec![in alloc; envelope]?).unwrap();
-    let header = Header {
-        number,
-        previous_hash: [0; 32],
-        data_hash: [0; 32],
-    };
-    Ok(Block { header, envelopes })
+    match commit_checked(alloc, rules, snapshot, block) {
+        Ok(snapshot) => Ok(snapshot),
+        Err(refusal) => {
+            prove!(matches!(refusal, CommitRefusal::OutOfMemory));
+            Err(AllocError)
+        }
+    }
+}
+
+/// The flags of the last block.
+fn last_flags(alloc: Global, snapshot: &Snapshot) -> Result<Vec<Flag>, AllocError>
+    ensures { IfOk result (λ v. (before : Chain) (last : Committed) → snapshot.now ≡ before ++ last ∷ [] → v.items ≡ last.flags) }
+{
+    match snapshot.blocks().last() {
+        None => Ok(Vec::new(alloc)),
+        Some(committed) => committed.flags().to_vec(alloc),
+    }
 }
 
 /// A simulation, where want of memory is no refusal of the chaincode's.
@@ -60,10 +82,30 @@ fn simulated(
     }
 }
 
+/// The reply with a payload: its tag, or that it is stale.
+fn endorsed(
+    alloc: Global,
+    rules: &Rules,
+    org: &OrgName,
+    newest: &Snapshot,
+    payload: Payload,
+) -> Result<Reply, AllocError>
+    ensures { IfOk result (λ reply. reply ≡ finished (state (history newest.now)) (seal_of rules.now org.now) (Ok payload)) }
+{
+    match recheck(alloc, &payload, newest) {
+        Ok(()) => {}
+        Err(SimRefusal::Stale) => return Ok(Reply::Refused(SimRefusal::Stale)),
+        // Of memory: a recheck has no other refusal.
+        Err(_) => return Err(AllocError),
+    }
+    let endorsement = seal(alloc, org, rules.key(org), &payload)?;
+    Ok(Reply::Endorsed(payload, endorsement))
+}
+
 impl Peer {
     /// A peer without blocks, all of whose seats are free.
-    pub fn new(alloc: Global, seats: usize) -> Result<Peer, AllocError>
-        ensures state { IfOk result (λ p. peer_of p ≡ record { height = 0; seats = replicate seats None }) }
+    pub fn new(alloc: Global, org: OrgName, seats: usize) -> Result<Peer, AllocError>
+        ensures state { IfOk result (λ p. peer_of p ≡ fresh seats org) }
         ensures right { IfOk result (λ p. (chain : ℕ → Chain) → chain 0 ≡ [] → IsPeerRight chain p) }
     {
         let snapshot = Arc::new(alloc, Snapshot::empty(alloc))?;
@@ -72,6 +114,7 @@ impl Peer {
             free.push(None)?;
         }
         Ok(Peer {
+            org,
             snapshot,
             seats: free,
         })
@@ -95,9 +138,16 @@ impl Peer {
         }
     }
 
-    /// Simulates what a seat has begun, on the snapshot that it began on, and frees the seat.
-    pub fn finish(&mut self, alloc: Global, book: &Book, seat: usize) -> Result<Reply, AllocError>
-        ensures step { IfOk result (λ reply. (chain : ℕ → Chain) → IsPeerRight chain self.old → finish (exec_of book.now) chain (peer_of self.old) seat ≡ (reply, peer_of self.new)) }
+    /// Simulates what a seat has begun, on the snapshot that it began on, and frees the seat. A payload
+    /// that is current on the newest snapshot comes with the tag of the peer's organisation.
+    pub fn finish(
+        &mut self,
+        alloc: Global,
+        book: &Book,
+        rules: &Rules,
+        seat: usize,
+    ) -> Result<Reply, AllocError>
+        ensures step { IfOk result (λ reply. (chain : ℕ → Chain) → IsPeerRight chain self.old → finish (exec_of book.now) (seal_of rules.now) chain (peer_of self.old) seat ≡ (reply, peer_of self.new)) }
         ensures right { (chain : ℕ → Chain) → IsPeerRight chain self.old → IsPeerRight chain self.new }
         ensures unchanged { OnErr result (self.new ≡ self.old) }
     {
@@ -106,7 +156,7 @@ impl Peer {
             Some(None) => Ok(Reply::NothingBegun),
             Some(Some(begun)) => {
                 let reply = match simulated(alloc, book, &begun.snapshot, &begun.proposal)? {
-                    Ok(payload) => Reply::Endorsed(payload),
+                    Ok(payload) => endorsed(alloc, rules, &self.org, &self.snapshot, payload)?,
                     Err(refusal) => Reply::Refused(refusal),
                 };
                 self.seats[seat] = None;
@@ -115,19 +165,22 @@ impl Peer {
         }
     }
 
-    /// Puts the block of this envelope on the chain, with its flag.
-    pub fn commit(&mut self, alloc: Global, envelope: &Envelope) -> Result<Reply, AllocError>
-        requires room { length self.old.snapshot.value < 65535 }
-        ensures reply { IfOk result (λ reply. reply ≡ IsCommitted (every_endorsed (history self.old.snapshot.value) envelope.now ∷ [])) }
-        ensures chain { IfOk result (λ _. self.new.snapshot.value ≡ self.old.snapshot.value ++ record { block = block_of (length self.old.snapshot.value + 1) envelope.now; flags = every_endorsed (history self.old.snapshot.value) envelope.now ∷ [] } ∷ []) }
+    /// Puts the next block on the chain, with its flags.
+    pub fn commit(
+        &mut self,
+        alloc: Global,
+        rules: &Rules,
+        block: Block,
+    ) -> Result<Reply, AllocError>
+        requires next { Fits (blocks_of self.old.snapshot.value) block }
+        ensures reply { IfOk result (λ reply. reply ≡ IsCommitted (judged (table_of rules.now) (history self.old.snapshot.value) (length self.old.snapshot.value + 1) 0 block.envelopes)) }
+        ensures chain { IfOk result (λ _. self.new.snapshot.value ≡ self.old.snapshot.value ++ record { block = block; flags = judged (table_of rules.now) (history self.old.snapshot.value) (length self.old.snapshot.value + 1) 0 block.envelopes } ∷ []) }
         ensures seats { self.new.seats ≡ self.old.seats }
+        ensures org { self.new.org ≡ self.old.org }
         ensures unchanged { OnErr result (self.new ≡ self.old) }
     {
-        let number = BlockNumber::new(self.snapshot.height() as u32 + 1).unwrap();
-        let block = block_of(alloc, number, envelope.clone()?)?;
-        let flags = flags(alloc, &self.snapshot, &block, &[true])?;
-        let reply = Reply::Committed(Seq::new(flags.clone()?));
-        let snapshot = self.snapshot.extended(alloc, block, flags)?;
+        let snapshot = extended(alloc, rules, &self.snapshot, block)?;
+        let reply = Reply::Committed(Seq::new(last_flags(alloc, &snapshot)?));
         self.snapshot = Arc::new(alloc, snapshot)?;
         Ok(reply)
     }

@@ -1,15 +1,22 @@
 //! Runs.
 
-ghost use Rattle.std.specs.Prelude.{◌≡◌, ◌++◌, ◌∷◌, [], ℕ, Some, IfOk, OnOk, OnErr};
+ghost use Rattle.std.specs.Prelude.{◌≡◌, ◌++◌, ◌∷◌, [], ℕ, true, Some, length, slice_get, IfOk, OnOk, OnErr};
 ghost use Rattle.ledger_model.specs.Chain.{Chain};
-ghost use Rattle.fabric_core.specs.Rule.{every_endorsed};
+ghost use Rattle.fab_types.specs.declared.block.Block.{Block};
+ghost use Rattle.committer.specs.Fits.{Fits, blocks_of};
+ghost use Rattle.fabric_core.specs.Rule.{table_of};
+ghost use Rattle.endorsement_policy.specs.Endorsed.{is_right};
 ghost use Rattle.simulator.specs.Execution.{exec_of};
-ghost use Rattle.fabric_core.specs.System.{Reply, step, chain_of};
+ghost use Rattle.fabric_core.specs.System.{Reply, IsStep, chain_of};
+ghost use Rattle.orderer.specs.Ordering.{AreLimits};
+ghost use Rattle.fabric_core.specs.Setting.{limits_of};
 ghost use Rattle.fabric_core.specs.Inside.{rules_of};
-ghost use Rattle.fabric_core.specs.Headline.{IsRun, IsHonest};
+ghost use Rattle.fabric_core.specs.Headline.{IsRun, IsHonest, ConflictsAreOlder};
 
 use crate::event::{Event, Reply};
 use crate::system::{Genesis, System};
+use endorsement_policy::an_endorsed_envelope_carries_a_right_tag;
+use orderer::ordering_laws;
 use simulator::reads_alone;
 use std::alloc::{AllocError, Global};
 use std::marker::Model;
@@ -26,10 +33,11 @@ pub struct Ran {
 impl Ran {
     /// One step more. Where memory is refused, the system and the replies stay.
     fn advance(&mut self, event: &Event) -> Result<(), AllocError>
-        ensures step { OnOk result ((reply : Reply) × (step (rules_of (exec_of self.old.system.book) self.old.system.capacity) self.old.system.world event.now ≡ (reply, self.new.system.world)) × (self.new.replies.items ≡ self.old.replies.items ++ reply ∷ [])) }
+        ensures step { OnOk result ((reply : Reply) × IsStep (rules_of (exec_of self.old.system.book) self.old.system.rules self.old.system.capacity) self.old.system.world event.now reply self.new.system.world × (self.new.replies.items ≡ self.old.replies.items ++ reply ∷ [])) }
         ensures system { OnErr result (self.new.system ≡ self.old.system) }
         ensures replies { OnErr result (self.new.replies.items ≡ self.old.replies.items) }
         ensures book { self.new.system.book ≡ self.old.system.book }
+        ensures rules { self.new.system.rules ≡ self.old.system.rules }
         ensures capacity { self.new.system.capacity ≡ self.old.system.capacity }
         ensures refused { self.new.refused ≡ self.old.refused }
     {
@@ -44,12 +52,18 @@ impl Ran {
 /// The events in order, from the opening of the system on. Where memory is refused after the opening, the
 /// system and the replies are those after the steps done.
 pub fn run(alloc: Global, genesis: &Genesis, events: &[Event]) -> Result<Ran, AllocError>
-    ensures run { IfOk result (λ ran. IsRun (rules_of (exec_of genesis.now.book.value) genesis.now.queue) genesis.now.peers genesis.now.seats events.now ran.replies.items ran.system.world ran.refused) }
+    requires { AreLimits (limits_of genesis.now) }
+    ensures run { IfOk result (λ ran. IsRun (rules_of (exec_of genesis.now.book.value) genesis.now.rules.value genesis.now.queue) genesis.now.peers.items genesis.now.seats (limits_of genesis.now) genesis.now.reorder events.now ran.replies.items ran.system.world ran.refused) }
     ensures book { IfOk result (λ ran. ran.system.book ≡ genesis.now.book.value) }
+    ensures rules { IfOk result (λ ran. ran.system.rules ≡ genesis.now.rules.value) }
     ensures capacity { IfOk result (λ ran. ran.system.capacity ≡ genesis.now.queue) }
-    ensures honest { IfOk result (λ ran. (peer : ℕ) (chain : Chain) → chain_of (rules_of (exec_of genesis.now.book.value) genesis.now.queue) ran.system.world peer ≡ Some chain → IsHonest (exec_of genesis.now.book.value) every_endorsed ran.replies.items chain) }
+    ensures honest { IfOk result (λ ran. (peer : ℕ) (chain : Chain) → chain_of (rules_of (exec_of genesis.now.book.value) genesis.now.rules.value genesis.now.queue) ran.system.world peer ≡ Some chain → IsHonest (exec_of genesis.now.book.value) (table_of genesis.now.rules.value) (is_right genesis.now.rules.value.orgs) ran.replies.items chain) }
+    ensures conflicts { IfOk result (λ ran. genesis.now.reorder ≡ true → (peer : ℕ) (chain : Chain) → chain_of (rules_of (exec_of genesis.now.book.value) genesis.now.rules.value genesis.now.queue) ran.system.world peer ≡ Some chain → ConflictsAreOlder chain) }
+    ensures fits { IfOk result (λ ran. (peer : ℕ) (chain : Chain) (next : Block) → chain_of (rules_of (exec_of genesis.now.book.value) genesis.now.rules.value genesis.now.queue) ran.system.world peer ≡ Some chain → slice_get ran.system.world.orderer.chain (length chain) ≡ Some next → Fits (blocks_of chain) next) }
 {
+    ordering_laws();
     reads_alone(&genesis.book);
+    an_endorsed_envelope_carries_a_right_tag(&genesis.rules);
     let mut ran = Ran {
         system: System::new(alloc, genesis)?,
         replies: Vec::new(alloc),
@@ -61,5 +75,6 @@ pub fn run(alloc: Global, genesis: &Genesis, events: &[Event]) -> Result<Ran, Al
             break;
         }
     }
+    let _blocks = ran.system.blocks();
     Ok(ran)
 }

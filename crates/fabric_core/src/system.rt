@@ -1,13 +1,19 @@
 //! The system, and its steps.
 
-ghost use Rattle.std.specs.Prelude.{◌≡◌, IfOk, OnErr, option_map};
-ghost use Rattle.fabric_core.specs.System.{opening, step, Begin, Finish, Submit, Take, Commit, chain_of};
+ghost use Rattle.std.specs.Prelude.{◌≡◌, ◌≤◌, [], IfOk, OnErr, option_map, length};
+ghost use Rattle.wire.specs.Links.{AreLinked};
+ghost use Rattle.orderer.specs.Ordering.{AreLimits};
+ghost use Rattle.fabric_core.specs.Setting.{limits_of};
+ghost use Rattle.fabric_core.specs.System.{opening, IsStep, Begin, Finish, Submit, Take, Tick, Commit, chain_of};
 ghost use Rattle.simulator.specs.Execution.{exec_of};
 ghost use Rattle.fabric_core.specs.Inside.{rules_of};
 
 use crate::event::{Event, Reply};
 use crate::peer::Peer;
-use fab_types::{Envelope, Proposal};
+use endorsement_policy::Rules;
+use fab_types::{Block, Envelope, OrgName, Proposal};
+use orderer::{OrderCause, Orderer};
+use seq::Seq;
 use simulator::Book;
 use std::alloc::{AllocError, Global};
 use std::collections::VecDeque;
@@ -20,62 +26,84 @@ use world_state::Snapshot;
 pub struct Genesis {
     /// The chaincodes.
     pub book: Arc<Book>,
-    /// How many peers there are.
-    pub peers: usize,
+    /// The organisations, and the policies of the chaincodes.
+    pub rules: Arc<Rules>,
+    /// Each peer's organisation.
+    pub peers: Vec<OrgName>,
     /// How many proposals a peer can simulate at a time.
     pub seats: usize,
     /// How many envelopes the queue holds.
     pub queue: usize,
+    /// How many envelopes a batch holds at most.
+    pub count: usize,
+    /// How many bytes of envelopes a batch of several holds at most.
+    pub preferred: usize,
+    /// How many bytes an envelope has at most.
+    pub absolute: usize,
+    /// Whether batches are put in a legal order.
+    pub reorder: bool,
 }
 
-/// Peers, the queue, and what the orderer took. Contracts see the book, the
-/// queue's capacity and the abstract world.
+/// Peers, the queue, and the orderer. Contracts see the book, the
+/// rules, the queue's capacity and the abstract world.
 #[derive(Drop)]
 pub struct System {
     alloc: Global,
     book: Arc<Book>,
+    rules: Arc<Rules>,
     capacity: usize,
     peers: Vec<Peer>,
     queue: VecDeque<Envelope>,
-    taken: Vec<Envelope>,
+    orderer: Orderer,
 }
 
 impl Model for System {
     ghost use Rattle.fabric_core.specs.Inside.{State, world_of, IsRight};
     ghost use Rattle.simulator.specs.contracts.book.Chaincode as chaincode;
     ghost use Rattle.std.specs.Coded.{codes};
+    ghost use Rattle.endorsement_policy.specs.contracts.rules.Rules as listed;
 
     ghost Value = { State };
 
-    ghost coded = { Prim.hlevel (codes, chaincode.the_row.coded) };
+    ghost coded = { Prim.hlevel (codes, chaincode.the_row.coded, listed.the_row.coded) };
 
-    ghost view = { λ s. record { book = s.book.value; capacity = s.capacity; world = world_of s.peers.items s.queue.items s.taken.items } };
+    ghost view = { λ s. record { book = s.book.value; rules = s.rules.value; capacity = s.capacity; world = world_of s.peers.items s.queue.items s.orderer } };
 
-    ghost invariant = { λ s. IsRight s.peers.items s.taken.items };
+    ghost invariant = { λ s. IsRight s.rules.value s.peers.items s.orderer.chain };
 }
 
 impl System {
     /// The system at its opening: no blocks, free seats and an empty queue.
     pub fn new(alloc: Global, genesis: &Genesis) -> Result<System, AllocError>
-        ensures { IfOk result (λ s. s ≡ record { book = genesis.now.book.value; capacity = genesis.now.queue; world = opening genesis.now.peers genesis.now.seats }) }
+        requires { AreLimits (limits_of genesis.now) }
+        ensures { IfOk result (λ s. s ≡ record { book = genesis.now.book.value; rules = genesis.now.rules.value; capacity = genesis.now.queue; world = opening genesis.now.peers.items genesis.now.seats (limits_of genesis.now) genesis.now.reorder }) }
     {
         let mut peers = Vec::new(alloc);
-        for _ in 0..genesis.peers {
-            peers.push(Peer::new(alloc, genesis.seats)?)?;
+        let orgs = genesis.peers.as_slice();
+        for org in orgs {
+            peers.push(Peer::new(alloc, org.clone()?, genesis.seats)?)?;
         }
         Ok(System {
             alloc,
             book: genesis.book.clone()?,
+            rules: genesis.rules.clone()?,
             capacity: genesis.queue,
             peers,
             queue: VecDeque::new(alloc),
-            taken: Vec::new(alloc),
+            orderer: Orderer::new(
+                alloc,
+                genesis.count,
+                genesis.preferred,
+                genesis.absolute,
+                genesis.reorder,
+            ),
         })
     }
 
     fn begin(&mut self, peer: usize, seat: usize, proposal: Proposal) -> Result<Reply, AllocError>
-        ensures step { IfOk result (λ reply. step (rules_of (exec_of self.old.book) self.old.capacity) self.old.world (Begin peer seat proposal) ≡ (reply, self.new.world)) }
+        ensures step { IfOk result (λ reply. IsStep (rules_of (exec_of self.old.book) self.old.rules self.old.capacity) self.old.world (Begin peer seat proposal) reply self.new.world) }
         ensures book { self.new.book ≡ self.old.book }
+        ensures rules { self.new.rules ≡ self.old.rules }
         ensures capacity { self.new.capacity ≡ self.old.capacity }
         ensures unchanged { OnErr result (self.new ≡ self.old) }
     {
@@ -86,20 +114,22 @@ impl System {
     }
 
     fn finish(&mut self, peer: usize, seat: usize) -> Result<Reply, AllocError>
-        ensures step { IfOk result (λ reply. step (rules_of (exec_of self.old.book) self.old.capacity) self.old.world (Finish peer seat) ≡ (reply, self.new.world)) }
+        ensures step { IfOk result (λ reply. IsStep (rules_of (exec_of self.old.book) self.old.rules self.old.capacity) self.old.world (Finish peer seat) reply self.new.world) }
         ensures book { self.new.book ≡ self.old.book }
+        ensures rules { self.new.rules ≡ self.old.rules }
         ensures capacity { self.new.capacity ≡ self.old.capacity }
         ensures unchanged { OnErr result (self.new ≡ self.old) }
     {
         if peer >= self.peers.len() {
             return Ok(Reply::NoSuchSeat);
         }
-        self.peers[peer].finish(self.alloc, &*self.book, seat)
+        self.peers[peer].finish(self.alloc, &*self.book, &*self.rules, seat)
     }
 
     fn submit(&mut self, envelope: Envelope) -> Result<Reply, AllocError>
-        ensures step { IfOk result (λ reply. step (rules_of (exec_of self.old.book) self.old.capacity) self.old.world (Submit envelope) ≡ (reply, self.new.world)) }
+        ensures step { IfOk result (λ reply. IsStep (rules_of (exec_of self.old.book) self.old.rules self.old.capacity) self.old.world (Submit envelope) reply self.new.world) }
         ensures book { self.new.book ≡ self.old.book }
+        ensures rules { self.new.rules ≡ self.old.rules }
         ensures capacity { self.new.capacity ≡ self.old.capacity }
         ensures unchanged { OnErr result (self.new ≡ self.old) }
     {
@@ -111,25 +141,52 @@ impl System {
     }
 
     fn take(&mut self) -> Result<Reply, AllocError>
-        ensures step { IfOk result (λ reply. step (rules_of (exec_of self.old.book) self.old.capacity) self.old.world Take ≡ (reply, self.new.world)) }
+        ensures step { IfOk result (λ reply. IsStep (rules_of (exec_of self.old.book) self.old.rules self.old.capacity) self.old.world Take reply self.new.world) }
         ensures book { self.new.book ≡ self.old.book }
+        ensures rules { self.new.rules ≡ self.old.rules }
         ensures capacity { self.new.capacity ≡ self.old.capacity }
         ensures unchanged { OnErr result (self.new ≡ self.old) }
     {
-        self.taken.reserve(1)?;
-        match self.queue.pop_front() {
-            None => Ok(Reply::Nothing),
-            Some(envelope) if self.taken.len() < 65_535 => {
-                self.taken.push(envelope)?;
-                Ok(Reply::Ordered(self.taken.len()))
+        let Some(envelope) = self.queue.pop_front() else {
+            return Ok(Reply::Nothing);
+        };
+        match self.orderer.accept(envelope) {
+            Ok(reports) => Ok(Reply::Ordered(Seq::new(reports))),
+            Err(refusal) => {
+                let envelope = refusal.envelope.unwrap();
+                match refusal.cause {
+                    OrderCause::TooLarge => Ok(Reply::TooLarge(envelope)),
+                    OrderCause::NoNumber => Ok(Reply::NoBlockLeft(Some(envelope))),
+                    OrderCause::OutOfMemory => {
+                        self.queue.push_front_reserved(envelope);
+                        Err(AllocError)
+                    }
+                }
             }
-            Some(envelope) => Ok(Reply::NoBlockLeft(envelope)),
+        }
+    }
+
+    fn tick(&mut self) -> Result<Reply, AllocError>
+        ensures step { IfOk result (λ reply. IsStep (rules_of (exec_of self.old.book) self.old.rules self.old.capacity) self.old.world Tick reply self.new.world) }
+        ensures book { self.new.book ≡ self.old.book }
+        ensures rules { self.new.rules ≡ self.old.rules }
+        ensures capacity { self.new.capacity ≡ self.old.capacity }
+        ensures unchanged { OnErr result (self.new ≡ self.old) }
+    {
+        match self.orderer.tick() {
+            Ok(None) => Ok(Reply::Nothing),
+            Ok(Some(report)) => Ok(Reply::Cut(report)),
+            Err(refusal) => match refusal.cause {
+                OrderCause::NoNumber => Ok(Reply::NoBlockLeft(None)),
+                OrderCause::TooLarge | OrderCause::OutOfMemory => Err(AllocError),
+            },
         }
     }
 
     fn commit(&mut self, peer: usize) -> Result<Reply, AllocError>
-        ensures step { IfOk result (λ reply. step (rules_of (exec_of self.old.book) self.old.capacity) self.old.world (Commit peer) ≡ (reply, self.new.world)) }
+        ensures step { IfOk result (λ reply. IsStep (rules_of (exec_of self.old.book) self.old.rules self.old.capacity) self.old.world (Commit peer) reply self.new.world) }
         ensures book { self.new.book ≡ self.old.book }
+        ensures rules { self.new.rules ≡ self.old.rules }
         ensures capacity { self.new.capacity ≡ self.old.capacity }
         ensures unchanged { OnErr result (self.new ≡ self.old) }
     {
@@ -137,16 +194,19 @@ impl System {
             return Ok(Reply::NoSuchSeat);
         }
         let height = self.peers[peer].snapshot.height();
-        if height >= self.taken.len() {
+        let blocks = self.orderer.blocks();
+        if height >= blocks.len() {
             return Ok(Reply::Nothing);
         }
-        self.peers[peer].commit(self.alloc, &self.taken[height])
+        let block = blocks[height].clone()?;
+        self.peers[peer].commit(self.alloc, &*self.rules, block)
     }
 
     /// One step. Where memory is refused, nothing changes, and there was no step.
     pub fn step(&mut self, event: Event) -> Result<Reply, AllocError>
-        ensures step { IfOk result (λ reply. step (rules_of (exec_of self.old.book) self.old.capacity) self.old.world event ≡ (reply, self.new.world)) }
+        ensures step { IfOk result (λ reply. IsStep (rules_of (exec_of self.old.book) self.old.rules self.old.capacity) self.old.world event reply self.new.world) }
         ensures book { self.new.book ≡ self.old.book }
+        ensures rules { self.new.rules ≡ self.old.rules }
         ensures capacity { self.new.capacity ≡ self.old.capacity }
         ensures unchanged { OnErr result (self.new ≡ self.old) }
     {
@@ -159,14 +219,24 @@ impl System {
             Event::Finish { peer, seat } => self.finish(peer, seat),
             Event::Submit(envelope) => self.submit(envelope),
             Event::Take => self.take(),
+            Event::Tick => self.tick(),
             Event::Commit { peer } => self.commit(peer),
         }
+    }
+
+    /// The orderer's blocks. Each has the next header after those before it.
+    pub fn blocks(&self) -> &[Block]
+        ensures all { result.now ≡ self.now.world.orderer.chain }
+        ensures linked { AreLinked [] self.now.world.orderer.chain }
+        ensures count { length self.now.world.orderer.chain ≤ 65535 }
+    {
+        self.orderer.blocks()
     }
 
     /// The newest snapshot of a peer: its chain, with the flags that the rule gives. None where there is no
     /// such peer. It takes no memory.
     pub fn snapshot(&self, peer: usize) -> Option<&Snapshot>
-        ensures { option_map (λ s. s.now) result ≡ chain_of (rules_of (exec_of self.now.book) self.now.capacity) self.now.world peer }
+        ensures { option_map (λ s. s.now) result ≡ chain_of (rules_of (exec_of self.now.book) self.now.rules self.now.capacity) self.now.world peer }
     {
         match self.peers.get(peer) {
             Some(peer) => Some(&*peer.snapshot),

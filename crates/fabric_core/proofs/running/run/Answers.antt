@@ -1,10 +1,16 @@
-use Rattle.std.proofs.Common.{◌≡◌, ◌∙◌, ap, sym, subst, Some, slice_get, arith}
+use Rattle.std.proofs.Common.{◌≡◌, ◌∙◌, ap, sym, subst, Some, true, slice_get, take, List, refl, arith}
 use Rattle.ledger_model.specs.Execution.{ReadsAlone}
+use Rattle.ledger_model.specs.Chain.{Envelope}
+use Rattle.endorsement_policy.specs.Endorsed.{is_endorsed, CarriesRight}
 use Rattle.simulator.specs.Execution.{exec_of}
-use Rattle.fabric_core.specs.System.{step}
+use Rattle.fabric_core.specs.Setting.{limits_of}
+use Rattle.fabric_core.specs.System.{World, Reply, unused, IsStep, AreSteps}
 use Rattle.fabric_core.specs.Inside.{rules_of}
 use Rattle.fabric_core.specs.System.{opening}
 use Rattle.fabric_core.proofs.Lists.{get_here}
+use Rattle.wire.specs.Ids.{id_of}
+use Rattle.fabric_core.proofs.Conflicts.{older_run}
+use Rattle.fabric_core.proofs.Fitting.{fits_if}
 use Rattle.fabric_core.proofs.Runs.{ok_of, err_of, run_more, run_all, run_part, honest_of}
 use Rattle.fabric_core.proofs.running.run.Goals as goal
 use Rattle.fabric_core.proofs.running.run.Goals.{else-loop-event-test, then-loop-event-test+then-is_err}
@@ -18,35 +24,41 @@ loop-event-preserved c =
     let events = c.args.events.now in
     let e = c.event-item.result in
     let exec = exec_of in
-    let r = rules_of (exec c.args.genesis.now.book.value) c.args.genesis.now.queue in
-    let start = opening c.args.genesis.now.peers c.args.genesis.now.seats in
+    let r = rules_of (exec c.args.genesis.now.book.value) c.args.genesis.now.rules.value c.args.genesis.now.queue in
+    let start = opening c.args.genesis.now.peers.items c.args.genesis.now.seats (limits_of c.args.genesis.now) c.args.genesis.now.reorder in
     let h = ok_of _ c.advance.result (sym c.is_err.ensures.value ∙ c.if-is_err.false) c.advance.ensures.step in
     let here : slice_get events i ≡ Some e = get_here events i e (omega (arith, c.loop-event-test.true)) ∙ ap Some (sym c.event-item.is) in
-    let told : step r old.system.world e ≡ (h.0, new.system.world) = (λ j. step (rules_of (exec (sym inv.book j)) (sym inv.capacity j)) old.system.world e) ∙ h.1 in
-    let more = run_more r start old.system.world new.system.world events i e h.0 old.replies.items new.replies.items here inv.replied inv.leads told h.2 in
+    let told : IsStep r old.system.world e h.0 new.system.world = subst (λ n. IsStep (rules_of (exec c.args.genesis.now.book.value) c.args.genesis.now.rules.value n) old.system.world e h.0 new.system.world) inv.capacity (subst (λ l. IsStep (rules_of (exec c.args.genesis.now.book.value) l old.system.capacity) old.system.world e h.0 new.system.world) inv.rules (subst (λ b. IsStep (rules_of (exec b) old.system.rules old.system.capacity) old.system.world e h.0 new.system.world) inv.book h.1)) in
+    let more = run_more r start old.system.world new.system.world events i e h.0 old.replies.items new.replies.items here inv.steps told h.2 in
     record {
       refused = c.advance.ensures.refused ∙ inv.refused;
-      replied = more.0;
-      leads = more.1;
+      steps = more;
       book = c.advance.ensures.book ∙ inv.book;
+      rules = c.advance.ensures.rules ∙ inv.rules;
       capacity = c.advance.ensures.capacity ∙ inv.capacity;
     }
 
 pub returns-clause-run : goal.returns-clause-run
 returns-clause-run c =
-    let r = rules_of (exec_of c.args.genesis.now.book.value) c.args.genesis.now.queue in
+    let r = rules_of (exec_of c.args.genesis.now.book.value) c.args.genesis.now.rules.value c.args.genesis.now.queue in
     let inv = c.loop-event.invariant in
     let genesis = c.args.genesis.now in
     let events = c.args.events.now in
     let ran = c.loop-event-test.ran in
     let i = c.loop-event.event-index in
+    let limits = limits_of genesis in
+    let start = opening genesis.peers.items genesis.seats limits genesis.reorder in
+    let law = c.ordering_laws.ensures.step in
+    let began = c.ordering_laws.ensures.opening (unused limits genesis.reorder) c.requires.some (refl, refl) in
+    let steps : (more : List Reply) (w : World) → more ≡ c.loop-event.ran.replies.items → w ≡ c.loop-event.ran.system.world → AreSteps r start (take i events) more w =
+    λ more w a b. subst (λ (x : World). AreSteps r start (take i events) more x) (sym b) (subst (λ (rs : List Reply). AreSteps r start (take i events) rs c.loop-event.ran.system.world) (sym a) inv.steps)
+    in
     elim c.loop-event-test.branch [
-      | else-loop-event-test w ↦ run_all r genesis.peers genesis.seats events ran.replies.items ran.system.world ran.refused i (ap (λ x. x.replies.items) w.ran-is ∙ inv.replied) (ap (λ x. x.system.world) w.ran-is ∙ inv.leads) (ap (λ x. x.refused) w.ran-is ∙ inv.refused) w.loop-event-test.false
+      | else-loop-event-test w ↦ run_all r genesis.peers.items genesis.seats limits genesis.reorder events ran.replies.items ran.system.world ran.refused i law began (steps ran.replies.items ran.system.world (ap (λ x. x.replies.items) w.ran-is) (ap (λ x. x.system.world) w.ran-is)) (ap (λ x. x.refused) w.ran-is ∙ inv.refused) w.loop-event-test.false
       | then-loop-event-test+then-is_err w ↦
           let err = sym w.is_err.ensures.value ∙ w.if-is_err.true in
-          run_part r genesis.peers genesis.seats events ran.replies.items ran.system.world ran.refused i
-          (ap (λ x. x.replies.items) w.ran-is ∙ err_of _ w.advance.result err w.advance.ensures.replies ∙ inv.replied)
-          (ap (λ x. x.system.world) w.ran-is ∙ ap (λ x. x.world) (err_of _ w.advance.result err w.advance.ensures.system) ∙ inv.leads)
+          run_part r genesis.peers.items genesis.seats limits genesis.reorder events ran.replies.items ran.system.world ran.refused i law began
+          (steps ran.replies.items ran.system.world (ap (λ x. x.replies.items) w.ran-is ∙ err_of _ w.advance.result err w.advance.ensures.replies) (ap (λ x. x.system.world) w.ran-is ∙ ap (λ x. x.world) (err_of _ w.advance.result err w.advance.ensures.system)))
           (ap (λ x. x.refused) w.ran-is) (omega (arith, w.loop-event-test.true))
     ]
 
@@ -57,4 +69,21 @@ returns-clause-honest c peer chain is =
     let alone : ReadsAlone (exec_of genesis.book.value) =
     subst (λ b. ReadsAlone (exec_of b)) c.deref.ensures (record { truthful = c.reads_alone.ensures.truthful; only = c.reads_alone.ensures.only })
     in
-    honest_of (exec_of genesis.book.value) alone genesis.queue genesis.peers genesis.seats c.args.events.now ran.replies.items ran.system.world ran.refused (returns-clause-run c) peer chain is
+    let carries : (e : Envelope) → is_endorsed genesis.rules.value e ≡ true → CarriesRight genesis.rules.value.orgs e =
+    subst (λ l. (e : Envelope) → is_endorsed l e ≡ true → CarriesRight l.orgs e) c.deref-2.ensures c.an_endorsed_envelope_carries_a_right_tag.ensures
+    in
+    honest_of (exec_of genesis.book.value) alone genesis.rules.value carries genesis.queue genesis.peers.items genesis.seats (limits_of genesis) genesis.reorder c.args.events.now ran.replies.items ran.system.world ran.refused (returns-clause-run c) peer chain is
+
+pub returns-clause-conflicts : goal.returns-clause-conflicts
+returns-clause-conflicts c on peer chain is =
+    let genesis = c.args.genesis.now in
+    let ran = c.loop-event-test.ran in
+    let r = rules_of (exec_of genesis.book.value) genesis.rules.value genesis.queue in
+    older_run id_of (is_endorsed genesis.rules.value) r genesis.peers.items genesis.seats (limits_of genesis) genesis.reorder c.args.events.now ran.replies.items ran.system.world ran.refused refl (returns-clause-run c) on peer chain is
+
+pub returns-clause-fits : goal.returns-clause-fits
+returns-clause-fits c peer chain next is there =
+    let genesis = c.args.genesis.now in
+    let w = c.loop-event-test.ran.system.world in
+    let r = rules_of (exec_of genesis.book.value) genesis.rules.value genesis.queue in
+    fits_if r w (slice_get w.peers peer) chain next c.blocks-blocks.ensures.linked c.blocks-blocks.ensures.count is there

@@ -1,19 +1,33 @@
-use Rattle.std.proofs.Common.{◌∙◌, ◌++◌, ◌∷◌, [], ap, sym, subst, refl, map, replicate, None}
+use Rattle.std.proofs.Common.{◌≡◌, ◌<◌, ◌∙◌, ◌++◌, ◌∷◌, [], ap, sym, subst, refl, map, length, arith}
 use Rattle.std.proofs.lemmas.List.{map-append}
 use Rattle.std.specs.List.{AllByRecursion}
-use Rattle.fabric_core.specs.Rule.{every_endorsed}
+use Rattle.fabric_core.specs.Rule.{table_of}
 use Rattle.fabric_core.specs.System.{PeerState, chain_of_first}
-use Rattle.fabric_core.specs.Inside.{peer_of, IsPeerRight}
-use Rattle.fabric_core.proofs.Steps.{replicate_more, all_push}
+use Rattle.endorsement_policy.specs.Endorsed.{Listed}
+use Rattle.orderer.specs.Ordering.{Ordering}
+use Rattle.fabric_core.specs.Inside.{peer_of, IsPeerRight, IsRight}
+use Rattle.fabric_core.proofs.Steps.{opened_more, all_push}
 use Rattle.fabric_core.proofs.system.System.new.Goals as goal
 
-pub loop-preserved : goal.loop-preserved
-loop-preserved c =
-    let peers = c.loop.peers.items in
+pub loop-org-preserved : goal.loop-org-preserved
+loop-org-preserved c =
+    let peers = c.loop-org.peers.items in
     let peer = c.in_ok-new.field-0 in
-    let start : PeerState = record { height = 0; seats = replicate c.args.genesis.now.seats None } in
-    let right = all_push (IsPeerRight (chain_of_first every_endorsed [])) peers peer c.loop.invariant.right (c.in_ok-new.ensures.right (chain_of_first every_endorsed []) refl) in
+    let orgs = c.as_slice-orgs.result.now in
+    let seats = c.args.genesis.now.seats in
+    let chain = chain_of_first (table_of c.args.genesis.now.rules.value) [] in
+    let right = all_push (IsPeerRight chain) peers peer c.loop-org.invariant.right (c.in_ok-new.ensures.right chain refl) in
     record {
-      state = ap (map peer_of) c.in_ok-push.ensures.items ∙ map-append peer_of peers (peer ∷ []) ∙ (λ i. c.loop.invariant.state i ++ c.in_ok-new.ensures.state i ∷ []) ∙ replicate_more c.loop.counter start;
-      right = subst (AllByRecursion (IsPeerRight (chain_of_first every_endorsed []))) (sym c.in_ok-push.ensures.items) right;
+      state =
+          opened_more seats orgs c.loop-org.org-index c.in_ok-clone.field-0 c.org-item.result (map peer_of peers) (map peer_of c.push.new.self.items) (omega (arith, c.loop-org-test.true)) c.org-item.is c.in_ok-clone.ensures.cases c.loop-org.invariant.state
+          (ap (map peer_of) c.in_ok-push.ensures.items ∙ map-append peer_of peers (peer ∷ []) ∙ ap (λ s. map peer_of peers ++ s ∷ []) c.in_ok-new.ensures.state);
+      right = subst (AllByRecursion (IsPeerRight chain)) (sym c.in_ok-push.ensures.items) right;
     }
+
+pub invariant_of-result : goal.invariant_of-result
+invariant_of-result c =
+    let rules = c.in_ok-clone-3.field-0.value in
+    let same = c.in_ok-clone-3.ensures.cases in
+    let peers = c.loop-org.peers.items in
+    subst (λ (o : Ordering). IsRight rules peers o.chain) (sym c.new-3.ensures)
+    (subst (λ (l : Listed). IsRight l peers []) (sym same) c.loop-org.invariant.right)
