@@ -1,0 +1,33 @@
+-- What loading a store gives.
+use Rattle.std.specs.Prelude.{◌≡◌, ℕ, ◌<◌, ◌⊎◌, List, ◌++◌}
+use Rattle.fab_types.specs.Committed.{Committed}
+use Rattle.block_store.specs.Store.{Loads}
+use Rattle.block_store.specs.declared.end.End.{End}
+use Rattle.block_store.specs.declared.end.End.TheVariants.{Clean, Torn, Damaged, DeviceFailed}
+
+-- of the bytes that were read: their records and end, or the whole records before the device failed
+abbrev pub Gives : List ℕ → List Committed → End → Type 0
+Gives bytes cs DeviceFailed = Loads 1 bytes cs Clean ⊎ Loads 1 bytes cs Torn
+Gives bytes cs Clean = Loads 1 bytes cs Clean
+Gives bytes cs Torn = Loads 1 bytes cs Torn
+Gives bytes cs (Damaged n) = Loads 1 bytes cs (Damaged n)
+
+-- behind what it had read before, a load read some bytes, and gives what they are
+pub record IsLoaded (before now : List ℕ) (cs : List Committed) (end : End) : Type 0 where
+  pub bytes : List ℕ
+  pub read : now ≡ before ++ bytes
+  pub gives : Gives bytes cs end
+
+-- the device failed in the call exactly where the end says so
+abbrev pub IsTold : End → ℕ → ℕ → Type 0
+IsTold DeviceFailed failures now = failures < now
+IsTold Clean failures now = now ≡ failures
+IsTold Torn failures now = now ≡ failures
+IsTold (Damaged n) failures now = now ≡ failures
+
+-- without damage all was read
+abbrev pub ReadsAll : End → Type 0 → Type 0
+ReadsAll Clean AtEnd = AtEnd
+ReadsAll Torn AtEnd = AtEnd
+ReadsAll (Damaged n) AtEnd = Unit {0}
+ReadsAll DeviceFailed AtEnd = Unit {0}

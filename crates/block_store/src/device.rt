@@ -1,0 +1,40 @@
+//! What a store is read from and written to.
+
+ghost use Rattle.std.specs.Prelude.{ℕ, List, ◌<◌, length};
+ghost use Rattle.block_store.specs.Device.{ReadOnce, WroteOnce};
+
+/// A call of the device failed.
+#[derive(Clone, Copy, Debug, PartialEq, Eq)]
+pub struct DeviceError;
+
+/// A device that is read from its front on and counts its failed calls.
+pub trait CountedRead {
+    /// The bytes that it has handed out so far.
+    ghost taken: { Self → List ℕ };
+
+    /// How many of its calls have failed.
+    ghost failures: { Self → ℕ };
+
+    /// Holds where it has said that there are no more bytes.
+    ghost IsAtEnd: { Self → Type 0 };
+
+    /// Fills the front of the buffer, and answers with how many bytes. It is 0 only at the end.
+    fn read(&mut self, buffer: &mut [u8]) -> Result<usize, DeviceError>
+        requires { 0 < length buffer.old }
+        ensures { ReadOnce result buffer.new (taken self.old) (taken self.new) (failures self.old) (failures self.new) (IsAtEnd self.new) };
+}
+
+/// A device that takes bytes at its end and counts its failed calls. Whether bytes that it took outlast
+/// a crash is for the device to say.
+pub trait CountedWrite {
+    /// The bytes that it has taken so far.
+    ghost written: { Self → List ℕ };
+
+    /// How many of its calls have failed. That no byte was written is a failure too.
+    ghost failures: { Self → ℕ };
+
+    /// Takes some of the bytes from the front, at least one, and answers with how many.
+    fn write(&mut self, bytes: &[u8]) -> Result<usize, DeviceError>
+        requires { 0 < length bytes.now }
+        ensures { WroteOnce result bytes.now (written self.old) (written self.new) (failures self.old) (failures self.new) };
+}

@@ -1,0 +1,76 @@
+//! Loading a store.
+
+ghost use Rattle.std.specs.Prelude.{◌≡◌, ◌<◌, IfOk, length};
+ghost use Rattle.block_store.specs.Loading.{IsLoaded, IsTold, ReadsAll};
+
+use crate::device::CountedRead;
+use crate::end::End;
+use crate::record_reader::RecordReader;
+use fab_types::CommittedBlock;
+use std::alloc::{AllocError, Global};
+
+/// So many bytes at most are asked of the device at a time.
+const PIECE: usize = 65_536;
+
+/// A store as it was loaded: its whole records from block 1 on, and what stands behind them.
+#[derive(Drop)]
+pub struct Loaded {
+    pub blocks: Vec<CommittedBlock>,
+    pub end: End,
+}
+
+/// So many zeros.
+fn zeros(alloc: Global, len: usize) -> Result<Vec<u8>, AllocError>
+    ensures { IfOk result (λ v. length v.items ≡ len) }
+{
+    Ok(vec![in alloc; 0u8; len]?)
+}
+
+/// The same as [`load`], with a buffer for the pieces.
+fn load_by<R: CountedRead>(
+    alloc: Global,
+    reader: &mut R,
+    piece: &mut [u8],
+) -> Result<Loaded, AllocError>
+    requires { 0 < length piece.old }
+    ensures loaded { IfOk result (λ l. IsLoaded (R.taken reader.old) (R.taken reader.new) l.blocks.items l.end) }
+    ensures all { IfOk result (λ l. ReadsAll l.end (R.IsAtEnd reader.new)) }
+    ensures device { IfOk result (λ l. IsTold l.end (R.failures reader.old) (R.failures reader.new)) }
+{
+    let mut records = RecordReader::new(alloc);
+    let mut blocks = Vec::new(alloc);
+    'pieces: loop {
+        match reader.read(piece) {
+            Err(_) => {
+                let end = End::DeviceFailed;
+                return Ok(Loaded { blocks, end });
+            }
+            Ok(0) => {
+                let end = records.finish();
+                return Ok(Loaded { blocks, end });
+            }
+            Ok(count) => {
+                let mut more = records.feed(&piece[..count])?;
+                blocks.append(&mut more)?;
+            }
+        }
+        if records.is_damaged() {
+            let end = records.finish();
+            return Ok(Loaded { blocks, end });
+        }
+    }
+}
+
+/// Reads a store to the end of its device, to damage or to the first call that fails. It holds one piece
+/// and what has come of the next record beside the blocks that it gives. The error is of memory.
+pub fn load<R: CountedRead>(alloc: Global, reader: &mut R) -> Result<Loaded, AllocError>
+    // The records and the end are those of the bytes that were read.
+    ensures loaded { IfOk result (λ l. IsLoaded (R.taken reader.old) (R.taken reader.new) l.blocks.items l.end) }
+    // These were all, unless there was damage or the device failed.
+    ensures all { IfOk result (λ l. ReadsAll l.end (R.IsAtEnd reader.new)) }
+    // The device is blamed exactly where a call of it failed.
+    ensures device { IfOk result (λ l. IsTold l.end (R.failures reader.old) (R.failures reader.new)) }
+{
+    let mut piece = zeros(alloc, PIECE)?;
+    load_by(alloc, reader, &mut piece)
+}

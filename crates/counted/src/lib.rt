@@ -1,0 +1,91 @@
+//! A reader or a writer of std as a device of the block store.
+//!
+//! [`Counted`] keeps what its calls moved and how many of them failed in a history that exists in
+//! contracts alone: it takes no memory, and the count has no greatest.
+#![tactic(auto)]
+
+ghost use Rattle.std.specs.Prelude.{◌≡◌};
+ghost use Rattle.counted.specs.History.{fresh};
+
+mod history;
+
+use crate::history::{Call, History};
+use block_store::{CountedRead, CountedWrite, DeviceError};
+use std::io::{Read, Write};
+
+/// A reader or a writer with the history of its calls. Each error is a failed call, an interrupted one
+/// too, and so is a write that takes no byte.
+///
+/// A file hands each write to the system before it answers. That the bytes are on the disk is promised
+/// by `sync_all` alone. A `BufWriter` takes bytes that it writes later, so its errors may come after an
+/// append that was done: put none in between.
+#[derive(Drop)]
+pub struct Counted<D: Drop> {
+    device: D,
+    history: History,
+    is_at_end: bool,
+}
+
+impl<D: Drop> Counted<D> {
+    /// The device, before its first call.
+    pub fn new(device: D) -> Counted<D>
+        ensures device { result.device ≡ device }
+        ensures history { result.history ≡ fresh }
+    {
+        Counted {
+            device,
+            history: History::new(),
+            is_at_end: false,
+        }
+    }
+
+    /// The reader or writer itself.
+    pub fn into_inner(self) -> D
+        ensures { result ≡ self.device }
+    {
+        self.device
+    }
+}
+
+impl<D: Read + Drop> CountedRead for Counted<D> {
+    ghost use Rattle.std.specs.Prelude.{IsTrue};
+
+    ghost taken = { λ c. c.history.moved };
+
+    ghost failures = { λ c. c.history.failures };
+
+    ghost IsAtEnd = { λ c. IsTrue c.is_at_end };
+
+    fn read(&mut self, buffer: &mut [u8]) -> Result<usize, DeviceError> {
+        match self.device.read(buffer) {
+            Ok(count) => {
+                self.history = self.history.and(&Call::Moved(&buffer[..count]));
+                self.is_at_end = count == 0;
+                Ok(count)
+            }
+            Err(_) => {
+                self.history = self.history.and(&Call::Failed);
+                Err(DeviceError)
+            }
+        }
+    }
+}
+
+impl<D: Write + Drop> CountedWrite for Counted<D> {
+    ghost written = { λ c. c.history.moved };
+
+    ghost failures = { λ c. c.history.failures };
+
+    fn write(&mut self, bytes: &[u8]) -> Result<usize, DeviceError> {
+        match self.device.write(bytes) {
+            Ok(count) if count > 0 => {
+                self.history = self.history.and(&Call::Moved(&bytes[..count]));
+                Ok(count)
+            }
+            _ => {
+                self.history = self.history.and(&Call::Failed);
+                Err(DeviceError)
+            }
+        }
+    }
+}

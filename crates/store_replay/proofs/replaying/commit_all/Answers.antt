@@ -1,0 +1,50 @@
+use Rattle.std.proofs.Common.{rules, ◌≡◌, ◌∙◌, ◌∷◌, [], None, ap, sym, subst, length, List, Option, ℕ}
+use Rattle.fab_types.specs.Committed.{Committed}
+use Rattle.ledger_model.specs.Chain.{Chain}
+use Rattle.committer.specs.declared.refusal.CommitRefusal.{CommitRefusal}
+use Rattle.fabric_core.specs.Rule.{table_of}
+use Rattle.store_replay.specs.declared.replaying.Pushed.{Pushed}
+use Rattle.store_replay.specs.declared.replaying.Pushed.TheVariants as pushed
+use Rattle.store_replay.specs.Replay.{IsPushed, Replays, earlier, first_of}
+use Rattle.store_replay.proofs.Going.{GoesOn, goes_on, stops, ends, none_left}
+use Rattle.store_replay.proofs.replaying.commit_all.Goals as goal
+use Rattle.store_replay.proofs.replaying.commit_all.Goals.{in-None, in-Some+in_ok-snapshot+in-Refused}
+
+pub records-preserved : goal.records-preserved
+records-preserved c =
+    let rule = table_of c.args.rules.now in
+    let all = c.args.records.items in
+    let chain = c.records.progress.snapshot in
+    let differs = c.records.progress.differs in
+    let left = c.next.new.self.rest.items in
+    let steps : c.records.stored-iterator.rest.items ≡ c.in-Some.stored ∷ left = search rules in
+    let is : IsPushed rule chain c.in-Some.stored (pushed.Committed c.in-Committed.snapshot c.in-Committed.is_same) = search rules in
+    let next = goes_on rule all chain differs c.in-Some.stored left c.in-Committed.snapshot c.in-Committed.is_same
+    (subst (GoesOn rule all chain differs) steps c.records.invariant.goes_on) is in
+    record {
+      goes_on =
+          subst (λ (s : Chain). GoesOn rule all s c.advance.new.self.differs left) (sym c.advance.ensures.chain)
+          (subst (λ (d : Option ℕ). GoesOn rule all c.in-Committed.snapshot d left) (sym c.advance.ensures.differs) next);
+      fits = c.advance.ensures.refused ∙ c.records.invariant.fits;
+    }
+
+pub returns : goal.returns
+returns c =
+    let rule = table_of c.args.rules.now in
+    let all = c.args.records.items in
+    let chain = c.records.progress.snapshot in
+    let differs = c.records.progress.differs in
+    elim c.match-next.branch [
+      | in-None w ↦
+          let rest = c.records.stored-iterator.rest in
+          let len : rest.len ≡ 0 = search rules in
+          let over = none_left rest.items rest.len rest.ok.0 len in
+          let done = ends rule all chain differs (subst (GoesOn rule all chain differs) over c.records.invariant.goes_on) in
+          search rules
+      | in-Some+in_ok-snapshot+in-Refused w ↦
+          let left = c.next.new.self.rest.items in
+          let steps : c.records.stored-iterator.rest.items ≡ w.in-Some.stored ∷ left = search rules in
+          let unfit : IsPushed rule chain w.in-Some.stored (pushed.Refused w.in-Refused.cause) = search rules in
+          let done = stops rule all chain differs w.in-Some.stored left w.in-Refused.cause (subst (GoesOn rule all chain differs) steps c.records.invariant.goes_on) unfit in
+          search rules
+    ]

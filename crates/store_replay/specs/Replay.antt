@@ -1,0 +1,62 @@
+-- What replaying a store gives: its blocks committed one after another, as far as they fit.
+use Rattle.std.specs.Prelude.{◌≡◌, ◌≢◌, ℕ, Bool, true, false, ◌⊎◌, Option, Some, None, List, [], ◌∷◌, ◌++◌, ◌+◌, length}
+use Rattle.fab_types.specs.Committed.{Committed}
+use Rattle.ledger_model.specs.Chain.{Chain, history}
+use Rattle.ledger_model.specs.Judged.{Rule, judged}
+use Rattle.committer.specs.Fits.{Fits, IsRefused, blocks_of}
+use Rattle.committer.specs.declared.refusal.CommitRefusal.{CommitRefusal}
+use Rattle.committer.specs.declared.refusal.CommitRefusal.TheVariants.{OutOfMemory}
+use Rattle.block_store.specs.Loading.{Gives}
+use Rattle.block_store.specs.declared.end.End.{End}
+use Rattle.store_replay.specs.declared.replaying.Pushed.{Pushed}
+use Rattle.store_replay.specs.declared.replaying.Pushed.TheVariants as pushed
+use Rattle.store_replay.specs.declared.replaying.Replayed.{Replayed}
+
+-- the block of a record behind a chain, with the flags of the rule
+abbrev pub judged_behind : Rule → Chain → Committed → Committed
+judged_behind rule chain c =
+    record { block = c.block; flags = judged rule (history chain) (length chain + 1) 0 c.block.envelopes }
+
+-- a block does not fit, for this cause
+abbrev pub IsUnfit : Chain → Committed → CommitRefusal → Type 0
+IsUnfit chain c cause = (cause ≢ OutOfMemory) × IsRefused cause (blocks_of chain) c.block
+
+-- whether the record has the rule's flags
+abbrev pub HasTheFlags : Rule → Chain → Committed → Bool → Type 0
+HasTheFlags rule chain c true = c.flags ≡ (judged_behind rule chain c).flags
+HasTheFlags rule chain c false = c.flags ≢ (judged_behind rule chain c).flags
+
+-- the first number of two places that may be none
+abbrev pub first_of : Bool → ℕ → Option ℕ → Option ℕ
+first_of true number later = later
+first_of false number later = Some number
+
+-- of two, the one that was found earlier
+abbrev pub earlier : Option ℕ → Option ℕ → Option ℕ
+earlier None later = later
+earlier (Some number) later = Some number
+
+-- Behind `chain` the records' blocks are committed as far as they fit: `last` is the chain then, `differs` the number of the
+-- first of those blocks for which the store has other flags, and `refused` why the next one does not fit, if there is one.
+abbrev pub Replays : Rule → Chain → List Committed → Chain → Option ℕ → Option CommitRefusal → Type 0
+Replays rule chain [] last differs refused = (last ≡ chain) × (differs ≡ None) × (refused ≡ None)
+Replays rule chain (c ∷ cs) last differs refused =
+    (Fits (blocks_of chain) c.block × ((is_same : Bool) × (later : Option ℕ) × HasTheFlags rule chain c is_same
+    × (differs ≡ first_of is_same (length chain + 1) later)
+    × Replays rule (chain ++ judged_behind rule chain c ∷ []) cs last later refused))
+    ⊎ ((cause : CommitRefusal) × IsUnfit chain c cause × (refused ≡ Some cause) × (last ≡ chain) × (differs ≡ None))
+
+-- one record behind a chain
+abbrev pub IsPushed : Rule → Chain → Committed → Pushed → Type 0
+IsPushed rule chain c (pushed.Committed snapshot is_same) =
+    Fits (blocks_of chain) c.block × HasTheFlags rule chain c is_same × (snapshot ≡ chain ++ judged_behind rule chain c ∷ [])
+IsPushed rule chain c (pushed.Refused cause) = IsUnfit chain c cause
+
+-- behind what was read before, some bytes were read: the whole blocks that they are, committed, and their end
+pub record IsReplayed (rule : Rule) (before now : List ℕ) (r : Replayed) : Type 0 where
+  pub bytes : List ℕ
+  pub records : List Committed
+  pub read : now ≡ before ++ bytes
+  pub gives : Gives bytes records r.end
+  pub count : r.blocks ≡ length records
+  pub replays : Replays rule [] records r.snapshot r.differs r.refused

@@ -1,0 +1,146 @@
+//! Replays.
+
+ghost use Rattle.std.specs.Prelude.{◌≡◌, ◌≢◌, ℕ, List, [], ◌∷◌, ◌++◌, IfOk, MatchBool, None, length};
+ghost use Rattle.fab_types.specs.Committed.{Committed};
+ghost use Rattle.ledger_model.specs.Chain.{Chain};
+ghost use Rattle.block_store.specs.Loading.{IsTold, ReadsAll};
+ghost use Rattle.fabric_core.specs.Rule.{table_of};
+ghost use Rattle.store_replay.specs.Replay.{IsPushed, Replays, IsReplayed, earlier, first_of};
+
+use block_store::{CountedRead, End, load};
+use committer::CommitRefusal;
+use endorsement_policy::Rules;
+use fab_types::{CommittedBlock, Flag};
+use fabric_core::{Genesis, commit_checked};
+use std::alloc::{AllocError, Global};
+use world_state::Snapshot;
+
+/// A store's chain as it was committed again.
+#[derive(Drop)]
+pub struct Replayed {
+    /// How many whole blocks the store has.
+    pub blocks: usize,
+    /// The chain of those blocks, as far as they fit, with the flags of the table.
+    pub snapshot: Snapshot,
+    /// The number of the first block of that chain for which the store has other flags.
+    pub differs: Option<usize>,
+    /// Why the block behind that chain does not fit (601 to 604). None where all blocks are on it.
+    pub refused: Option<CommitRefusal>,
+    /// How the store ends.
+    pub end: End,
+}
+
+/// What a record comes to behind a chain.
+#[derive(Drop)]
+enum Pushed {
+    /// Its block is on the chain; the store has the table's flags for it, or other ones.
+    Committed { snapshot: Snapshot, is_same: bool },
+    /// Its block does not fit.
+    Refused(CommitRefusal),
+}
+
+/// A chain so far, and what was found on the way.
+#[derive(Drop)]
+struct Progress {
+    snapshot: Snapshot,
+    differs: Option<usize>,
+    refused: Option<CommitRefusal>,
+}
+
+/// The flags of the last block of a chain; none where there is no block.
+fn last_flags(snapshot: &Snapshot) -> &[Flag]
+    ensures { (before : Chain) (last : Committed) → snapshot.now ≡ before ++ last ∷ [] → result.now ≡ last.flags }
+{
+    match snapshot.blocks().last() {
+        None => &[],
+        Some(committed) => committed.flags(),
+    }
+}
+
+/// Commits the block of a record. The error is of memory.
+fn push(
+    alloc: Global,
+    rules: &Rules,
+    snapshot: &Snapshot,
+    stored: CommittedBlock,
+) -> Result<Pushed, AllocError>
+    ensures { IfOk result (λ pushed. IsPushed (table_of rules.now) snapshot.now stored pushed) }
+{
+    let (block, flags) = stored.into_parts();
+    match commit_checked(alloc, rules, snapshot, block) {
+        Ok(snapshot) => {
+            let is_same = flags.as_slice() == last_flags(&snapshot);
+            Ok(Pushed::Committed { snapshot, is_same })
+        }
+        Err(CommitRefusal::OutOfMemory) => Err(AllocError),
+        Err(refusal) => Ok(Pushed::Refused(refusal)),
+    }
+}
+
+/// Commits the blocks of records behind one another from the empty state on, as far as they fit. The error
+/// is of memory.
+fn commit_all(
+    alloc: Global,
+    rules: &Rules,
+    records: Vec<CommittedBlock>,
+) -> Result<Progress, AllocError>
+    ensures { IfOk result (λ p. Replays (table_of rules.now) [] records.items p.snapshot p.differs p.refused) }
+{
+    let mut progress = Progress {
+        snapshot: Snapshot::empty(alloc),
+        differs: None,
+        refused: None,
+    };
+    'records: for stored in records {
+        match push(alloc, rules, &progress.snapshot, stored)? {
+            Pushed::Committed { snapshot, is_same } => progress.advance(snapshot, is_same),
+            Pushed::Refused(cause) => {
+                progress.refused = Some(cause);
+                break;
+            }
+        }
+    }
+    Ok(progress)
+}
+
+impl Progress {
+    /// Goes on to a chain with one block more, for which the store has the table's flags or not.
+    fn advance(&mut self, snapshot: Snapshot, is_same: bool)
+        ensures chain { self.new.snapshot ≡ snapshot }
+        ensures differs { self.new.differs ≡ earlier self.old.differs (first_of is_same (length snapshot) None) }
+        ensures refused { self.new.refused ≡ self.old.refused }
+    {
+        if !is_same && self.differs.is_none() {
+            self.differs = Some(snapshot.height());
+        }
+        self.snapshot = snapshot;
+    }
+}
+
+/// Reads a store from its device and commits its blocks again under the rules of a genesis.
+///
+/// The whole blocks that the store has are committed from the empty state on, up to the first that does not
+/// fit. The error is of memory.
+pub fn replay_store<R: CountedRead>(
+    alloc: Global,
+    genesis: &Genesis,
+    reader: &mut R,
+) -> Result<Replayed, AllocError>
+    // The blocks and the end are those of the bytes that were read.
+    ensures replayed { IfOk result (λ r. IsReplayed (table_of genesis.now.rules.value) (R.taken reader.old) (R.taken reader.new) r) }
+    // These were all, unless there was damage or the device failed.
+    ensures all { IfOk result (λ r. ReadsAll r.end (R.IsAtEnd reader.new)) }
+    // The device is blamed exactly where a call of it failed.
+    ensures device { IfOk result (λ r. IsTold r.end (R.failures reader.old) (R.failures reader.new)) }
+{
+    let loaded = load(alloc, reader)?;
+    let blocks = loaded.blocks.len();
+    let progress = commit_all(alloc, &genesis.rules, loaded.blocks)?;
+    Ok(Replayed {
+        blocks,
+        snapshot: progress.snapshot,
+        differs: progress.differs,
+        refused: progress.refused,
+        end: loaded.end,
+    })
+}
