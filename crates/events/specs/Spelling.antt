@@ -1,0 +1,77 @@
+-- What a line of an events file spells, over the data that it is as JSON. A JSON object has each of its
+-- members once, in the order of their names; so an object with exactly some fields is written out in that order.
+use Rattle.std.specs.Prelude.{◌≡◌, ◌≤◌, ◌⊎◌, ℕ, List, [], length, codes, Some, Ok, String, string_bytes}
+use Rattle.std.specs.declared.alloc.Global.{Global}
+use Rattle.serde_json.specs.Data.{Data, object, member, no_members, Members, Items, array, string, number, unsigned}
+use Rattle.serde_json.specs.Read.{read}
+use Rattle.json_fields.specs.Lists.{AreItems}
+use Rattle.hex.specs.Hex.{decode_of, decode_sized}
+use Rattle.fab_types.specs.Limits.{IsName, IsValue}
+use Rattle.fab_types.specs.declared.payload.Proposal.{Proposal}
+use Rattle.events.specs.declared.action.Action.{Action}
+use Rattle.events.specs.declared.action.Action.TheVariants.{Begin, Finish, SubmitEndorsed, SubmitBytes, Take, Tick, Commit}
+
+-- the bytes that a text of hex stands for
+abbrev pub IsHex : List ℕ → List ℕ → Type 0
+IsHex text bytes = decode_of text ≡ Ok bytes
+
+-- an argument is hex, or `-` for no bytes
+abbrev pub IsArgument : List ℕ → List ℕ → Type 0
+IsArgument text bytes = (((text ≡ codes "-") × (bytes ≡ [])) ⊎ IsHex text bytes) × IsValue bytes
+
+-- the proposal of these texts; a nonce has 16 bytes
+abbrev pub IsProposal : List ℕ → List ℕ → List ℕ → Proposal → Type 0
+IsProposal arg chaincode nonce p =
+    (p.chaincode ≡ chaincode) × IsName chaincode × IsArgument arg p.argument × (decode_sized nonce 16 ≡ Ok p.nonce)
+
+-- the strings that the items are
+abbrev pub AreTexts : Items → List (String Global) → Type 0
+AreTexts ds xs = AreItems (λ d x. d ≡ string (string_bytes x)) ds xs
+
+-- the names that a submit uses
+abbrev pub AreNames : Items → List (String Global) → Type 0
+AreNames ds xs = AreTexts ds xs × (1 ≤ length xs) × (length xs ≤ 32)
+
+-- .., "peer":0, "seat":0}
+abbrev pub seat_members : ℕ → ℕ → Members
+seat_members peer seat = member (codes "peer") (number (unsigned peer)) (member (codes "seat") (number (unsigned seat)) no_members)
+
+-- {"arg":"-", "chaincode":"kv", "do":"begin", "nonce":"..", "peer":0, "seat":0}
+abbrev pub begin_object : List ℕ → List ℕ → List ℕ → ℕ → ℕ → Data
+begin_object arg chaincode nonce peer seat =
+    object (member (codes "arg") (string arg) (member (codes "chaincode") (string chaincode) (member (codes "do") (string (codes "begin"))
+    (member (codes "nonce") (string nonce) (seat_members peer seat)))))
+
+-- {"as":"e1", "do":"finish", "peer":0, "seat":0}
+abbrev pub finish_object : List ℕ → ℕ → ℕ → Data
+finish_object name peer seat = object (member (codes "as") (string name) (member (codes "do") (string (codes "finish")) (seat_members peer seat)))
+
+-- {"do":"submit", "use":["e1","e2"]}
+abbrev pub use_object : Items → Data
+use_object names = object (member (codes "do") (string (codes "submit")) (member (codes "use") (array names) no_members))
+
+-- {"do":"submit", "hex":".."}
+abbrev pub hex_object : List ℕ → Data
+hex_object hex = object (member (codes "do") (string (codes "submit")) (member (codes "hex") (string hex) no_members))
+
+-- {"do":".."}
+abbrev pub word_object : List ℕ → Data
+word_object word = object (member (codes "do") (string word) no_members)
+
+-- {"do":"commit", "peer":0}
+abbrev pub commit_object : ℕ → Data
+commit_object peer = object (member (codes "do") (string (codes "commit")) (member (codes "peer") (number (unsigned peer)) no_members))
+
+-- the action that the data of a line spells
+abbrev pub IsAction : Data → Action → Type 0
+IsAction d (Begin peer seat p) = (arg : List ℕ) × (chaincode : List ℕ) × (nonce : List ℕ) × (d ≡ begin_object arg chaincode nonce peer seat) × IsProposal arg chaincode nonce p
+IsAction d (Finish peer seat name) = d ≡ finish_object (string_bytes name) peer seat
+IsAction d (SubmitEndorsed names) = (ds : Items) × (d ≡ use_object ds) × AreNames ds names.items
+IsAction d (SubmitBytes bytes) = (hex : List ℕ) × (d ≡ hex_object hex) × IsHex hex bytes.items
+IsAction d Take = d ≡ word_object (codes "take")
+IsAction d Tick = d ≡ word_object (codes "tick")
+IsAction d (Commit peer) = d ≡ commit_object peer
+
+-- the action that a line spells
+abbrev pub Spells : List ℕ → Action → Type 0
+Spells line a = (d : Data) × (read line ≡ Some d) × IsAction d a

@@ -1,0 +1,132 @@
+//! The fields of each form of a line, which are taken in the order of their names.
+
+ghost use Rattle.std.specs.Prelude.{◌≡◌, ◌≢◌, ℕ, List, codes, MatchOption, MatchBool};
+ghost use Rattle.serde_json.specs.Data.{Items};
+ghost use Rattle.serde_json.specs.View.{view, items_view, members_view};
+ghost use Rattle.events.specs.Spelling.{begin_object, commit_object, finish_object, hex_object, seat_members, use_object, word_object};
+
+use json_fields::{Fields, fields, is_end, items, take, take_number, take_text, take_word};
+use serde_json::Value;
+
+/// A peer and one of its seats.
+#[derive(Clone, Copy)]
+pub(crate) struct Place {
+    pub peer: u64,
+    pub seat: u64,
+}
+
+/// The peer and the seat, which are all that is left.
+fn last_place(left: &mut Fields<'_>) -> Option<Place>
+    ensures { MatchOption result ((peer seat : ℕ) → members_view left.old ≢ seat_members peer seat)
+        (λ p. members_view left.old ≡ seat_members p.peer p.seat) }
+{
+    let peer = take_number(left, "peer")?;
+    let seat = take_number(left, "seat")?;
+    if is_end(left) {
+        Some(Place { peer, seat })
+    } else {
+        None
+    }
+}
+
+/// What the fields of a begin hold.
+#[derive(Clone, Copy)]
+pub(crate) struct BeginFields<'a> {
+    pub arg: &'a str,
+    pub chaincode: &'a str,
+    pub nonce: &'a str,
+    pub place: Place,
+}
+
+/// The fields of a begin. None where the line is of another form.
+pub(crate) fn begin_fields(value: &Value) -> Option<BeginFields<'_>>
+    ensures { MatchOption result
+        ((arg chaincode nonce : List ℕ) (peer seat : ℕ) → view value.now ≢ begin_object arg chaincode nonce peer seat)
+        (λ f. view value.now ≡ begin_object f.arg.now f.chaincode.now f.nonce.now f.place.peer f.place.seat) }
+{
+    let mut left = fields(value)?;
+    let arg = take_text(&mut left, "arg")?;
+    let chaincode = take_text(&mut left, "chaincode")?;
+    if !take_word(&mut left, "do", "begin") {
+        return None;
+    }
+    let nonce = take_text(&mut left, "nonce")?;
+    let place = last_place(&mut left)?;
+    Some(BeginFields {
+        arg,
+        chaincode,
+        nonce,
+        place,
+    })
+}
+
+/// What the fields of a finish hold.
+#[derive(Clone, Copy)]
+pub(crate) struct FinishFields<'a> {
+    pub name: &'a str,
+    pub place: Place,
+}
+
+/// The fields of a finish. None where the line is of another form.
+pub(crate) fn finish_fields(value: &Value) -> Option<FinishFields<'_>>
+    ensures { MatchOption result
+        ((name : List ℕ) (peer seat : ℕ) → view value.now ≢ finish_object name peer seat)
+        (λ f. view value.now ≡ finish_object f.name.now f.place.peer f.place.seat) }
+{
+    let mut left = fields(value)?;
+    let name = take_text(&mut left, "as")?;
+    if !take_word(&mut left, "do", "finish") {
+        return None;
+    }
+    let place = last_place(&mut left)?;
+    Some(FinishFields { name, place })
+}
+
+/// The names that a submit uses. None where the line is of another form.
+pub(crate) fn used_names(value: &Value) -> Option<&[Value]>
+    ensures { MatchOption result ((ds : Items) → view value.now ≢ use_object ds)
+        (λ vs. view value.now ≡ use_object (items_view vs.now)) }
+{
+    let mut left = fields(value)?;
+    if !take_word(&mut left, "do", "submit") {
+        return None;
+    }
+    let names = items(take(&mut left, "use")?)?;
+    if is_end(&mut left) { Some(names) } else { None }
+}
+
+/// The hex of a submit. None where the line is of another form.
+pub(crate) fn submitted_hex(value: &Value) -> Option<&str>
+    ensures { MatchOption result ((hex : List ℕ) → view value.now ≢ hex_object hex)
+        (λ hex. view value.now ≡ hex_object hex.now) }
+{
+    let mut left = fields(value)?;
+    if !take_word(&mut left, "do", "submit") {
+        return None;
+    }
+    let hex = take_text(&mut left, "hex")?;
+    if is_end(&mut left) { Some(hex) } else { None }
+}
+
+/// Whether the line has this word alone.
+pub(crate) fn is_word(value: &Value, word: &str) -> bool
+    ensures { MatchBool result (view value.now ≡ word_object word.now) (view value.now ≢ word_object word.now) }
+{
+    let Some(mut left) = fields(value) else {
+        return false;
+    };
+    take_word(&mut left, "do", word) && is_end(&mut left)
+}
+
+/// The peer of a commit. None where the line is of another form.
+pub(crate) fn committing_peer(value: &Value) -> Option<u64>
+    ensures { MatchOption result ((peer : ℕ) → view value.now ≢ commit_object peer)
+        (λ peer. view value.now ≡ commit_object peer) }
+{
+    let mut left = fields(value)?;
+    if !take_word(&mut left, "do", "commit") {
+        return None;
+    }
+    let peer = take_number(&mut left, "peer")?;
+    if is_end(&mut left) { Some(peer) } else { None }
+}

@@ -1,0 +1,15 @@
+//! The events of a run, line by line.
+//!
+//! `read_event` gives the action that a line spells, over the data that `serde_json` reads in it. `Bindings` keeps
+//! what a run's finishes gave under the names of their `as`, and makes the envelope that a `use` asks for.
+#![tactic(auto)]
+
+mod action;
+mod bindings;
+mod fields;
+mod line;
+mod values;
+
+pub use action::{Action, BadLine};
+pub use bindings::{Bindings, Endorsed};
+pub use line::read_event;

@@ -1,0 +1,5 @@
+pub mod Items
+pub mod Refusals
+pub mod Whole
+pub mod Opens
+pub mod OneGenesis

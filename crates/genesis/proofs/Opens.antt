@@ -1,0 +1,68 @@
+-- What a genesis file spells can open a system.
+use Rattle.std.proofs.Common.{◌≡◌, ℕ, suc, true, List, [], ◌∷◌, map, length, refl, ap}
+use Rattle.std.specs.List.{list_all}
+use Rattle.serde_json.specs.Data.{Data, Items, no_items, item}
+use Rattle.json_fields.specs.Lists.{AreItems}
+use Rattle.endorsement_policy.specs.GoodSets.{is_among}
+use Rattle.endorsement_policy.specs.declared.rules.ChaincodePolicy.{ChaincodePolicy}
+use Rattle.simulator.specs.declared.book.Chaincode.{Chaincode}
+use Rattle.endorsement_policy.specs.Endorsed.{do_need_someone}
+use Rattle.endorsement_policy.proofs.Needed.{spelled_needs}
+use Rattle.genesis.specs.declared.genesis.Definition.{Definition}
+use Rattle.genesis.specs.declared.genesis.Genesis.{Genesis}
+use Rattle.genesis.specs.Lists.{IsListOf}
+use Rattle.genesis.specs.Opening.{CanOpen}
+use Rattle.genesis.specs.Spelling.{IsDefinition, IsPeer, Parts, IsGenesis, Spells, chaincodes_of, policies_of}
+
+-- each peer's organisation is one of these
+known_peers : (orgs : List (List ℕ)) (ds : Items) (xs : List (List ℕ)) → AreItems (IsPeer orgs) ds xs → list_all (is_among orgs) xs ≡ true
+known_peers orgs no_items [] h = refl
+known_peers orgs no_items (x ∷ xs) h = absurd h
+known_peers orgs (item d ds) [] h = absurd h
+known_peers orgs (item d ds) (x ∷ xs) h = rw (h.0.2, known_peers orgs ds xs h.1) refl
+
+-- a policy is that of the chaincode beside it
+same_names : (orgs : List (List ℕ)) (ds : Items) (cs : List Definition) → AreItems (IsDefinition orgs) ds cs
+    → map (λ (p : ChaincodePolicy). p.chaincode) (policies_of cs) ≡ map (λ (c : Chaincode). c.name) (chaincodes_of cs)
+same_names orgs no_items [] h = refl
+same_names orgs no_items (c ∷ cs) h = absurd h
+same_names orgs (item d ds) [] h = absurd h
+same_names orgs (item d ds) (c ∷ cs) h = rw (h.0.8, same_names orgs ds cs h.1) refl
+
+same_count : (cs : List Definition) → length (chaincodes_of cs) ≡ length cs
+same_count [] = refl
+same_count (c ∷ cs) = ap suc (same_count cs)
+
+-- nobody satisfies none of the policies
+needed : (orgs : List (List ℕ)) (ds : Items) (cs : List Definition) → AreItems (IsDefinition orgs) ds cs → do_need_someone (policies_of cs) ≡ true
+needed orgs no_items [] h = refl
+needed orgs no_items (c ∷ cs) h = absurd h
+needed orgs (item d ds) [] h = absurd h
+needed orgs (item d ds) (c ∷ cs) h =
+    let text = h.0.7 in
+    rw (spelled_needs c.policy.policy h.0.2 text.spelled text.thresholds, needed orgs ds cs h.1) refl
+
+pub all_needed : (orgs : List (List ℕ)) (d : Data) (cs : List Definition) → IsListOf (IsDefinition orgs) 16 d cs → do_need_someone (policies_of cs) ≡ true
+all_needed orgs d cs h = needed orgs h.0 cs h.2
+
+opens : (p : Parts) (g : Genesis) → IsGenesis p g → CanOpen g
+opens p g h =
+    let d = h.definitions in
+    let cs = d.0 in
+    let names = same_names _ d.1.0 cs d.1.2 in
+    record {
+      seats = h.seats.1;
+      queue = h.queue.1;
+      count = h.count.1;
+      preferred = h.preferred.1;
+      absolute = h.absolute.1;
+      organisations = h.organisations.3;
+      different = h.different;
+      peers = h.peers.3;
+      known = known_peers _ h.peers.0 g.peers.items h.peers.2;
+      chaincodes = rw (d.3, same_count cs) d.1.3;
+      policies = rw (d.3, d.4) names;
+    }
+
+pub spelled_opens : (text : List ℕ) (g : Genesis) → Spells text g → CanOpen g
+spelled_opens text g h = opens h.2.0 g h.2.2

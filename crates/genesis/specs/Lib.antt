@@ -1,0 +1,7 @@
+pub mod Numbers
+pub mod Lists
+pub mod Refused
+pub mod Spelling
+pub mod Opening
+pub mod Fields
+pub mod NoGenesis

@@ -1,0 +1,105 @@
+-- What a genesis file spells, over the data that it is as JSON. A JSON object has each of its members
+-- once, in the order of their names; so an object with exactly some fields is written out in that order.
+use Rattle.std.specs.Prelude.{◌≡◌, ◌&&◌, ℕ, Bool, true, not, List, [], ◌∷◌, map, codes, Some, Ok}
+use Rattle.serde_json.specs.Data.{Data, object, member, no_members, string, boolean}
+use Rattle.serde_json.specs.Read.{read}
+use Rattle.hex.specs.Hex.{decode_of}
+use Rattle.fab_types.specs.Limits.{IsName, IsOrgName}
+use Rattle.wasm_ast.specs.declared.module.Module.{Module}
+use Rattle.wasm_decode.specs.ModuleSpelling.{IsModule}
+use Rattle.wasm_validate.specs.ModuleRules.{IsValid}
+use Rattle.endorsement_policy.specs.GoodSets.{is_among}
+use Rattle.endorsement_policy.specs.Limits.{IsText}
+use Rattle.endorsement_policy.specs.TagKeys.{IsTagKey}
+use Rattle.endorsement_policy.specs.declared.rules.Organisation.{Organisation}
+use Rattle.endorsement_policy.specs.declared.rules.ChaincodePolicy.{ChaincodePolicy}
+use Rattle.simulator.specs.Books.{IsBook}
+use Rattle.simulator.specs.declared.book.Chaincode.{Chaincode}
+use Rattle.genesis.specs.declared.genesis.Definition.{Definition}
+use Rattle.genesis.specs.declared.genesis.Genesis.{Genesis}
+use Rattle.genesis.specs.Lists.{IsListOf, IsNumber}
+
+-- the bytes that a text of hex stands for
+abbrev pub IsHex : List ℕ → List ℕ → Type 0
+IsHex text bytes = decode_of text ≡ Ok bytes
+
+-- {"key":"4a656665","name":"A"}: the key has 1 to 128 bytes
+abbrev pub IsOrganisation : Data → Organisation → Type 0
+IsOrganisation d o =
+    (key : List ℕ) × (d ≡ object (member (codes "key") (string key) (member (codes "name") (string o.name) no_members)))
+    × IsHex key o.key × IsTagKey o.key × IsOrgName o.name
+
+abbrev pub names_of : List Organisation → List (List ℕ)
+names_of os = map (λ (o : Organisation). o.name) os
+
+-- no name stands twice
+abbrev pub are_different : List (List ℕ) → Bool
+are_different [] = true
+are_different (name ∷ names) = not (is_among names name) && are_different names
+
+-- "A": the organisation of a peer, which is one of these
+abbrev pub IsPeer : List (List ℕ) → Data → List ℕ → Type 0
+IsPeer orgs d name = (d ≡ string name) × IsOrgName name × (is_among orgs name ≡ true)
+
+-- {"fuel":71,"module":"..","name":"kv","policy":"'A'"}
+abbrev pub chaincode_object : Data → List ℕ → List ℕ → List ℕ → Data
+chaincode_object fuel hex name policy =
+    object (member (codes "fuel") fuel (member (codes "module") (string hex) (member (codes "name") (string name) (member (codes "policy") (string policy) no_members))))
+
+-- the hex is of bytes that spell this module, which is valid
+abbrev pub IsHexModule : List ℕ → Module → Type 0
+IsHexModule hex m = (bytes : List ℕ) × IsHex hex bytes × IsModule m bytes × IsValid m
+
+abbrev pub IsDefinition : List (List ℕ) → Data → Definition → Type 0
+IsDefinition orgs d c =
+    (fuel : Data) × (hex : List ℕ) × (policy : List ℕ)
+    × (d ≡ chaincode_object fuel hex c.chaincode.name policy)
+    × IsNumber 1 10000000 fuel c.chaincode.fuel × IsHexModule hex c.chaincode.«module»
+    × IsName c.chaincode.name × IsText orgs c.policy.policy policy × (c.policy.chaincode ≡ c.chaincode.name)
+
+abbrev pub chaincodes_of : List Definition → List Chaincode
+chaincodes_of cs = map (λ (c : Definition). c.chaincode) cs
+
+abbrev pub policies_of : List Definition → List ChaincodePolicy
+policies_of cs = map (λ (c : Definition). c.policy) cs
+
+-- what the fields of the file hold
+pub record Parts : Type 0 where
+  pub absolute : Data
+  pub chaincodes : Data
+  pub count : Data
+  pub orgs : Data
+  pub peers : Data
+  pub preferred : Data
+  pub queue : Data
+  pub reorder : Data
+  pub seats : Data
+
+-- the object that has exactly these fields
+abbrev pub object_of : Parts → Data
+object_of p =
+    object (member (codes "absolute") p.absolute (member (codes "chaincodes") p.chaincodes (member (codes "count") p.count
+    (member (codes "orgs") p.orgs (member (codes "peers") p.peers (member (codes "preferred") p.preferred
+    (member (codes "queue") p.queue (member (codes "reorder") p.reorder (member (codes "seats") p.seats no_members)))))))))
+
+-- the genesis that the fields spell
+pub record IsGenesis (p : Parts) (g : Genesis) : Type 0 where
+  pub seats : IsNumber 1 64 p.seats g.seats
+  pub queue : IsNumber 1 4096 p.queue g.queue
+  pub count : IsNumber 1 512 p.count g.count
+  pub preferred : IsNumber 1 524288 p.preferred g.preferred
+  pub absolute : IsNumber 1 524288 p.absolute g.absolute
+  pub reorder : p.reorder ≡ boolean g.reorder
+  pub organisations : IsListOf IsOrganisation 16 p.orgs g.rules.orgs
+  pub different : are_different (names_of g.rules.orgs) ≡ true
+  pub peers : IsListOf (IsPeer (names_of g.rules.orgs)) 8 p.peers g.peers.items
+  pub definitions : (cs : List Definition) × IsListOf (IsDefinition (names_of g.rules.orgs)) 16 p.chaincodes cs
+      × IsBook (chaincodes_of cs) × (g.book ≡ chaincodes_of cs) × (g.rules.policies ≡ policies_of cs)
+
+-- the genesis that the data of a file spells
+abbrev pub IsGenesisOf : Data → Genesis → Type 0
+IsGenesisOf d g = (p : Parts) × (d ≡ object_of p) × IsGenesis p g
+
+-- the genesis that a text spells
+abbrev pub Spells : List ℕ → Genesis → Type 0
+Spells text g = (d : Data) × (read text ≡ Some d) × IsGenesisOf d g

@@ -1,0 +1,36 @@
+//! What a ledger begins with.
+
+use endorsement_policy::{ChaincodePolicy, Rules};
+use fab_types::OrgName;
+use simulator::{Book, Chaincode};
+
+/// What a ledger begins with, as a genesis file says it.
+#[derive(Drop)]
+pub struct Genesis {
+    /// The chaincodes, 1 to 16.
+    pub book: Book,
+    /// The organisations, 1 to 16 of different names, with their keys; and the policy of each chaincode of the book,
+    /// in the book's order.
+    pub rules: Rules,
+    /// Each peer's organisation, which the rules know: 1 to 8 peers.
+    pub peers: Vec<OrgName>,
+    /// How many proposals a peer can simulate at a time: 1 to 64.
+    pub seats: usize,
+    /// How many envelopes the queue holds: 1 to 4,096.
+    pub queue: usize,
+    /// How many envelopes a batch holds at most: 1 to 512.
+    pub count: usize,
+    /// How many bytes of envelopes a batch of several holds at most: 1 to 524,288.
+    pub preferred: usize,
+    /// How many bytes an envelope has at most: 1 to 524,288.
+    pub absolute: usize,
+    /// Whether batches are put in a legal order.
+    pub reorder: bool,
+}
+
+/// One chaincode with its policy, as the file has it.
+#[derive(Drop)]
+pub(crate) struct Definition {
+    pub chaincode: Chaincode,
+    pub policy: ChaincodePolicy,
+}

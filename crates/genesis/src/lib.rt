@@ -1,0 +1,22 @@
+//! The genesis file: what a ledger begins with, as one JSON object.
+//!
+//! `read_genesis` gives the genesis that a text spells (`specs/Spelling.antt`), with modules decoded and validated and
+//! policies parsed. What a system's opening asks of a genesis (`specs/Opening.antt`) holds of each that is read.
+#![tactic(auto)]
+
+mod chaincodes;
+mod each;
+mod fields;
+mod genesis;
+mod laws;
+mod lists;
+mod numbers;
+mod organisations;
+mod peers;
+mod read;
+mod refusal;
+
+pub use genesis::Genesis;
+pub use laws::spelled_once;
+pub use read::read_genesis;
+pub use refusal::GenesisRefusal;
