@@ -1,0 +1,10 @@
+use Rattle.std.proofs.Common.{rules, ◌≡◌, ◌∙◌, map}
+use Rattle.std.specs.Arc.{arc_value}
+use Rattle.endorsement_policy.specs.Endorsed.{is_endorsed}
+use Rattle.peer_node.proofs.Committing.{committed}
+use Rattle.peer_node.proofs.writer.PeerWriter.commit.Goals as goal
+
+pub returns-clause-committed : goal.returns-clause-committed
+returns-clause-committed g c =
+    let all : c.deref-2.result.now ≡ map (is_endorsed (arc_value c.args.self.now.rules)) c.args.block.envelopes = search rules in
+    c.in_ok-publish.ensures.published ∙ (c.in_ok-next.ensures.committed ∙ committed _ _ _ _ _ c.newest.ensures all c.in_ok-next.ensures.fits)

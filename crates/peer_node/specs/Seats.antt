@@ -1,0 +1,66 @@
+-- What a clause sees of a seat, and what its calls answer.
+use Rattle.std.specs.Prelude.{◌≡◌, true, false, List, [], Result, Ok, Err}
+use Rattle.std.specs.Arc.{arc_value}
+use mathlib.Core.List.{IsPrefix}
+use Rattle.logbook.specs.Pages.{Book}
+use Rattle.fab_types.specs.declared.payload.Proposal.{Proposal}
+use Rattle.fab_types.specs.declared.payload.Payload.{Payload}
+use Rattle.fab_types.specs.declared.envelope.Endorsement.{Endorsement}
+use Rattle.ledger_model.specs.Chain.{Bytes, Chain, history}
+use Rattle.ledger_model.specs.State.{state}
+use Rattle.mvcc_validate.specs.Current.{is_current}
+use Rattle.simulator.specs.declared.book.Chaincode.{Chaincode}
+use Rattle.simulator.specs.declared.refusal.SimRefusal.{SimRefusal}
+use Rattle.simulator.specs.declared.refusal.SimRefusal.TheVariants.{UnknownChaincode, Trapped, Spent, Status, Stale, Memory}
+use Rattle.simulator.specs.Execution.{exec_of}
+use Rattle.simulator.specs.Answers.{payload_or_refusal}
+use Rattle.endorsement_policy.specs.Endorsed.{Listed}
+use Rattle.fabric_core.specs.Rule.{seal_of}
+use Rattle.snapshot_cell.specs.Seats as cell
+use Rattle.peer_node.specs.declared.seat.Endorser.{Endorser}
+use Rattle.peer_node.specs.declared.seat.Seat.{Seat}
+use Rattle.peer_node.specs.declared.refusal.FinishRefusal.{FinishRefusal}
+use Rattle.peer_node.specs.declared.refusal.FinishRefusal.TheVariants.{Simulation, NoEntry}
+
+-- the whole blocks that a seat has seen or was told of
+abbrev pub seen : Seat → Chain
+seen s = cell.seen s.reader
+
+-- which peer it is of
+abbrev pub peer_of : Seat → Book
+peer_of s = cell.cell_of_reader s.reader
+
+-- what it endorses by is these chaincodes, these rules and this organisation
+abbrev pub Serves : List Chaincode → Listed → Bytes → Endorser → Type 0
+Serves book listed org e = (arc_value e.book ≡ book) × (arc_value e.rules ≡ listed) × (e.org ≡ org)
+
+-- a seat of this peer that has seen nothing
+abbrev pub IsSeat : List Chaincode → Listed → Bytes → Book → Seat → Type 0
+IsSeat book listed org peer s = (peer_of s ≡ peer) × (seen s ≡ []) × Serves book listed org s.endorser
+
+-- what a simulation on the state after a chain comes to
+abbrev pub simulated : Endorser → Proposal → Chain → Result Payload SimRefusal
+simulated e p chain = payload_or_refusal (exec_of (arc_value e.book)) p chain
+
+-- What a refusal says of what was begun on the list `first`: the simulation came to it; or it gave a payload of which something that was read is
+-- not as it was after a second list, which begins with all that was seen before and is what is seen afterwards
+abbrev pub IsFinishRefused : Endorser → Proposal → (first before after : Chain) → SimRefusal → Type 0
+IsFinishRefused e p first before after Stale =
+    (payload : Payload) × (simulated e p first ≡ Ok payload) × IsPrefix before after × (is_current (state (history after)) payload ≡ false)
+IsFinishRefused e p first before after Memory = IsPrefix before after
+IsFinishRefused e p first before after UnknownChaincode = (simulated e p first ≡ Err UnknownChaincode) × (after ≡ before)
+IsFinishRefused e p first before after (Trapped kind used) = (simulated e p first ≡ Err (Trapped kind used)) × (after ≡ before)
+IsFinishRefused e p first before after Spent = (simulated e p first ≡ Err Spent) × (after ≡ before)
+IsFinishRefused e p first before after (Status n) = (simulated e p first ≡ Err (Status n)) × (after ≡ before)
+
+-- What was begun on the list `first` is endorsed where the simulation gave a payload, and all that it read is as it was after a second list, which
+-- begins with all that was seen before and is what is seen afterwards
+abbrev pub FinishesBy : Endorser → Proposal → (first before after : Chain) → Result (Payload × Endorsement) FinishRefusal → Type 0
+FinishesBy e p first before after (Ok answer) =
+    (simulated e p first ≡ Ok answer.0) × IsPrefix before after × (is_current (state (history after)) answer.0 ≡ true) × (answer.1 ≡ seal_of (arc_value e.rules) e.org answer.0)
+FinishesBy e p first before after (Err (Simulation r)) = IsFinishRefused e p first before after r
+FinishesBy e p first before after (Err NoEntry) = IsPrefix before after
+
+-- begun on a list that begins with all that was seen, and finished
+abbrev pub Endorses : Endorser → Proposal → (before after : Chain) → Result (Payload × Endorsement) FinishRefusal → Type 0
+Endorses e p before after r = (first : Chain) × IsPrefix before first × FinishesBy e p first first after r

@@ -1,0 +1,79 @@
+//! Why a seat hands out no payload.
+
+ghost use Rattle.std.specs.Prelude.{◌≡◌};
+
+use simulator::SimRefusal;
+use snapshot_cell::TakeRefusal;
+use std::alloc::AllocError;
+use std::error::Error;
+use std::fmt::{self, Display, Formatter, Write};
+
+/// Why a seat hands out no payload.
+#[derive(Clone, Copy, Debug, PartialEq, Eq)]
+pub enum FinishRefusal {
+    /// The simulation or its recheck refused, or there was no memory.
+    Simulation(SimRefusal),
+    /// The cell gave no entry.
+    NoEntry,
+}
+
+impl FinishRefusal {
+    ghost use Rattle.peer_node.specs.Refusals.{finish_number};
+
+    /// The number by which the program names the refusal: 401 to 405, 432, or 9 for want of memory.
+    pub fn number(self) -> u16
+        ensures { result ≡ finish_number self }
+    {
+        match self {
+            FinishRefusal::Simulation(refusal) => refusal.number(),
+            FinishRefusal::NoEntry => 432,
+        }
+    }
+}
+
+impl Display for FinishRefusal {
+    fn fmt<W: Write>(&self, f: &mut Formatter<W>) -> fmt::Result {
+        match self {
+            FinishRefusal::Simulation(refusal) => write!(f, "{refusal}"),
+            FinishRefusal::NoEntry => write!(f, "refused 432"),
+        }
+    }
+}
+
+impl Error for FinishRefusal {}
+
+impl From<SimRefusal> for FinishRefusal {
+    ghost use Rattle.std.specs.Prelude.{◌≡◌};
+    ghost use Rattle.peer_node.specs.declared.refusal.FinishRefusal.TheVariants.{Simulation};
+
+    ghost from_gives = { λ s r. r ≡ Simulation s };
+
+    fn from(refusal: SimRefusal) -> FinishRefusal {
+        FinishRefusal::Simulation(refusal)
+    }
+}
+
+impl From<TakeRefusal> for FinishRefusal {
+    ghost use Rattle.std.specs.Prelude.{◌≡◌};
+    ghost use Rattle.peer_node.specs.Refusals.{of_take};
+
+    ghost from_gives = { λ t r. r ≡ of_take t };
+
+    fn from(refusal: TakeRefusal) -> FinishRefusal {
+        match refusal {
+            TakeRefusal::NoEntry => FinishRefusal::NoEntry,
+            TakeRefusal::OutOfMemory => FinishRefusal::Simulation(SimRefusal::Memory),
+        }
+    }
+}
+
+impl From<AllocError> for FinishRefusal {
+    ghost use Rattle.std.specs.Prelude.{◌≡◌};
+    ghost use Rattle.peer_node.specs.Refusals.{no_memory};
+
+    ghost from_gives = { λ _ r. r ≡ no_memory };
+
+    fn from(_error: AllocError) -> FinishRefusal {
+        FinishRefusal::Simulation(SimRefusal::Memory)
+    }
+}

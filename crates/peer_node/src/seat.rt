@@ -1,0 +1,125 @@
+//! A seat of a peer: it endorses and reads, and never waits.
+
+ghost use Rattle.std.specs.Prelude.{◌≡◌, IfOk};
+ghost use Rattle.ledger_model.specs.Chain.{history};
+ghost use Rattle.ledger_model.specs.State.{state_at};
+
+use crate::refusal::FinishRefusal;
+use endorsement_policy::Rules;
+use endorser::{recheck, seal};
+use fab_types::{Endorsement, Key, OrgName, Payload, Proposal, Value, Version};
+use simulator::{Book, simulate};
+use snapshot_cell::{Reader, TakeRefusal, Told};
+use std::alloc::{AllocError, Global};
+use std::sync::Arc;
+use world_state::Snapshot;
+
+/// What a seat endorses by: the chaincodes, the organisations with their keys, and its own organisation.
+#[derive(Drop)]
+pub struct Endorser {
+    pub book: Arc<Book>,
+    pub rules: Arc<Rules>,
+    pub org: OrgName,
+    pub alloc: Global,
+}
+
+/// A seat. Contracts see the list of whole blocks that it has seen or was told of.
+#[derive(Drop)]
+pub struct Seat {
+    pub reader: Reader,
+    pub endorser: Endorser,
+}
+
+/// A proposal that a seat has begun, and the snapshot that it reads.
+#[derive(Drop)]
+pub struct Begun {
+    pub proposal: Proposal,
+    pub snapshot: Arc<Snapshot>,
+}
+
+impl Seat {
+    ghost use Rattle.std.specs.Prelude.{◌⊎◌, IfErr};
+    ghost use Rattle.std.specs.Arc.{arc_value};
+    ghost use mathlib.Core.List.{IsPrefix};
+    ghost use Rattle.snapshot_cell.specs.Seats.{cell_of_told, told_list};
+    ghost use Rattle.peer_node.specs.Seats.{seen, peer_of, FinishesBy, Endorses};
+
+    /// Takes the snapshot on which a proposal is simulated: its blocks begin with all that this seat has seen
+    /// or was told of, and are what it has seen afterwards.
+    ///
+    /// Refused where the cell gave no entry, as after its writer's end (432), and for want of memory (9).
+    pub fn begin(&mut self, proposal: &Proposal) -> Result<Begun, TakeRefusal>
+        ensures begun { IfOk result (λ b. (b.proposal ≡ proposal.now) × IsPrefix (seen self.old) (arc_value b.snapshot) × (seen self.new ≡ arc_value b.snapshot)) }
+        ensures refused { IfErr result (λ _. seen self.new ≡ seen self.old) }
+        ensures same { (self.new.endorser ≡ self.old.endorser) × (peer_of self.new ≡ peer_of self.old) }
+    {
+        let proposal = proposal.clone()?;
+        let snapshot = self.reader.take()?;
+        Ok(Begun { proposal, snapshot })
+    }
+
+    /// Simulates what was begun on the snapshot taken then, checks on a second one that all that was read is
+    /// as it was, and endorses the payload. The blocks of the second snapshot begin with all that this seat
+    /// has seen or was told of, and are what it has seen afterwards.
+    ///
+    /// Refused as the simulation is (401 to 404), where something that was read has changed (405), where the
+    /// cell gave no entry (432), and for want of memory (9).
+    pub fn finish(&mut self, begun: Begun) -> Result<(Payload, Endorsement), FinishRefusal>
+        ensures finished { FinishesBy self.old.endorser begun.proposal (arc_value begun.snapshot) (seen self.old) (seen self.new) result }
+        ensures same { (self.new.endorser ≡ self.old.endorser) × (peer_of self.new ≡ peer_of self.old) }
+    {
+        let Endorser {
+            book,
+            rules,
+            org,
+            alloc,
+        } = &self.endorser;
+        let payload = simulate(*alloc, book, &begun.snapshot, &begun.proposal)?;
+        let newest = self.reader.take()?;
+        recheck(*alloc, &payload, &newest)?;
+        let endorsement = seal(*alloc, org, rules.key(org), &payload)?;
+        Ok((payload, endorsement))
+    }
+
+    /// Begins and finishes a proposal. Refused as these are.
+    pub fn endorse(&mut self, proposal: &Proposal) -> Result<(Payload, Endorsement), FinishRefusal>
+        ensures endorsed { Endorses self.old.endorser proposal.now (seen self.old) (seen self.new) result }
+        ensures same { (self.new.endorser ≡ self.old.endorser) × (peer_of self.new ≡ peer_of self.old) }
+    {
+        let begun = self.begin(proposal)?;
+        self.finish(begun)
+    }
+
+    /// A key's value and version in the state after a list of blocks that begins with all that this seat has
+    /// seen or was told of, and is what it has seen afterwards.
+    ///
+    /// Refused where the cell gave no entry (432), and for want of memory (9).
+    pub fn read(&mut self, key: &Key) -> Result<Option<(Value, Version)>, TakeRefusal>
+        ensures answer { IfOk result (λ entry. IsPrefix (seen self.old) (seen self.new) × (entry ≡ state_at (history (seen self.new)) key.now)) }
+        ensures refused { IfErr result (λ _. IsPrefix (seen self.old) (seen self.new)) }
+        ensures same { (self.new.endorser ≡ self.old.endorser) × (peer_of self.new ≡ peer_of self.old) }
+    {
+        let snapshot = self.reader.take()?;
+        Ok(entry_at(&snapshot, key)?)
+    }
+
+    /// Takes in what the peer's writer told. One of the two lists begins with the other, and the seat has then
+    /// seen the longer one.
+    pub fn learn(&mut self, told: &Told)
+        requires { cell_of_told told.now ≡ peer_of self.old }
+        ensures longer { (IsPrefix (seen self.old) (told_list told.now) × (seen self.new ≡ told_list told.now)) ⊎ (IsPrefix (told_list told.now) (seen self.old) × (seen self.new ≡ seen self.old)) }
+        ensures same { (self.new.endorser ≡ self.old.endorser) × (peer_of self.new ≡ peer_of self.old) }
+    {
+        self.reader.learn(told);
+    }
+}
+
+/// A key's value and version after the blocks of a snapshot.
+fn entry_at(snapshot: &Snapshot, key: &Key) -> Result<Option<(Value, Version)>, AllocError>
+    ensures { IfOk result (λ entry. entry ≡ state_at (history snapshot.now) key.now) }
+{
+    match snapshot.get(key) {
+        Some((value, version)) => Ok(Some((value.clone()?, version))),
+        None => Ok(None),
+    }
+}

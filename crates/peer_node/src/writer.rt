@@ -1,0 +1,152 @@
+//! The writer of a peer: it commits blocks, and opens the peer's seats.
+
+ghost use Rattle.std.specs.Prelude.{◌≡◌, [], length, All, IfOk};
+ghost use Rattle.std.specs.Arc.{arc_value};
+ghost use Rattle.logbook.specs.Pages.{Book as PeerId};
+ghost use Rattle.snapshot_cell.specs.Seats.{EachBegins};
+ghost use Rattle.peer_node.specs.Seats.{IsSeat, Serves};
+
+use crate::seat::{Endorser, Seat};
+use committer::{CommitRefusal, commit_on};
+use endorsement_policy::{Gate, Rules, check_all};
+use fab_types::{Block, OrgName};
+use fabric_core::Genesis;
+use simulator::Book;
+use snapshot_cell::{OpenRefusal, Reader, Told, Writer, open};
+use std::alloc::{AllocError, Global};
+use std::sync::{Arc, Wait};
+use std::thread::Threads;
+use world_state::Snapshot;
+
+/// How many workers check the envelopes of a block.
+const WORKERS: usize = 4;
+
+/// Opens peers.
+pub struct Peer;
+
+/// The writer of a peer. Contracts see the list of whole blocks that it committed. It is ended by `close`.
+pub struct PeerWriter {
+    pub cell: Writer,
+    pub rules: Arc<Rules>,
+    alloc: Global,
+}
+
+/// Nothing happens round a check.
+struct NoGate;
+
+impl Gate for NoGate {
+    fn before(&self, _index: usize) {}
+
+    fn after(&self, _index: usize) {}
+}
+
+impl Peer {
+    ghost use Rattle.std.specs.Prelude.{◌<◌, ◌^◌};
+    ghost use Rattle.peer_node.specs.Writers.{published, peer_of_writer};
+
+    /// A peer of an organisation, without blocks, and so many seats, at least 1 and below 2^32. Tags of an organisation that the genesis
+    /// does not list are made with the empty key and count for nothing.
+    ///
+    /// Refused where a seat got no place in the cell (431), and for want of memory (9).
+    pub fn open<R: Wait>(
+        rt: &R,
+        alloc: Global,
+        genesis: &Genesis,
+        org: &OrgName,
+        seats: usize,
+    ) -> Result<(PeerWriter, Vec<Seat>), OpenRefusal>
+        requires seats { (0 < seats) × (seats < 2 ^ 32) }
+        ensures writer { IfOk result (λ t. (published t.0 ≡ []) × (arc_value t.0.rules ≡ arc_value genesis.now.rules)) }
+        ensures length { IfOk result (λ t. length t.1.items ≡ seats) }
+        ensures seats { IfOk result (λ t. All (IsSeat (arc_value genesis.now.book) (arc_value genesis.now.rules) org.now (peer_of_writer t.0)) t.1.items) }
+    {
+        let rules = Arc::try_clone(&genesis.rules)?;
+        let (cell, readers) = open(rt, alloc, Snapshot::empty(alloc), seats)?;
+        match seats_of(alloc, genesis, org, readers) {
+            Ok(seats) => Ok((PeerWriter { cell, rules, alloc }, seats)),
+            Err(error) => {
+                cell.close(rt);
+                Err(error.into())
+            }
+        }
+    }
+}
+
+impl PeerWriter {
+    ghost use Rattle.std.specs.Prelude.{◌++◌, ◌∷◌, OnOk, OnErr, IfErr};
+    ghost use Rattle.committer.specs.Fits.{Fits, IsRefused, blocks_of};
+    ghost use Rattle.snapshot_cell.specs.Seats.{cell_of_told, told_list};
+    ghost use Rattle.peer_node.specs.Writers.{published, peer_of_writer, next_by};
+
+    /// The snapshot after the writer's list.
+    pub fn newest(&self) -> &Snapshot
+        ensures { result.now ≡ published self.now }
+    {
+        self.cell.newest()
+    }
+
+    /// Puts one whole block, with the flags of its transactions, after the list in one step, and tells of that
+    /// list. Four workers check the envelopes.
+    ///
+    /// Refused as `commit_on` refuses: where the chain is full (604), where the block has not the next number
+    /// (601), names another hash than that of the last header (602) or says another hash of its data (603),
+    /// and for want of memory (9). A refusal leaves the list as it was.
+    pub fn commit<R: Threads + Wait + Sync>(
+        &mut self,
+        rt: &R,
+        block: Block,
+    ) -> Result<Told, CommitRefusal>
+        ensures committed { IfOk result (λ _. published self.new ≡ published self.old ++ next_by (arc_value self.old.rules) (published self.old) block ∷ []) }
+        ensures told { IfOk result (λ t. (cell_of_told t ≡ peer_of_writer self.old) × (told_list t ≡ published self.new)) }
+        ensures fits { OnOk result (Fits (blocks_of (published self.old)) block) }
+        ensures refused { IfErr result (λ refusal. IsRefused refusal (blocks_of (published self.old)) block) }
+        ensures unchanged { OnErr result (published self.new ≡ published self.old) }
+        ensures same { (peer_of_writer self.new ≡ peer_of_writer self.old) × (self.new.rules ≡ self.old.rules) }
+    {
+        let envelopes = block.envelopes.as_slice();
+        let endorsed = check_all(rt, self.alloc, &self.rules, envelopes, WORKERS, &NoGate)?;
+        let next = commit_on(self.alloc, self.cell.newest(), block, &endorsed)?;
+        Ok(self.cell.publish(rt, next)?)
+    }
+
+    /// Ends the peer: its seats get no entry from now on.
+    pub fn close<R: Wait>(self, rt: &R) {
+        let PeerWriter {
+            cell,
+            rules: _,
+            alloc: _,
+        } = self;
+        cell.close(rt);
+    }
+}
+
+/// What a seat of an organisation endorses by.
+fn endorser(alloc: Global, genesis: &Genesis, org: &OrgName) -> Result<Endorser, AllocError>
+    ensures { IfOk result (λ e. Serves (arc_value genesis.now.book) (arc_value genesis.now.rules) org.now e) }
+{
+    Ok(Endorser {
+        book: Arc::try_clone(&genesis.book)?,
+        rules: Arc::try_clone(&genesis.rules)?,
+        org: org.clone()?,
+        alloc,
+    })
+}
+
+/// A seat on each reader.
+fn seats_of(
+    alloc: Global,
+    genesis: &Genesis,
+    org: &OrgName,
+    mut readers: Vec<Reader>,
+) -> Result<Vec<Seat>, AllocError>
+    ensures length { IfOk result (λ v. length v.items ≡ length readers.items) }
+    ensures each { IfOk result (λ v. (peer : PeerId) → EachBegins peer [] readers.items → All (IsSeat (arc_value genesis.now.book) (arc_value genesis.now.rules) org.now peer) v.items) }
+{
+    let mut seats = Vec::with_capacity(alloc, readers.len())?;
+    for _seat in 0..readers.len() {
+        let reader = readers.pop().unwrap();
+        let endorser = endorser(alloc, genesis, org)?;
+        seats.push(Seat { reader, endorser })?;
+    }
+    Ok(seats)
+}

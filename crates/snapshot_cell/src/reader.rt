@@ -1,0 +1,83 @@
+//! The seats of the cell.
+
+ghost use Rattle.std.specs.Prelude.{◌≡◌, IfOk, IfErr};
+ghost use Rattle.std.specs.Option.{ForSome};
+ghost use Rattle.std.specs.Arc.{arc_value};
+ghost use mathlib.Core.List.{IsPrefix};
+ghost use Rattle.left_right.specs.Sides.{view};
+ghost use Rattle.snapshot_cell.specs.Marks.{mark_of};
+
+use crate::history::Front;
+use crate::kept::{Kept, Sees, Tie};
+use crate::mark::Mark;
+use crate::refusal::TakeRefusal;
+use crate::writer::Told;
+use left_right::reader;
+use std::sync::Arc;
+use world_state::Snapshot;
+
+/// A seat. `front` is the list of whole blocks that it has seen or was told of.
+#[derive(Drop)]
+pub struct Reader {
+    pub(crate) inner: Option<reader::Reader<Kept, Mark, Tie>>,
+    pub front: Front,
+    pub ghost knows: { ForSome inner (λ r. view r.place ≡ mark_of front.seen.book) },
+}
+
+impl Reader {
+    ghost use Rattle.std.specs.Prelude.{◌⊎◌};
+    ghost use Rattle.snapshot_cell.specs.Seats.{seen, told_list, cell_of_reader, cell_of_told};
+
+    /// The newest snapshot. Its blocks begin with all that this seat has seen or was told of, and are what it
+    /// has seen afterwards. A refusal leaves what it has seen as it was.
+    ///
+    /// Refused where the cell gave no entry, as after its writer's end (432), and where one more owner of the
+    /// snapshot was refused (9).
+    pub fn take(&mut self) -> Result<Arc<Snapshot>, TakeRefusal>
+        ensures taken { IfOk result (λ s. IsPrefix (seen self.old) (arc_value s) × (seen self.new ≡ arc_value s)) }
+        ensures refused { IfErr result (λ _. seen self.new ≡ seen self.old) }
+        ensures same { cell_of_reader self.new ≡ cell_of_reader self.old }
+    {
+        let Some(reader) = self.inner.take() else {
+            return Err(TakeRefusal::NoEntry);
+        };
+        match reader.enter_as::<Sees>() {
+            Ok(reading) => {
+                let answer = look(&mut self.front, reading.get());
+                self.inner = Some(reading.leave());
+                answer
+            }
+            Err(reader) => {
+                self.inner = Some(reader);
+                Err(TakeRefusal::NoEntry)
+            }
+        }
+    }
+
+    /// Takes in what the writer told. One of the two lists begins with the other, and the seat has then seen
+    /// the longer one. It takes no memory.
+    pub fn learn(&mut self, told: &Told)
+        requires { cell_of_told told.now ≡ cell_of_reader self.old }
+        ensures longer { (IsPrefix (seen self.old) (told_list told.now) × (seen self.new ≡ told_list told.now)) ⊎ (IsPrefix (told_list told.now) (seen self.old) × (seen self.new ≡ seen self.old)) }
+        ensures same { cell_of_reader self.new ≡ cell_of_reader self.old }
+    {
+        if self.front.begins(&told.front) {
+            self.front = told.front.again();
+        }
+    }
+}
+
+/// The snapshot that lies in the copy, if it is no older than what is known.
+fn look(front: &mut Front, kept: &Kept) -> Result<Arc<Snapshot>, TakeRefusal>
+    requires { kept.now.front.seen.book ≡ front.old.seen.book }
+    ensures taken { IfOk result (λ s. IsPrefix front.old.seen.log (arc_value s) × (front.new.seen.log ≡ arc_value s)) }
+    ensures refused { IfErr result (λ _. front.new.seen.log ≡ front.old.seen.log) }
+    ensures same { front.new.seen.book ≡ front.old.seen.book }
+{
+    if !kept.whole || !front.begins(&kept.front) {
+        return Err(TakeRefusal::NoEntry);
+    }
+    let snapshot = Arc::try_clone(&kept.snapshot)?;
+    *front = kept.front.again();
+    Ok(snapshot)
+}

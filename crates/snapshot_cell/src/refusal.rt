@@ -1,0 +1,90 @@
+//! Why a call of the cell is refused.
+
+ghost use Rattle.std.specs.Prelude.{◌≡◌};
+ghost use Rattle.snapshot_cell.specs.Numbers.{open_number, take_number};
+
+use std::alloc::{AllocError, AllocFailed};
+use std::error::Error;
+use std::fmt::{self, Display, Formatter, Write};
+
+/// Why no cell was opened.
+#[derive(Clone, Copy, Debug, Drop, PartialEq, Eq)]
+pub enum OpenRefusal {
+    /// A seat got no place in the cell.
+    NoPlace = 431,
+    /// A growth of memory was refused.
+    OutOfMemory = 9,
+}
+
+/// Why a seat took no snapshot.
+#[derive(Clone, Copy, Debug, Drop, PartialEq, Eq)]
+pub enum TakeRefusal {
+    /// The cell gave no entry, as after its writer's end.
+    NoEntry = 432,
+    /// A growth of memory, or one more owner of the snapshot, was refused.
+    OutOfMemory = 9,
+}
+
+impl OpenRefusal {
+    /// The number of the refusal: 9 or 431.
+    pub fn number(self) -> u16
+        ensures { result ≡ open_number self }
+    {
+        self as u16
+    }
+}
+
+impl TakeRefusal {
+    /// The number of the refusal: 9 or 432.
+    pub fn number(self) -> u16
+        ensures { result ≡ take_number self }
+    {
+        self as u16
+    }
+}
+
+impl Display for OpenRefusal {
+    fn fmt<W: Write>(&self, f: &mut Formatter<W>) -> fmt::Result {
+        write!(f, "refused {}", self.number())
+    }
+}
+
+impl Display for TakeRefusal {
+    fn fmt<W: Write>(&self, f: &mut Formatter<W>) -> fmt::Result {
+        write!(f, "refused {}", self.number())
+    }
+}
+
+impl Error for OpenRefusal {}
+
+impl Error for TakeRefusal {}
+
+impl From<AllocError> for OpenRefusal {
+    ghost use Rattle.snapshot_cell.specs.declared.refusal.OpenRefusal.TheVariants.{OutOfMemory};
+
+    ghost from_gives = { λ _ r. r ≡ OutOfMemory };
+
+    fn from(_error: AllocError) -> OpenRefusal {
+        OpenRefusal::OutOfMemory
+    }
+}
+
+impl<T: Drop> From<AllocFailed<T>> for OpenRefusal {
+    ghost use Rattle.snapshot_cell.specs.declared.refusal.OpenRefusal.TheVariants.{OutOfMemory};
+
+    ghost from_gives = { λ _ r. r ≡ OutOfMemory };
+
+    fn from(_error: AllocFailed<T>) -> OpenRefusal {
+        OpenRefusal::OutOfMemory
+    }
+}
+
+impl From<AllocError> for TakeRefusal {
+    ghost use Rattle.snapshot_cell.specs.declared.refusal.TakeRefusal.TheVariants.{OutOfMemory};
+
+    ghost from_gives = { λ _ r. r ≡ OutOfMemory };
+
+    fn from(_error: AllocError) -> TakeRefusal {
+        TakeRefusal::OutOfMemory
+    }
+}
