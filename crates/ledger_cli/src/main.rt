@@ -1,25 +1,9 @@
-//! The program of the ledger.
+//! The program of the ledger on a machine: its files and its standard output.
 //!
-//! `check MODULE` tells whether the bytes of a file are a valid module, and how many functions it defines.
-//! `first MODULE FUEL WORDS..` runs words on a system of one peer whose only chaincode is the module, and
-//! prints what each comes to, the state after them and the audit of the peer's chain. `program` is all of
-//! it but the machine that it runs on.
+//! What it does is `ledger_program`'s.
 #![tactic(auto)]
 
-mod check;
-mod failure;
-mod files;
-mod first;
-mod program;
-mod session;
-#[cfg(test)]
-mod tests;
-mod text;
-mod word;
-mod words;
-
-use crate::files::Files;
-use crate::program::program;
+use ledger_program::{Files, program};
 use std::fs::{self, File};
 use std::process::ExitCode;
 use std::{env, io};
@@ -31,8 +15,18 @@ struct Disk<'a>(&'a HostRuntime);
 impl Files for Disk<'_> {
     type Reader = File;
 
+    type Writer = File;
+
     fn open(&mut self, name: &str) -> Option<File> {
         fs::open(self.0, name).ok()
+    }
+
+    fn create(&mut self, name: &str) -> Option<File> {
+        fs::create(self.0, name).ok()
+    }
+
+    fn rename(&mut self, from: &str, to: &str) -> bool {
+        fs::rename(self.0, from, to).is_ok()
     }
 }
 

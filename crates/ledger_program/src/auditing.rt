@@ -1,0 +1,54 @@
+//! The command `audit`.
+
+use crate::failure::Failure;
+use crate::files::Files;
+use crate::lines::print_audit;
+use crate::opening::genesis_in;
+use crate::storing::replayed;
+use block_store::End;
+use fabric_core::Genesis;
+use std::alloc::Global;
+use std::io::Write;
+use store_replay::Replayed;
+
+/// Prints how many blocks a store has, and what is found of them: the first with flags that are not the
+/// rule's, why one does not fit, or what the audit of the chain says. Last comes how the store ends, unless
+/// it ends with a record.
+pub fn audit<F: Files, W: Write>(
+    alloc: Global,
+    files: &mut F,
+    genesis: &str,
+    store: &str,
+    out: &mut W,
+) -> Result<(), Failure> {
+    let genesis = genesis_in(alloc, files, genesis)?;
+    let replayed = replayed(alloc, files, &genesis, store)?;
+    let blocks = replayed.blocks;
+    writeln!(out, "blocks {blocks}")?;
+    let is_good = print_findings(alloc, &genesis, &replayed, out)?;
+    match replayed.end {
+        End::Clean if is_good => Ok(()),
+        End::Clean => Err(Failure::Differs),
+        end => Err(Failure::Store(end)),
+    }
+}
+
+/// Prints the first thing that is wrong with the committed blocks, or what their audit says, and answers
+/// whether nothing was found.
+fn print_findings<W: Write>(
+    alloc: Global,
+    genesis: &Genesis,
+    replayed: &Replayed,
+    out: &mut W,
+) -> Result<bool, Failure> {
+    if let Some(number) = replayed.differs {
+        writeln!(out, "flags differ {number}")?;
+        return Ok(false);
+    }
+    if let Some(refusal) = replayed.refused {
+        let refusal = Failure::Commit(refusal);
+        writeln!(out, "{refusal}")?;
+        return Ok(false);
+    }
+    print_audit(fabric_core::audit(alloc, genesis, &replayed.snapshot)?, out)
+}

@@ -1,0 +1,24 @@
+//! The command `check`.
+
+use crate::failure::Failure;
+use crate::files::{Files, read_at_most};
+use crate::module_file::defined_functions;
+use std::alloc::Global;
+use std::io::Write;
+
+/// A module has at most 262,144 bytes. One byte more is read, so that a longer file is told apart.
+const MOST_READ: u64 = 262_145;
+
+/// Prints how many functions the module of a file defines, and how many bytes it has.
+pub fn check<F: Files, W: Write>(
+    alloc: Global,
+    files: &mut F,
+    module: &str,
+    out: &mut W,
+) -> Result<(), Failure> {
+    let bytes = read_at_most(alloc, files, module, MOST_READ)?;
+    let functions = defined_functions(alloc, &bytes)?;
+    let length = bytes.len();
+    writeln!(out, "valid functions={functions} bytes={length}")?;
+    Ok(())
+}

@@ -1,0 +1,73 @@
+//! The program, but for the machine that it runs on.
+
+use crate::auditing::audit;
+use crate::checking::check;
+use crate::failure::Failure;
+use crate::files::Files;
+use crate::session::run;
+use crate::simulation::simulate;
+use crate::words::{self, Task};
+use std::alloc::Global;
+use std::io::{self, Write};
+
+const USAGE: &str = "usage: ledger check MODULE
+       ledger sim GENESIS CHAINCODE ARG [--nonce HEX] [--store FILE]
+       ledger run GENESIS EVENTS [--store FILE]
+       ledger audit GENESIS STORE
+  check  tells whether the file MODULE is a valid module
+  sim    simulates a call of CHAINCODE with the argument ARG (hex, or - for none) on the empty
+         state, or on that after the store FILE; the nonce is 16 bytes of hex, zeros by default
+  run    runs the events of the file EVENTS, one JSON object a line, on the system that the
+         file GENESIS opens, and writes the chain of its first peer to the store FILE
+  audit  commits the file STORE again, and runs its VALID transactions again";
+
+/// Does what the words ask for, the command first, and answers the exit status: 0 for done, 1 for a
+/// refusal or a difference, which are printed, and 2 where the words name no task.
+pub fn program<F: Files, W: Write>(
+    alloc: Global,
+    words: &[String],
+    files: &mut F,
+    out: &mut W,
+) -> u8 {
+    let Err(failure) = carry_out(alloc, words, files, out) else {
+        return 0;
+    };
+    let (status, told) = match failure {
+        Failure::Usage => (2, writeln!(out, "{USAGE}")),
+        failure => (1, tell(failure, out)),
+    };
+    match told {
+        Ok(()) => status,
+        Err(_) => 1,
+    }
+}
+
+/// Prints why a task was not done, where that is not printed yet.
+fn tell<W: Write>(failure: Failure, out: &mut W) -> io::Result<()> {
+    match failure {
+        Failure::Differs | Failure::Output => Ok(()),
+        failure => writeln!(out, "{failure}"),
+    }
+}
+
+fn carry_out<F: Files, W: Write>(
+    alloc: Global,
+    words: &[String],
+    files: &mut F,
+    out: &mut W,
+) -> Result<(), Failure> {
+    match words::parse(alloc, words)? {
+        Task::Check { module } => check(alloc, files, module, out),
+        Task::Simulate {
+            genesis,
+            proposal,
+            store,
+        } => simulate(alloc, files, genesis, &proposal, store, out),
+        Task::Run {
+            genesis,
+            events,
+            store,
+        } => run(alloc, files, genesis, events, store, out),
+        Task::Audit { genesis, store } => audit(alloc, files, genesis, store, out),
+    }
+}

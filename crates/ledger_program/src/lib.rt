@@ -1,0 +1,27 @@
+//! The program of the ledger: all of it but the machine that it runs on.
+//!
+//! - `check MODULE` tells whether the bytes of a file are a valid module, and how many functions it defines.
+//! - `sim GENESIS CHAINCODE ARG` simulates one call, on the empty state or on that after a store.
+//! - `run GENESIS EVENTS` runs the events of a file on the system that the genesis opens, and writes the
+//!   chain of its first peer.
+//! - `audit GENESIS STORE` commits a store's chain again, and runs its VALID transactions again.
+//!
+//! [`program`] takes the words of the command line, the files by [`Files`], and where lines are printed.
+#![tactic(auto)]
+
+mod auditing;
+mod checking;
+mod commands;
+mod failure;
+mod files;
+mod lines;
+mod module_file;
+mod opening;
+mod session;
+mod simulation;
+mod storing;
+mod words;
+
+pub use commands::program;
+pub use files::Files;
+pub use module_file::{ModuleRefusal, defined_functions, valid_module};

@@ -1,0 +1,152 @@
+//! What the program prints of the ledger's values.
+
+use crate::failure::Failure;
+use fab_types::{Flag, Payload, RangeItem, ReadItem, Version, WriteItem};
+use fabric_core::Audit;
+use orderer::BatchReport;
+use std::alloc::{AllocError, Global};
+use std::io::Write;
+use wire::tx_id;
+use world_state::Snapshot;
+
+/// Bytes as lower-case hex; `-` where there are none.
+pub fn hex_of(alloc: Global, bytes: &[u8]) -> Result<String, AllocError> {
+    if bytes.is_empty() {
+        return String::from_str(alloc, "-");
+    }
+    hex::encode(alloc, bytes)
+}
+
+/// The id of the transaction that a payload's proposal begins, in hex.
+pub fn id_of(alloc: Global, payload: &Payload) -> Result<String, AllocError> {
+    hex::encode(alloc, tx_id(alloc, &payload.proposal)?)
+}
+
+/// A version as `<block>.<place>`.
+fn version_of(alloc: Global, version: Version) -> Result<String, AllocError> {
+    let (block, place) = (version.block(), version.place());
+    format!(in alloc; "{block}.{place}")
+}
+
+/// Prints each key of the state with its version and value, in key order.
+pub fn print_state<W: Write>(
+    alloc: Global,
+    snapshot: &Snapshot,
+    out: &mut W,
+) -> Result<(), Failure> {
+    for (key, (value, version)) in snapshot.entries(alloc)? {
+        let key = hex_of(alloc, key.as_slice())?;
+        let version = version_of(alloc, *version)?;
+        let value = hex_of(alloc, value.as_slice())?;
+        writeln!(out, "state {key} {version} {value}")?;
+    }
+    Ok(())
+}
+
+/// Prints what an audit says, and answers whether all transactions agree with their reruns.
+pub fn print_audit<W: Write>(audit: Audit, out: &mut W) -> Result<bool, Failure> {
+    match audit {
+        Audit::Agrees { .. } => {
+            writeln!(out, "audit agrees")?;
+            Ok(true)
+        }
+        Audit::Differs { block, tx } => {
+            writeln!(out, "audit differs {block}.{tx}")?;
+            Ok(false)
+        }
+    }
+}
+
+/// Prints the block of a batch, where it made one, with its count of transactions, and what was aborted.
+pub fn print_batch<W: Write>(report: &BatchReport, txs: usize, out: &mut W) -> Result<(), Failure> {
+    match report.block {
+        Some(number) => writeln!(out, "block {number} txs {txs}")?,
+        None => writeln!(out, "no block")?,
+    }
+    for (index, cause) in report.aborted.as_slice() {
+        writeln!(out, "aborted {index} {cause}")?;
+    }
+    Ok(())
+}
+
+/// Prints the number of a block that was committed, and its flags.
+pub fn print_committed<W: Write>(
+    height: usize,
+    flags: &[Flag],
+    out: &mut W,
+) -> Result<(), Failure> {
+    write!(out, "committed {height} flags")?;
+    for flag in flags {
+        write!(out, " {flag}")?;
+    }
+    writeln!(out)?;
+    Ok(())
+}
+
+fn print_read<W: Write>(alloc: Global, read: &ReadItem, out: &mut W) -> Result<(), Failure> {
+    let key = hex_of(alloc, read.key.as_slice())?;
+    match read.version {
+        Some(version) => {
+            let version = version_of(alloc, version)?;
+            writeln!(out, "read {key} {version}")?;
+        }
+        None => writeln!(out, "read {key} absent")?,
+    }
+    Ok(())
+}
+
+fn print_range<W: Write>(alloc: Global, range: &RangeItem, out: &mut W) -> Result<(), Failure> {
+    let start = hex_of(alloc, range.start().as_slice())?;
+    let end = hex_of(alloc, range.end().as_slice())?;
+    let (limit, entries) = (range.limit(), range.entries().len());
+    writeln!(out, "range {start} {end} {limit} {entries}")?;
+    Ok(())
+}
+
+fn print_write<W: Write>(alloc: Global, write: &WriteItem, out: &mut W) -> Result<(), Failure> {
+    let key = hex_of(alloc, write.key.as_slice())?;
+    match &write.value {
+        Some(value) => {
+            let value = hex_of(alloc, value.as_slice())?;
+            writeln!(out, "write {key} put {value}")?;
+        }
+        None => writeln!(out, "write {key} delete")?,
+    }
+    Ok(())
+}
+
+fn print_reads<W: Write>(alloc: Global, reads: &[ReadItem], out: &mut W) -> Result<(), Failure> {
+    for read in reads {
+        print_read(alloc, read, out)?;
+    }
+    Ok(())
+}
+
+fn print_ranges<W: Write>(alloc: Global, ranges: &[RangeItem], out: &mut W) -> Result<(), Failure> {
+    for range in ranges {
+        print_range(alloc, range, out)?;
+    }
+    Ok(())
+}
+
+fn print_writes<W: Write>(alloc: Global, writes: &[WriteItem], out: &mut W) -> Result<(), Failure> {
+    for write in writes {
+        print_write(alloc, write, out)?;
+    }
+    Ok(())
+}
+
+/// Prints a transaction's id and result, and all that it read and writes.
+pub fn print_payload<W: Write>(
+    alloc: Global,
+    payload: &Payload,
+    out: &mut W,
+) -> Result<(), Failure> {
+    let id = id_of(alloc, payload)?;
+    let result = hex_of(alloc, payload.result.as_slice())?;
+    writeln!(out, "tx {id}")?;
+    writeln!(out, "result {result}")?;
+    print_reads(alloc, payload.reads.as_slice(), out)?;
+    print_ranges(alloc, payload.ranges.as_slice(), out)?;
+    print_writes(alloc, payload.writes.as_slice(), out)
+}

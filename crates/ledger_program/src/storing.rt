@@ -1,0 +1,68 @@
+//! Stores that the program reads and writes.
+
+use crate::failure::Failure;
+use crate::files::Files;
+use block_store::{AppendFault, append};
+use counted::Counted;
+use fab_types::CommittedBlock;
+use fabric_core::Genesis;
+use std::alloc::Global;
+use std::io::Write;
+use std::sync::Arc;
+use store_replay::{Replayed, replay_store};
+use world_state::Snapshot;
+
+/// The chain of a store, committed again.
+pub fn replayed<F: Files>(
+    alloc: Global,
+    files: &mut F,
+    genesis: &Genesis,
+    name: &str,
+) -> Result<Replayed, Failure> {
+    let Some(reader) = files.open(name) else {
+        return Err(Failure::File);
+    };
+    let mut device = Counted::new(reader);
+    Ok(replay_store(alloc, genesis, &mut device)?)
+}
+
+/// Writes a chain as a store. A store of that name stays as it was until this one is whole: it is written
+/// beside it, under the name with `.part` behind it, and then takes its place.
+pub fn write_store<F: Files>(
+    alloc: Global,
+    files: &mut F,
+    name: &str,
+    snapshot: &Snapshot,
+) -> Result<(), Failure> {
+    let part = format!(in alloc; "{name}.part")?;
+    let Some(mut writer) = files.create(&part) else {
+        return Err(Failure::File);
+    };
+    let mut device = Counted::new(writer);
+    write_blocks(alloc, &mut device, snapshot.blocks())?;
+    writer = device.into_inner();
+    if writer.flush().is_err() {
+        return Err(Failure::File);
+    }
+    if files.rename(&part, name) {
+        Ok(())
+    } else {
+        Err(Failure::File)
+    }
+}
+
+/// Appends the record of each block.
+fn write_blocks<W: Write + Drop>(
+    alloc: Global,
+    device: &mut Counted<W>,
+    blocks: &[Arc<CommittedBlock>],
+) -> Result<(), Failure> {
+    for committed in blocks {
+        match append(alloc, device, committed.block(), committed.flags()) {
+            Ok(()) => {}
+            Err(AppendFault::Memory) => return Err(Failure::Memory),
+            Err(AppendFault::Device(_)) => return Err(Failure::File),
+        }
+    }
+    Ok(())
+}

@@ -1,0 +1,306 @@
+//! Stores of blocks of one transaction each, whole, cut, damaged, and on devices that fail.
+
+ghost use Rattle.std.specs.Prelude.{◌≡◌, ◌≤◌, IfOk, length};
+
+use block_store::{AppendFault, End, RecordReader, append, load};
+use counted::Counted;
+use fab_types::{Block, BlockData, BlockNumber, Flag, Header};
+use std::alloc::{AllocError, Global};
+use std::io::{self, Read, Write};
+use std::test::Fail;
+use wire::decode_envelope;
+
+/// The envelope of the chaincode `kv` that puts `1` at `a` and reads nothing, without endorsements.
+const PUT: [u8; 36] = [
+    0x02, 0x6b, 0x76, 0x00, 0x00, 0x00, 0x00, 0x00, 0x00, 0x00, 0x00, 0x00, 0x00, 0x00, 0x00, 0x00,
+    0x00, 0x00, 0x00, 0x00, 0x00, 0x00, 0x00, 0x00, 0x00, 0x00, 0x00, 0x00, 0x01, 0x01, 0x61, 0x01,
+    0x00, 0x01, 0x31, 0x00,
+];
+
+/// The length of a record of these stores: the length of the block, its header, the count of its
+/// envelopes, one envelope behind its length, a flag and the digest.
+const RECORD: usize = 4 + 68 + 2 + 4 + 36 + 1 + 32;
+
+/// More calls than a test makes.
+const NEVER: usize = 1 << 40;
+
+/// A device in memory that moves at most so many bytes a call, and one of whose calls fails.
+#[derive(Drop)]
+struct Tape {
+    bytes: Vec<u8>,
+    at: usize,
+    most: usize,
+    /// So many calls go well before the one that fails.
+    calls: usize,
+}
+
+impl Tape {
+    fn new(bytes: Vec<u8>, most: usize, calls: usize) -> Tape {
+        Tape {
+            bytes,
+            at: 0,
+            most,
+            calls,
+        }
+    }
+
+    /// Whether this is the call that fails.
+    fn fails(&mut self) -> bool {
+        let fails = self.calls == 0;
+        self.calls = self.calls.checked_sub(1).unwrap_or(NEVER);
+        fails
+    }
+}
+
+impl Write for Tape {
+    fn write(&mut self, bytes: &[u8]) -> io::Result<usize> {
+        if self.fails() {
+            return Err(io::ErrorKind::Other.into());
+        }
+        let count = bytes.len().min(self.most);
+        self.bytes.extend_from_slice(&bytes[..count])?;
+        Ok(count)
+    }
+
+    fn flush(&mut self) -> io::Result<()> {
+        Ok(())
+    }
+}
+
+impl Read for Tape {
+    fn read(&mut self, buffer: &mut [u8]) -> io::Result<usize> {
+        if self.fails() {
+            return Err(io::ErrorKind::Other.into());
+        }
+        let rest = self.bytes.get(self.at..).unwrap_or(&[]);
+        let count = rest.len().min(self.most).min(buffer.len());
+        buffer[..count].copy_from_slice(&rest[..count]);
+        self.at += count;
+        Ok(count)
+    }
+}
+
+fn block(alloc: Global, number: u32) -> Result<Block, Fail> {
+    let number = BlockNumber::new(number).ok_or("a number of a block")?;
+    let envelope = decode_envelope(alloc, &PUT)
+        .ok()
+        .ok_or("the bytes are an envelope")?;
+    let envelopes = BlockData::new(vec![in alloc; envelope]?).ok_or("one envelope")?;
+    let header = Header {
+        number,
+        previous_hash: [7; 32],
+        data_hash: [9; 32],
+    };
+    Ok(Block { header, envelopes })
+}
+
+/// A flag for each envelope.
+fn flags(alloc: Global, block: &Block) -> Result<Vec<Flag>, AllocError>
+    ensures { IfOk result (λ v. length v.items ≡ length block.now.envelopes) }
+{
+    Ok(vec![in alloc; Flag::MvccReadConflict; block.envelopes.as_slice().len()]?)
+}
+
+/// The bytes of a store of so many blocks.
+fn store(alloc: Global, count: u32) -> Result<Vec<u8>, Fail> {
+    let mut tape = Counted::new(Tape::new(Vec::new(alloc), 50, NEVER));
+    for before in 0..count {
+        let block = block(alloc, before + 1)?;
+        let flags = flags(alloc, &block)?;
+        append(alloc, &mut tape, &block, &flags)
+            .ok()
+            .ok_or("memory")?;
+    }
+    Ok(tape.into_inner().bytes)
+}
+
+/// How many blocks a store with these bytes has, and its end.
+fn answer(alloc: Global, bytes: &[u8]) -> Result<(usize, End), AllocError> {
+    let loaded = load(alloc, &mut Counted::new(bytes))?;
+    Ok((loaded.blocks.len(), loaded.end))
+}
+
+/// How many blocks a store has that is read in pieces of so many bytes, with a call that fails, and
+/// its end.
+fn answer_of_tape(
+    alloc: Global,
+    bytes: &[u8],
+    most: usize,
+    calls: usize,
+) -> Result<(usize, End), AllocError> {
+    let mut tape = Counted::new(Tape::new(bytes.to_vec(alloc)?, most, calls));
+    let loaded = load(alloc, &mut tape)?;
+    Ok((loaded.blocks.len(), loaded.end))
+}
+
+/// Whether a store that is cut behind its fourth record is torn, and clean right behind it.
+fn cuts_are_told(alloc: Global, bytes: &[u8]) -> Result<bool, AllocError> {
+    let mut is_told = answer(alloc, bytes)? == (5, End::Clean);
+    for cut in 4 * RECORD..bytes.len() {
+        let end = if cut == 4 * RECORD {
+            End::Clean
+        } else {
+            End::Torn
+        };
+        is_told &= answer(alloc, &bytes[..cut])? == (4, end);
+    }
+    Ok(is_told)
+}
+
+#[test]
+fn a_store_is_cut_inside_its_last_record(rt: HostRuntime) -> Result<(), Fail> {
+    let alloc = rt.alloc();
+    let bytes = store(alloc, 5)?;
+    let is_told = cuts_are_told(alloc, &bytes)?;
+    assert!(rt; is_told);
+    Ok(())
+}
+
+/// Whether a store of three blocks gives them all in two pieces, the first of them so long.
+fn is_whole_in_two(alloc: Global, bytes: &[u8], cut: usize) -> Result<bool, AllocError> {
+    let mut reader = RecordReader::new(alloc);
+    let (first, second) = bytes.split_at_checked(cut).unwrap_or((bytes, &[]));
+    let before = reader.feed(first)?.len();
+    let is_held = reader.held() == cut % RECORD;
+    let after = reader.feed(second)?.len();
+    let is_counted = before == cut / RECORD && before + after == 3;
+    Ok(is_held && is_counted && reader.finish() == End::Clean)
+}
+
+fn is_whole_in_any_two(alloc: Global, bytes: &[u8]) -> Result<bool, AllocError> {
+    let mut is_whole = true;
+    for cut in 0..bytes.len() {
+        is_whole &= is_whole_in_two(alloc, bytes, cut)?;
+    }
+    Ok(is_whole)
+}
+
+/// How many blocks a store has that comes byte by byte, and its end.
+fn answer_by_byte(alloc: Global, bytes: &[u8]) -> Result<(usize, End), AllocError> {
+    let mut reader = RecordReader::new(alloc);
+    let mut blocks = Vec::new(alloc);
+    for byte in bytes {
+        blocks.append(&mut reader.feed(&[*byte])?)?;
+    }
+    Ok((blocks.len(), reader.finish()))
+}
+
+#[test]
+fn pieces_give_what_the_whole_gives(rt: HostRuntime) -> Result<(), Fail> {
+    let alloc = rt.alloc();
+    let bytes = store(alloc, 3)?;
+    let in_two = is_whole_in_any_two(alloc, &bytes)?;
+    let by_byte = answer_by_byte(alloc, &bytes)?;
+    let whole = answer(alloc, &bytes)?;
+    assert!(rt; in_two && by_byte == whole && whole == (3, End::Clean));
+    Ok(())
+}
+
+/// Whether a write of record 2 that fails at this call tells what it wrote, and leaves a store that
+/// loads as the first block.
+fn is_beginning(
+    alloc: Global,
+    bytes: &[u8],
+    block: &Block,
+    calls: usize,
+) -> Result<bool, AllocError>
+    requires { calls ≤ 15 }
+{
+    let flags = flags(alloc, block)?;
+    let mut tape = Counted::new(Tape::new(bytes.to_vec(alloc)?, 10, calls));
+    let answered = append(alloc, &mut tape, block, &flags);
+    let written = 10 * calls;
+    let bytes = tape.into_inner().bytes;
+    let end = if written == 0 { End::Clean } else { End::Torn };
+    let is_told = answered == Err(AppendFault::Device(written)) && bytes.len() == RECORD + written;
+    Ok(is_told && answer(alloc, &bytes)? == (1, end))
+}
+
+fn are_beginnings(alloc: Global, bytes: &[u8], block: &Block) -> Result<bool, AllocError> {
+    let mut are = true;
+    for calls in 0..15 {
+        are &= is_beginning(alloc, bytes, block, calls)?;
+    }
+    Ok(are)
+}
+
+#[test]
+fn a_failed_write_leaves_a_beginning(rt: HostRuntime) -> Result<(), Fail> {
+    let alloc = rt.alloc();
+    let bytes = store(alloc, 1)?;
+    let block = block(alloc, 2)?;
+    let are = are_beginnings(alloc, &bytes, &block)?;
+    assert!(rt; are);
+    Ok(())
+}
+
+/// Whether a read that fails at each call in turn gives the whole blocks before, and no failure gives
+/// all.
+fn are_read_up_to_the_failure(alloc: Global, bytes: &[u8]) -> Result<bool, AllocError> {
+    let mut are = answer_of_tape(alloc, bytes, 10, NEVER)? == (3, End::Clean);
+    for calls in 0..45 {
+        let blocks = (10 * calls).min(bytes.len()) / RECORD;
+        are &= answer_of_tape(alloc, bytes, 10, calls)? == (blocks, End::DeviceFailed);
+    }
+    Ok(are)
+}
+
+#[test]
+fn a_failed_read_gives_the_blocks_before(rt: HostRuntime) -> Result<(), Fail> {
+    let alloc = rt.alloc();
+    let bytes = store(alloc, 3)?;
+    let are = are_read_up_to_the_failure(alloc, &bytes)?;
+    assert!(rt; are);
+    Ok(())
+}
+
+/// Whether a store of which this byte is flipped loads as the blocks before the record that holds it.
+fn is_found(alloc: Global, bytes: &mut [u8], at: usize) -> Result<bool, AllocError> {
+    let Some(byte) = bytes.get_mut(at) else {
+        return Ok(false);
+    };
+    *byte ^= 1;
+    let (blocks, end) = answer(alloc, bytes)?;
+    if let Some(byte) = bytes.get_mut(at) {
+        *byte ^= 1;
+    }
+    let before = at / RECORD;
+    let is_end = match end {
+        End::Torn => true,
+        End::Damaged(number) => number as usize == before + 1,
+        End::Clean | End::DeviceFailed => false,
+    };
+    Ok(is_end && blocks == before)
+}
+
+fn each_flip_is_found(alloc: Global, bytes: &mut [u8]) -> Result<bool, AllocError> {
+    let mut is_each = true;
+    for at in 0..bytes.len() {
+        is_each &= is_found(alloc, bytes, at)?;
+    }
+    Ok(is_each)
+}
+
+#[test]
+fn each_flipped_byte_is_found(rt: HostRuntime) -> Result<(), Fail> {
+    let alloc = rt.alloc();
+    let mut bytes = store(alloc, 3)?;
+    let is_each = each_flip_is_found(alloc, &mut bytes)?;
+    assert!(rt; is_each);
+    Ok(())
+}
+
+#[test]
+fn ends_and_faults_have_their_numbers(rt: HostRuntime) -> Result<(), Fail> {
+    let alloc = rt.alloc();
+    let text = format!(in alloc;
+        "{} {} {} {} {}",
+        End::Clean,
+        End::Torn,
+        End::Damaged(4),
+        End::DeviceFailed,
+        AppendFault::Device(7)
+    )?;
+    assert_eq!(rt; text.as_str(), "clean 701 702 block 4 703 703");
+    Ok(())
+}

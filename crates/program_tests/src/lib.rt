@@ -1,0 +1,33 @@
+//! Tests of the ledger's upper crates, a file for each, and of the program's commands on files in memory.
+//! There is no code beside them. What can be said as data is a line of `ledger_cases`, or of the tables in
+//! `commands_test`.
+#![tactic(auto)]
+
+#[cfg(test)]
+mod batch_cutter_test;
+#[cfg(test)]
+mod block_store_test;
+#[cfg(test)]
+mod commands_test;
+#[cfg(test)]
+mod committer_test;
+#[cfg(test)]
+mod endorsement_policy_test;
+#[cfg(test)]
+mod endorser_test;
+#[cfg(test)]
+mod events_test;
+#[cfg(test)]
+mod fabric_core_test;
+#[cfg(test)]
+mod genesis_test;
+#[cfg(test)]
+mod hmac_tag_test;
+#[cfg(test)]
+mod json_fields_test;
+#[cfg(test)]
+mod orderer_test;
+#[cfg(test)]
+mod reorder_test;
+#[cfg(test)]
+mod transactions;
