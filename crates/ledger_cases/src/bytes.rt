@@ -1,0 +1,52 @@
+//! The words of a line, and the bytes that they spell.
+
+ghost use Rattle.std.specs.Prelude.{◌≡◌, Ok, IfOk};
+ghost use Rattle.hex.specs.Hex.{decode_of};
+
+use crate::fault::CaseFault;
+use hex::FromHexError;
+use std::alloc::Global;
+
+/// The first word, and what follows the blank behind it.
+pub fn split_word(text: &str) -> (&str, &str) {
+    match text.split_once(' ') {
+        Some(parts) => parts,
+        None => (text, ""),
+    }
+}
+
+/// The bytes of all pieces, in order.
+pub fn bytes_of(alloc: Global, text: &str) -> Result<Vec<u8>, CaseFault> {
+    let mut bytes = Vec::new(alloc);
+    for piece in text.split_whitespace() {
+        add_piece(alloc, &mut bytes, piece)?;
+    }
+    Ok(bytes)
+}
+
+/// Adds the bytes of a piece, as many times as it says.
+fn add_piece(alloc: Global, bytes: &mut Vec<u8>, piece: &str) -> Result<(), CaseFault> {
+    let (digits, times) = match piece.split_once('*') {
+        None => (piece, 1),
+        Some((digits, count)) => match count.parse::<u32>() {
+            Ok(times) => (digits, times),
+            Err(_) => return Err(CaseFault::BadLine),
+        },
+    };
+    let unit = from_digits(alloc, digits)?;
+    for _ in 0..times {
+        bytes.extend_from_slice(&unit)?;
+    }
+    Ok(())
+}
+
+/// The bytes that pairs of hex digits stand for.
+pub fn from_digits(alloc: Global, digits: &str) -> Result<Vec<u8>, CaseFault>
+    ensures { IfOk result (λ bytes. decode_of digits.now ≡ Ok bytes.items) }
+{
+    match hex::decode(alloc, digits) {
+        Ok(bytes) => Ok(bytes),
+        Err(FromHexError::OutOfMemory) => Err(CaseFault::Memory),
+        Err(_) => Err(CaseFault::BadLine),
+    }
+}

@@ -1,0 +1,56 @@
+//! Lines, and the verb that each begins with.
+
+use crate::bytes::split_word;
+use crate::calls::call_host;
+use crate::chains::{show_flags, show_key, show_range, show_state};
+use crate::decoding::{show_block, show_envelope, show_hashes, show_id, show_payload, show_tag};
+use crate::event_lines::event_line;
+use crate::fault::CaseFault;
+use crate::genesis_files::genesis_file;
+use crate::policies::{show_endorsed, show_policy, show_satisfied};
+use crate::simulations::simulate_calls;
+use std::alloc::{AllocError, Global};
+
+/// The answer to a line: a comment itself, what a case gives, or its fault.
+pub fn answer(alloc: Global, line: &str) -> Result<String, AllocError> {
+    if line.is_empty() || line.starts_with('#') {
+        return String::from_str(alloc, line);
+    }
+    match answer_case(alloc, without_note(line)) {
+        Ok(answer) => Ok(answer),
+        Err(fault) => format!(in alloc; "{fault}"),
+    }
+}
+
+/// The case of a line, without the note behind it.
+fn without_note(line: &str) -> &str {
+    match line.split_once(" #") {
+        Some((case, _)) => case,
+        None => line,
+    }
+}
+
+/// What a case gives, by its verb.
+fn answer_case(alloc: Global, line: &str) -> Result<String, CaseFault> {
+    let (verb, rest) = split_word(line);
+    match verb {
+        "payload" => show_payload(alloc, rest),
+        "envelope" => show_envelope(alloc, rest),
+        "block" => show_block(alloc, rest),
+        "tx_id" => show_id(alloc, rest),
+        "hashes" => show_hashes(alloc, rest),
+        "tag" => show_tag(alloc, rest),
+        "policy" => show_policy(alloc, rest),
+        "satisfied" => show_satisfied(alloc, rest),
+        "endorsed" => show_endorsed(alloc, rest),
+        "event" => Ok(event_line(alloc, rest)?),
+        "genesis" => Ok(genesis_file(alloc, rest)?),
+        "flags" => show_flags(alloc, rest),
+        "state" => show_state(alloc, rest),
+        "get" => show_key(alloc, rest),
+        "range" => show_range(alloc, rest),
+        "call" => call_host(alloc, rest),
+        "simulate" => simulate_calls(alloc, rest),
+        _ => Err(CaseFault::BadLine),
+    }
+}

@@ -1,0 +1,156 @@
+//! Values as the words of a line.
+
+use fab_types::{
+    Endorsements, Key, Payload, Proposal, RangeEntry, RangeItem, Ranges, ReadItem, ReadSet, Value,
+    Version, WriteItem, WriteSet,
+};
+use std::alloc::AllocError;
+use std::fmt::Write;
+
+/// Bytes as they are where all of them are printed characters, and else in hex behind `0x`.
+pub fn write_bytes(answer: &mut String, bytes: &[u8]) -> Result<(), AllocError> {
+    if bytes.iter().all(|byte| matches!(byte, b' '..=b'~')) {
+        write_characters(answer, bytes)
+    } else {
+        answer.push_str("0x")?;
+        write_hex(answer, bytes)
+    }
+}
+
+fn write_characters(answer: &mut String, bytes: &[u8]) -> Result<(), AllocError> {
+    for byte in bytes {
+        answer.push(char::from(*byte))?;
+    }
+    Ok(())
+}
+
+fn write_hex(answer: &mut String, bytes: &[u8]) -> Result<(), AllocError> {
+    for byte in bytes {
+        write!(answer, "{byte:02x}")?;
+    }
+    Ok(())
+}
+
+/// A payload: its proposal, its result, and its words.
+pub fn write_payload(answer: &mut String, payload: &Payload) -> Result<(), AllocError> {
+    write_proposal(answer, &payload.proposal)?;
+    write_result(answer, &payload.result)?;
+    write_words(answer, &payload.reads, &payload.ranges, &payload.writes)
+}
+
+/// A call as `CHAINCODE(ARGUMENT)`, and its nonce where that is not 0.
+fn write_proposal(answer: &mut String, proposal: &Proposal) -> Result<(), AllocError> {
+    write_bytes(answer, proposal.chaincode.as_slice())?;
+    answer.push('(')?;
+    write_bytes(answer, proposal.argument.as_slice())?;
+    answer.push(')')?;
+    if proposal.nonce == [0; 16] {
+        return Ok(());
+    }
+    answer.push_str(" nonce ")?;
+    write_hex(answer, &proposal.nonce)
+}
+
+/// A result, if it is not empty.
+pub fn write_result(answer: &mut String, value: &Value) -> Result<(), AllocError> {
+    if value.as_slice().is_empty() {
+        return Ok(());
+    }
+    answer.push_str(" = ")?;
+    write_bytes(answer, value.as_slice())
+}
+
+/// What was read and written, each word behind a blank.
+pub fn write_words(
+    answer: &mut String,
+    reads: &ReadSet,
+    ranges: &Ranges,
+    writes: &WriteSet,
+) -> Result<(), AllocError> {
+    write_reads(answer, reads.as_slice())?;
+    write_ranges(answer, ranges.as_slice())?;
+    write_writes(answer, writes.as_slice())
+}
+
+fn write_reads(answer: &mut String, reads: &[ReadItem]) -> Result<(), AllocError> {
+    for read in reads {
+        answer.push_str(" r:")?;
+        write_seen(answer, &read.key, read.version)?;
+    }
+    Ok(())
+}
+
+fn write_ranges(answer: &mut String, ranges: &[RangeItem]) -> Result<(), AllocError> {
+    for range in ranges {
+        answer.push_str(" q:")?;
+        write_bytes(answer, range.start().as_slice())?;
+        answer.push_str("..")?;
+        write_bytes(answer, range.end().as_slice())?;
+        write!(answer, "*{}", range.limit())?;
+        write_entries(answer, range.entries())?;
+    }
+    Ok(())
+}
+
+fn write_entries(answer: &mut String, entries: &[RangeEntry]) -> Result<(), AllocError> {
+    for (place, entry) in entries.iter().enumerate() {
+        answer.push(if place == 0 { '=' } else { ',' })?;
+        write_seen(answer, &entry.key, Some(entry.version))?;
+    }
+    Ok(())
+}
+
+/// A key and the version seen.
+fn write_seen(answer: &mut String, key: &Key, version: Option<Version>) -> Result<(), AllocError> {
+    write_bytes(answer, key.as_slice())?;
+    write_version(answer, version)
+}
+
+/// A version as `@BLOCK.PLACE`, or `@-` for none.
+pub fn write_version(answer: &mut String, version: Option<Version>) -> Result<(), AllocError> {
+    match version {
+        Some(version) => write!(answer, "@{}.{}", version.block(), version.place()),
+        None => answer.push_str("@-"),
+    }
+}
+
+fn write_writes(answer: &mut String, writes: &[WriteItem]) -> Result<(), AllocError> {
+    for write in writes {
+        write_write(answer, write)?;
+    }
+    Ok(())
+}
+
+fn write_write(answer: &mut String, write: &WriteItem) -> Result<(), AllocError> {
+    match &write.value {
+        Some(value) => {
+            answer.push_str(" w:")?;
+            write_pair(answer, &write.key, value)
+        }
+        None => {
+            answer.push_str(" d:")?;
+            write_bytes(answer, write.key.as_slice())
+        }
+    }
+}
+
+/// A key and its value as `KEY=VALUE`.
+pub fn write_pair(answer: &mut String, key: &Key, value: &Value) -> Result<(), AllocError> {
+    write_bytes(answer, key.as_slice())?;
+    answer.push('=')?;
+    write_bytes(answer, value.as_slice())
+}
+
+/// Endorsements, each as ` e:ORGANISATION=TAG`.
+pub fn write_endorsements(
+    answer: &mut String,
+    endorsements: &Endorsements,
+) -> Result<(), AllocError> {
+    for endorsement in endorsements.as_slice() {
+        answer.push_str(" e:")?;
+        write_bytes(answer, endorsement.org.as_slice())?;
+        answer.push('=')?;
+        write_hex(answer, &endorsement.tag)?;
+    }
+    Ok(())
+}

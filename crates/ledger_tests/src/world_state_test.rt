@@ -1,0 +1,74 @@
+//! What a snapshot has besides its state.
+
+ghost use Rattle.std.specs.Prelude.{◌≡◌, ◌↔◌, ◌+◌, IsTrue, length};
+
+use crate::samples::{block, key, payload};
+use fab_types::{Block, Flag};
+use std::alloc::{AllocError, Global};
+use std::collections::BTreeSet;
+use std::test::Fail;
+use wire::tx_id;
+use world_state::{Snapshot, TxIds, add_id, is_known};
+
+/// The snapshot after this block, all of whose transactions have this flag. None where it is not the next.
+pub fn extended(
+    alloc: Global,
+    snapshot: &Snapshot,
+    block: Block,
+    flag: Flag,
+) -> Result<Option<Snapshot>, AllocError> {
+    let mut flags = Vec::new(alloc);
+    for _ in block.envelopes.as_slice() {
+        flags.push(flag)?;
+    }
+    if !comes_next(snapshot, &block, &flags) {
+        return Ok(None);
+    }
+    Ok(Some(snapshot.extended(alloc, block, flags)?))
+}
+
+/// Whether the block is the next in number, with a flag for each transaction.
+fn comes_next(snapshot: &Snapshot, block: &Block, flags: &[Flag]) -> bool
+    ensures { IsTrue result ↔ ((block.now.header.number ≡ length snapshot.now + 1) × (length flags.now ≡ length block.now.envelopes)) }
+{
+    let number = block.header.number.get() as usize;
+    number == snapshot.height() + 1 && flags.len() == block.envelopes.as_slice().len()
+}
+
+/// The snapshot after the sample block.
+pub fn after_block(alloc: Global, flag: Flag) -> Result<Snapshot, Fail> {
+    let snapshot = extended(alloc, &Snapshot::empty(alloc), block(alloc)?, flag)?;
+    Ok(snapshot.ok_or("block 1 is the next")?)
+}
+
+fn has_id_alone(snapshot: &Snapshot, id: &[u8; 32]) -> bool {
+    snapshot.has_tx(id) && !snapshot.has_tx(&[0; 32]) && snapshot.height() == 1
+}
+
+#[test]
+fn ids_stand_in_the_chain_whatever_the_flag(rt: HostRuntime) -> Result<(), Fail> {
+    let alloc = rt.alloc();
+    let id = tx_id(alloc, &payload(alloc)?.proposal)?;
+    let snapshot = after_block(alloc, Flag::PhantomReadConflict)?;
+    let is_new = !Snapshot::empty(alloc).has_tx(&id);
+    assert!(rt; is_new && has_id_alone(&snapshot, &id) && snapshot.blocks().len() == 1);
+    Ok(())
+}
+
+#[test]
+fn a_snapshot_gives_its_entries(rt: HostRuntime) -> Result<(), Fail> {
+    let alloc = rt.alloc();
+    let snapshot = after_block(alloc, Flag::Valid)?;
+    let put = snapshot.get(&key(alloc, b"c")?).is_some();
+    assert!(rt; put && snapshot.entries(alloc)?.len() == 1);
+    Ok(())
+}
+
+#[test]
+fn ids_are_added_once(rt: HostRuntime) -> Result<(), Fail> {
+    let mut ids: TxIds = BTreeSet::new(rt.alloc());
+    add_id(&mut ids, [1; 32])?;
+    add_id(&mut ids, [1; 32])?;
+    assert!(rt; is_known(&ids, &[1; 32]) && !is_known(&ids, &[2; 32]) && ids.len() == 1);
+    Ok(())
+}
