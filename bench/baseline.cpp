@@ -1,5 +1,8 @@
 // The baseline of the ledger's calls: the same asset register, compiled for this machine, over std::map. It keeps what
-// the ledger keeps (read set with versions, write set), and no more. usage: baseline simulate|flags COUNT
+// the ledger keeps (read set with versions, write set), and no more. `sort` sorts the keys of a batch of 512 transactions,
+// six of each, so many times. usage: baseline simulate|flags COUNT, baseline sort KEYS COUNT
+#include <algorithm>
+#include <cstdint>
 #include <cstdio>
 #include <cstdlib>
 #include <cstring>
@@ -72,6 +75,25 @@ unsigned flags(const std::vector<Payload> &block, unsigned number) {
     return valid;
 }
 
+int sort_keys(unsigned keys, unsigned rounds) {
+    std::uint64_t random = 1;
+    std::vector<std::string> batch;
+    for (unsigned i = 0; i < 512 * 6; ++i) {
+        random = random * 6364136223846793005u + 1442695040888963407u;
+        char number[9];
+        std::snprintf(number, sizeof number, "%08u", static_cast<unsigned>((random >> 32) % keys));
+        batch.push_back(std::string("account:") + number);
+    }
+    for (unsigned i = 0; i < rounds; ++i) {
+        std::vector<std::string> sorted = batch;
+        std::sort(sorted.begin(), sorted.end());
+        if (sorted.front() > sorted.back()) return 1;
+    }
+    return 0;
+}
+
+unsigned number(const char *word) { return static_cast<unsigned>(std::atoi(word)); }
+
 }  // namespace
 
 extern "C" {
@@ -111,12 +133,13 @@ int set_result(const void *result, unsigned length) {
 }
 
 int main(int count, char **words) {
+    if (count == 4 && std::strcmp(words[1], "sort") == 0) return sort_keys(number(words[2]), number(words[3]));
     if (count != 3) return 2;
     for (unsigned i = 0; i < assets; ++i) {
         Payload created = simulate("create asset" + std::to_string(i) + " alice");
         for (const auto &[key, value] : created.writes) state[key] = {*value, {1 + i / batch, i % batch}};
     }
-    unsigned rounds = static_cast<unsigned>(std::atoi(words[2]));
+    unsigned rounds = number(words[2]);
     if (std::strcmp(words[1], "simulate") == 0) {
         for (unsigned i = 0; i < rounds; ++i) simulate(transfer(i));
         return 0;

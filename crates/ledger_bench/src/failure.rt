@@ -1,5 +1,7 @@
 //! Why nothing was measured.
 
+use committer::CommitRefusal;
+use orderer::OrderCause;
 use simulator::SimRefusal;
 use std::alloc::{AllocError, AllocFailed};
 use std::fmt::{self, Display, Formatter, Write};
@@ -15,9 +17,13 @@ pub enum Failure {
     Module,
     /// A call gave no payload.
     Refused(SimRefusal),
+    /// The orderer refused an envelope.
+    Order(OrderCause),
+    /// A block does not fit.
+    Commit(CommitRefusal),
     /// A value is out of its limits.
     Limit,
-    /// A transaction that should be VALID is not.
+    /// What should be VALID, or endorsed, is not.
     Invalid,
 }
 
@@ -28,6 +34,8 @@ impl Display for Failure {
             Failure::File => write!(f, "refused 703"),
             Failure::Module => write!(f, "no valid module"),
             Failure::Refused(refusal) => write!(f, "{refusal}"),
+            Failure::Order(cause) => write!(f, "{cause}"),
+            Failure::Commit(refusal) => write!(f, "{refusal}"),
             Failure::Limit => write!(f, "a value is out of its limits"),
             Failure::Invalid => write!(f, "a transaction is not VALID"),
         }
@@ -49,5 +57,11 @@ impl<T: Drop> From<AllocFailed<T>> for Failure {
 impl From<SimRefusal> for Failure {
     fn from(refusal: SimRefusal) -> Failure {
         Failure::Refused(refusal)
+    }
+}
+
+impl From<CommitRefusal> for Failure {
+    fn from(refusal: CommitRefusal) -> Failure {
+        Failure::Commit(refusal)
     }
 }

@@ -1,43 +1,57 @@
 //! Calls of the ledger, to be timed: `bench/run` says how fast they are.
 //!
-//! `ledger_bench simulate MODULE COUNT` simulates so many transfers of assets, `ledger_bench flags MODULE
-//! COUNT` flags so many in blocks of 500. MODULE is the asset register of `examples/chaincode`; the state
-//! has 1,000 assets. It prints `done COUNT`. The exit status is 0 for done, 1 for a failure, which is
-//! printed, and 2 where the words name no task.
+//! - `ledger_bench simulate MODULE COUNT` simulates so many transfers of assets, and `flags MODULE COUNT` flags so many in
+//!   blocks of 500. MODULE is the asset register of `examples/chaincode`; the state has 1,000 assets.
+//! - `check WORKERS COUNT` checks a batch of 512 envelopes so many times, each with two tags of three organisations.
+//! - `order COUNT` orders so many envelopes of 1,024 bytes in blocks of 64.
+//! - `commit COUNT` checks and commits so many blocks of 512 transactions.
+//! - `plan KEYS COUNT` reorders a batch of 512 transactions so many times, each with four reads and two writes over so many
+//!   keys.
+//! - `valid KEYS COUNT` says how many of the transactions of so many such batches end VALID, as they were cut and reordered.
+//! - `load STORE` reads the store of this name.
+//!
+//! It prints `done` and how many transactions, plans or blocks that were. The exit status is 0 for done, 1 for a failure,
+//! which is printed, and 2 where the words name no task.
 #![tactic(auto)]
 
+mod channel;
+mod done;
 mod failure;
+mod members;
+mod parts;
 mod register;
+mod task;
+mod workload;
 
+use crate::done::Done;
 use crate::failure::Failure;
 use crate::register::{BATCH, Register};
+use crate::task::Task;
 use std::alloc::Global;
 use std::io::{self, Read, Write};
 use std::process::ExitCode;
+use std::rt::Files;
+use std::thread::Threads;
 use std::{env, fs};
 
-const USAGE: &str =
-    "usage: ledger_bench simulate|flags MODULE COUNT\n  MODULE  the file of the asset register\n  COUNT   how many transactions";
-
-/// What is timed.
-#[derive(Clone, Copy)]
-enum Kind {
-    Simulate,
-    Flags,
-}
+const USAGE: &str = "usage: ledger_bench simulate|flags MODULE COUNT
+       ledger_bench check WORKERS COUNT
+       ledger_bench order|commit COUNT
+       ledger_bench plan|valid KEYS COUNT
+       ledger_bench load STORE";
 
 fn main(rt: HostRuntime) -> io::Result<ExitCode> {
     let mut words = Vec::new(rt.alloc());
     for word in env::args(&rt)?.skip(1) {
         words.push(word)?;
     }
-    let Some((kind, file, count)) = task(&words) else {
+    let Some(task) = task::parse(&words) else {
         println!(rt; "{USAGE}")?;
         return Ok(ExitCode::from(2));
     };
-    match measured(&rt, kind, file, count) {
-        Ok(()) => {
-            println!(rt; "done {count}")?;
+    match carry_out(&rt, rt.alloc(), task) {
+        Ok(done) => {
+            println!(rt; "{done}")?;
             Ok(ExitCode::from(0))
         }
         Err(failure) => {
@@ -47,34 +61,47 @@ fn main(rt: HostRuntime) -> io::Result<ExitCode> {
     }
 }
 
-/// The task that the words name: what is timed, the file of the module, and how many transactions.
-fn task(words: &[String]) -> Option<(Kind, &str, u32)> {
-    let [kind, file, count] = words else {
-        return None;
-    };
-    let kind = match kind.as_str() {
-        "simulate" => Kind::Simulate,
-        "flags" => Kind::Flags,
-        _ => return None,
-    };
-    let count = count.as_str().parse::<u32>().ok()?;
-    Some((kind, file.as_str(), count))
+/// Does the work once.
+fn carry_out<R: Files + Threads + Sync>(
+    rt: &R,
+    alloc: Global,
+    task: Task<'_>,
+) -> Result<Done, Failure> {
+    match task {
+        Task::Simulate { module, count } => simulate(rt, alloc, module, count),
+        Task::Flags { module, count } => flag(rt, alloc, module, count),
+        Task::Check { workers, count } => parts::check(rt, alloc, workers as usize, count),
+        Task::Order { count } => parts::order(alloc, count),
+        Task::Commit { count } => parts::commit(alloc, count),
+        Task::Plan { keys, count } => parts::plan(alloc, keys, count),
+        Task::Valid { keys, count } => parts::valid(alloc, keys, count),
+        Task::Load { store } => load(rt, alloc, store),
+    }
 }
 
-/// Does the work once.
-fn measured(rt: &HostRuntime, kind: Kind, file: &str, count: u32) -> Result<(), Failure> {
-    let alloc = rt.alloc();
-    let register = Register::open(alloc, &bytes_of(rt, file)?)?;
-    match kind {
-        Kind::Simulate => register.simulate(alloc, count),
-        Kind::Flags => register.flag(alloc, count / BATCH),
+fn simulate<R: Files>(rt: &R, alloc: Global, module: &str, count: u32) -> Result<Done, Failure> {
+    let register = Register::open(alloc, &bytes_of(rt, alloc, module)?)?;
+    register.simulate(alloc, count)?;
+    Ok(Done::Count(u64::from(count)))
+}
+
+fn flag<R: Files>(rt: &R, alloc: Global, module: &str, count: u32) -> Result<Done, Failure> {
+    let register = Register::open(alloc, &bytes_of(rt, alloc, module)?)?;
+    register.flag(alloc, count / BATCH)?;
+    Ok(Done::Count(u64::from(count)))
+}
+
+fn load<R: Files>(rt: &R, alloc: Global, store: &str) -> Result<Done, Failure> {
+    match fs::open(rt, store) {
+        Ok(opened) => parts::load(alloc, opened),
+        Err(_) => Err(Failure::File),
     }
 }
 
 /// The bytes of a file. A module has at most 262,144 bytes; one more is read, so that a longer file is
 /// told apart.
-fn bytes_of(rt: &HostRuntime, file: &str) -> Result<Vec<u8>, Failure> {
-    let mut bytes = Vec::new(rt.alloc());
+fn bytes_of<R: Files>(rt: &R, alloc: Global, file: &str) -> Result<Vec<u8>, Failure> {
+    let mut bytes = Vec::new(alloc);
     let Ok(opened) = fs::open(rt, file) else {
         return Err(Failure::File);
     };

@@ -1,0 +1,143 @@
+//! Transactions whose keys are drawn at random.
+
+use crate::failure::Failure;
+use fab_types::{
+    Key, Name, Payload, Proposal, Ranges, ReadItem, ReadSet, Value, WriteItem, WriteSet,
+};
+use std::alloc::{AllocError, Global};
+use world_state::Snapshot;
+
+/// How many keys are drawn to be read, and to be written. A key that is drawn twice counts once.
+const READS: usize = 4;
+
+const WRITES: usize = 2;
+
+/// How many bytes a written value has.
+const VALUE: usize = 8;
+
+/// Draws transactions over so many keys, each as likely as another. The draws are the same in every run.
+#[derive(Drop)]
+pub struct Workload {
+    keys: u64,
+    /// How many bytes each argument has.
+    argument: usize,
+    made: u64,
+    random: u64,
+}
+
+impl Workload {
+    pub fn new(keys: u32, argument: usize) -> Workload {
+        Workload {
+            keys: u64::from(keys),
+            argument,
+            made: 0,
+            random: 1,
+        }
+    }
+
+    /// The next transaction, which reads its keys on this state.
+    pub fn payload(&mut self, alloc: Global, snapshot: &Snapshot) -> Result<Payload, Failure> {
+        let reads = reads(alloc, snapshot, &self.draw(alloc, READS)?)?;
+        let writes = writes(alloc, &self.draw(alloc, WRITES)?)?;
+        let ranges = Ranges::new(Vec::new(alloc)).ok_or(Failure::Limit)?;
+        let result = value(alloc, 0)?;
+        let proposal = self.proposal(alloc)?;
+        Ok(Payload {
+            proposal,
+            result,
+            reads,
+            ranges,
+            writes,
+        })
+    }
+
+    /// A call of the chaincode `bench`, whose nonce tells it from the others.
+    fn proposal(&mut self, alloc: Global) -> Result<Proposal, Failure> {
+        self.made = self.made.wrapping_add(1);
+        let mut nonce = [0; 16];
+        nonce[8..].copy_from_slice(&self.made.to_be_bytes());
+        let argument = value(alloc, self.argument)?;
+        let chaincode = chaincode(alloc)?;
+        Ok(Proposal {
+            chaincode,
+            argument,
+            nonce,
+        })
+    }
+
+    /// The numbers of keys, ascending.
+    fn draw(&mut self, alloc: Global, count: usize) -> Result<Vec<u64>, AllocError> {
+        let mut drawn = Vec::new(alloc);
+        for _ in 0..count {
+            let number = self.next();
+            if !drawn.contains(&number) {
+                drawn.push(number)?;
+            }
+        }
+        drawn.sort_unstable();
+        Ok(drawn)
+    }
+
+    /// The number of a key, by a linear congruential generator (Knuth's MMIX).
+    fn next(&mut self) -> u64 {
+        let random = self
+            .random
+            .wrapping_mul(6_364_136_223_846_793_005)
+            .wrapping_add(1_442_695_040_888_963_407);
+        self.random = random;
+        (random / 4_294_967_296).checked_rem(self.keys).unwrap_or(0)
+    }
+}
+
+/// The name of the chaincode.
+pub fn chaincode(alloc: Global) -> Result<Name, Failure> {
+    Name::new(b"bench".to_vec(alloc)?).ok_or(Failure::Limit)
+}
+
+/// So many zeros.
+fn value(alloc: Global, len: usize) -> Result<Value, Failure> {
+    Value::new(vec![in alloc; 0; len]?).ok_or(Failure::Limit)
+}
+
+/// The key of a number: 16 bytes.
+fn key(alloc: Global, number: u64) -> Result<Key, Failure> {
+    let mut bytes = b"account:".to_vec(alloc)?;
+    bytes.extend_from_slice(&number.to_be_bytes())?;
+    Key::new(bytes).ok_or(Failure::Limit)
+}
+
+/// Reads of the keys of these numbers.
+fn reads(alloc: Global, snapshot: &Snapshot, numbers: &[u64]) -> Result<ReadSet, Failure> {
+    let mut items = Vec::new(alloc);
+    for number in numbers {
+        items.push(read(alloc, snapshot, *number)?)?;
+    }
+    ReadSet::new(items).ok_or(Failure::Limit)
+}
+
+fn read(alloc: Global, snapshot: &Snapshot, number: u64) -> Result<ReadItem, Failure> {
+    let key = key(alloc, number)?;
+    let version = match snapshot.get(&key) {
+        Some((_, version)) => Some(version),
+        None => None,
+    };
+    Ok(ReadItem { key, version })
+}
+
+/// Writes at the keys of these numbers.
+fn writes(alloc: Global, numbers: &[u64]) -> Result<WriteSet, Failure> {
+    let mut items = Vec::new(alloc);
+    for number in numbers {
+        items.push(write(alloc, *number)?)?;
+    }
+    WriteSet::new(items).ok_or(Failure::Limit)
+}
+
+fn write(alloc: Global, number: u64) -> Result<WriteItem, Failure> {
+    let value = value(alloc, VALUE)?;
+    let key = key(alloc, number)?;
+    Ok(WriteItem {
+        key,
+        value: Some(value),
+    })
+}
