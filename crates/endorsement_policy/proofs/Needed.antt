@@ -36,7 +36,7 @@ some_child End text h = absurd h
 some_child (Org name after) text h = omega arith
 some_child (Of rule children after) text h = omega arith
 
-unmet : (rule : Rule) (n : ℕ) → IsRule rule n → 1 ≤ n → is_met rule 0 n ≡ false
+unmet : (operator : Rule) (n : ℕ) → IsRule operator n → 1 ≤ n → is_met operator 0 n ≡ false
 unmet And n r some = grind (arith, nat_tests)
 unmet Or n r some = refl
 unmet (OutOf t) n r some = let least = r.0 in grind (arith, nat_tests)
