@@ -1,9 +1,16 @@
--- The numbers of refusals, and which refusal a seat hands on.
-use Rattle.std.specs.Prelude.{ℕ}
+-- The numbers of refusals, which refusal a seat hands on, and what the refusal of a peer that comes back says.
+use Rattle.std.specs.Prelude.{ℕ, List}
+use Rattle.fab_types.specs.Committed.{Committed}
+use Rattle.ledger_model.specs.Judged.{Rule}
 use Rattle.simulator.specs.RefusalNumber.{refusal_number}
 use Rattle.simulator.specs.declared.refusal.SimRefusal.TheVariants.{Memory}
 use Rattle.snapshot_cell.specs.declared.refusal.TakeRefusal.{TakeRefusal}
 use Rattle.snapshot_cell.specs.declared.refusal.TakeRefusal.TheVariants as take
+use Rattle.snapshot_cell.specs.Numbers.{open_number}
+use Rattle.store_replay.specs.Lawful.{IsRecommitRefused}
+use Rattle.store_replay.specs.Numbers.{recommit_number}
+use Rattle.peer_node.specs.declared.refusal.ReopenRefusal.{ReopenRefusal}
+use Rattle.peer_node.specs.declared.refusal.ReopenRefusal.TheVariants.{Stored, Open}
 use Rattle.peer_node.specs.declared.refusal.FinishRefusal.{FinishRefusal}
 use Rattle.peer_node.specs.declared.refusal.FinishRefusal.TheVariants.{Simulation, NoEntry}
 
@@ -18,3 +25,12 @@ no_memory = Simulation Memory
 abbrev pub of_take : TakeRefusal → FinishRefusal
 of_take take.NoEntry = NoEntry
 of_take take.OutOfMemory = no_memory
+
+abbrev pub reopen_number : ReopenRefusal → ℕ
+reopen_number (Stored r) = recommit_number r
+reopen_number (Open r) = open_number r
+
+-- of a place in the cell nothing is said
+abbrev pub IsReopenRefused : Rule → List Committed → ReopenRefusal → Type 0
+IsReopenRefused rule records (Stored r) = IsRecommitRefused rule records r
+IsReopenRefused rule records (Open r) = Unit {0}

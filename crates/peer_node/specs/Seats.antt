@@ -34,9 +34,13 @@ peer_of s = cell.cell_of_reader s.reader
 abbrev pub Serves : List Chaincode → Listed → Bytes → Endorser → Type 0
 Serves book listed org e = (arc_value e.book ≡ book) × (arc_value e.rules ≡ listed) × (e.org ≡ org)
 
+-- a seat of this peer that has seen these whole blocks
+abbrev pub IsSeatBehind : List Chaincode → Listed → Bytes → Book → Chain → Seat → Type 0
+IsSeatBehind book listed org peer chain s = (peer_of s ≡ peer) × (seen s ≡ chain) × Serves book listed org s.endorser
+
 -- a seat of this peer that has seen nothing
 abbrev pub IsSeat : List Chaincode → Listed → Bytes → Book → Seat → Type 0
-IsSeat book listed org peer s = (peer_of s ≡ peer) × (seen s ≡ []) × Serves book listed org s.endorser
+IsSeat book listed org peer s = IsSeatBehind book listed org peer [] s
 
 -- what a simulation on the state after a chain comes to
 abbrev pub simulated : Endorser → Proposal → Chain → Result Payload SimRefusal

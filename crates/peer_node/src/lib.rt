@@ -9,7 +9,7 @@ mod refusal;
 mod seat;
 mod writer;
 
-pub use refusal::FinishRefusal;
+pub use refusal::{FinishRefusal, ReopenRefusal};
 pub use seat::{Begun, Endorser, Seat};
 pub use snapshot_cell::{OpenRefusal, TakeRefusal, Told};
 pub use writer::{Peer, PeerWriter};

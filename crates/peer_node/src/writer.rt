@@ -1,12 +1,19 @@
 //! The writer of a peer: it commits blocks, and opens the peer's seats.
 
-ghost use Rattle.std.specs.Prelude.{◌≡◌, [], length, All, IfOk};
+ghost use Rattle.std.specs.Prelude.{◌≡◌, ◌<◌, ◌^◌, [], length, All, IfOk, IfErr};
 ghost use Rattle.std.specs.Arc.{arc_value};
 ghost use Rattle.logbook.specs.Pages.{Book as PeerId};
+ghost use Rattle.ledger_model.specs.Chain.{Chain};
+ghost use Rattle.fabric_core.specs.Rule.{table_of};
+ghost use Rattle.store_replay.specs.Lawful.{AreLawful};
 ghost use Rattle.snapshot_cell.specs.Seats.{EachBegins};
-ghost use Rattle.peer_node.specs.Seats.{IsSeat, Serves};
+ghost use Rattle.peer_node.specs.Refusals.{IsReopenRefused};
+ghost use Rattle.peer_node.specs.Seats.{IsSeat, IsSeatBehind, Serves};
+ghost use Rattle.peer_node.specs.Writers.{published, peer_of_writer};
 
+use crate::refusal::ReopenRefusal;
 use crate::seat::{Endorser, Seat};
+use block_store::Loaded;
 use committer::{CommitRefusal, commit_on};
 use endorsement_policy::{Gate, Rules, check_all};
 use fab_types::{Block, OrgName};
@@ -16,6 +23,7 @@ use snapshot_cell::{OpenRefusal, Reader, Told, Writer, open};
 use std::alloc::{AllocError, Global};
 use std::sync::{Arc, Wait};
 use std::thread::Threads;
+use store_replay::recommit;
 use world_state::Snapshot;
 
 /// How many workers check the envelopes of a block.
@@ -41,9 +49,6 @@ impl Gate for NoGate {
 }
 
 impl Peer {
-    ghost use Rattle.std.specs.Prelude.{◌<◌, ◌^◌};
-    ghost use Rattle.peer_node.specs.Writers.{published, peer_of_writer};
-
     /// A peer of an organisation, without blocks, and so many seats, at least 1 and below 2^32. Tags of an organisation that the genesis
     /// does not list are made with the empty key and count for nothing.
     ///
@@ -60,23 +65,65 @@ impl Peer {
         ensures length { IfOk result (λ t. length t.1.items ≡ seats) }
         ensures seats { IfOk result (λ t. All (IsSeat (arc_value genesis.now.book) (arc_value genesis.now.rules) org.now (peer_of_writer t.0)) t.1.items) }
     {
-        let rules = Arc::try_clone(&genesis.rules)?;
-        let (cell, readers) = open(rt, alloc, Snapshot::empty(alloc), seats)?;
-        match seats_of(alloc, genesis, org, readers) {
-            Ok(seats) => Ok((PeerWriter { cell, rules, alloc }, seats)),
-            Err(error) => {
-                cell.close(rt);
-                Err(error.into())
-            }
+        open_with(rt, alloc, genesis, org, seats, Snapshot::empty(alloc))
+    }
+
+    /// A peer that comes back with the blocks of its store, whatever the store's end was, and so many seats, at
+    /// least 1 and below 2^32. The blocks are committed again from the empty state on.
+    ///
+    /// Refused at the first block that does not fit (601 to 604) or is stored with other flags than the table's
+    /// (711), where a seat got no place in the cell (431), and for want of memory (9).
+    pub fn reopen<R: Wait>(
+        rt: &R,
+        alloc: Global,
+        genesis: &Genesis,
+        org: &OrgName,
+        seats: usize,
+        loaded: Loaded,
+    ) -> Result<(PeerWriter, Vec<Seat>), ReopenRefusal>
+        requires seats { (0 < seats) × (seats < 2 ^ 32) }
+        ensures writer { IfOk result (λ t. (published t.0 ≡ loaded.blocks.items) × (arc_value t.0.rules ≡ arc_value genesis.now.rules)) }
+        ensures lawful { IfOk result (λ _. AreLawful (table_of (arc_value genesis.now.rules)) [] loaded.blocks.items) }
+        ensures length { IfOk result (λ t. length t.1.items ≡ seats) }
+        ensures seats { IfOk result (λ t. All (IsSeatBehind (arc_value genesis.now.book) (arc_value genesis.now.rules) org.now (peer_of_writer t.0) loaded.blocks.items) t.1.items) }
+        ensures refused { IfErr result (λ refusal. IsReopenRefused (table_of (arc_value genesis.now.rules)) loaded.blocks.items refusal) }
+    {
+        let first = recommit(alloc, &genesis.rules, loaded.blocks)?;
+        let opened = open_with(rt, alloc, genesis, org, seats, first)?;
+        Ok(opened)
+    }
+}
+
+/// A peer that shows this snapshot.
+fn open_with<R: Wait>(
+    rt: &R,
+    alloc: Global,
+    genesis: &Genesis,
+    org: &OrgName,
+    seats: usize,
+    first: Snapshot,
+) -> Result<(PeerWriter, Vec<Seat>), OpenRefusal>
+    requires seats { (0 < seats) × (seats < 2 ^ 32) }
+    ensures writer { IfOk result (λ t. (published t.0 ≡ first) × (arc_value t.0.rules ≡ arc_value genesis.now.rules)) }
+    ensures length { IfOk result (λ t. length t.1.items ≡ seats) }
+    ensures seats { IfOk result (λ t. All (IsSeatBehind (arc_value genesis.now.book) (arc_value genesis.now.rules) org.now (peer_of_writer t.0) first) t.1.items) }
+{
+    let rules = Arc::try_clone(&genesis.rules)?;
+    let (cell, readers) = open(rt, alloc, first, seats)?;
+    match seats_of(alloc, genesis, org, readers) {
+        Ok(seats) => Ok((PeerWriter { cell, rules, alloc }, seats)),
+        Err(error) => {
+            cell.close(rt);
+            Err(error.into())
         }
     }
 }
 
 impl PeerWriter {
-    ghost use Rattle.std.specs.Prelude.{◌++◌, ◌∷◌, OnOk, OnErr, IfErr};
+    ghost use Rattle.std.specs.Prelude.{◌++◌, ◌∷◌, OnOk, OnErr};
     ghost use Rattle.committer.specs.Fits.{Fits, IsRefused, blocks_of};
     ghost use Rattle.snapshot_cell.specs.Seats.{cell_of_told, told_list};
-    ghost use Rattle.peer_node.specs.Writers.{published, peer_of_writer, next_by};
+    ghost use Rattle.peer_node.specs.Writers.{next_by};
 
     /// The snapshot after the writer's list.
     pub fn newest(&self) -> &Snapshot
@@ -140,7 +187,7 @@ fn seats_of(
     mut readers: Vec<Reader>,
 ) -> Result<Vec<Seat>, AllocError>
     ensures length { IfOk result (λ v. length v.items ≡ length readers.items) }
-    ensures each { IfOk result (λ v. (peer : PeerId) → EachBegins peer [] readers.items → All (IsSeat (arc_value genesis.now.book) (arc_value genesis.now.rules) org.now peer) v.items) }
+    ensures each { IfOk result (λ v. (peer : PeerId) (chain : Chain) → EachBegins peer chain readers.items → All (IsSeatBehind (arc_value genesis.now.book) (arc_value genesis.now.rules) org.now peer chain) v.items) }
 {
     let mut seats = Vec::with_capacity(alloc, readers.len())?;
     for _seat in 0..readers.len() {

@@ -1,5 +1,5 @@
 -- How a replay goes on, and how it stops.
-use Rattle.std.proofs.Common.{◌≡◌, ◌≢◌, ap₂, arith, ℕ, ◌+◌, Bool, true, false, ◌⊎◌, inl, inr, Option, Some, None, List, [], ◌∷◌, ◌++◌, length, refl, sym, ap, subst, ◌∙◌, length-append}
+use Rattle.std.proofs.Common.{◌≡◌, ap₂, arith, ℕ, ◌+◌, Bool, true, false, inl, inr, Option, Some, None, List, [], ◌∷◌, length, refl, sym, ap, subst, ◌∙◌, length-append}
 use Rattle.std.specs.Bool.{Decides}
 use Rattle.std.specs.Cmp.Lexicographic.{pointwise}
 use Rattle.std.proofs.lemmas.Slice.Eq.{slice_eq-Decides}
@@ -10,9 +10,8 @@ use Rattle.fab_types.specs.Committed.{Committed}
 use Rattle.ledger_model.specs.Chain.{Chain}
 use Rattle.ledger_model.specs.Judged.{Rule}
 use Rattle.committer.specs.declared.refusal.CommitRefusal.{CommitRefusal}
-use Rattle.store_replay.specs.declared.replaying.Pushed.{Pushed}
 use Rattle.store_replay.specs.declared.replaying.Pushed.TheVariants as pushed
-use Rattle.store_replay.specs.Replay.{judged_behind, HasTheFlags, first_of, earlier, IsPushed, IsUnfit, Replays}
+use Rattle.store_replay.specs.Replay.{judged_behind, HasTheFlags, first_of, earlier, IsPushed, Replays}
 
 -- what is left to be replayed behind a chain gives the whole's answer
 abbrev pub GoesOn : Rule → List Committed → Chain → Option ℕ → List Committed → Type 0

@@ -7,7 +7,6 @@ use Rattle.committer.specs.Fits.{Fits, IsRefused, blocks_of}
 use Rattle.committer.specs.declared.refusal.CommitRefusal.{CommitRefusal}
 use Rattle.committer.specs.declared.refusal.CommitRefusal.TheVariants.{OutOfMemory}
 use Rattle.block_store.specs.Loading.{Gives}
-use Rattle.block_store.specs.declared.end.End.{End}
 use Rattle.store_replay.specs.declared.replaying.Pushed.{Pushed}
 use Rattle.store_replay.specs.declared.replaying.Pushed.TheVariants as pushed
 use Rattle.store_replay.specs.declared.replaying.Replayed.{Replayed}

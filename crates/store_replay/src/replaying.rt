@@ -32,7 +32,7 @@ pub struct Replayed {
 
 /// What a record comes to behind a chain.
 #[derive(Drop)]
-enum Pushed {
+pub enum Pushed {
     /// Its block is on the chain; the store has the table's flags for it, or other ones.
     Committed { snapshot: Snapshot, is_same: bool },
     /// Its block does not fit.
@@ -58,7 +58,7 @@ fn last_flags(snapshot: &Snapshot) -> &[Flag]
 }
 
 /// Commits the block of a record. The error is of memory.
-fn push(
+pub fn push(
     alloc: Global,
     rules: &Rules,
     snapshot: &Snapshot,

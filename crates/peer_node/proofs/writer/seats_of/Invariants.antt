@@ -1,11 +1,13 @@
-use Rattle.std.proofs.Common.{◌≡◌, ◌+◌, [], All, length}
+use Rattle.std.proofs.Common.{◌≡◌, ◌+◌, All, length}
 use Rattle.std.specs.Arc.{arc_value}
 use Rattle.logbook.specs.Pages.{Book}
 use Rattle.snapshot_cell.specs.Seats.{EachBegins}
-use Rattle.peer_node.specs.Seats.{IsSeat}
+use Rattle.ledger_model.specs.Chain.{Chain}
+use Rattle.peer_node.specs.Seats.{IsSeatBehind}
 use Rattle.peer_node.proofs.writer.seats_of.Given as goal
 
 abbrev pub invariant-loop-seat : goal.invariant-loop-seat
 invariant-loop-seat l =
     (length l.seats.items ≡ l._seat) × (length l.readers.items + l._seat ≡ length l.fn.readers.items)
-    × ((peer : Book) → EachBegins peer [] l.fn.readers.items → EachBegins peer [] l.readers.items × All (IsSeat (arc_value l.genesis.book) (arc_value l.genesis.rules) l.org peer) l.seats.items)
+    × ((peer : Book) (chain : Chain) → EachBegins peer chain l.fn.readers.items
+    → EachBegins peer chain l.readers.items × All (IsSeatBehind (arc_value l.genesis.book) (arc_value l.genesis.rules) l.org peer chain) l.seats.items)

@@ -1,11 +1,8 @@
-use Rattle.std.proofs.Common.{rules, ◌≡◌, ◌∙◌, ◌∷◌, [], None, ap, sym, subst, length, List, Option, ℕ}
-use Rattle.fab_types.specs.Committed.{Committed}
+use Rattle.std.proofs.Common.{rules, ◌≡◌, ◌∙◌, ◌∷◌, sym, subst, Option, ℕ}
 use Rattle.ledger_model.specs.Chain.{Chain}
-use Rattle.committer.specs.declared.refusal.CommitRefusal.{CommitRefusal}
 use Rattle.fabric_core.specs.Rule.{table_of}
-use Rattle.store_replay.specs.declared.replaying.Pushed.{Pushed}
 use Rattle.store_replay.specs.declared.replaying.Pushed.TheVariants as pushed
-use Rattle.store_replay.specs.Replay.{IsPushed, Replays, earlier, first_of}
+use Rattle.store_replay.specs.Replay.{IsPushed}
 use Rattle.store_replay.proofs.Going.{GoesOn, goes_on, stops, ends, none_left}
 use Rattle.store_replay.proofs.replaying.commit_all.Goals as goal
 use Rattle.store_replay.proofs.replaying.commit_all.Goals.{in-None, in-Some+in_ok-snapshot+in-Refused}

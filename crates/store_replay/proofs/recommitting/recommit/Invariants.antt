@@ -1,0 +1,10 @@
+use Rattle.std.proofs.Common.{◌≡◌, ◌++◌, []}
+use Rattle.fabric_core.specs.Rule.{table_of}
+use Rattle.store_replay.specs.Lawful.{AreLawful}
+use Rattle.store_replay.proofs.recommitting.recommit.Given as goal
+
+abbrev pub invariant-records : goal.invariant-records
+invariant-records l = record {
+  all : l.fn.records.items ≡ l.snapshot ++ l.stored-iterator.rest.items;
+  lawful : AreLawful (table_of l.rules) [] l.snapshot;
+}
