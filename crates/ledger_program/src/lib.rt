@@ -12,6 +12,7 @@
 mod auditing;
 mod checking;
 mod commands;
+mod disk;
 mod failure;
 mod files;
 mod lines;
@@ -23,5 +24,7 @@ mod storing;
 mod words;
 
 pub use commands::program;
+pub use disk::Disk;
 pub use files::Files;
 pub use module_file::{ModuleRefusal, defined_functions, valid_module};
+pub use opening::system_genesis;

@@ -1,8 +1,10 @@
 //! The genesis of a file.
 
-ghost use Rattle.std.specs.Prelude.{IfOk};
+ghost use Rattle.std.specs.Prelude.{IfOk, IfErr};
+ghost use Rattle.genesis.specs.NoGenesis.{NoGenesis};
 ghost use Rattle.orderer.specs.Ordering.{AreLimits};
 ghost use Rattle.fabric_core.specs.Setting.{limits_of};
+ghost use Rattle.ledger_program.specs.Opening.{IsSpelledBy};
 
 use crate::failure::Failure;
 use crate::files::{Files, read_all};
@@ -19,6 +21,18 @@ pub fn genesis_in<F: Files>(alloc: Global, files: &mut F, name: &str) -> Result<
     let Ok(text) = std::str::from_utf8(&bytes) else {
         return Err(Failure::Genesis(GenesisRefusal::Json));
     };
+    let genesis = system_genesis(alloc, text)?;
+    Ok(genesis)
+}
+
+/// What a system begins with, by the text of a genesis file.
+///
+/// Refused where the text spells no genesis (801 to 806), and for want of memory (9).
+pub fn system_genesis(alloc: Global, text: &str) -> Result<Genesis, GenesisRefusal>
+    ensures spelled { IfOk result (λ g. IsSpelledBy text.now g) }
+    ensures limits { IfOk result (λ g. AreLimits (limits_of g)) }
+    ensures refused { IfErr result (λ r. NoGenesis text.now r) }
+{
     let read = read_genesis(alloc, text)?;
     Ok(Genesis {
         book: Arc::new(alloc, read.book)?,
