@@ -1,0 +1,4 @@
+pub mod Entries
+pub mod Pages
+pub mod Search
+pub mod Changes
