@@ -8,7 +8,6 @@ ghost use Rattle.host_api.specs.Plain.{plain_of};
 use crate::view::View;
 use fab_types::{Bound, Key, Value, Version, WriteItem};
 use std::alloc::{AllocError, Global};
-use std::collections::BTreeMap;
 use std::marker::Model;
 use world_state::{StateMap, first_entries};
 
@@ -34,7 +33,7 @@ impl PlainMap {
         ensures { plain_of result ≡ empty }
     {
         PlainMap {
-            map: BTreeMap::new(alloc),
+            map: StateMap::new(alloc),
         }
     }
 
@@ -56,10 +55,10 @@ impl PlainMap {
         match &item.value {
             Some(value) => {
                 let entry = (value.clone()?, first_version());
-                self.map.insert(item.key.clone()?, entry)?;
+                self.map.put(item.key.clone()?, entry)?;
             }
             None => {
-                self.map.remove(&item.key);
+                self.map.delete(&item.key)?;
             }
         }
         Ok(())

@@ -2,7 +2,8 @@
 
 ghost use Rattle.std.specs.Prelude.{◌≡◌, ◌≤◌, ◌+◌, [], ◌∷◌, ◌++◌, length, map, IfOk, option_map};
 ghost use Rattle.std.specs.FinMap.{entries};
-ghost use Rattle.std.specs.BTreeMap.{IsOrdered};
+ghost use Rattle.std.specs.List.Sorted.{IsStrictlySortedBy};
+ghost use Rattle.std.specs.Map.{keys_of};
 ghost use Rattle.std.specs.Map.Iter.{deref_pair};
 ghost use Rattle.ledger_model.specs.Chain.{history};
 ghost use Rattle.ledger_model.specs.Views.{key_cmp, first, within};
@@ -11,13 +12,12 @@ ghost use Rattle.wire.specs.Ids.{id_of};
 ghost use Rattle.ledger_model.specs.Flags.{stands_in};
 ghost use Rattle.world_state.specs.Shared.{blocks_in};
 
-use crate::ids::{TxIds, add_ids, is_known};
-use crate::ranges::{first_entries, range_of};
+use crate::index::{IdIndex, index_block, is_indexed};
+use crate::ranges::{first_entries, range_in};
 use crate::writes::{StateMap, apply_block};
 use fab_types::{Block, Bound, CommittedBlock, Flag, Key, Value, Version};
+use persist_map::{PMap, Range};
 use std::alloc::{AllocError, Global};
-use std::collections::btree_map::Range;
-use std::collections::{BTreeMap, BTreeSet};
 use std::marker::Model;
 use std::sync::Arc;
 
@@ -27,9 +27,24 @@ fn all_entries(
     entries: &StateMap,
 ) -> Result<Vec<(&Key, &(Value, Version))>, AllocError>
     ensures all { IfOk result (λ v. map deref_pair v.items ≡ entries.now.entries) }
-    ensures ordered { IsOrdered key_cmp entries.now }
+    ensures ordered { IsStrictlySortedBy key_cmp (keys_of entries.now.entries) }
 {
-    entries.iter().collect(alloc)
+    entries.range(None, None).collect(alloc)
+}
+
+/// Shared blocks, and one more.
+fn with_block(
+    alloc: Global,
+    blocks: &[Arc<CommittedBlock>],
+    block: CommittedBlock,
+) -> Result<Vec<Arc<CommittedBlock>>, AllocError>
+    requires { length blocks.now ≤ 65535 }
+    ensures { IfOk result (λ v. blocks_in v.items ≡ blocks_in blocks.now ++ block ∷ []) }
+{
+    let mut longer = Vec::with_capacity(alloc, blocks.len() + 1)?;
+    longer.extend_with_clones(blocks)?;
+    longer.push(Arc::new(alloc, block)?)?;
+    Ok(longer)
 }
 
 /// The blocks of a chain from block 1 on, and the state after them.
@@ -37,10 +52,11 @@ fn all_entries(
 pub struct Snapshot {
     blocks: Vec<Arc<CommittedBlock>>,
     map: StateMap,
-    ids: TxIds,
+    ids: IdIndex,
 }
 
 impl Model for Snapshot {
+    ghost use Rattle.std.specs.Map.{keys_of};
     ghost use Rattle.ledger_model.specs.Chain.{Chain};
     ghost use Rattle.wire.specs.Ids.{id_of};
     ghost use Rattle.ledger_model.specs.Flags.{stands_in};
@@ -51,7 +67,7 @@ impl Model for Snapshot {
 
     ghost view = { λ s. blocks_in s.blocks.items };
 
-    ghost invariant = { λ s. IsRight (blocks_in s.blocks.items) s.map.entries s.ids.keys };
+    ghost invariant = { λ s. IsRight (blocks_in s.blocks.items) s.map.entries (keys_of s.ids.entries) };
 }
 
 impl Snapshot {
@@ -61,8 +77,8 @@ impl Snapshot {
     {
         Snapshot {
             blocks: Vec::new(alloc),
-            map: BTreeMap::new(alloc),
-            ids: BTreeSet::new(alloc),
+            map: PMap::new(alloc),
+            ids: PMap::new(alloc),
         }
     }
 
@@ -96,7 +112,7 @@ impl Snapshot {
     pub fn has_tx(&self, id: &[u8; 32]) -> bool
         ensures { result ≡ stands_in id_of (history self.now) id.now }
     {
-        is_known(&self.ids, id)
+        is_indexed(&self.ids, id)
     }
 
     /// Each key of the state with its value and version, in key order.
@@ -116,7 +132,7 @@ impl Snapshot {
     ) -> Result<Range<'_, Key, (Value, Version)>, AllocError>
         ensures { IfOk result (λ r. r ≡ within start.now end.now (entries (state (history self.now)))) }
     {
-        range_of(alloc, &self.map, start, end)
+        range_in(alloc, &self.map, start, end)
     }
 
     /// The first `n` entries of a range, in key order: from `start` on, or from the first key where it is
@@ -133,7 +149,8 @@ impl Snapshot {
         first_entries(alloc, &self.map, start, end, n)
     }
 
-    /// The snapshot after one block more, which is the next in number. This one stays as it is.
+    /// The snapshot after one block more, which is the next in number. This one stays as it is, and both share
+    /// what the block does not change.
     pub fn extended(
         &self,
         alloc: Global,
@@ -144,12 +161,11 @@ impl Snapshot {
         requires one_each { length flags.items ≡ length block.envelopes }
         ensures { IfOk result (λ s. s ≡ self.now ++ record { block = block; flags = flags.items } ∷ []) }
     {
-        let mut blocks = self.blocks.clone()?;
         let mut map = self.map.clone()?;
         let mut ids = self.ids.clone()?;
         apply_block(&mut map, &block, &flags)?;
-        add_ids(alloc, &mut ids, &block)?;
-        blocks.push(Arc::new(alloc, CommittedBlock::new(block, flags))?)?;
+        index_block(alloc, &mut ids, &block)?;
+        let blocks = with_block(alloc, &self.blocks, CommittedBlock::new(block, flags))?;
         Ok(Snapshot { blocks, map, ids })
     }
 }
