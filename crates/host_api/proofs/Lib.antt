@@ -2,6 +2,7 @@ mod Bytes
 pub mod Alone
 mod Plain
 mod Places
+mod Halves
 mod Items
 mod Replies
 mod Calls
