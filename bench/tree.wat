@@ -1,4 +1,4 @@
-;; A recursive function that calls itself twice at each level: 7,340,025 instructions.
+;; A recursive function that calls itself twice at each level, from two heights: 9,175,025 instructions.
 (module
   (func $leaves (param $height i32) (result i32)
     local.get $height
@@ -18,5 +18,8 @@
   (func (export "invoke") (result i32)
     i32.const 19
     call $leaves
+    i32.const 17
+    call $leaves
+    i32.add
     drop
     i32.const 0))

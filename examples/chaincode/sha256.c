@@ -1,5 +1,8 @@
-/* SHA-256 (FIPS 180-4) of 8,192 bytes in memory: 0 if the digest is the expected one. */
-enum { LENGTH = 8192 };
+/* SHA-256 (FIPS 180-4) of LENGTH bytes in memory, 0, 1, .. 255, 0, 1, ..: 0 if their digest is DIGEST. */
+#ifndef LENGTH
+#define LENGTH 8192
+#define DIGEST 0xdc404a61, 0x3fedaeb5, 0x4034514b, 0xc6505f56, 0xb933caa5, 0x250299ba, 0x7d094377, 0xa51caa46
+#endif
 
 static const unsigned constants[64] = {
     0x428a2f98, 0x71374491, 0xb5c0fbcf, 0xe9b5dba5, 0x3956c25b, 0x59f111f1, 0x923f82a4, 0xab1c5ed5,
@@ -11,9 +14,7 @@ static const unsigned constants[64] = {
     0x19a4c116, 0x1e376c08, 0x2748774c, 0x34b0bcb5, 0x391c0cb3, 0x4ed8aa4a, 0x5b9cca4f, 0x682e6ff3,
     0x748f82ee, 0x78a5636f, 0x84c87814, 0x8cc70208, 0x90befffa, 0xa4506ceb, 0xbef9a3f7, 0xc67178f2};
 
-/* Of the bytes 0, 1, .. 255, 0, 1, .. of which there are 8,192. */
-static const unsigned expected[8] = {0xdc404a61, 0x3fedaeb5, 0x4034514b, 0xc6505f56,
-                                     0xb933caa5, 0x250299ba, 0x7d094377, 0xa51caa46};
+static const unsigned expected[8] = {DIGEST};
 
 static unsigned state[8] = {0x6a09e667, 0xbb67ae85, 0x3c6ef372, 0xa54ff53a,
                             0x510e527f, 0x9b05688c, 0x1f83d9ab, 0x5be0cd19};

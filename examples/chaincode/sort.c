@@ -1,5 +1,7 @@
-/* Sorts 4,096 numbers in place (heap sort), and answers 0 if they ascend. */
-enum { COUNT = 4096 };
+/* Sorts COUNT numbers in place (heap sort), and answers 0 if they ascend. */
+#ifndef COUNT
+#define COUNT 4096
+#endif
 
 static unsigned numbers[COUNT];
 
