@@ -1,0 +1,11 @@
+pub mod Sim
+pub mod Forms
+pub mod Tree
+pub mod Whole
+pub mod Stepping
+pub mod Leaving
+pub mod Taking
+pub mod Calling
+pub mod FuncTypes
+pub mod Executing
+pub mod Stepped

@@ -1,0 +1,6 @@
+pub mod Reduction
+pub mod Context
+pub mod Ending
+pub mod View
+pub mod Calls
+pub mod Standing
