@@ -5,7 +5,8 @@ use crate::fault::CaseFault;
 use crate::items::read_items;
 use crate::modules::{count_parts, show_module, validate_module};
 use crate::operators::apply_operator;
-use crate::runs::run_module;
+use crate::runs::{compare_runs, run_module};
+use crate::steps::trace_module;
 use std::alloc::{AllocError, Global};
 
 /// The answer to a line: a comment itself, what a case gives, or its fault.
@@ -36,6 +37,8 @@ fn answer_case(alloc: Global, line: &str) -> Result<String, CaseFault> {
         "show" => show_module(alloc, rest),
         "validate" => validate_module(alloc, rest),
         "run" => run_module(alloc, rest),
+        "trace" => trace_module(alloc, rest),
+        "compare" => compare_runs(alloc, rest),
         _ => apply_operator(alloc, verb, rest),
     }
 }

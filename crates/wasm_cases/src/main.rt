@@ -10,7 +10,8 @@
 //! - `decode BYTES`: how many parts of each kind the module has; `show BYTES`: the module as `Debug`
 //!   prints it; `validate BYTES`: its entry and its host calls;
 //! - `run FUEL BYTES`: how its `invoke` ends with this fuel, without an argument, on a state without keys,
-//!   and what it wrote;
+//!   and what it wrote; `trace FUEL BYTES`: before that what each step of a stepper shows; `compare LAST BYTES`:
+//!   whether `run`, `run_by_reduction` and a stepper answer the same with every fuel from 0 to this;
 //! - `binary32 OP A B`, `compare32 OP A B`, `unary32 OP A`, `eqz32 A`, the same with 64, and
 //!   `convert OP A`: what an operator gives for words in hex.
 //!
@@ -24,6 +25,7 @@ mod items;
 mod modules;
 mod operators;
 mod runs;
+mod steps;
 
 use crate::cases::answer;
 use std::io::{self, BufRead, BufReader};
