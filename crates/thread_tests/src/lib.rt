@@ -7,4 +7,6 @@ mod intake_test;
 #[cfg(test)]
 mod peer_node_test;
 #[cfg(test)]
+mod reopen_test;
+#[cfg(test)]
 mod samples;

@@ -44,7 +44,7 @@ fn key(alloc: Global, text: &[u8]) -> Result<Key, Fail> {
     Ok(Key::new(bytes).ok_or("a key")?)
 }
 
-fn org(alloc: Global) -> Result<OrgName, Fail> {
+pub fn org(alloc: Global) -> Result<OrgName, Fail> {
     let bytes = b"A".to_vec(alloc)?;
     Ok(OrgName::new(bytes).ok_or("an organisation")?)
 }
@@ -76,7 +76,7 @@ fn rules(alloc: Global) -> Result<Rules, Fail> {
     Ok(Rules::new(organisations, policies).ok_or("rules")?)
 }
 
-fn genesis(alloc: Global) -> Result<Genesis, Fail> {
+pub fn genesis(alloc: Global) -> Result<Genesis, Fail> {
     let book = book(alloc)?;
     let rules = rules(alloc)?;
     Ok(Genesis {
@@ -112,7 +112,7 @@ fn endorsed(alloc: Global, nonce: u8, text: &[u8]) -> Result<Envelope, Fail> {
 }
 
 /// A chain of so many blocks: block 4 puts `a`, those of other even numbers `b`, and the rest `k`.
-fn chain(alloc: Global, count: u8) -> Result<Orderer, Fail> {
+pub fn chain(alloc: Global, count: u8) -> Result<Orderer, Fail> {
     let mut orderer = Orderer::new(alloc, 1, 1000, 1000, false);
     for step in 0..count {
         let text: &[u8] = match step {
@@ -127,7 +127,7 @@ fn chain(alloc: Global, count: u8) -> Result<Orderer, Fail> {
 }
 
 /// Commits the block of a number. None where it is refused.
-fn commit<R: Threads + Wait + Sync>(
+pub fn commit<R: Threads + Wait + Sync>(
     rt: &R,
     writer: &mut PeerWriter,
     chain: &Orderer,
