@@ -1,6 +1,6 @@
 -- A call of a function of the module, whose arguments lie on top of the vector of values.
 use Rattle.std.proofs.Common.{◌≡◌, ℕ, zero, suc, ◌+◌, ◌-◌, ◌<◌, ◌≤◌, Bool, true, false, cond, List, [], ◌∷◌, ◌++◌, length, map, reverse, take, drop, refl, sym, ap, ◌∙◌, subst, arith}
-use Rattle.std.specs.Prelude.{Option, Some, None, nat_lt, slice_get, option_map, get_or}
+use Rattle.std.specs.Prelude.{Some, None, nat_lt, slice_get, option_map, get_or}
 use Rattle.std.proofs.lemmas.Option.{slice_get-map}
 use Rattle.std.proofs.lemmas.Bool.Decides.{nat_tests}
 use Rattle.std.proofs.lemmas.List.{reverse-reverse, take-append-drop}
@@ -22,7 +22,7 @@ use Rattle.wasm_meaning.specs.NeverStuck.{invocation_ends}
 use Rattle.interp.specs.Reading.{type_in}
 use Rattle.wasm_meaning.specs.Values.{Val, World, Answer, Answering, Program, Function, zeros}
 use Rattle.wasm_trace.specs.declared.parts.Value.{Value}
-use Rattle.wasm_trace.specs.Reduction.{Seq, Nil, FreeBlock, Invoke, Frame, Traps, values, conf, at, Step, To, Stuck, with_last, with_found, host_step, call_step, invoke_step}
+use Rattle.wasm_trace.specs.Reduction.{Seq, Nil, FreeBlock, Frame, Traps, values, conf, at, Step, To, Stuck, with_last, invoke_step}
 use Rattle.wasm_trace.specs.Context.{Layer, InFrame, wrap, plug}
 use Rattle.wasm_trace.specs.declared.parts.Level.{Level}
 use Rattle.wasm_trace.specs.View.{vals, stack_of, layer_of, layers, out_of}
@@ -117,23 +117,6 @@ pub import_type : (m : Module) (k : ℕ) (which : HostCall) → k < length (host
 import_type m k which lt e =
     let h : nat_lt k (length (host_calls m.imports)) ≡ true = grind (arith, nat_tests) in
     ap (λ b. cond b (option_map call_type (slice_get (host_calls m.imports) k)) (option_map (λ (fn : Function). fn.type) (slice_get (map (function_of m.types) m.functions) (k - length (host_calls m.imports))))) h ∙ ap (option_map call_type) e
-
--- that of the module's own
-pub own_type : (m : Module) (k : ℕ) → length (host_calls m.imports) ≤ k → type_in m k ≡ option_map (λ (fn : Function). fn.type) (slice_get (map (function_of m.types) m.functions) (k - length (host_calls m.imports)))
-own_type m k le =
-    let h : nat_lt k (length (host_calls m.imports)) ≡ false = grind (arith, nat_tests) in
-    ap (λ b. cond b (option_map call_type (slice_get (host_calls m.imports) k)) (option_map (λ (fn : Function). fn.type) (slice_get (map (function_of m.types) m.functions) (k - length (host_calls m.imports))))) h
-
-module _ {R : Type 0} (p : Program R) where
-  pub import_call : (k : ℕ) (which : HostCall) (f : ℕ) (l : List Val) (w : World R) (s : List Val) (i : Seq) → k < length p.imports → slice_get p.imports k ≡ Some which → call_step p k f l w s i ≡ host_step p which f l w s i
-  import_call k which f l w s i lt e =
-      let h : nat_lt k (length p.imports) ≡ true = grind (arith, nat_tests) in
-      ap (λ b. cond b (with_found (slice_get p.imports k) (λ which. host_step p which f l w s i)) (with_found (slice_get p.functions (k - length p.imports)) (λ fn. at f l w s (Invoke fn i)))) h ∙ ap (λ o. with_found o (λ which. host_step p which f l w s i)) e
-
-  pub own_call : (k : ℕ) (o : Option Function) (f : ℕ) (l : List Val) (w : World R) (s : List Val) (i : Seq) → length p.imports ≤ k → slice_get p.functions (k - length p.imports) ≡ o → call_step p k f l w s i ≡ with_found o (λ fn. at f l w s (Invoke fn i))
-  own_call k o f l w s i le e =
-      let h : nat_lt k (length p.imports) ≡ false = grind (arith, nat_tests) in
-      ap (λ b. cond b (with_found (slice_get p.imports k) (λ which. host_step p which f l w s i)) (with_found (slice_get p.functions (k - length p.imports)) (λ fn. at f l w s (Invoke fn i)))) h ∙ ap (λ o. with_found o (λ fn. at f l w s (Invoke fn i))) e
 
 -- `invoke` is a function of the module's own
 pub invoke_there : (m : Module) (k : ℕ) → IsValid m → invoke_of m ≡ Some k → None ≡ slice_get (map (function_of m.types) m.functions) (k - length (host_calls m.imports)) → ⊥

@@ -13,7 +13,6 @@ use Rattle.wasm_trace.specs.declared.parts.Front.{Front}
 use Rattle.wasm_trace.specs.declared.parts.Front.TheVariants as front
 use Rattle.wasm_trace.specs.declared.parts.Act.{Act}
 use Rattle.wasm_trace.specs.declared.parts.Act.TheVariants as act
-use Rattle.wasm_trace.specs.declared.parts.Turn.{Turn}
 use Rattle.wasm_trace.specs.declared.parts.Turn.TheVariants as turn
 use Rattle.wasm_trace.specs.declared.parts.Flow.{Flow}
 use Rattle.wasm_trace.specs.declared.parts.Flow.TheVariants as flow
@@ -22,7 +21,7 @@ use Rattle.wasm_trace.specs.Standing.{with_records}
 use Rattle.wasm_trace.specs.Reduction.{Seq, Nil, Label, Frame, plain, values, Config, conf, paid, Step, To, Ends, Breaks, Leaves, Spent, Stuck, with_found, with_words, host_step, reduce, step}
 use Rattle.wasm_trace.specs.Context.{Layer, InLabel, InFrame, frames, plug}
 use Rattle.wasm_trace.specs.Calls.{AreWords, ask_step}
-use Rattle.wasm_trace.specs.View.{vals, stack_of, plain_of, before, layers, world, config, out_of, outward, Is, act_step, paid_step, Jumps, IsGoing, NoEnd, SameFuel, flow_of, Spends, Rests}
+use Rattle.wasm_trace.specs.View.{vals, stack_of, plain_of, before, layers, world, config, out_of, outward, Is, act_step, paid_step, Jumps, IsGoing, NoEnd, SameFuel, Spends, Rests}
 use Rattle.wasm_trace.proofs.Sim.{step_start}
 use Rattle.wasm_trace.proofs.Stepping.{reduce_plug, out_same, out_spent, out_stuck, paid_none, paid_now}
 use Rattle.wasm_trace.proofs.Calling.{with_args}
@@ -147,18 +146,6 @@ module _ {R : Type 0} (p : Program R) where
       same = cc
 
 -- ---- what an end leaves as it was
-
-pub turn_spends : (t : Turn) (way : Flow) → way ≡ flow_of t → Spends (act.Become t) way
-turn_spends (turn.On x) way e = subst (Spends (act.Become (turn.On x))) (sym e) tt
-turn_spends turn.Spent way e = subst (Spends (act.Become turn.Spent)) (sym e) refl
-turn_spends turn.Stuck way e = subst (Spends (act.Become turn.Stuck)) (sym e) tt
-
-pub going_spends : (a : Act) (way : Flow) → IsGoing way → Spends a way
-going_spends a flow.Continue h = tt
-going_spends a (flow.Returned n) h = h
-going_spends a (flow.Trapped why) h = h
-going_spends a flow.Spent h = absurd h
-going_spends a flow.Stuck h = tt
 
 module _ {R : Type 0} where
   pub rests_by : (c c' : Configuration) (r : R) (way : Flow) → NoEnd way → Rests c c' r r way
