@@ -6,6 +6,7 @@ use crate::failure::Failure;
 use crate::files::Files;
 use crate::session::run;
 use crate::simulation::simulate;
+use crate::tracing::trace;
 use crate::words::{self, Task};
 use std::alloc::Global;
 use std::io::{self, Write};
@@ -14,12 +15,15 @@ const USAGE: &str = "usage: ledger check MODULE
        ledger sim GENESIS CHAINCODE ARG [--nonce HEX] [--store FILE]
        ledger run GENESIS EVENTS [--store FILE]
        ledger audit GENESIS STORE
+       ledger trace GENESIS CHAINCODE ARG [--steps N]
   check  tells whether the file MODULE is a valid module
   sim    simulates a call of CHAINCODE with the argument ARG (hex, or - for none) on the empty
          state, or on that after the store FILE; the nonce is 16 bytes of hex, zeros by default
   run    runs the events of the file EVENTS, one JSON object a line, on the system that the
          file GENESIS opens, and writes the chain of its first peer to the store FILE
-  audit  commits the file STORE again, and runs its VALID transactions again";
+  audit  commits the file STORE again, and runs its VALID transactions again
+  trace  shows the first N steps (1 to 1000, 1000 by default) of a call on the empty state, each with
+         the fuel that it leaves, and how the call ends";
 
 /// Does what the words ask for, the command first, and answers the exit status: 0 for done, 1 for a
 /// refusal or a difference, which are printed, and 2 where the words name no task.
@@ -69,5 +73,10 @@ fn carry_out<F: Files, W: Write>(
             store,
         } => run(alloc, files, genesis, events, store, out),
         Task::Audit { genesis, store } => audit(alloc, files, genesis, store, out),
+        Task::Trace {
+            genesis,
+            proposal,
+            most,
+        } => trace(alloc, files, genesis, &proposal, most, out),
     }
 }

@@ -4,6 +4,7 @@
 //! - `sim GENESIS CHAINCODE ARG` simulates one call, on the empty state or on that after a store.
 //! - `run GENESIS EVENTS` runs the events of a file on the system that the genesis opens, and writes the
 //!   chain of its first peer.
+//! - `trace GENESIS CHAINCODE ARG` shows the steps of one call on the empty state.
 //! - `audit GENESIS STORE` commits a store's chain again, and runs its VALID transactions again.
 //!
 //! [`program`] takes the words of the command line, the files by [`Files`], and where lines are printed.
@@ -21,6 +22,7 @@ mod opening;
 mod session;
 mod simulation;
 mod storing;
+mod tracing;
 mod words;
 
 pub use commands::program;

@@ -30,6 +30,12 @@ pub enum Task<'a> {
         genesis: &'a str,
         store: &'a str,
     },
+    /// Show this many steps at most of this call, on the empty state.
+    Trace {
+        genesis: &'a str,
+        proposal: Proposal,
+        most: u32,
+    },
 }
 
 /// Why the words name no task.
@@ -90,13 +96,19 @@ fn commands<'a>(alloc: Global) -> Result<Command<'a>, AllocError> {
     let audit = Command::new(alloc, "audit")
         .arg(word(alloc, "GENESIS"))?
         .arg(word(alloc, "STORE"))?;
+    let trace = Command::new(alloc, "trace")
+        .arg(word(alloc, "GENESIS"))?
+        .arg(word(alloc, "CHAINCODE"))?
+        .arg(word(alloc, "ARG"))?
+        .arg(option(alloc, "steps"))?;
     let ledger = Command::new(alloc, "ledger")
         .no_binary_name(true)
         .subcommand_required(true)
         .subcommand(check)?
         .subcommand(sim)?
         .subcommand(run)?
-        .subcommand(audit)?;
+        .subcommand(audit)?
+        .subcommand(trace)?;
     Ok(ledger)
 }
 
@@ -117,7 +129,7 @@ pub fn parse<'a>(alloc: Global, words: &'a [String]) -> Result<Task<'a>, WordsFa
     if let Some(sim) = matches.subcommand_matches("sim") {
         return Ok(Task::Simulate {
             genesis: text(sim, "GENESIS")?,
-            proposal: proposal(alloc, sim)?,
+            proposal: proposal(alloc, sim, sim.get_str("nonce"))?,
             store: sim.get_str("store"),
         });
     }
@@ -134,19 +146,41 @@ pub fn parse<'a>(alloc: Global, words: &'a [String]) -> Result<Task<'a>, WordsFa
         let (genesis, store) = (text(audit, "GENESIS")?, text(audit, "STORE")?);
         return Ok(Task::Audit { genesis, store });
     }
+    if let Some(trace) = matches.subcommand_matches("trace") {
+        return Ok(Task::Trace {
+            genesis: text(trace, "GENESIS")?,
+            proposal: proposal(alloc, trace, None)?,
+            most: step_count(trace)?,
+        });
+    }
     Err(WordsFault::Usage)
 }
 
-/// The call that the words of `sim` stand for.
-fn proposal(alloc: Global, sim: &ArgMatches<'_>) -> Result<Proposal, WordsFault> {
-    let name = text(sim, "CHAINCODE")?.as_bytes().to_vec(alloc)?;
+/// How many steps are shown: 1 to 1000, and 1000 where the words do not say.
+fn step_count(trace: &ArgMatches<'_>) -> Result<u32, WordsFault> {
+    let Some(digits) = trace.get_str("steps") else {
+        return Ok(1000);
+    };
+    match digits.parse::<u32>() {
+        Ok(count) if (1..=1000).contains(&count) => Ok(count),
+        _ => Err(WordsFault::Usage),
+    }
+}
+
+/// The call that words stand for, with this nonce, or with zeros.
+fn proposal(
+    alloc: Global,
+    call: &ArgMatches<'_>,
+    nonce: Option<&str>,
+) -> Result<Proposal, WordsFault> {
+    let name = text(call, "CHAINCODE")?.as_bytes().to_vec(alloc)?;
     let chaincode = Name::new(name).ok_or(WordsFault::Usage)?;
-    let bytes = match text(sim, "ARG")? {
+    let bytes = match text(call, "ARG")? {
         "-" => Vec::new(alloc),
         hex => hex::decode(alloc, hex)?,
     };
     let argument = Value::new(bytes).ok_or(WordsFault::Usage)?;
-    let nonce = match sim.get_str("nonce") {
+    let nonce = match nonce {
         Some(hex) => <[u8; 16]>::from_hex(hex)?,
         None => [0; 16],
     };
