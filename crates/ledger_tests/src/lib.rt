@@ -15,6 +15,8 @@ mod ledger_model_test;
 #[cfg(test)]
 mod mvcc_validate_test;
 #[cfg(test)]
+mod persist_map_test;
+#[cfg(test)]
 mod samples;
 #[cfg(test)]
 mod simulator_test;

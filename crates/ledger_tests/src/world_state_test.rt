@@ -3,7 +3,7 @@
 ghost use Rattle.std.specs.Prelude.{◌≡◌, ◌↔◌, ◌+◌, IsTrue, length};
 
 use crate::samples::{block, key, payload};
-use fab_types::{Block, Flag};
+use fab_types::{Block, BlockNumber, Flag, Key, Version};
 use std::alloc::{AllocError, Global};
 use std::collections::BTreeSet;
 use std::test::Fail;
@@ -70,5 +70,42 @@ fn ids_are_added_once(rt: HostRuntime) -> Result<(), Fail> {
     add_id(&mut ids, [1; 32])?;
     add_id(&mut ids, [1; 32])?;
     assert!(rt; is_known(&ids, &[1; 32]) && !is_known(&ids, &[2; 32]) && ids.len() == 1);
+    Ok(())
+}
+
+/// The snapshot after one block more, with the sample's transaction.
+fn next(alloc: Global, snapshot: &Snapshot) -> Result<Snapshot, Fail> {
+    let number = snapshot.height() as u32 + 1;
+    let mut block = block(alloc)?;
+    block.header.number = BlockNumber::new(number).ok_or("a number of a block")?;
+    let next = extended(alloc, snapshot, block, Flag::Valid)?;
+    Ok(next.ok_or("the next block")?)
+}
+
+/// The snapshot after so many blocks more.
+fn later(alloc: Global, snapshot: &Snapshot, count: u32) -> Result<Snapshot, Fail> {
+    let mut newest = next(alloc, snapshot)?;
+    for _ in 1..count {
+        newest = next(alloc, &newest)?;
+    }
+    Ok(newest)
+}
+
+/// Whether the only key of a state is of this block's first transaction.
+fn was_put_in(snapshot: &Snapshot, key: &Key, block: u32) -> bool {
+    match snapshot.get(key) {
+        Some((_, version)) => Some(version) == Version::new(block, 0),
+        None => false,
+    }
+}
+
+#[test]
+fn an_older_snapshot_answers_as_before(rt: HostRuntime) -> Result<(), Fail> {
+    let alloc = rt.alloc();
+    let key = key(alloc, b"c")?;
+    let older = after_block(alloc, Flag::Valid)?;
+    let newest = later(alloc, &older, 100)?;
+    let stays = was_put_in(&older, &key, 1) && older.height() == 1;
+    assert!(rt; stays && was_put_in(&newest, &key, 101) && newest.height() == 101);
     Ok(())
 }
