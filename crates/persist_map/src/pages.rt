@@ -211,6 +211,14 @@ pub fn put_in<K: Ord + Drop, V: Drop>(
     set_entry(pages, sought.page, sought.place, entry)
 }
 
+/// Whether a page has one entry alone.
+fn is_single<K, V>(page: &[Arc<(K, V)>]) -> bool
+    ensures single { IsTrue result → length page.now ≡ 1 }
+    ensures several { IsFalse result → 0 < length page.now → 1 < length page.now }
+{
+    page.len() == 1
+}
+
 /// Takes a key's entry out, and a page that it leaves empty. Where memory is refused, the pages stay.
 pub fn delete_in<K: Ord + Drop, V: Drop>(
     pages: &mut Vec<Arc<Page<K, V>>>,
@@ -225,7 +233,7 @@ pub fn delete_in<K: Ord + Drop, V: Drop>(
     let Ok(at) = sought.place else {
         return Ok(());
     };
-    if pages[sought.page].len() == 1 {
+    if is_single(&pages[sought.page]) {
         pages.remove(sought.page);
         return Ok(());
     }
