@@ -18,7 +18,7 @@ use Rattle.ledger_model.specs.Judged.{Rule, judged_chain}
 pub use Rattle.fabric_core.specs.declared.event.Event.{Event}
 pub use Rattle.fabric_core.specs.declared.event.Event.TheVariants.{Begin, Finish, Submit, Take, Tick, Commit}
 pub use Rattle.fabric_core.specs.declared.event.Reply.{Reply}
-pub use Rattle.fabric_core.specs.declared.event.Reply.TheVariants.{NoSuchSeat, SeatBusy, Begun, NothingBegun, Refused, Endorsed, Queued, QueueFull, Nothing, Ordered, Cut, TooLarge, NoBlockLeft, Committed as IsCommitted}
+pub use Rattle.fabric_core.specs.declared.event.Reply.TheVariants.{NoSuchPeer, NoSuchSeat, SeatBusy, Begun, NothingBegun, Refused, Endorsed, Queued, QueueFull, Nothing, Ordered, Cut, TooLarge, NoBlockLeft, Committed as IsCommitted}
 use Rattle.simulator.specs.declared.refusal.SimRefusal.{SimRefusal}
 use Rattle.simulator.specs.declared.refusal.SimRefusal.TheVariants as refusal
 use Rattle.simulator.specs.Answers.{payload_or_refusal}
@@ -105,7 +105,7 @@ commit chain peer = commit_next peer (slice_get (chain (peer.height + 1)) peer.h
 
 -- what happens at a peer, if there is such a peer
 abbrev pub at_peer : World → ℕ → Option (Reply × PeerState) → Reply × World
-at_peer w peer None = (NoSuchSeat, w)
+at_peer w peer None = (NoSuchPeer, w)
 at_peer w peer (Some s) = (s.0, record w { peers = slice_set w.peers peer s.1 })
 
 abbrev pub submit : Rules → World → Envelope → Reply × World

@@ -63,7 +63,9 @@ impl Clone for Event {
 /// What a system replies to an event.
 #[derive(Debug, Drop)]
 pub enum Reply {
-    /// Begin, Finish, Commit: there is no such peer or seat (452).
+    /// Begin, Finish, Commit: there is no such peer (452).
+    NoSuchPeer,
+    /// Begin, Finish: the peer has no such seat (452).
     NoSuchSeat,
     /// Begin: the seat holds a proposal (451).
     SeatBusy,

@@ -108,7 +108,7 @@ impl System {
         ensures unchanged { OnErr result (self.new ≡ self.old) }
     {
         if peer >= self.peers.len() {
-            return Ok(Reply::NoSuchSeat);
+            return Ok(Reply::NoSuchPeer);
         }
         self.peers[peer].begin(seat, proposal)
     }
@@ -121,7 +121,7 @@ impl System {
         ensures unchanged { OnErr result (self.new ≡ self.old) }
     {
         if peer >= self.peers.len() {
-            return Ok(Reply::NoSuchSeat);
+            return Ok(Reply::NoSuchPeer);
         }
         self.peers[peer].finish(self.alloc, &*self.book, &*self.rules, seat)
     }
@@ -191,7 +191,7 @@ impl System {
         ensures unchanged { OnErr result (self.new ≡ self.old) }
     {
         if peer >= self.peers.len() {
-            return Ok(Reply::NoSuchSeat);
+            return Ok(Reply::NoSuchPeer);
         }
         let height = self.peers[peer].snapshot.height();
         let blocks = self.orderer.blocks();

@@ -155,7 +155,7 @@ impl Session {
         let place = place_of(&event);
         let reply = self.system.step(event)?;
         match reply {
-            Reply::NoSuchSeat => writeln!(out, "refused 452")?,
+            Reply::NoSuchPeer | Reply::NoSuchSeat => writeln!(out, "refused 452")?,
             Reply::SeatBusy => writeln!(out, "refused 451")?,
             Reply::Begun(height) => print_begun(place, height, out)?,
             Reply::NothingBegun => writeln!(out, "refused 453")?,

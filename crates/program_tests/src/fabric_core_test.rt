@@ -66,7 +66,7 @@ fn are_replies(replies: &[Reply]) -> bool {
                 && matches!(taken, Reply::Nothing)
                 && matches!(ticked, Reply::Nothing)
                 && matches!(none, Reply::Nothing)
-                && matches!(nobody, Reply::NoSuchSeat)
+                && matches!(nobody, Reply::NoSuchPeer)
         }
         _ => false,
     }
