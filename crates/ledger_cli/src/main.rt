@@ -14,6 +14,7 @@ fn main(rt: HostRuntime) -> io::Result<ExitCode> {
         words.push(word)?;
     }
     let status = program(
+        &rt,
         rt.alloc(),
         &words,
         &mut Disk::new(&rt),

@@ -6,34 +6,41 @@ use crate::failure::Failure;
 use crate::files::Files;
 use crate::session::run;
 use crate::simulation::simulate;
+use crate::threading::threads;
 use crate::tracing::trace;
 use crate::words::{self, Task};
 use std::alloc::Global;
 use std::io::{self, Write};
+use std::sync::Wait;
+use std::thread::Threads;
 
 const USAGE: &str = "usage: ledger check MODULE
        ledger sim GENESIS CHAINCODE ARG [--nonce HEX] [--store FILE]
        ledger run GENESIS EVENTS [--store FILE]
+       ledger threads GENESIS CHAINCODE ROUNDS
        ledger audit GENESIS STORE
        ledger trace GENESIS CHAINCODE ARG [--steps N]
-  check  tells whether the file MODULE is a valid module
-  sim    simulates a call of CHAINCODE with the argument ARG (hex, or - for none) on the empty
-         state, or on that after the store FILE; the nonce is 16 bytes of hex, zeros by default
-  run    runs the events of the file EVENTS, one JSON object a line, on the system that the
-         file GENESIS opens, and writes the chain of its first peer to the store FILE
-  audit  commits the file STORE again, and runs its VALID transactions again
-  trace  shows the first N steps (1 to 1000, 1000 by default) of a call on the empty state, each with
-         the fuel that it leaves, and how the call ends";
+  check    tells whether the file MODULE is a valid module
+  sim      simulates a call of CHAINCODE with the argument ARG (hex, or - for none) on the empty
+           state, or on that after the store FILE; the nonce is 16 bytes of hex, zeros by default
+  run      runs the events of the file EVENTS, one JSON object a line, on the system that the
+           file GENESIS opens, and writes the chain of its first peer to the store FILE
+  threads  lets each seat of the first peer endorse ROUNDS calls (1 to 1000) of CHAINCODE on a thread
+           of its own while their blocks are committed, and audits the chain
+  audit    commits the file STORE again, and runs its VALID transactions again
+  trace    shows the first N steps (1 to 1000, 1000 by default) of a call on the empty state, each
+           with the fuel that it leaves, and how the call ends";
 
 /// Does what the words ask for, the command first, and answers the exit status: 0 for done, 1 for a
 /// refusal or a difference, which are printed, and 2 where the words name no task.
-pub fn program<F: Files, W: Write>(
+pub fn program<R: Threads + Wait + Sync, F: Files, W: Write>(
+    rt: &R,
     alloc: Global,
     words: &[String],
     files: &mut F,
     out: &mut W,
 ) -> u8 {
-    let Err(failure) = carry_out(alloc, words, files, out) else {
+    let Err(failure) = carry_out(rt, alloc, words, files, out) else {
         return 0;
     };
     let (status, told) = match failure {
@@ -54,7 +61,8 @@ fn tell<W: Write>(failure: Failure, out: &mut W) -> io::Result<()> {
     }
 }
 
-fn carry_out<F: Files, W: Write>(
+fn carry_out<R: Threads + Wait + Sync, F: Files, W: Write>(
+    rt: &R,
     alloc: Global,
     words: &[String],
     files: &mut F,
@@ -72,6 +80,11 @@ fn carry_out<F: Files, W: Write>(
             events,
             store,
         } => run(alloc, files, genesis, events, store, out),
+        Task::Threads {
+            genesis,
+            chaincode,
+            rounds,
+        } => threads(rt, alloc, files, genesis, &chaincode, rounds, out),
         Task::Audit { genesis, store } => audit(alloc, files, genesis, store, out),
         Task::Trace {
             genesis,

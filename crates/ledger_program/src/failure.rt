@@ -6,6 +6,7 @@ use crate::words::WordsFault;
 use block_store::End;
 use committer::CommitRefusal;
 use genesis::GenesisRefusal;
+use seat_threads::SeatsRefusal;
 use simulator::SimRefusal;
 use std::alloc::{AllocError, AllocFailed};
 use std::fmt::{self, Display, Formatter, Write};
@@ -26,6 +27,8 @@ pub enum Failure {
     Genesis(GenesisRefusal),
     /// A simulation gave no payload.
     Simulation(SimRefusal),
+    /// The work of seats on threads has no report.
+    Seats(SeatsRefusal),
     /// A block of a store does not fit.
     Commit(CommitRefusal),
     /// A store does not end with its last record.
@@ -48,6 +51,7 @@ impl Display for Failure {
             Failure::Module(refusal) => write!(f, "{refusal}"),
             Failure::Genesis(refusal) => write!(f, "{refusal}"),
             Failure::Simulation(refusal) => write!(f, "{refusal}"),
+            Failure::Seats(refusal) => write!(f, "{refusal}"),
             Failure::Commit(refusal) => write!(f, "{refusal}"),
             Failure::Store(end) => write!(f, "refused {end}"),
             Failure::BadLine(number) => write!(f, "bad line {number}"),
@@ -98,6 +102,12 @@ impl From<SimRefusal> for Failure {
             SimRefusal::Memory => Failure::Memory,
             refusal => Failure::Simulation(refusal),
         }
+    }
+}
+
+impl From<SeatsRefusal> for Failure {
+    fn from(refusal: SeatsRefusal) -> Failure {
+        Failure::Seats(refusal)
     }
 }
 

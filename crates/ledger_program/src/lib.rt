@@ -5,9 +5,12 @@
 //! - `run GENESIS EVENTS` runs the events of a file on the system that the genesis opens, and writes the
 //!   chain of its first peer.
 //! - `trace GENESIS CHAINCODE ARG` shows the steps of one call on the empty state.
+//! - `threads GENESIS CHAINCODE ROUNDS` lets the seats of the first peer endorse on threads of their own while
+//!   its blocks are committed, and audits the chain.
 //! - `audit GENESIS STORE` commits a store's chain again, and runs its VALID transactions again.
 //!
-//! [`program`] takes the words of the command line, the files by [`Files`], and where lines are printed.
+//! [`program`] takes the words of the command line, the files by [`Files`], and where lines are printed. It starts
+//! threads for `threads` alone.
 #![tactic(auto)]
 
 mod auditing;
@@ -22,6 +25,7 @@ mod opening;
 mod session;
 mod simulation;
 mod storing;
+mod threading;
 mod tracing;
 mod words;
 

@@ -1,6 +1,6 @@
 //! The genesis of a file.
 
-ghost use Rattle.std.specs.Prelude.{IfOk, IfErr};
+ghost use Rattle.std.specs.Prelude.{◌<◌, ◌^◌, IfOk, IfErr, length};
 ghost use Rattle.genesis.specs.NoGenesis.{NoGenesis};
 ghost use Rattle.orderer.specs.Ordering.{AreLimits};
 ghost use Rattle.fabric_core.specs.Setting.{limits_of};
@@ -15,7 +15,10 @@ use std::sync::Arc;
 
 /// What a system begins with, by the file of this name.
 pub fn genesis_in<F: Files>(alloc: Global, files: &mut F, name: &str) -> Result<Genesis, Failure>
-    ensures { IfOk result (λ g. AreLimits (limits_of g)) }
+    ensures limits { IfOk result (λ g. AreLimits (limits_of g)) }
+    ensures peers { IfOk result (λ g. 0 < length g.peers.items) }
+    ensures seats { IfOk result (λ g. (0 < g.seats) × (g.seats < 2 ^ 32)) }
+    ensures queue { IfOk result (λ g. 0 < g.queue) }
 {
     let bytes = read_all(alloc, files, name)?;
     let Ok(text) = std::str::from_utf8(&bytes) else {
@@ -31,6 +34,9 @@ pub fn genesis_in<F: Files>(alloc: Global, files: &mut F, name: &str) -> Result<
 pub fn system_genesis(alloc: Global, text: &str) -> Result<Genesis, GenesisRefusal>
     ensures spelled { IfOk result (λ g. IsSpelledBy text.now g) }
     ensures limits { IfOk result (λ g. AreLimits (limits_of g)) }
+    ensures peers { IfOk result (λ g. 0 < length g.peers.items) }
+    ensures seats { IfOk result (λ g. (0 < g.seats) × (g.seats < 2 ^ 32)) }
+    ensures queue { IfOk result (λ g. 0 < g.queue) }
     ensures refused { IfErr result (λ r. NoGenesis text.now r) }
 {
     let read = read_genesis(alloc, text)?;

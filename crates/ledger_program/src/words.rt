@@ -6,6 +6,9 @@ use fab_types::{Name, Proposal, Value};
 use hex::{FromHex, FromHexError};
 use std::alloc::{AllocError, Global};
 
+/// How many rounds `threads` runs at most, and how many steps `trace` shows at most.
+const MOST_COUNT: u32 = 1_000;
+
 /// What the words ask for. Texts are names of files.
 #[derive(Drop)]
 pub enum Task<'a> {
@@ -24,6 +27,12 @@ pub enum Task<'a> {
         genesis: &'a str,
         events: &'a str,
         store: Option<&'a str>,
+    },
+    /// Let the seats of the first peer endorse so many calls each, on threads of their own.
+    Threads {
+        genesis: &'a str,
+        chaincode: Name,
+        rounds: u32,
     },
     /// Commit a store's chain again, and audit it.
     Audit {
@@ -93,6 +102,10 @@ fn commands<'a>(alloc: Global) -> Result<Command<'a>, AllocError> {
         .arg(word(alloc, "GENESIS"))?
         .arg(word(alloc, "EVENTS"))?
         .arg(option(alloc, "store"))?;
+    let threads = Command::new(alloc, "threads")
+        .arg(word(alloc, "GENESIS"))?
+        .arg(word(alloc, "CHAINCODE"))?
+        .arg(word(alloc, "ROUNDS"))?;
     let audit = Command::new(alloc, "audit")
         .arg(word(alloc, "GENESIS"))?
         .arg(word(alloc, "STORE"))?;
@@ -107,6 +120,7 @@ fn commands<'a>(alloc: Global) -> Result<Command<'a>, AllocError> {
         .subcommand(check)?
         .subcommand(sim)?
         .subcommand(run)?
+        .subcommand(threads)?
         .subcommand(audit)?
         .subcommand(trace)?;
     Ok(ledger)
@@ -142,6 +156,13 @@ pub fn parse<'a>(alloc: Global, words: &'a [String]) -> Result<Task<'a>, WordsFa
             store,
         });
     }
+    if let Some(threads) = matches.subcommand_matches("threads") {
+        return Ok(Task::Threads {
+            genesis: text(threads, "GENESIS")?,
+            chaincode: chaincode(alloc, threads)?,
+            rounds: count(text(threads, "ROUNDS")?)?,
+        });
+    }
     if let Some(audit) = matches.subcommand_matches("audit") {
         let (genesis, store) = (text(audit, "GENESIS")?, text(audit, "STORE")?);
         return Ok(Task::Audit { genesis, store });
@@ -150,19 +171,22 @@ pub fn parse<'a>(alloc: Global, words: &'a [String]) -> Result<Task<'a>, WordsFa
         return Ok(Task::Trace {
             genesis: text(trace, "GENESIS")?,
             proposal: proposal(alloc, trace, None)?,
-            most: step_count(trace)?,
+            most: trace.get_str("steps").map_or(Ok(MOST_COUNT), count)?,
         });
     }
     Err(WordsFault::Usage)
 }
 
-/// How many steps are shown: 1 to 1000, and 1000 where the words do not say.
-fn step_count(trace: &ArgMatches<'_>) -> Result<u32, WordsFault> {
-    let Some(digits) = trace.get_str("steps") else {
-        return Ok(1000);
-    };
+/// The chaincode that the words name.
+fn chaincode(alloc: Global, call: &ArgMatches<'_>) -> Result<Name, WordsFault> {
+    let name = text(call, "CHAINCODE")?.as_bytes().to_vec(alloc)?;
+    Name::new(name).ok_or(WordsFault::Usage)
+}
+
+/// The number that digits stand for, from 1 to 1000.
+fn count(digits: &str) -> Result<u32, WordsFault> {
     match digits.parse::<u32>() {
-        Ok(count) if (1..=1000).contains(&count) => Ok(count),
+        Ok(count) if (1..=MOST_COUNT).contains(&count) => Ok(count),
         _ => Err(WordsFault::Usage),
     }
 }
@@ -173,8 +197,7 @@ fn proposal(
     call: &ArgMatches<'_>,
     nonce: Option<&str>,
 ) -> Result<Proposal, WordsFault> {
-    let name = text(call, "CHAINCODE")?.as_bytes().to_vec(alloc)?;
-    let chaincode = Name::new(name).ok_or(WordsFault::Usage)?;
+    let chaincode = chaincode(alloc, call)?;
     let bytes = match text(call, "ARG")? {
         "-" => Vec::new(alloc),
         hex => hex::decode(alloc, hex)?,

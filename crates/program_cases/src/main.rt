@@ -29,7 +29,13 @@ fn main(rt: HostRuntime) -> io::Result<()> {
         }
         println!(rt; "> {line}")?;
         let words = words_of(alloc, &line)?;
-        let status = program(alloc, &words, &mut Disk::new(&rt), &mut io::writer(&rt));
+        let status = program(
+            &rt,
+            alloc,
+            &words,
+            &mut Disk::new(&rt),
+            &mut io::writer(&rt),
+        );
         println!(rt; "status {status}")?;
     }
     Ok(())

@@ -1,0 +1,54 @@
+//! Commits of the orderer's blocks.
+
+ghost use Rattle.std.specs.Prelude.{◌≡◌, ◌≤◌, [], ◌∷◌, ◌++◌, length, OnOk, OnErr};
+ghost use Rattle.std.specs.Arc.{arc_value};
+ghost use Rattle.wire.specs.Links.{AreLinked};
+ghost use Rattle.committer.specs.Fits.{Fits, blocks_of};
+ghost use Rattle.peer_node.specs.Writers.{published, next_by};
+ghost use Rattle.seat_threads.specs.Chains.{IsFirstOf};
+
+use committer::CommitRefusal;
+use fab_types::Block;
+use peer_node::PeerWriter;
+use std::alloc::AllocError;
+use std::sync::Wait;
+use std::thread::Threads;
+
+/// Commits those of the blocks that the peer does not have. The error is of memory.
+pub fn commit_rest<R: Threads + Wait + Sync>(
+    rt: &R,
+    writer: &mut PeerWriter,
+    blocks: &[Block],
+) -> Result<(), AllocError>
+    requires linked { AreLinked [] blocks.now }
+    requires count { length blocks.now ≤ 65535 }
+    requires first { IsFirstOf (arc_value writer.old.rules) blocks.now (published writer.old) }
+    ensures rules { writer.new.rules ≡ writer.old.rules }
+    ensures first { IsFirstOf (arc_value writer.old.rules) blocks.now (published writer.new) }
+    ensures all { OnOk result (length (published writer.new) ≡ length blocks.now) }
+{
+    for index in writer.newest().height()..blocks.len() {
+        commit(rt, writer, &blocks[index])?;
+    }
+    Ok(())
+}
+
+/// Commits the next block. The error is of memory.
+fn commit<R: Threads + Wait + Sync>(
+    rt: &R,
+    writer: &mut PeerWriter,
+    block: &Block,
+) -> Result<(), AllocError>
+    requires { Fits (blocks_of (published writer.old)) block.now }
+    ensures rules { writer.new.rules ≡ writer.old.rules }
+    ensures committed { OnOk result (published writer.new ≡ published writer.old ++ next_by (arc_value writer.old.rules) (published writer.old) block.now ∷ []) }
+    ensures unchanged { OnErr result (published writer.new ≡ published writer.old) }
+{
+    match writer.commit(rt, block.clone()?) {
+        Ok(_) => Ok(()),
+        Err(refusal) => {
+            prove!(matches!(refusal, CommitRefusal::OutOfMemory));
+            Err(AllocError)
+        }
+    }
+}

@@ -1,0 +1,58 @@
+//! Why the work of seats has no report.
+
+use peer_node::OpenRefusal;
+use std::alloc::{AllocError, AllocFailed};
+use std::error::Error;
+use std::fmt::{self, Display, Formatter, Write};
+
+/// Why the work of seats has no report.
+#[derive(Clone, Copy, Debug, Drop, PartialEq, Eq)]
+pub enum SeatsRefusal {
+    /// A growth of memory was refused.
+    OutOfMemory = 9,
+    /// A seat got no place in the cell.
+    NoPlace = 431,
+    /// The cell gave a seat no entry.
+    NoEntry = 432,
+}
+
+impl SeatsRefusal {
+    ghost use Rattle.std.specs.Prelude.{◌≡◌};
+    ghost use Rattle.seat_threads.specs.Refusals.{seats_number};
+
+    /// The number by which the program names the refusal: 9, 431 or 432.
+    pub fn number(self) -> u16
+        ensures { result ≡ seats_number self }
+    {
+        self as u16
+    }
+}
+
+impl Display for SeatsRefusal {
+    fn fmt<W: Write>(&self, f: &mut Formatter<W>) -> fmt::Result {
+        write!(f, "refused {}", self.number())
+    }
+}
+
+impl Error for SeatsRefusal {}
+
+impl From<AllocError> for SeatsRefusal {
+    fn from(_error: AllocError) -> SeatsRefusal {
+        SeatsRefusal::OutOfMemory
+    }
+}
+
+impl<T: Drop> From<AllocFailed<T>> for SeatsRefusal {
+    fn from(_error: AllocFailed<T>) -> SeatsRefusal {
+        SeatsRefusal::OutOfMemory
+    }
+}
+
+impl From<OpenRefusal> for SeatsRefusal {
+    fn from(refusal: OpenRefusal) -> SeatsRefusal {
+        match refusal {
+            OpenRefusal::NoPlace => SeatsRefusal::NoPlace,
+            OpenRefusal::OutOfMemory => SeatsRefusal::OutOfMemory,
+        }
+    }
+}

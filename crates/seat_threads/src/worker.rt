@@ -1,0 +1,70 @@
+//! A seat on a thread of its own.
+
+ghost use Rattle.std.specs.Prelude.{◌≡◌, ◌+◌, ◌∷◌, ◌++◌, [], length};
+ghost use Rattle.intake.specs.Seats.{intake_of_sender, put};
+ghost use Rattle.seat_threads.specs.Rounds.{rounds_in};
+ghost use Rattle.seat_threads.specs.Work.{Works};
+
+use crate::counts::Counts;
+use crate::endorsing::{envelope, proposal};
+use fab_types::{Envelope, Name};
+use intake::{Full, SenderSeat};
+use peer_node::{FinishRefusal, Seat};
+use std::alloc::Global;
+use std::sync::Wait;
+use std::sync::atomic::{AtomicU64, Ordering};
+use std::thread;
+
+/// A seat with its number, where it submits, and what its rounds came to.
+#[derive(Drop)]
+pub struct Worker {
+    pub alloc: Global,
+    pub number: u64,
+    pub seat: Seat,
+    pub sender: SenderSeat,
+    pub counts: Counts,
+}
+
+impl Worker {
+    /// Endorses and submits a proposal in each of so many rounds, and then counts itself as ended.
+    pub fn work<R: Wait>(&mut self, rt: &R, chaincode: &Name, rounds: u32, ended: &AtomicU64)
+        ensures { Works rounds self.old self.new }
+    {
+        self.counts = Counts::none();
+        for round in 0..rounds {
+            match self.endorse(chaincode, round) {
+                Ok(envelope) => {
+                    submit(rt, &mut self.sender, envelope);
+                    self.counts.endorsed += 1;
+                }
+                Err(refusal) => self.counts.refuse(refusal),
+            }
+        }
+        ended.fetch_add(1, Ordering::SeqCst);
+    }
+
+    /// The envelope of a round.
+    fn endorse(&mut self, chaincode: &Name, round: u32) -> Result<Envelope, FinishRefusal>
+        ensures sender { self.new.sender ≡ self.old.sender }
+        ensures counts { self.new.counts ≡ self.old.counts }
+    {
+        let proposal = proposal(self.alloc, chaincode, self.number, u64::from(round))?;
+        envelope(self.alloc, &mut self.seat, &proposal)
+    }
+}
+
+/// Submits an envelope, again while the intake is full.
+fn submit<R: Wait>(rt: &R, sender: &mut SenderSeat, envelope: Envelope)
+    ensures put { put sender.new ≡ put sender.old ++ envelope ∷ [] }
+    ensures same { intake_of_sender sender.new ≡ intake_of_sender sender.old }
+{
+    let mut waiting = envelope;
+    'submits: for _ in rt.forever() {
+        match sender.submit(rt, waiting) {
+            Ok(()) => return,
+            Err(Full { envelope }) => waiting = envelope,
+        }
+        thread::yield_now();
+    }
+    unreachable!()
+}
