@@ -7,8 +7,6 @@ mod batch_cutter_test;
 #[cfg(test)]
 mod block_store_test;
 #[cfg(test)]
-mod committer_test;
-#[cfg(test)]
 mod endorsement_policy_test;
 #[cfg(test)]
 mod endorser_test;
@@ -22,9 +20,3 @@ mod genesis_test;
 mod hmac_tag_test;
 #[cfg(test)]
 mod json_fields_test;
-#[cfg(test)]
-mod orderer_test;
-#[cfg(test)]
-mod reorder_test;
-#[cfg(test)]
-mod transactions;

@@ -1,6 +1,6 @@
 //! A full intake hands an envelope back, and gives what it took in.
 
-use crate::samples::transaction;
+use crate::transactions::transaction;
 use fab_types::Envelope;
 use intake::{Full, Intake};
 use std::alloc::Global;

@@ -1,11 +1,13 @@
 //! Peers on threads: seats that were told of blocks, a payload that goes stale, and refused blocks.
 
-ghost use Rattle.std.specs.Prelude.{◌≡◌, Some};
+ghost use Rattle.std.specs.Prelude.{◌≡◌, ◌<◌, Some, IfOk, length};
+ghost use Rattle.orderer.specs.Ordering.{AreLimits};
+ghost use Rattle.fabric_core.specs.Setting.{limits_of};
 ghost use Rattle.snapshot_cell.specs.Seats.{cell_of_told};
 ghost use Rattle.peer_node.specs.Seats.{peer_of};
 ghost use Rattle.peer_node.specs.Writers.{peer_of_writer};
 
-use crate::samples::transaction;
+use crate::transactions::transaction;
 use endorsement_policy::{ChaincodePolicy, Organisation, Rules, TagKey, parse};
 use endorser::seal;
 use fab_types::{
@@ -34,12 +36,12 @@ const LOOP: &str =
 /// The bytes of A's key.
 const KEY: &[u8] = b"Jefe";
 
-fn name(alloc: Global, text: &[u8]) -> Result<Name, Fail> {
+pub fn name(alloc: Global, text: &[u8]) -> Result<Name, Fail> {
     let bytes = text.to_vec(alloc)?;
     Ok(Name::new(bytes).ok_or("a name")?)
 }
 
-fn key(alloc: Global, text: &[u8]) -> Result<Key, Fail> {
+pub fn key(alloc: Global, text: &[u8]) -> Result<Key, Fail> {
     let bytes = text.to_vec(alloc)?;
     Ok(Key::new(bytes).ok_or("a key")?)
 }
@@ -76,7 +78,10 @@ fn rules(alloc: Global) -> Result<Rules, Fail> {
     Ok(Rules::new(organisations, policies).ok_or("rules")?)
 }
 
-pub fn genesis(alloc: Global) -> Result<Genesis, Fail> {
+pub fn genesis(alloc: Global) -> Result<Genesis, Fail>
+    ensures limits { IfOk result (λ g. AreLimits (limits_of g)) }
+    ensures parts { IfOk result (λ g. (0 < length g.peers.items) × (0 < g.queue)) }
+{
     let book = book(alloc)?;
     let rules = rules(alloc)?;
     Ok(Genesis {
@@ -92,7 +97,7 @@ pub fn genesis(alloc: Global) -> Result<Genesis, Fail> {
     })
 }
 
-fn proposal(alloc: Global, chaincode: &[u8], nonce: u8) -> Result<Proposal, Fail> {
+pub fn proposal(alloc: Global, chaincode: &[u8], nonce: u8) -> Result<Proposal, Fail> {
     Ok(Proposal {
         chaincode: name(alloc, chaincode)?,
         argument: Value::new(Vec::new(alloc)).ok_or("an argument")?,

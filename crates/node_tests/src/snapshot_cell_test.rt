@@ -1,0 +1,76 @@
+//! A seat of the cell that moves to a second thread with what its writer told.
+
+ghost use Rattle.std.specs.Prelude.{◌≡◌, [], IfOk};
+ghost use Rattle.snapshot_cell.specs.Lists.{OneMore};
+ghost use Rattle.snapshot_cell.specs.Seats.{published, cell_of_reader, cell_of_writer, cell_of_told};
+
+use crate::transactions::transaction;
+use endorsement_policy::Rules;
+use fabric_core::commit_checked;
+use orderer::Orderer;
+use snapshot_cell::{Reader, Told, Writer, open};
+use std::alloc::Global;
+use std::sync::Wait;
+use std::test::Fail;
+use std::thread::{Threads, join};
+use world_state::Snapshot;
+
+/// A chain of one block.
+fn one_block(alloc: Global) -> Result<Snapshot, Fail>
+    ensures { IfOk result (λ s. OneMore [] s) }
+{
+    let rules = Rules::new(Vec::new(alloc), Vec::new(alloc)).ok_or("rules")?;
+    let mut orderer = Orderer::new(alloc, 1, 1000, 1000, false);
+    let envelope = transaction(alloc, 1, &[], &[b"k"])?;
+    orderer.accept(envelope).ok().ok_or("a block")?;
+    let block = orderer.blocks().first().ok_or("a block")?.clone()?;
+    let none = Snapshot::empty(alloc);
+    Ok(commit_checked(alloc, &rules, &none, block)?)
+}
+
+/// The height that a seat takes once it has learned what was told, or 0.
+fn height_after(seat: Reader, told: Told) -> usize
+    requires { cell_of_told told ≡ cell_of_reader seat }
+{
+    let mut seat = seat;
+    seat.learn(&told);
+    match seat.take() {
+        Ok(snapshot) => snapshot.height(),
+        Err(_) => 0,
+    }
+}
+
+/// The height that a seat takes on a second thread, where it learns of a block that was published on this one.
+fn height_elsewhere<R: Threads + Wait + Sync>(
+    rt: &R,
+    writer: &mut Writer,
+    seat: Reader,
+    next: Snapshot,
+) -> usize
+    requires cell { cell_of_writer writer.old ≡ cell_of_reader seat }
+    requires next { OneMore (published writer.old) next }
+{
+    let Ok(told) = writer.publish(rt, next) else {
+        return 0;
+    };
+    let there = move || -> usize
+        requires { cell_of_told told ≡ cell_of_reader seat }
+    { height_after(seat, told) };
+    join(rt, there, || ()).0
+}
+
+#[test]
+fn a_seat_learns_on_a_second_thread(rt: HostRuntime) -> Result<(), Fail> {
+    let alloc = rt.alloc();
+    let next = one_block(alloc)?;
+    let Ok((mut writer, mut seats)) = open(&rt, alloc, Snapshot::empty(alloc), 1) else {
+        return Err("a cell".into());
+    };
+    let height = match seats.pop() {
+        Some(seat) => height_elsewhere(&rt, &mut writer, seat, next),
+        None => 0,
+    };
+    writer.close(&rt);
+    assert!(rt; height == 1);
+    Ok(())
+}
