@@ -5,6 +5,7 @@
 #include <dlfcn.h>
 #include <errno.h>
 #include <fcntl.h>
+#include <stdatomic.h>
 #include <stdlib.h>
 #include <sys/types.h>
 #include <sys/uio.h>
@@ -15,7 +16,13 @@ static long left(const char *name) {
     return text ? atol(text) : 0;
 }
 
-static long growths = -1, moves = -1, shorts = -1;
+static atomic_long growths, moves, shorts;
+
+__attribute__((constructor)) static void count(void) {
+    growths = left("FAIL_ALLOC");
+    moves = left("FAIL_IO");
+    shorts = left("SHORT_IO");
+}
 
 static void mark(void) {
     const char *name = getenv("FAIL_MARK");
@@ -23,9 +30,9 @@ static void mark(void) {
     if (file >= 0) close(file);
 }
 
-static int is_now(long *counter, const char *name) {
-    if (*counter == -1) *counter = left(name);
-    if (*counter == 0 || --*counter > 0) return 0;
+/* Whether the call that is counted down to has come. A counter goes on below 0, and never comes to it again. */
+static int is_now(atomic_long *counter) {
+    if (atomic_fetch_sub(counter, 1) != 1) return 0;
     mark();
     return 1;
 }
@@ -36,31 +43,31 @@ static int is_now(long *counter, const char *name) {
 
 void *malloc(size_t size) {
     REAL(void *, malloc, size_t);
-    return is_now(&growths, "FAIL_ALLOC") ? NULL : real(size);
+    return is_now(&growths) ? NULL : real(size);
 }
 
 void *realloc(void *old, size_t size) {
     REAL(void *, realloc, void *, size_t);
-    return is_now(&growths, "FAIL_ALLOC") ? NULL : real(old, size);
+    return is_now(&growths) ? NULL : real(old, size);
 }
 
 int posix_memalign(void **out, size_t align, size_t size) {
     REAL(int, posix_memalign, void **, size_t, size_t);
-    return is_now(&growths, "FAIL_ALLOC") ? ENOMEM : real(out, align, size);
+    return is_now(&growths) ? ENOMEM : real(out, align, size);
 }
 
 void *aligned_alloc(size_t align, size_t size) {
     REAL(void *, aligned_alloc, size_t, size_t);
-    return is_now(&growths, "FAIL_ALLOC") ? NULL : real(align, size);
+    return is_now(&growths) ? NULL : real(align, size);
 }
 
 static int fails(void) {
-    if (!is_now(&moves, "FAIL_IO")) return 0;
+    if (!is_now(&moves)) return 0;
     errno = EIO;
     return 1;
 }
 
-static size_t moved(size_t size) { return size > 1 && is_now(&shorts, "SHORT_IO") ? 1 : size; }
+static size_t moved(size_t size) { return size > 1 && is_now(&shorts) ? 1 : size; }
 
 ssize_t read(int file, void *bytes, size_t size) {
     REAL(ssize_t, read, int, void *, size_t);

@@ -12,6 +12,11 @@ pub enum Done {
         transactions: u64,
         bytes: u64,
     },
+    /// So many blocks or reads took so many microseconds.
+    Timed {
+        count: u64,
+        micros: u64,
+    },
     /// Of so many transactions these are VALID in batches as they were cut, and in the orderer's order.
     Valid {
         transactions: u64,
@@ -39,6 +44,7 @@ impl Display for Done {
                 transactions,
                 bytes,
             } => { write!(f, "done {transactions} bytes {bytes}") }
+            Done::Timed { count, micros } => write!(f, "done {count} micros {micros}"),
             Done::Valid {
                 transactions,
                 as_cut,

@@ -13,6 +13,8 @@ pub enum Failure {
     Memory,
     /// The file cannot be read.
     File,
+    /// The clock cannot be read.
+    Clock,
     /// The bytes spell no module of the profile, or the module is not valid.
     Module,
     /// A call gave no payload.
@@ -32,6 +34,7 @@ impl Display for Failure {
         match self {
             Failure::Memory => write!(f, "refused 9"),
             Failure::File => write!(f, "refused 703"),
+            Failure::Clock => write!(f, "no clock"),
             Failure::Module => write!(f, "no valid module"),
             Failure::Refused(refusal) => write!(f, "{refusal}"),
             Failure::Order(cause) => write!(f, "{cause}"),

@@ -8,18 +8,25 @@
 //! - `plan KEYS COUNT` reorders a batch of 512 transactions so many times, each with four reads and two writes over so many
 //!   keys.
 //! - `valid KEYS COUNT` says how many of the transactions of so many such batches end VALID, as they were cut and reordered.
+//! - `state KEYS COUNT` commits so many blocks of 64 transactions of two writes each on a state of so many keys, and
+//!   prints how many microseconds that took.
+//! - `read BLOCKS COUNT` lets a seat read a key so many times on a thread of its own while so many blocks at most are
+//!   committed, and prints how many microseconds the reads took.
 //! - `load STORE` reads the store of this name.
 //!
 //! It prints `done` and how many transactions, plans or blocks that were. The exit status is 0 for done, 1 for a failure,
 //! which is printed, and 2 where the words name no task.
 #![tactic(auto)]
 
+mod blocks;
 mod channel;
 mod done;
 mod failure;
 mod members;
 mod parts;
+mod reads;
 mod register;
+mod state;
 mod task;
 mod workload;
 
@@ -31,13 +38,16 @@ use std::alloc::Global;
 use std::io::{self, Read, Write};
 use std::process::ExitCode;
 use std::rt::Files;
+use std::sync::Wait;
 use std::thread::Threads;
+use std::time::Clock;
 use std::{env, fs};
 
 const USAGE: &str = "usage: ledger_bench simulate|flags MODULE COUNT
        ledger_bench check WORKERS COUNT
        ledger_bench order|commit COUNT
-       ledger_bench plan|valid KEYS COUNT
+       ledger_bench plan|valid|state KEYS COUNT
+       ledger_bench read BLOCKS COUNT
        ledger_bench load STORE";
 
 fn main(rt: HostRuntime) -> io::Result<ExitCode> {
@@ -62,7 +72,7 @@ fn main(rt: HostRuntime) -> io::Result<ExitCode> {
 }
 
 /// Does the work once.
-fn carry_out<R: Files + Threads + Sync>(
+fn carry_out<R: Files + Threads + Wait + Clock + Sync>(
     rt: &R,
     alloc: Global,
     task: Task<'_>,
@@ -75,6 +85,8 @@ fn carry_out<R: Files + Threads + Sync>(
         Task::Commit { count } => parts::commit(alloc, count),
         Task::Plan { keys, count } => parts::plan(alloc, keys, count),
         Task::Valid { keys, count } => parts::valid(alloc, keys, count),
+        Task::State { keys, count } => state::commit(rt, alloc, keys, count),
+        Task::Read { blocks, count } => reads::read(rt, alloc, blocks, count),
         Task::Load { store } => load(rt, alloc, store),
     }
 }

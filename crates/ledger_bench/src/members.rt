@@ -84,7 +84,8 @@ fn organisation(alloc: Global, letter: u8) -> Result<Organisation, Failure> {
     Ok(Organisation { name, key })
 }
 
-fn org(alloc: Global, letter: u8) -> Result<OrgName, Failure> {
+/// The organisation of this letter.
+pub fn org(alloc: Global, letter: u8) -> Result<OrgName, Failure> {
     OrgName::new(vec![in alloc; letter]?).ok_or(Failure::Limit)
 }
 

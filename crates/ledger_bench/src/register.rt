@@ -2,12 +2,9 @@
 
 ghost use Rattle.std.specs.Prelude.{◌≡◌, ◌+◌, length, IfOk};
 
+use crate::blocks::{envelope_of, judge, next_number};
 use crate::failure::Failure;
-use fab_types::{
-    Block, BlockData, BlockNumber, Endorsements, Envelope, Flag, Header, Name, Payload, Proposal,
-    Value,
-};
-use mvcc_validate::flags;
+use fab_types::{Block, BlockData, Flag, Header, Name, Proposal, Value};
 use simulator::{Book, Chaincode, simulate};
 use std::alloc::Global;
 use wasm_decode::decode;
@@ -93,15 +90,6 @@ fn proposal_of(alloc: Global, verb: &str, asset: u32) -> Result<Proposal, Failur
     })
 }
 
-/// The envelope of a payload, without endorsements.
-fn envelope_of(alloc: Global, payload: Payload) -> Result<Envelope, Failure> {
-    let endorsements = Endorsements::new(Vec::new(alloc)).ok_or(Failure::Limit)?;
-    Ok(Envelope {
-        payload,
-        endorsements,
-    })
-}
-
 /// The next block: of calls for 500 assets, from this one on.
 fn block_of(
     alloc: Global,
@@ -125,24 +113,4 @@ fn block_of(
     };
     let envelopes = BlockData::new(envelopes).ok_or(Failure::Limit)?;
     Ok(Block { header, envelopes })
-}
-
-/// The number of the block that comes next.
-fn next_number(snapshot: &Snapshot) -> Result<BlockNumber, Failure>
-    ensures { IfOk result (λ n. n ≡ length snapshot.now + 1) }
-{
-    let Ok(height) = u32::try_from(snapshot.height()) else {
-        return Err(Failure::Limit);
-    };
-    let number = height.checked_add(1).ok_or(Failure::Limit)?;
-    BlockNumber::new(number).ok_or(Failure::Limit)
-}
-
-/// The flags of the next block, of which each transaction is endorsed.
-fn judge(alloc: Global, snapshot: &Snapshot, block: &Block) -> Result<Vec<Flag>, Failure>
-    requires { block.now.header.number ≡ length snapshot.now + 1 }
-    ensures { IfOk result (λ flags. length flags.items ≡ length block.now.envelopes) }
-{
-    let endorsed = vec![in alloc; true; block.envelopes.as_slice().len()]?;
-    Ok(flags(alloc, snapshot, block, &endorsed)?)
 }

@@ -17,6 +17,10 @@ pub enum Task<'a> {
     Plan { keys: u32, count: u32 },
     /// Commit so many batches over so many keys, as they were cut and in the orderer's order.
     Valid { keys: u32, count: u32 },
+    /// Commit so many blocks on a state of so many keys.
+    State { keys: u32, count: u32 },
+    /// Read a key so many times while so many blocks are committed.
+    Read { blocks: u32, count: u32 },
     /// Read a store.
     Load { store: &'a str },
 }
@@ -66,6 +70,14 @@ fn of_two<'a>(kind: &str, word: &'a str, count: &str) -> Option<Task<'a>> {
         }),
         "valid" => Some(Task::Valid {
             keys: number(word)?,
+            count,
+        }),
+        "state" => Some(Task::State {
+            keys: number(word)?,
+            count,
+        }),
+        "read" => Some(Task::Read {
+            blocks: number(word)?,
             count,
         }),
         _ => None,

@@ -39,6 +39,28 @@ impl Workload {
     pub fn payload(&mut self, alloc: Global, snapshot: &Snapshot) -> Result<Payload, Failure> {
         let reads = reads(alloc, snapshot, &self.draw(alloc, READS)?)?;
         let writes = writes(alloc, &self.draw(alloc, WRITES)?)?;
+        self.payload_of(alloc, reads, writes)
+    }
+
+    /// The next transaction, which reads nothing.
+    pub fn blind(&mut self, alloc: Global) -> Result<Payload, Failure> {
+        let numbers = self.draw(alloc, WRITES)?;
+        self.writing(alloc, &numbers)
+    }
+
+    /// The next transaction, which reads nothing and writes the keys of these numbers, which ascend.
+    pub fn writing(&mut self, alloc: Global, numbers: &[u64]) -> Result<Payload, Failure> {
+        let reads = ReadSet::new(Vec::new(alloc)).ok_or(Failure::Limit)?;
+        let writes = writes(alloc, numbers)?;
+        self.payload_of(alloc, reads, writes)
+    }
+
+    fn payload_of(
+        &mut self,
+        alloc: Global,
+        reads: ReadSet,
+        writes: WriteSet,
+    ) -> Result<Payload, Failure> {
         let ranges = Ranges::new(Vec::new(alloc)).ok_or(Failure::Limit)?;
         let result = value(alloc, 0)?;
         let proposal = self.proposal(alloc)?;
@@ -100,7 +122,7 @@ fn value(alloc: Global, len: usize) -> Result<Value, Failure> {
 }
 
 /// The key of a number: 16 bytes.
-fn key(alloc: Global, number: u64) -> Result<Key, Failure> {
+pub fn key(alloc: Global, number: u64) -> Result<Key, Failure> {
     let mut bytes = b"account:".to_vec(alloc)?;
     bytes.extend_from_slice(&number.to_be_bytes())?;
     Key::new(bytes).ok_or(Failure::Limit)

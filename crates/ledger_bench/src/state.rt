@@ -1,0 +1,115 @@
+//! Blocks committed on a state of many keys.
+
+use crate::blocks::{envelope_of, judge, next_number};
+use crate::done::Done;
+use crate::failure::Failure;
+use crate::workload::Workload;
+use fab_types::{Block, BlockData, Header};
+use std::alloc::Global;
+use std::time::{Clock, Instant};
+use world_state::Snapshot;
+
+/// How many transactions a block has that is timed, and one of those that make the state.
+const BATCH: u64 = 64;
+
+const FILLING: u64 = 256;
+
+/// How many keys each transaction of the blocks that make the state writes.
+const KEYS: u64 = 64;
+
+/// Flags and commits so many blocks of 64 transactions, each with two writes, on a state of so many keys, and keeps
+/// each snapshot. Only this is timed, and not what makes the state and the blocks.
+pub fn commit<R: Clock>(rt: &R, alloc: Global, keys: u32, count: u32) -> Result<Done, Failure> {
+    let mut workload = Workload::new(keys, 0);
+    let first = filled(alloc, &mut workload, u64::from(keys))?;
+    let batches = batches(alloc, &mut workload, count)?;
+    let Ok(start) = Instant::now(rt) else {
+        return Err(Failure::Clock);
+    };
+    let _snapshots = committed(alloc, first, batches)?;
+    let Ok(took) = start.elapsed(rt) else {
+        return Err(Failure::Clock);
+    };
+    Ok(Done::Timed {
+        count: u64::from(count),
+        micros: u64::try_from(took.as_micros()).unwrap_or(u64::MAX),
+    })
+}
+
+/// The snapshot after writes to each key.
+fn filled(alloc: Global, workload: &mut Workload, keys: u64) -> Result<Snapshot, Failure> {
+    let mut snapshot = Snapshot::empty(alloc);
+    for block in 0..keys.div_ceil(FILLING * KEYS) {
+        let first = block.saturating_mul(FILLING * KEYS);
+        let envelopes = filling(alloc, workload, first, keys)?;
+        snapshot = next(alloc, &snapshot, envelopes)?;
+    }
+    Ok(snapshot)
+}
+
+/// Transactions that write the keys from a number on, as many as a block holds.
+fn filling(
+    alloc: Global,
+    workload: &mut Workload,
+    first: u64,
+    keys: u64,
+) -> Result<BlockData, Failure> {
+    let mut envelopes = Vec::new(alloc);
+    for index in 0..FILLING {
+        let start = first.saturating_add(index * KEYS);
+        let end = start.saturating_add(KEYS).min(keys);
+        if start < end {
+            let numbers: Vec<u64> = (start..end).collect(alloc)?;
+            let payload = workload.writing(alloc, &numbers)?;
+            envelopes.push(envelope_of(alloc, payload)?)?;
+        }
+    }
+    BlockData::new(envelopes).ok_or(Failure::Limit)
+}
+
+/// The transactions of so many blocks.
+fn batches(alloc: Global, workload: &mut Workload, count: u32) -> Result<Vec<BlockData>, Failure> {
+    let mut batches = Vec::new(alloc);
+    for _ in 0..count {
+        batches.push(batch(alloc, workload)?)?;
+    }
+    Ok(batches)
+}
+
+fn batch(alloc: Global, workload: &mut Workload) -> Result<BlockData, Failure> {
+    let mut envelopes = Vec::new(alloc);
+    for _ in 0..BATCH {
+        let payload = workload.blind(alloc)?;
+        envelopes.push(envelope_of(alloc, payload)?)?;
+    }
+    BlockData::new(envelopes).ok_or(Failure::Limit)
+}
+
+/// A snapshot, and those after each block.
+fn committed(
+    alloc: Global,
+    first: Snapshot,
+    batches: Vec<BlockData>,
+) -> Result<Vec<Snapshot>, Failure> {
+    let mut snapshots = vec![in alloc; first]?;
+    for envelopes in batches {
+        let Some(newest) = snapshots.last() else {
+            return Err(Failure::Invalid);
+        };
+        let snapshot = next(alloc, newest, envelopes)?;
+        snapshots.push(snapshot)?;
+    }
+    Ok(snapshots)
+}
+
+/// The snapshot after one block more, whose transactions are endorsed.
+fn next(alloc: Global, snapshot: &Snapshot, envelopes: BlockData) -> Result<Snapshot, Failure> {
+    let header = Header {
+        number: next_number(snapshot)?,
+        previous_hash: [0; 32],
+        data_hash: [0; 32],
+    };
+    let block = Block { header, envelopes };
+    let judged = judge(alloc, snapshot, &block)?;
+    Ok(snapshot.extended(alloc, block, judged)?)
+}
