@@ -1,25 +1,32 @@
 -- A function is typed where its body is accepted, and breaks a rule where it is refused.
-use Rattle.std.proofs.Common.{◌≡◌, ◌<◌, ◌+◌, ℕ, List, [], ◌∷◌, ◌++◌, sym, ap, ◌∙◌, subst, Some, length, map, slice_index_or}
-use Rattle.std.specs.Prelude.{IsSome}
+use Rattle.std.proofs.Common.{◌≡◌, ◌<◌, ◌+◌, ℕ, List, [], ◌∷◌, ◌++◌, sym, ap, ◌∙◌, subst, Option, Some, None, Result, Ok, Err, length, map, slice_index_or}
+use Rattle.std.specs.Prelude.{IsSome, IfErr}
 use Rattle.wasm_ast.specs.declared.types.ValueType.{ValueType}
 use Rattle.wasm_ast.specs.declared.types.FuncType.{FuncType}
 use Rattle.wasm_ast.specs.declared.types.Limits.{Limits}
 use Rattle.wasm_ast.specs.declared.module.Func.{Func}
 use Rattle.wasm_ast.specs.declared.module.Global.{Global}
 use Rattle.wasm_ast.specs.declared.module.Module.{Module}
-use Rattle.wasm_ast.specs.Code.{BlockType}
+use Rattle.wasm_ast.specs.Code.{BlockType, Code}
+use Rattle.wasm_validate.specs.Operands.{no_operands}
 use Rattle.wasm_validate.specs.declared.fault.ValidateFault.{ValidateFault}
 use Rattle.wasm_validate.specs.declared.fault.ValidateFault.TheVariants.{Memory, TypeMismatch, Index, ImmutableGlobal, Alignment}
 use Rattle.wasm_validate.specs.Typing.{Context, Types, at, results}
 use Rattle.wasm_validate.specs.ModuleRules.{imported, type_indices, type_at, function_context, no_type, IsFunction}
 use Rattle.wasm_validate.specs.Indices.{AreTypes}
 use Rattle.wasm_validate.specs.Algorithm.{whole_body}
-use Rattle.wasm_validate.specs.Breaks.{BreaksIn}
+use Rattle.wasm_validate.specs.Breaks.{BreaksIn, BreaksNone}
+use Rattle.wasm_validate.specs.Mistyped.{Mismatch, Mistyped}
 use Rattle.wasm_validate.specs.Refused.{Refused}
-use Rattle.wasm_validate.specs.Broken.{Broken, BrokenBody, InBody}
+use Rattle.wasm_validate.specs.Broken.{Broken, BrokenBody, IsBody, InBody}
 use Rattle.wasm_validate.proofs.Lists.{index_is, at_append, at_map}
 use Rattle.wasm_validate.proofs.Sound.{accepted_is_typed}
 use Rattle.wasm_validate.proofs.Complete.{none_is_untyped}
+
+-- an error of which two facts are known
+pub errs_both : {T E : Type 0} (r : Result T E) (P Q R : E → Type 0) → ((e : E) → P e → Q e → R e) → IfErr r P → IfErr r Q → IfErr r R
+errs_both (Ok x) P Q R k h g = tt
+errs_both (Err e) P Q R k h g = k e h g
 
 -- the context of a function's body, by its parts
 abbrev pub inside : List FuncType → List ℕ → (tables memories : List Limits) → List Global → List ValueType → List BlockType → BlockType → Context
@@ -69,14 +76,28 @@ module _ (m : Module) (f : Func) (t : FuncType) (types : List FuncType) (functio
   broken_body e r k h =
       record { place = k; function = f; exists = h; breaks = subst (λ c. BreaksIn e c f.body) context_is r }
 
-  pub function_broken : (e : ValidateFault) → Refused e (BreaksIn e context f.body) (whole_body context t.result f.body) → (k : ℕ) → at m.functions k ≡ Some f → Broken e m
-  function_broken Memory r k h = tt
-  function_broken TypeMismatch r k h =
-      (k, f, h, λ typed. none_is_untyped context t.result f.body r (subst (λ c. Whole c t.result) (sym context_is) (subst (λ (t : FuncType). Whole (function_context m f) t.result) (sym its_type) typed)))
-  function_broken Index r k h = InBody (broken_body Index r k h)
-  function_broken ImmutableGlobal r k h = broken_body ImmutableGlobal r k h
-  function_broken Alignment r k h = broken_body Alignment r k h
-  function_broken _ r k h = absurd r
+  -- what the algorithm refuses is no body of the function
+  no_body : (code : Code) → whole_body context t.result code ≡ None → ¬ IsBody m f code
+  no_body code none typed =
+      none_is_untyped context t.result code none (subst (λ c. Types c code [] (results t.result)) (sym context_is) (subst (λ (t : FuncType). Types (function_context m f) code [] (results t.result)) (sym its_type) typed))
+
+  pub function_broken : (e : ValidateFault) → Refused e (BreaksIn e context f.body) (whole_body context t.result f.body) → Mismatch e (Mistyped context t.result f.body no_operands) → (k : ℕ) → at m.functions k ≡ Some f → Broken e m
+  function_broken Memory r w k h = tt
+  function_broken TypeMismatch r w k h =
+      record {
+        place = k;
+        function = f;
+        exists = h;
+        untyped = no_body f.body r;
+        front = w.0;
+        begins = w.1;
+        mistyped = no_body w.0 w.2;
+        keeps = subst (λ c. BreaksNone c w.0) context_is w.3;
+      }
+  function_broken Index r w k h = InBody (broken_body Index r k h)
+  function_broken ImmutableGlobal r w k h = broken_body ImmutableGlobal r k h
+  function_broken Alignment r w k h = broken_body Alignment r k h
+  function_broken _ r w k h = absurd r
 
 -- a defined function's type is among those of all functions
 pub own_type : (m : Module) (functions : List ℕ) (k : ℕ) (f : Func) → functions ≡ type_indices m → AreTypes functions m.types → at m.functions k ≡ Some f → f.type_index < length m.types

@@ -23,14 +23,14 @@ then_same None f g h = refl
 then_same (Some a) f g h = h a
 
 -- what comes after the first instruction
-abbrev after : Code → Code
+abbrev pub after : Code → Code
 after End = End
 after (Do o rest) = rest
 after (Block t b rest) = rest
 after (Loop t b rest) = rest
 after (If t a b rest) = rest
 
-check_after : (c : Context) (code : Code) (s : Operands) → check c code s ≡ then (first c code s) (check c (after code))
+pub check_after : (c : Context) (code : Code) (s : Operands) → check c code s ≡ then (first c code s) (check c (after code))
 check_after c End s = refl
 check_after c (Do o rest) s = refl
 check_after c (Block t b rest) s = sym (then_assoc (whole_body (under t c) t b) (λ _. Some (push_result t s)) (check c rest))
@@ -40,11 +40,11 @@ check_after c (If t a b rest) s =
     ∙ sym (then_assoc (whole_body (under t c) t a) (λ _. then (whole_body (under t c) t b) (λ _. Some (push_result t s))) (check c rest)))
     ∙ sym (then_assoc (pop_as I32 s) (λ s. then (whole_body (under t c) t a) (λ _. then (whole_body (under t c) t b) (λ _. Some (push_result t s)))) (check c rest))
 
-after_first : (i : Instr) (rest : Code) → after (then_code i rest) ≡ rest
+pub after_first : (i : Instr) (rest : Code) → after (then_code i rest) ≡ rest
 after_first instr.Unreachable rest = refl
 after_first _ rest = refl
 
-first_alone : (c : Context) (i : Instr) (rest : Code) (s : Operands) → first c (then_code i rest) s ≡ instruction c i s
+pub first_alone : (c : Context) (i : Instr) (rest : Code) (s : Operands) → first c (then_code i rest) s ≡ instruction c i s
 first_alone c instr.Unreachable rest s = refl
 first_alone c _ rest s = refl
 

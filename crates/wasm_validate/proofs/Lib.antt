@@ -5,5 +5,6 @@ pub mod Sound
 pub mod Complete
 pub mod Instructions
 pub mod Untyped
+pub mod Fronts
 pub mod Functions
 pub mod Modules

@@ -138,7 +138,7 @@ segments_are_valid m (broken.DataPasses k d l n h exists constant over) v =
 -- what is broken is not valid
 pub broken_is_invalid : (e : ValidateFault) (m : Module) → Broken e m → e ≢ fault.Memory → ¬ IsValid m
 broken_is_invalid fault.Memory m b n v = n refl
-broken_is_invalid fault.TypeMismatch m b n v = b.3 (v.functions b.0 b.1 b.2).body
+broken_is_invalid fault.TypeMismatch m b n v = b.untyped (v.functions b.place b.function b.exists).body
 broken_is_invalid fault.Index m b n v = index_is_valid m b v
 broken_is_invalid fault.ImmutableGlobal m b n v = body_is_valid fault.ImmutableGlobal m b v
 broken_is_invalid fault.Alignment m b n v = body_is_valid fault.Alignment m b v

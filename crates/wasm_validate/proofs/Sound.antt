@@ -153,11 +153,11 @@ module _ (c : Context) (s : Operands) where
   step_sound (CallIndirect x) = call_indirect_back x
 
 -- some stack that the operands stand for is taken to this one
-abbrev FromCode : Context → Code → Operands → List ValueType → Type 0
+abbrev pub FromCode : Context → Code → Operands → List ValueType → Type 0
 FromCode c code s to = (from : List ValueType) × For s from × Types c code from to
 
 -- each stack after the code comes from one before it
-abbrev BackCode : Context → Code → Operands → Operands → Type 0
+abbrev pub BackCode : Context → Code → Operands → Operands → Type 0
 BackCode c code s s' = (to : List ValueType) → For s' to → FromCode c code s to
 
 -- a body that ends as it must is typed
@@ -177,7 +177,7 @@ after_block c l rest s P h k =
     weaker (check c rest (push_result l s)) _ _ h (λ s' back. λ to f.
     let r = back to f in push_result_sound l s (λ mid. Types c rest mid to → P to) (λ from g. k to from g) r.0 r.1 r.2)
 
-check_sound : (c : Context) (code : Code) (s : Operands) → Holds (check c code s) (BackCode c code s)
+pub check_sound : (c : Context) (code : Code) (s : Operands) → Holds (check c code s) (BackCode c code s)
 check_sound c End s = λ to f. (to, f, refl)
 check_sound c (Do o rest) s =
     bind (step c o s) (check c rest) _ _ (step_sound c s o) (λ s1 h1. weaker (check c rest s1) _ _ (check_sound c rest s1) (λ s2 h2. λ to f.

@@ -69,3 +69,11 @@ BreaksFirst e c (If t a b rest) = BreaksIn e (under t c) a ⊎ BreaksIn e (under
 
 abbrev pub BreaksInstr : ValidateFault → Context → Instr → Type 0
 BreaksInstr e c i = BreaksFirst e c (then_code i End)
+
+-- the instruction breaks none of the rules that have a fault of their own
+abbrev pub KeepsOwn : Context → Op → Type 0
+KeepsOwn c o = (¬ NamesMissing c o) × (¬ SetsConstant c o) × (¬ OverAligned c o)
+
+-- no instruction of the code breaks one
+abbrev pub BreaksNone : Context → Code → Type 0
+BreaksNone c code = (e : ValidateFault) → ¬ BreaksIn e c code

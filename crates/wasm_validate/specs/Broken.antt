@@ -16,7 +16,8 @@ use Rattle.wasm_validate.specs.declared.fault.ValidateFault.{ValidateFault}
 use Rattle.wasm_validate.specs.declared.fault.ValidateFault.TheVariants as fault
 use Rattle.wasm_validate.specs.Typing.{Types, at, results}
 use Rattle.wasm_validate.specs.ModuleRules.{IsImport, IsTable, IsMemory, type_at, type_indices, function_types, function_context, count_of, invoke_of, invoke_type}
-use Rattle.wasm_validate.specs.Breaks.{BreaksIn}
+use Rattle.wasm_validate.specs.Breaks.{BreaksIn, BreaksNone}
+use Rattle.wasm_validate.specs.Front.{IsFront}
 
 -- some function's body breaks, in some instruction, the rule that a fault names
 pub record BrokenBody (e : ValidateFault) (m : Module) : Type 0 where
@@ -35,10 +36,21 @@ pub data MissingIndex (m : Module) : Type 0 where
   InBody : BrokenBody fault.Index m → MissingIndex m
   DataMemory : (k : ℕ) (d : DataSegment) → at m.data k ≡ Some d → at m.memories d.memory ≡ None → MissingIndex m
 
--- some function's body has no typing
-abbrev pub UntypedBody : Module → Type 0
-UntypedBody m =
-    (k : ℕ) × (f : Func) × (at m.functions k ≡ Some f) × ¬ Types (function_context m f) f.body [] (results (type_at m.types f.type_index).result)
+-- code is a body of the function: it takes nothing and leaves the function's result
+abbrev pub IsBody : Module → Func → Code → Type 0
+IsBody m f code = Types (function_context m f) code [] (results (type_at m.types f.type_index).result)
+
+-- Some function's body has no typing: neither has a front of it in which each instruction keeps the rules
+-- that have a fault of their own. So what breaks one of those stands, if at all, behind that front.
+pub record MistypedBody (m : Module) : Type 0 where
+  pub place : ℕ
+  pub function : Func
+  pub exists : at m.functions place ≡ Some function
+  pub untyped : ¬ IsBody m function function.body
+  pub front : Code
+  pub begins : IsFront function.body front
+  pub mistyped : ¬ IsBody m function front
+  pub keeps : BreaksNone (function_context m function) front
 
 abbrev pub UnlistedImport : Module → Type 0
 UnlistedImport m = (k : ℕ) × (i : Import) × (at m.imports k ≡ Some i) × ¬ IsImport m.types i
@@ -76,7 +88,7 @@ pub data PassesEnd (m : Module) : Type 0 where
 -- want of memory says nothing of the module
 abbrev pub Broken : ValidateFault → Module → Type 0
 Broken fault.Memory m = Unit {0}
-Broken fault.TypeMismatch m = UntypedBody m
+Broken fault.TypeMismatch m = MistypedBody m
 Broken fault.Index m = MissingIndex m
 Broken fault.ImmutableGlobal m = BrokenBody fault.ImmutableGlobal m
 Broken fault.Alignment m = BrokenBody fault.Alignment m

@@ -6,6 +6,8 @@ pub mod FaultNumbers
 pub mod Operands
 pub mod Algorithm
 pub mod Breaks
+pub mod Front
+pub mod Mistyped
 pub mod Refused
 pub mod Inside
 pub mod Marks

@@ -3,8 +3,9 @@
 ghost use Rattle.std.specs.Prelude.{◌≡◌, IfOk, IfErr, Some, IsSome, IsTrue, ◌↔◌, ◌≤◌, ◌^◌};
 ghost use Rattle.wasm_ast.specs.Op as op;
 ghost use Rattle.wasm_validate.specs.Algorithm.{step};
-ghost use Rattle.wasm_validate.specs.Breaks.{Breaks};
+ghost use Rattle.wasm_validate.specs.Breaks.{Breaks, KeepsOwn};
 ghost use Rattle.wasm_validate.specs.Refused.{Refused};
+ghost use Rattle.wasm_validate.specs.Mistyped.{Mismatch};
 ghost use Rattle.wasm_validate.specs.Inside.{context_of};
 
 use crate::fault::ValidateFault;
@@ -33,6 +34,7 @@ pub fn check_load(
     ensures ok { IfOk result (λ _. step (context_of scope.now labels.now) (op.Load load argument.align argument.offset) stack.old.here ≡ Some stack.new.here) }
     ensures lower { IfOk result (λ _. stack.new.lower ≡ stack.old.lower) }
     ensures refused { IfErr result (λ e. Refused e (Breaks e (context_of scope.now labels.now) (op.Load load argument.align argument.offset)) (step (context_of scope.now labels.now) (op.Load load argument.align argument.offset) stack.old.here)) }
+    ensures keeps { IfErr result (λ e. Mismatch e (KeepsOwn (context_of scope.now labels.now) (op.Load load argument.align argument.offset))) }
 {
     if scope.memories.is_empty() {
         return Err(ValidateFault::Index);
@@ -54,6 +56,7 @@ pub fn check_store(
     ensures ok { IfOk result (λ _. step (context_of scope.now labels.now) (op.Store store argument.align argument.offset) stack.old.here ≡ Some stack.new.here) }
     ensures lower { IfOk result (λ _. stack.new.lower ≡ stack.old.lower) }
     ensures refused { IfErr result (λ e. Refused e (Breaks e (context_of scope.now labels.now) (op.Store store argument.align argument.offset)) (step (context_of scope.now labels.now) (op.Store store argument.align argument.offset) stack.old.here)) }
+    ensures keeps { IfErr result (λ e. Mismatch e (KeepsOwn (context_of scope.now labels.now) (op.Store store argument.align argument.offset))) }
 {
     if scope.memories.is_empty() {
         return Err(ValidateFault::Index);
@@ -74,6 +77,7 @@ pub fn check_memory_size(
     ensures ok { IfOk result (λ _. step (context_of scope.now labels.now) (op.MemorySize) stack.old.here ≡ Some stack.new.here) }
     ensures lower { IfOk result (λ _. stack.new.lower ≡ stack.old.lower) }
     ensures refused { IfErr result (λ e. Refused e (Breaks e (context_of scope.now labels.now) (op.MemorySize)) (step (context_of scope.now labels.now) (op.MemorySize) stack.old.here)) }
+    ensures keeps { IfErr result (λ e. Mismatch e (KeepsOwn (context_of scope.now labels.now) (op.MemorySize))) }
 {
     if scope.memories.is_empty() {
         return Err(ValidateFault::Index);
@@ -90,6 +94,7 @@ pub fn check_memory_grow(
     ensures ok { IfOk result (λ _. step (context_of scope.now labels.now) (op.MemoryGrow) stack.old.here ≡ Some stack.new.here) }
     ensures lower { IfOk result (λ _. stack.new.lower ≡ stack.old.lower) }
     ensures refused { IfErr result (λ e. Refused e (Breaks e (context_of scope.now labels.now) (op.MemoryGrow)) (step (context_of scope.now labels.now) (op.MemoryGrow) stack.old.here)) }
+    ensures keeps { IfErr result (λ e. Mismatch e (KeepsOwn (context_of scope.now labels.now) (op.MemoryGrow))) }
 {
     if scope.memories.is_empty() {
         return Err(ValidateFault::Index);

@@ -83,6 +83,8 @@ pub fn validate(alloc: Global, given: Module) -> Result<ValidModule, ValidateFau
     ensures valid { IfOk result (λ _. IsValid given) }
     ensures broken { IfErr result (λ e. Broken e given) }
     ensures refused { IfErr result (λ e. e ≢ ValidateFault.Memory → ¬ IsValid given) }
+    // A module that breaks one rule alone is refused by its number, unless memory runs out.
+    ensures alone { IfErr result (λ e. e ≢ ValidateFault.Memory → (only : ValidateFault) → ((other : ValidateFault) → Broken other given → other ≢ ValidateFault.Memory → other ≡ only) → e ≡ only) }
 {
     let (calls, invoke) = check_module(alloc, &given)?;
     Ok(ValidModule {

@@ -3,8 +3,9 @@
 ghost use Rattle.std.specs.Prelude.{◌≡◌, IfOk, IfErr, Some};
 ghost use Rattle.wasm_ast.specs.Op as op;
 ghost use Rattle.wasm_validate.specs.Algorithm.{step};
-ghost use Rattle.wasm_validate.specs.Breaks.{Breaks};
+ghost use Rattle.wasm_validate.specs.Breaks.{Breaks, KeepsOwn};
 ghost use Rattle.wasm_validate.specs.Refused.{Refused};
+ghost use Rattle.wasm_validate.specs.Mistyped.{Mismatch};
 ghost use Rattle.wasm_validate.specs.Inside.{context_of};
 
 use crate::fault::ValidateFault;
@@ -22,6 +23,7 @@ pub fn check_local_get(
     ensures ok { IfOk result (λ _. step (context_of scope.now labels.now) (op.LocalGet local) stack.old.here ≡ Some stack.new.here) }
     ensures lower { IfOk result (λ _. stack.new.lower ≡ stack.old.lower) }
     ensures refused { IfErr result (λ e. Refused e (Breaks e (context_of scope.now labels.now) (op.LocalGet local)) (step (context_of scope.now labels.now) (op.LocalGet local) stack.old.here)) }
+    ensures keeps { IfErr result (λ e. Mismatch e (KeepsOwn (context_of scope.now labels.now) (op.LocalGet local))) }
 {
     match scope.locals.get(local as usize) {
         None => Err(ValidateFault::Index),
@@ -39,6 +41,7 @@ pub fn check_local_set(
     ensures ok { IfOk result (λ _. step (context_of scope.now labels.now) (op.LocalSet local) stack.old.here ≡ Some stack.new.here) }
     ensures lower { IfOk result (λ _. stack.new.lower ≡ stack.old.lower) }
     ensures refused { IfErr result (λ e. Refused e (Breaks e (context_of scope.now labels.now) (op.LocalSet local)) (step (context_of scope.now labels.now) (op.LocalSet local) stack.old.here)) }
+    ensures keeps { IfErr result (λ e. Mismatch e (KeepsOwn (context_of scope.now labels.now) (op.LocalSet local))) }
 {
     match scope.locals.get(local as usize) {
         None => Err(ValidateFault::Index),
@@ -56,6 +59,7 @@ pub fn check_local_tee(
     ensures ok { IfOk result (λ _. step (context_of scope.now labels.now) (op.LocalTee local) stack.old.here ≡ Some stack.new.here) }
     ensures lower { IfOk result (λ _. stack.new.lower ≡ stack.old.lower) }
     ensures refused { IfErr result (λ e. Refused e (Breaks e (context_of scope.now labels.now) (op.LocalTee local)) (step (context_of scope.now labels.now) (op.LocalTee local) stack.old.here)) }
+    ensures keeps { IfErr result (λ e. Mismatch e (KeepsOwn (context_of scope.now labels.now) (op.LocalTee local))) }
 {
     match scope.locals.get(local as usize) {
         None => Err(ValidateFault::Index),
@@ -76,6 +80,7 @@ pub fn check_global_get(
     ensures ok { IfOk result (λ _. step (context_of scope.now labels.now) (op.GlobalGet global) stack.old.here ≡ Some stack.new.here) }
     ensures lower { IfOk result (λ _. stack.new.lower ≡ stack.old.lower) }
     ensures refused { IfErr result (λ e. Refused e (Breaks e (context_of scope.now labels.now) (op.GlobalGet global)) (step (context_of scope.now labels.now) (op.GlobalGet global) stack.old.here)) }
+    ensures keeps { IfErr result (λ e. Mismatch e (KeepsOwn (context_of scope.now labels.now) (op.GlobalGet global))) }
 {
     match scope.type_of_global(global) {
         None => Err(ValidateFault::Index),
@@ -93,6 +98,7 @@ pub fn check_global_set(
     ensures ok { IfOk result (λ _. step (context_of scope.now labels.now) (op.GlobalSet global) stack.old.here ≡ Some stack.new.here) }
     ensures lower { IfOk result (λ _. stack.new.lower ≡ stack.old.lower) }
     ensures refused { IfErr result (λ e. Refused e (Breaks e (context_of scope.now labels.now) (op.GlobalSet global)) (step (context_of scope.now labels.now) (op.GlobalSet global) stack.old.here)) }
+    ensures keeps { IfErr result (λ e. Mismatch e (KeepsOwn (context_of scope.now labels.now) (op.GlobalSet global))) }
 {
     match scope.type_of_global(global) {
         None => Err(ValidateFault::Index),

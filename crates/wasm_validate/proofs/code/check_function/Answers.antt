@@ -1,6 +1,6 @@
 use Rattle.std.proofs.Common.{◌++◌, ap, ◌∙◌}
-use Rattle.std.proofs.lemmas.Result.{IfOk-weaker, IfErr-weaker}
-use Rattle.wasm_validate.proofs.Functions.{Parts, function_typed, function_broken}
+use Rattle.std.proofs.lemmas.Result.{IfOk-weaker}
+use Rattle.wasm_validate.proofs.Functions.{Parts, errs_both, function_typed, function_broken}
 use Rattle.wasm_validate.proofs.code.check_function.Goals as goal
 
 parts : (c : goal.After-drop-locals-2) → Parts c.args.given.now c.args.function.now c.index-types-function.result c.as_slice-types.result.now c.args.functions.now c.as_slice-3.result.now c.as_slice-4.result.now c.as_slice-5.result.now c.deref.result.now c.new-labels.result
@@ -23,4 +23,4 @@ returns-clause-typed c =
 
 pub returns-clause-broken : goal.returns-clause-broken
 returns-clause-broken c =
-    IfErr-weaker c.check_body.result _ _ (λ e h. function_broken _ _ _ _ _ _ _ _ _ _ (parts c) e h) c.check_body.ensures.refused
+    errs_both c.check_body.result _ _ _ (λ e r w. function_broken _ _ _ _ _ _ _ _ _ _ (parts c) e r w) c.check_body.ensures.refused c.check_body.ensures.mistyped
