@@ -3,6 +3,7 @@ pub mod Spelling
 pub mod Reading
 pub mod Place
 pub mod Faults
+pub mod Stands
 pub mod Moves
 pub mod Leb
 pub mod Names

@@ -15,3 +15,4 @@ pub mod Order
 pub mod Sequence
 pub mod ModuleLaws
 pub mod ModuleTheorem
+pub mod FaultLaws

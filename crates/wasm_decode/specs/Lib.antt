@@ -16,3 +16,4 @@ pub mod PartsOf
 pub mod SectionReading
 pub mod ModuleSpelling
 pub mod ModuleReading
+pub mod Faults

@@ -1,10 +1,11 @@
 //! Expressions and their instructions (WebAssembly Core 1.0, section 5.4).
 
-ghost use Rattle.std.specs.Prelude.{◌≡◌, ◌^◌, ◌≤◌, OnOk, ℕ, List, [], ◌∷◌, Option, Some, None};
+ghost use Rattle.std.specs.Prelude.{◌≡◌, ◌^◌, ◌<◌, ◌≤◌, ◌⊎◌, OnOk, IfOk, ℕ, List, [], ◌∷◌, Option, Some, None, slice_get};
 ghost use Rattle.grammar.specs.Table.{row_byte_at};
 ghost use Rattle.grammar.specs.Reading.{byte_at};
 ghost use Rattle.wasm_ast.specs.View.{code_of};
 ghost use Rattle.wasm_decode.specs.Parses.{Parses};
+ghost use Rattle.wasm_decode.specs.Faults.{Stands, Tells};
 ghost use Rattle.wasm_decode.specs.OpReading.{reserved_at, reserved_index_at, argument_at, branch_table_at, other_at, plain_at};
 ghost use Rattle.wasm_decode.specs.CodeReading.{block_at, conditional_at, step_at, body_at, below, closed_at, expression_at};
 
@@ -30,7 +31,9 @@ struct Opcode {
 }
 
 fn next_opcode(cursor: &mut Cursor<'_>) -> Result<Opcode, DecodeFault>
-    ensures { Parses (λ o. o.byte) result cursor.new (byte_at cursor.old.rest) }
+    ensures read { Parses (λ o. o.byte) result cursor.new (byte_at cursor.old.rest) }
+    ensures tells { Tells result cursor.old cursor.new }
+    ensures here { IfOk result (λ o. slice_get cursor.old.whole o.offset ≡ Some o.byte) }
 {
     let offset = cursor.offset();
     let byte = cursor.byte()?;
@@ -39,7 +42,8 @@ fn next_opcode(cursor: &mut Cursor<'_>) -> Result<Opcode, DecodeFault>
 
 #[tactic(auto, unfolding(crate::specs::OpReading::branch_table_at))]
 fn branch_table(alloc: Global, cursor: &mut Cursor<'_>) -> Result<BranchTable, DecodeFault>
-    ensures { Parses (λ t. (t.labels, t.default)) result cursor.new (branch_table_at cursor.old.rest) }
+    ensures read { Parses (λ t. (t.labels, t.default)) result cursor.new (branch_table_at cursor.old.rest) }
+    ensures tells { Tells result cursor.old cursor.new }
 {
     let labels = list::<u32>(alloc, cursor, MOST_LABELS)?;
     let default = cursor.u32_leb()?;
@@ -49,7 +53,8 @@ fn branch_table(alloc: Global, cursor: &mut Cursor<'_>) -> Result<BranchTable, D
 /// A byte that has to be 0.
 #[tactic(auto, unfolding(crate::specs::OpReading::reserved_at))]
 fn reserved(cursor: &mut Cursor<'_>) -> Result<(), DecodeFault>
-    ensures { Parses (λ u. u) result cursor.new (reserved_at cursor.old.rest) }
+    ensures read { Parses (λ u. u) result cursor.new (reserved_at cursor.old.rest) }
+    ensures tells { Tells result cursor.old cursor.new }
 {
     let offset = cursor.offset();
     if cursor.byte()? != 0 {
@@ -61,7 +66,8 @@ fn reserved(cursor: &mut Cursor<'_>) -> Result<(), DecodeFault>
 /// The index of a type, and a byte that has to be 0.
 #[tactic(auto, unfolding(crate::specs::OpReading::reserved_index_at))]
 fn reserved_index(cursor: &mut Cursor<'_>) -> Result<u32, DecodeFault>
-    ensures { Parses (λ n. n) result cursor.new (reserved_index_at cursor.old.rest) }
+    ensures read { Parses (λ n. n) result cursor.new (reserved_index_at cursor.old.rest) }
+    ensures tells { Tells result cursor.old cursor.new }
 {
     let index = cursor.u32_leb()?;
     reserved(cursor)?;
@@ -71,7 +77,8 @@ fn reserved_index(cursor: &mut Cursor<'_>) -> Result<u32, DecodeFault>
 /// Where a load or a store accesses the memory.
 #[tactic(auto, unfolding(crate::specs::OpReading::argument_at))]
 fn memory_argument(cursor: &mut Cursor<'_>) -> Result<MemoryArgument, DecodeFault>
-    ensures { Parses (λ a. a) result cursor.new (argument_at cursor.old.rest) }
+    ensures read { Parses (λ a. a) result cursor.new (argument_at cursor.old.rest) }
+    ensures tells { Tells result cursor.old cursor.new }
 {
     let align = cursor.u32_leb()?;
     let offset = cursor.u32_leb()?;
@@ -79,7 +86,10 @@ fn memory_argument(cursor: &mut Cursor<'_>) -> Result<MemoryArgument, DecodeFaul
 }
 
 /// The fault of an opcode that is not of the profile: those of floats are told apart.
-fn opcode_fault(opcode: u8) -> FaultKind {
+fn opcode_fault(opcode: u8) -> FaultKind
+    requires { 0 < opcode }
+    ensures { (offset : ℕ) → (end : ℕ) → (bytes : List ℕ) → slice_get bytes offset ≡ Some opcode → Stands result offset end bytes }
+{
     match opcode {
         0x2a | 0x2b | 0x38 | 0x39 | 0x43 | 0x44 | 0x5b..=0x66 => FaultKind::Float,
         0x8b..=0xa6 | 0xa8..=0xab | 0xae..=0xbf => FaultKind::Float,
@@ -90,7 +100,9 @@ fn opcode_fault(opcode: u8) -> FaultKind {
 /// An instruction with no instruction inside that is no operator, load or store, after its opcode.
 #[tactic(auto, unfolding(crate::specs::OpReading::other_at, crate::specs::Opcodes::other_rows))]
 fn other(alloc: Global, cursor: &mut Cursor<'_>, opcode: Opcode) -> Result<Instr, DecodeFault>
-    ensures { Parses (λ i. code_of (i ∷ [])) result cursor.new (other_at opcode.byte cursor.old.rest) }
+    requires here { slice_get cursor.old.whole opcode.offset ≡ Some opcode.byte }
+    ensures read { Parses (λ i. code_of (i ∷ [])) result cursor.new (other_at opcode.byte cursor.old.rest) }
+    ensures tells { Tells result cursor.old cursor.new }
 {
     Ok(match opcode.byte {
         0x00 => Instr::Unreachable,
@@ -125,7 +137,9 @@ fn other(alloc: Global, cursor: &mut Cursor<'_>, opcode: Opcode) -> Result<Instr
 /// An instruction with no instruction inside, after its opcode.
 #[tactic(auto, unfolding(crate::specs::OpReading::plain_at))]
 fn plain(alloc: Global, cursor: &mut Cursor<'_>, opcode: Opcode) -> Result<Instr, DecodeFault>
-    ensures { Parses (λ i. code_of (i ∷ [])) result cursor.new (plain_at opcode.byte cursor.old.rest) }
+    requires here { slice_get cursor.old.whole opcode.offset ≡ Some opcode.byte }
+    ensures read { Parses (λ i. code_of (i ∷ [])) result cursor.new (plain_at opcode.byte cursor.old.rest) }
+    ensures tells { Tells result cursor.old cursor.new }
 {
     if let Some(instruction) = operator(opcode.byte) {
         return Ok(instruction);
@@ -149,7 +163,10 @@ fn block(
     nesting: u32,
     left: &mut u32,
 ) -> Result<Block, DecodeFault>
+    requires here { slice_get cursor.old.whole opcode.offset ≡ Some opcode.byte }
+    requires opens { (0x02 ≤ opcode.byte) × (opcode.byte ≤ 0x04) }
     ensures read { Parses (λ b. record { result = b.result; body = b.body; left = left.new }) result cursor.new (block_at (below nesting) left.old cursor.old.rest) }
+    ensures tells { Tells result cursor.old cursor.new }
     ensures fewer { OnOk result (left.new ≤ left.old) }
 {
     if nesting == 0 {
@@ -170,7 +187,10 @@ fn conditional(
     nesting: u32,
     left: &mut u32,
 ) -> Result<Conditional, DecodeFault>
+    requires here { slice_get cursor.old.whole opcode.offset ≡ Some opcode.byte }
+    requires opens { (0x02 ≤ opcode.byte) × (opcode.byte ≤ 0x04) }
     ensures read { Parses (λ c. record { result = c.result; yes = c.yes; no = c.no; left = left.new }) result cursor.new (conditional_at (below nesting) left.old cursor.old.rest) }
+    ensures tells { Tells result cursor.old cursor.new }
     ensures fewer { OnOk result (left.new ≤ left.old) }
 {
     if nesting == 0 {
@@ -196,7 +216,9 @@ fn instruction(
     nesting: u32,
     left: &mut u32,
 ) -> Result<Instr, DecodeFault>
+    requires here { slice_get cursor.old.whole opcode.offset ≡ Some opcode.byte }
     ensures read { Parses (λ i. record { code = code_of (i ∷ []); left = left.new }) result cursor.new (step_at (below nesting) opcode.byte left.old cursor.old.rest) }
+    ensures tells { Tells result cursor.old cursor.new }
     ensures fewer { OnOk result (left.new ≤ left.old) }
 {
     if opcode.byte == 0x02 {
@@ -223,6 +245,9 @@ fn instructions(
     left: &mut u32,
 ) -> Result<(Body, Opcode), DecodeFault>
     ensures read { Parses (λ x. record { code = x.0; last = x.1.byte; left = left.new }) result cursor.new (body_at nesting left.old cursor.old.rest) }
+    ensures tells { Tells result cursor.old cursor.new }
+    ensures here { IfOk result (λ x. slice_get cursor.old.whole x.1.offset ≡ Some x.1.byte) }
+    ensures last { IfOk result (λ x. (x.1.byte ≡ 0x05) ⊎ (x.1.byte ≡ 0x0b)) }
     ensures fewer { OnOk result (left.new ≤ left.old) }
 {
     let mut items = Vec::new(alloc);
@@ -249,6 +274,7 @@ fn closed(
     left: &mut u32,
 ) -> Result<Body, DecodeFault>
     ensures read { Parses (λ b. record { code = b; left = left.new }) result cursor.new (closed_at (body_at nesting) left.old cursor.old.rest) }
+    ensures tells { Tells result cursor.old cursor.new }
     ensures fewer { OnOk result (left.new ≤ left.old) }
 {
     let (body, last) = instructions(alloc, cursor, nesting, left)?;
@@ -261,7 +287,8 @@ fn closed(
 /// An expression within the limits.
 #[tactic(auto, unfolding(crate::specs::CodeReading::expression_at))]
 pub(crate) fn expression(alloc: Global, cursor: &mut Cursor<'_>) -> Result<Body, DecodeFault>
-    ensures { Parses (λ b. b) result cursor.new (expression_at cursor.old.rest) }
+    ensures read { Parses (λ b. b) result cursor.new (expression_at cursor.old.rest) }
+    ensures tells { Tells result cursor.old cursor.new }
 {
     let mut left = MOST_INSTRUCTIONS;
     closed(alloc, cursor, MOST_NESTING, &mut left)

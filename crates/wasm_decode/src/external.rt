@@ -4,6 +4,7 @@ ghost use Rattle.std.specs.Prelude.{◌≡◌, ◌^◌, ℕ, List, Option, Some}
 ghost use Rattle.grammar.specs.Table.{row_at, row_byte_at};
 ghost use Rattle.wasm_bytes.specs.Reading.{u32_at, name_at};
 ghost use Rattle.wasm_decode.specs.Parses.{Parses};
+ghost use Rattle.wasm_decode.specs.Faults.{Tells};
 ghost use Rattle.wasm_decode.specs.Tables.{external_kind_rows};
 ghost use Rattle.wasm_decode.specs.ExternalReading.{import_after, import_at, export_at};
 
@@ -15,7 +16,8 @@ use wasm_ast::{Export, ExternalKind, Import, ImportKind, Name};
 use wasm_bytes::Cursor;
 
 fn name(alloc: Global, cursor: &mut Cursor<'_>) -> Result<Name, DecodeFault>
-    ensures { Parses (λ x. x) result cursor.new (name_at cursor.old.rest) }
+    ensures read { Parses (λ x. x) result cursor.new (name_at cursor.old.rest) }
+    ensures tells { Tells result cursor.old cursor.new }
 {
     let text = cursor.name()?;
     Ok(Name::new(String::from_str(alloc, text)?))
@@ -34,7 +36,8 @@ fn external_kind_of(byte: u8) -> Option<ExternalKind>
 }
 
 fn external_kind(cursor: &mut Cursor<'_>) -> Result<ExternalKind, DecodeFault>
-    ensures { Parses (λ x. x) result cursor.new (row_byte_at external_kind_rows cursor.old.rest) }
+    ensures read { Parses (λ x. x) result cursor.new (row_byte_at external_kind_rows cursor.old.rest) }
+    ensures tells { Tells result cursor.old cursor.new }
 {
     let offset = cursor.offset();
     match external_kind_of(cursor.byte()?) {
@@ -44,7 +47,8 @@ fn external_kind(cursor: &mut Cursor<'_>) -> Result<ExternalKind, DecodeFault>
 }
 
 fn import_kind(cursor: &mut Cursor<'_>, kind: ExternalKind) -> Result<ImportKind, DecodeFault>
-    ensures { Parses (λ x. x) result cursor.new (import_after kind cursor.old.rest) }
+    ensures read { Parses (λ x. x) result cursor.new (import_after kind cursor.old.rest) }
+    ensures tells { Tells result cursor.old cursor.new }
 {
     Ok(match kind {
         ExternalKind::Function => ImportKind::Function(cursor.u32_leb()?),

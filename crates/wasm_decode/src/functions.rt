@@ -2,6 +2,7 @@
 
 ghost use Rattle.std.specs.Prelude.{◌≡◌, ◌^◌, ◌-◌, ◌++◌, ℕ, List, Option, Some, IfOk, replicate, length};
 ghost use Rattle.wasm_decode.specs.Parses.{Parses};
+ghost use Rattle.wasm_decode.specs.Faults.{Tells};
 ghost use Rattle.wasm_decode.specs.FunctionReading.{groups_at, locals_at, code_parts_at, code_at, codes_at, functions_at, global_at, element_at, data_at};
 
 use crate::code::expression;
@@ -29,7 +30,8 @@ fn push_locals(
 
 /// So many groups of locals, each of a count and a type.
 fn groups(alloc: Global, cursor: &mut Cursor<'_>, count: u32) -> Result<Seq<ValueType>, DecodeFault>
-    ensures { Parses (λ x. x) result cursor.new (groups_at MOST_LOCALS count cursor.old.rest) }
+    ensures read { Parses (λ x. x) result cursor.new (groups_at MOST_LOCALS count cursor.old.rest) }
+    ensures tells { Tells result cursor.old cursor.new }
 {
     let mut locals = Vec::new(alloc);
     let mut room = MOST_LOCALS;
@@ -45,14 +47,16 @@ fn groups(alloc: Global, cursor: &mut Cursor<'_>, count: u32) -> Result<Seq<Valu
 /// The declared locals of a function.
 #[tactic(auto, unfolding(crate::specs::FunctionReading::locals_at))]
 fn locals(alloc: Global, cursor: &mut Cursor<'_>) -> Result<Seq<ValueType>, DecodeFault>
-    ensures { Parses (λ x. x) result cursor.new (locals_at cursor.old.rest) }
+    ensures read { Parses (λ x. x) result cursor.new (locals_at cursor.old.rest) }
+    ensures tells { Tells result cursor.old cursor.new }
 {
     let count = cursor.u32_leb()?;
     groups(alloc, cursor, count)
 }
 
 fn code_parts(alloc: Global, cursor: &mut Cursor<'_>, type_index: u32) -> Result<Func, DecodeFault>
-    ensures { Parses (λ x. x) result cursor.new (code_parts_at type_index cursor.old.rest) }
+    ensures read { Parses (λ x. x) result cursor.new (code_parts_at type_index cursor.old.rest) }
+    ensures tells { Tells result cursor.old cursor.new }
 {
     let locals = locals(alloc, cursor)?;
     let body = expression(alloc, cursor)?;
@@ -66,7 +70,8 @@ fn code_parts(alloc: Global, cursor: &mut Cursor<'_>, type_index: u32) -> Result
 /// The function of a type, by its code.
 #[tactic(auto, unfolding(crate::specs::FunctionReading::code_at, grammar::specs::Reading::measured_at))]
 fn code(alloc: Global, cursor: &mut Cursor<'_>, type_index: u32) -> Result<Func, DecodeFault>
-    ensures { Parses (λ x. x) result cursor.new (code_at type_index cursor.old.rest) }
+    ensures read { Parses (λ x. x) result cursor.new (code_at type_index cursor.old.rest) }
+    ensures tells { Tells result cursor.old cursor.new }
 {
     let offset = cursor.offset();
     let size = cursor.u32_leb()?;
@@ -86,7 +91,8 @@ fn codes(
     cursor: &mut Cursor<'_>,
     type_indices: &[u32],
 ) -> Result<Seq<Func>, DecodeFault>
-    ensures { Parses (λ x. x) result cursor.new (codes_at type_indices.now cursor.old.rest) }
+    ensures read { Parses (λ x. x) result cursor.new (codes_at type_indices.now cursor.old.rest) }
+    ensures tells { Tells result cursor.old cursor.new }
 {
     let mut functions = Vec::new(alloc);
     for type_index in type_indices {
@@ -102,7 +108,8 @@ pub(crate) fn functions(
     cursor: &mut Cursor<'_>,
     type_indices: &[u32],
 ) -> Result<Seq<Func>, DecodeFault>
-    ensures { Parses (λ x. x) result cursor.new (functions_at type_indices.now cursor.old.rest) }
+    ensures read { Parses (λ x. x) result cursor.new (functions_at type_indices.now cursor.old.rest) }
+    ensures tells { Tells result cursor.old cursor.new }
 {
     let offset = cursor.offset();
     let count = number(cursor, MOST_FUNCTIONS)?;

@@ -1,9 +1,13 @@
 //! Lists of items, which have their count in front.
 
-ghost use Rattle.std.specs.Prelude.{◌≡◌, ◌^◌, ◌-◌, ℕ, List, Option};
+ghost use Rattle.std.specs.Prelude.{◌≡◌, ◌^◌, ◌-◌, ℕ, List, Option, IfOk};
 ghost use Rattle.grammar.specs.Reading.{at_most, byte_at, repeats_at};
 ghost use Rattle.wasm_bytes.specs.Reading.{u32_at, list_at};
 ghost use Rattle.wasm_decode.specs.Parses.{Parses};
+ghost use Rattle.wasm_decode.specs.Faults.{Tells};
+ghost use Rattle.wasm_bytes.specs.Spelling.{IsU32};
+ghost use Rattle.wasm_bytes.specs.Place.{offset_of};
+ghost use Rattle.wasm_bytes.specs.Stands.{Spans};
 
 use crate::fault::{DecodeFault, FaultKind, refuse};
 use seq::Seq;
@@ -18,12 +22,15 @@ pub(crate) trait Item {
     ghost reads: { List ℕ → Option (Self.Value × List ℕ) };
 
     fn read(alloc: Global, cursor: &mut Cursor<'_>) -> Result<Self::Value, DecodeFault>
-        ensures { Parses (λ x. x) result cursor.new (reads cursor.old.rest) };
+        ensures read { Parses (λ x. x) result cursor.new (reads cursor.old.rest) }
+        ensures tells { Tells result cursor.old cursor.new };
 }
 
 /// A number that is at most so large.
 pub(crate) fn number(cursor: &mut Cursor<'_>, most: u32) -> Result<u32, DecodeFault>
-    ensures { Parses (λ x. x) result cursor.new (at_most most u32_at cursor.old.rest) }
+    ensures read { Parses (λ x. x) result cursor.new (at_most most u32_at cursor.old.rest) }
+    ensures tells { Tells result cursor.old cursor.new }
+    ensures stands { IfOk result (λ n. Spans IsU32 n cursor.old.whole (offset_of cursor.old) (offset_of cursor.new)) }
 {
     let offset = cursor.offset();
     let number = cursor.u32_leb()?;
@@ -38,7 +45,8 @@ fn repeated<T: Item>(
     cursor: &mut Cursor<'_>,
     count: u32,
 ) -> Result<Seq<T::Value>, DecodeFault>
-    ensures { Parses (λ x. x) result cursor.new (repeats_at T.reads count cursor.old.rest) }
+    ensures read { Parses (λ x. x) result cursor.new (repeats_at T.reads count cursor.old.rest) }
+    ensures tells { Tells result cursor.old cursor.new }
 {
     let mut items = Vec::new(alloc);
     for _ in 0..count {
@@ -54,7 +62,8 @@ pub(crate) fn list<T: Item>(
     cursor: &mut Cursor<'_>,
     most: u32,
 ) -> Result<Seq<T::Value>, DecodeFault>
-    ensures { Parses (λ x. x) result cursor.new (list_at most T.reads cursor.old.rest) }
+    ensures read { Parses (λ x. x) result cursor.new (list_at most T.reads cursor.old.rest) }
+    ensures tells { Tells result cursor.old cursor.new }
 {
     let count = number(cursor, most)?;
     repeated::<T>(alloc, cursor, count)

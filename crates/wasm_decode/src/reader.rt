@@ -1,9 +1,11 @@
 //! A module from its bytes (WebAssembly Core 1.0, section 5.5.16).
 
-ghost use Rattle.std.specs.Prelude.{◌≡◌, ◌<◌, ◌≤◌, ◌-◌, ℕ, List, Option, Some, IfOk, length, drop};
+ghost use Rattle.std.specs.Prelude.{◌≡◌, ◌<◌, ◌≤◌, ◌-◌, ℕ, List, Option, Some, IfOk, IfErr, length, drop};
 ghost use Rattle.grammar.specs.Reading.{text_at};
 ghost use Rattle.wasm_ast.specs.declared.module.Module.{Module};
 ghost use Rattle.wasm_decode.specs.Parses.{Parses, Makes};
+ghost use Rattle.wasm_decode.specs.Faults.{Says, Tells};
+ghost use Rattle.wasm_bytes.specs.Place.{offset_of};
 ghost use Rattle.wasm_decode.specs.ModuleReading.{module_at};
 ghost use Rattle.wasm_decode.specs.PartsOf.{no_parts};
 ghost use Rattle.wasm_decode.specs.ModuleSpelling.{IsModule};
@@ -20,7 +22,9 @@ use wasm_bytes::Cursor;
 const HEADER: [u8; 8] = [0x00, 0x61, 0x73, 0x6d, 0x01, 0x00, 0x00, 0x00];
 
 fn header(cursor: &mut Cursor<'_>) -> Result<(), DecodeFault>
-    ensures { Parses (λ u. u) result cursor.new (text_at HEADER cursor.old.rest) }
+    requires { offset_of cursor.old ≡ 0 }
+    ensures read { Parses (λ u. u) result cursor.new (text_at HEADER cursor.old.rest) }
+    ensures tells { Tells result cursor.old cursor.new }
 {
     for expected in &HEADER {
         let offset = cursor.offset();
@@ -60,7 +64,8 @@ fn nothing(alloc: Global) -> Parts
 
 #[tactic(auto, unfolding(crate::specs::ModuleReading::module_at))]
 fn module(alloc: Global, bytes: &[u8]) -> Result<Module, DecodeFault>
-    ensures { Makes (λ m. m) result (module_at bytes.now) }
+    ensures read { Makes (λ m. m) result (module_at bytes.now) }
+    ensures tells { IfErr result (λ e. Says e (length bytes.now) bytes.now) }
 {
     if bytes.len() > MODULE_BYTES {
         return refuse(FaultKind::Limit, MODULE_BYTES);
@@ -84,6 +89,8 @@ pub fn decode(alloc: Global, bytes: &[u8]) -> Result<Module, DecodeFault>
     ensures found { IfOk result (λ m. IsModule m bytes.now) }
     // What is spelled is given, unless memory runs out.
     ensures only { (m : Module) → IsModule m bytes.now → Makes (λ x. x) result (Some m) }
+    // What a fault says of its offset is true of the bytes.
+    ensures fault { IfErr result (λ e. Says e (length bytes.now) bytes.now) }
 {
     module(alloc, bytes)
 }

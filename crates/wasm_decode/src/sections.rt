@@ -1,10 +1,11 @@
 //! Sections (WebAssembly Core 1.0, section 5.5.2).
 
-ghost use Rattle.std.specs.Prelude.{◌≡◌, ◌<◌, ◌≤◌, ℕ, List, Option, Some, None, OnOk, length};
+ghost use Rattle.std.specs.Prelude.{◌≡◌, ◌<◌, ◌≤◌, ℕ, List, Option, Some, None, OnOk, length, slice_get};
 ghost use Rattle.grammar.specs.Reading.{whole_at};
 ghost use Rattle.grammar.specs.Table.{row_at};
 ghost use Rattle.wasm_bytes.specs.Reading.{sized_at};
 ghost use Rattle.wasm_decode.specs.Parses.{Parses, Makes};
+ghost use Rattle.wasm_decode.specs.Faults.{Stands, Tells};
 ghost use Rattle.wasm_decode.specs.SectionReading.{section_rows, custom_at, fill_at, section_at, sections_at};
 
 use crate::fault::{DecodeFault, FaultKind, refuse};
@@ -58,7 +59,10 @@ fn section_kind(id: u8) -> Option<Kind>
 }
 
 /// The fault of a section that may not stand here.
-fn order_fault(last: u8, id: u8) -> FaultKind {
+fn order_fault(last: u8, id: u8) -> FaultKind
+    requires { 0 < id }
+    ensures { (offset : ℕ) → (end : ℕ) → (bytes : List ℕ) → slice_get bytes offset ≡ Some id → Stands result offset end bytes }
+{
     if id == 8 && last < 8 {
         FaultKind::StartSection
     } else {
@@ -73,7 +77,8 @@ fn fill(
     kind: Kind,
     parts: &mut Parts,
 ) -> Result<(), DecodeFault>
-    ensures { Parses (λ _. parts.new) result cursor.new (fill_at kind parts.old cursor.old.rest) }
+    ensures read { Parses (λ _. parts.new) result cursor.new (fill_at kind parts.old cursor.old.rest) }
+    ensures tells { Tells result cursor.old cursor.new }
 {
     match kind {
         Kind::Types => parts.module.types = list::<FuncType>(alloc, cursor, MOST_TYPES)?,
@@ -100,6 +105,7 @@ fn fill(
 #[tactic(auto, unfolding(grammar::specs::Reading::measured_at))]
 fn custom(cursor: &mut Cursor<'_>) -> Result<(), DecodeFault>
     ensures read { Parses (λ u. u) result cursor.new (sized_at custom_at cursor.old.rest) }
+    ensures tells { Tells result cursor.old cursor.new }
     ensures shorter { OnOk result (length cursor.new.rest < length cursor.old.rest) }
 {
     let offset = cursor.offset();
@@ -120,6 +126,7 @@ fn known(
     parts: &mut Parts,
 ) -> Result<(), DecodeFault>
     ensures read { Parses (λ _. parts.new) result cursor.new (sized_at (whole_at (fill_at kind parts.old)) cursor.old.rest) }
+    ensures tells { Tells result cursor.old cursor.new }
     ensures shorter { OnOk result (length cursor.new.rest < length cursor.old.rest) }
 {
     let offset = cursor.offset();
@@ -143,6 +150,7 @@ fn section(
     parts: &mut Parts,
 ) -> Result<u8, DecodeFault>
     ensures read { Parses (λ id. (id, parts.new)) result cursor.new (section_at last parts.old cursor.old.rest) }
+    ensures tells { Tells result cursor.old cursor.new }
     ensures shorter { OnOk result (length cursor.new.rest < length cursor.old.rest) }
 {
     let offset = cursor.offset();
@@ -167,7 +175,8 @@ pub(crate) fn sections(
     cursor: &mut Cursor<'_>,
     parts: &mut Parts,
 ) -> Result<(), DecodeFault>
-    ensures { Makes (λ _. parts.new) result (sections_at (length cursor.old.rest) 0 parts.old cursor.old.rest) }
+    ensures read { Makes (λ _. parts.new) result (sections_at (length cursor.old.rest) 0 parts.old cursor.old.rest) }
+    ensures tells { Tells result cursor.old cursor.new }
 {
     let mut last = 0;
     'sections: while !cursor.is_at_end() {

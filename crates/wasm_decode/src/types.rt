@@ -1,9 +1,10 @@
 //! Types (WebAssembly Core 1.0, section 5.3).
 
-ghost use Rattle.std.specs.Prelude.{◌≡◌, ◌^◌, ℕ, List, Option, Some};
+ghost use Rattle.std.specs.Prelude.{◌≡◌, ◌^◌, ℕ, List, Option, Some, slice_get};
 ghost use Rattle.grammar.specs.Table.{row_at, row_byte_at};
 ghost use Rattle.wasm_bytes.specs.Reading.{u32_at};
 ghost use Rattle.wasm_decode.specs.Parses.{Parses};
+ghost use Rattle.wasm_decode.specs.Faults.{Stands, Tells};
 ghost use Rattle.wasm_decode.specs.Tables.{value_type_rows, block_type_rows, flag_rows};
 ghost use Rattle.wasm_decode.specs.TypeReading.{value_type_at, result_at, func_type_at, limits_at, table_type_at, memory_type_at, global_type_at};
 
@@ -25,7 +26,9 @@ fn value_type_of(byte: u8) -> Option<ValueType>
 }
 
 /// The fault of a byte that stands for no type: f32 and f64 are told apart.
-fn type_fault(byte: u8) -> FaultKind {
+fn type_fault(byte: u8) -> FaultKind
+    ensures { (offset : ℕ) → (end : ℕ) → (bytes : List ℕ) → slice_get bytes offset ≡ Some byte → Stands result offset end bytes }
+{
     match byte {
         0x7c | 0x7d => FaultKind::Float,
         _ => FaultKind::TypeByte,
@@ -34,7 +37,8 @@ fn type_fault(byte: u8) -> FaultKind {
 
 /// A value type.
 pub(crate) fn value_type(cursor: &mut Cursor<'_>) -> Result<ValueType, DecodeFault>
-    ensures { Parses (λ x. x) result cursor.new (value_type_at cursor.old.rest) }
+    ensures read { Parses (λ x. x) result cursor.new (value_type_at cursor.old.rest) }
+    ensures tells { Tells result cursor.old cursor.new }
 {
     let offset = cursor.offset();
     let byte = cursor.byte()?;
@@ -67,7 +71,8 @@ fn block_type_of(byte: u8) -> Option<BlockType>
 
 /// What a block leaves.
 pub(crate) fn block_type(cursor: &mut Cursor<'_>) -> Result<BlockType, DecodeFault>
-    ensures { Parses (λ x. x) result cursor.new (row_byte_at block_type_rows cursor.old.rest) }
+    ensures read { Parses (λ x. x) result cursor.new (row_byte_at block_type_rows cursor.old.rest) }
+    ensures tells { Tells result cursor.old cursor.new }
 {
     let offset = cursor.offset();
     let byte = cursor.byte()?;
@@ -80,7 +85,8 @@ pub(crate) fn block_type(cursor: &mut Cursor<'_>) -> Result<BlockType, DecodeFau
 /// At most one type.
 #[tactic(auto, unfolding(crate::specs::TypeReading::result_at))]
 fn result_type(cursor: &mut Cursor<'_>) -> Result<Option<ValueType>, DecodeFault>
-    ensures { Parses (λ x. x) result cursor.new (result_at cursor.old.rest) }
+    ensures read { Parses (λ x. x) result cursor.new (result_at cursor.old.rest) }
+    ensures tells { Tells result cursor.old cursor.new }
 {
     let count = number(cursor, 1)?;
     if count == 0 {
@@ -118,7 +124,8 @@ fn flag_of(byte: u8) -> Option<bool>
 
 /// A byte that says whether something is there.
 fn flag(cursor: &mut Cursor<'_>) -> Result<bool, DecodeFault>
-    ensures { Parses (λ x. x) result cursor.new (row_byte_at flag_rows cursor.old.rest) }
+    ensures read { Parses (λ x. x) result cursor.new (row_byte_at flag_rows cursor.old.rest) }
+    ensures tells { Tells result cursor.old cursor.new }
 {
     let offset = cursor.offset();
     match flag_of(cursor.byte()?) {
@@ -130,7 +137,8 @@ fn flag(cursor: &mut Cursor<'_>) -> Result<bool, DecodeFault>
 /// Limits of which the least is at most so large.
 #[tactic(auto, unfolding(crate::specs::TypeReading::limits_at))]
 fn limits(cursor: &mut Cursor<'_>, most: u32) -> Result<Limits, DecodeFault>
-    ensures { Parses (λ x. x) result cursor.new (limits_at most cursor.old.rest) }
+    ensures read { Parses (λ x. x) result cursor.new (limits_at most cursor.old.rest) }
+    ensures tells { Tells result cursor.old cursor.new }
 {
     let has_greatest = flag(cursor)?;
     let least = number(cursor, most)?;
@@ -147,7 +155,8 @@ fn limits(cursor: &mut Cursor<'_>, most: u32) -> Result<Limits, DecodeFault>
 /// The limits of a table of functions.
 #[tactic(auto, unfolding(crate::specs::TypeReading::table_type_at))]
 pub(crate) fn table_type(cursor: &mut Cursor<'_>) -> Result<Limits, DecodeFault>
-    ensures { Parses (λ x. x) result cursor.new (table_type_at cursor.old.rest) }
+    ensures read { Parses (λ x. x) result cursor.new (table_type_at cursor.old.rest) }
+    ensures tells { Tells result cursor.old cursor.new }
 {
     let offset = cursor.offset();
     if cursor.byte()? != 0x70 {
@@ -159,7 +168,8 @@ pub(crate) fn table_type(cursor: &mut Cursor<'_>) -> Result<Limits, DecodeFault>
 /// The limits of a memory.
 #[tactic(auto, unfolding(crate::specs::TypeReading::memory_type_at))]
 pub(crate) fn memory_type(cursor: &mut Cursor<'_>) -> Result<Limits, DecodeFault>
-    ensures { Parses (λ x. x) result cursor.new (memory_type_at cursor.old.rest) }
+    ensures read { Parses (λ x. x) result cursor.new (memory_type_at cursor.old.rest) }
+    ensures tells { Tells result cursor.old cursor.new }
 {
     limits(cursor, MOST_PAGES)
 }
@@ -193,7 +203,8 @@ impl Item for MemoryType {
 /// The type of a global.
 #[tactic(auto, unfolding(crate::specs::TypeReading::global_type_at))]
 pub(crate) fn global_type(cursor: &mut Cursor<'_>) -> Result<GlobalType, DecodeFault>
-    ensures { Parses (λ x. x) result cursor.new (global_type_at cursor.old.rest) }
+    ensures read { Parses (λ x. x) result cursor.new (global_type_at cursor.old.rest) }
+    ensures tells { Tells result cursor.old cursor.new }
 {
     let value_type = value_type(cursor)?;
     let is_variable = flag(cursor)?;

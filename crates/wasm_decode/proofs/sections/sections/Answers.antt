@@ -1,12 +1,12 @@
-use Rattle.std.proofs.Common.{◌≡◌, ◌-◌, ◌<◌, length, [], None, sym, ◌∙◌, arith}
+use Rattle.std.proofs.Common.{◌≡◌, ◌-◌, ◌<◌, length, [], None, sym, ◌∙◌, arith, rules}
 use Rattle.std.proofs.lemmas.Result.{err_from_is_err_and}
 use Rattle.wasm_decode.specs.SectionReading.{section_at, sections_at}
 use Rattle.wasm_decode.proofs.Loop.{Fails-weaker}
 use Rattle.wasm_decode.proofs.Walks.{another, none_more, all_read}
 use Rattle.wasm_decode.proofs.sections.sections.Goals as goal
 
-pub returns-in_err-last : goal.returns-in_err-last
-returns-in_err-last c =
+pub returns-in_err-last-clause-read : goal.returns-in_err-last-clause-read
+returns-in_err-last-clause-read c =
     let l = c.sections in
     let total = sections_at (length c.args.cursor.now.rest) 0 c.args.parts.now c.args.cursor.now.rest in
     let some : ¬ (l.cursor.rest ≡ []) = grind arith in
@@ -19,10 +19,10 @@ sections-preserved c =
     let n = l.invariant.0 in
     let after = c.section.new.cursor.rest in
     let less : length after < length l.cursor.rest = c.in_ok-last.ensures.shorter in
-    (n - 1, omega (arith, l.invariant.1), sym (another n l.last l.parts l.cursor.rest c.in_ok-last.last c.section.new.parts after less l.invariant.1 c.in_ok-last.ensures.read) ∙ l.invariant.2)
+    (n - 1, omega (arith, l.invariant.1), sym (another n l.last l.parts l.cursor.rest c.in_ok-last.last c.section.new.parts after less l.invariant.1 c.in_ok-last.ensures.read) ∙ l.invariant.2, search rules)
 
-pub returns : goal.returns
-returns c =
+pub returns-clause-read : goal.returns-clause-read
+returns-clause-read c =
     let l = c.sections in
     let over : l.cursor.rest ≡ [] = grind arith in
     sym l.invariant.2 ∙ all_read l.invariant.0 l.last l.parts l.cursor.rest over

@@ -1,11 +1,13 @@
 use Rattle.std.proofs.Common.{◌≡◌, ℕ, ◌≤◌, length}
 use Rattle.wasm_decode.specs.SectionReading.{sections_at}
+use Rattle.wasm_decode.specs.Faults.{Kept}
 use Rattle.wasm_decode.proofs.sections.sections.Given as goal
 
 abbrev pub invariant-sections : goal.invariant-sections
 invariant-sections l =
     (n : ℕ) × (length l.cursor.rest ≤ n)
     × (sections_at n l.last l.parts l.cursor.rest ≡ sections_at (length l.fn.cursor.rest) 0 l.fn.parts l.fn.cursor.rest)
+    × Kept l.fn.cursor l.cursor
 
 abbrev pub decreases-sections : goal.decreases-sections
 decreases-sections l = length l.cursor.rest

@@ -1,0 +1,84 @@
+-- What a fault says of the bytes: what stands, or fails to stand, at its offset (Core 1.0, chapter 5).
+use Rattle.std.specs.Prelude.{◌≡◌, ◌≢◌, ℕ, ◌+◌, ◌<◌, ◌≤◌, ◌⊎◌, List, length, drop, slice_get, Some, MatchOption, Result, Ok, Err}
+use Rattle.wasm_bytes.specs.Spelling.{IsU32}
+use Rattle.wasm_bytes.specs.Place.{Place}
+use Rattle.wasm_bytes.specs.Stands.{Spans, NoNumber, NoText}
+use Rattle.wasm_decode.specs.declared.fault.DecodeFault.{DecodeFault}
+use Rattle.wasm_decode.specs.declared.fault.DecodeFault.TheVariants.{Memory, Malformed}
+use Rattle.wasm_decode.specs.declared.fault.FaultKind.{FaultKind}
+use Rattle.wasm_decode.specs.declared.fault.FaultKind.TheVariants.{Magic, Version, EndedEarly, BadNumber, SectionOrder, Length, Opcode, TypeByte, NotUtf8, Float, Limit, CountsDiffer, StartSection}
+use Rattle.wasm_decode.specs.ModuleReading.{header_bytes}
+
+-- a byte of which P holds stands at an offset
+abbrev pub HasByte : (ℕ → Type 0) → List ℕ → ℕ → Type 0
+HasByte P bytes offset = MatchOption (slice_get bytes offset) ⊥ P
+
+-- a number of which P holds, given the offset behind it, stands at an offset
+abbrev pub HasNumber : (ℕ → ℕ → Type 0) → List ℕ → ℕ → Type 0
+HasNumber P bytes offset = (n : ℕ) × (behind : ℕ) × Spans IsU32 n bytes offset behind × P n behind
+
+-- a part that has its length in front (a section, 5.5.2, or the code of a function, 5.5.13) ends at an offset
+abbrev pub PartEnds : List ℕ → ℕ → Type 0
+PartEnds bytes end = (start : ℕ) × (end ≤ length bytes) × HasNumber (λ n behind. end ≡ behind + n) bytes start
+
+-- the input, or a part of it, ends at an offset
+abbrev pub IsEnd : List ℕ → ℕ → ℕ → Type 0
+IsEnd bytes end offset = (offset ≡ end) ⊎ PartEnds bytes offset
+
+-- a byte of the header (5.5.16) differs
+abbrev pub Differs : List ℕ → ℕ → Type 0
+Differs bytes offset = HasByte (λ b. slice_get header_bytes offset ≢ Some b) bytes offset
+
+-- the bytes of f32 and f64
+abbrev pub IsFloatType : ℕ → Type 0
+IsFloatType b = (0x7c ≤ b) × (b ≤ 0x7d)
+
+-- the opcodes of instructions on floats (5.4.4 and 5.4.5)
+abbrev pub IsFloatOpcode : ℕ → Type 0
+IsFloatOpcode b =
+    ((0x2a ≤ b) × (b ≤ 0x2b)) ⊎ ((0x38 ≤ b) × (b ≤ 0x39)) ⊎ ((0x43 ≤ b) × (b ≤ 0x44)) ⊎ ((0x5b ≤ b) × (b ≤ 0x66))
+    ⊎ ((0x8b ≤ b) × (b ≤ 0xa6)) ⊎ ((0xa8 ≤ b) × (b ≤ 0xab)) ⊎ ((0xae ≤ b) × (b ≤ 0xbf))
+
+abbrev pub IsFloat : ℕ → Type 0
+IsFloat b = IsFloatType b ⊎ IsFloatOpcode b
+
+-- a limit is passed by the bytes of the module, by a number, or by an instruction, so no `else` or `end`
+abbrev pub PassesLimit : List ℕ → ℕ → Type 0
+PassesLimit bytes offset =
+    ((offset ≡ 262144) × (262144 < length bytes))
+    ⊎ HasNumber (λ n _. 0 < n) bytes offset
+    ⊎ HasByte (λ b. (b ≢ 0x05) × (b ≢ 0x0b)) bytes offset
+
+-- what a kind of fault says of an offset, where the input ends at `end`
+abbrev pub Stands : FaultKind → (offset end : ℕ) → List ℕ → Type 0
+Stands Magic offset end bytes = (offset < 4) × Differs bytes offset
+Stands Version offset end bytes = (4 ≤ offset) × Differs bytes offset
+Stands EndedEarly offset end bytes = IsEnd bytes end offset
+Stands BadNumber offset end bytes = NoNumber (drop offset bytes)
+-- the id of a section that is not custom
+Stands SectionOrder offset end bytes = HasByte (λ id. 0 < id) bytes offset
+-- the length of a section or of a body
+Stands Length offset end bytes = HasNumber (λ _ _. Unit {0}) bytes offset
+-- an opcode that is not listed, an `else` of no `if`, or a reserved byte that is not 0
+Stands Opcode offset end bytes = HasByte (λ b. 0 < b) bytes offset
+Stands TypeByte offset end bytes = HasByte (λ _. Unit {0}) bytes offset
+Stands NotUtf8 offset end bytes = NoText (drop offset bytes)
+Stands Float offset end bytes = HasByte IsFloat bytes offset
+Stands Limit offset end bytes = PassesLimit bytes offset
+-- how many bodies there are, or the end where there is no code section
+Stands CountsDiffer offset end bytes = (offset ≡ length bytes) ⊎ HasNumber (λ _ _. Unit {0}) bytes offset
+Stands StartSection offset end bytes = HasByte (λ id. id ≡ 8) bytes offset
+
+-- want of memory says nothing of the bytes
+abbrev pub Says : DecodeFault → (end : ℕ) → List ℕ → Type 0
+Says Memory end bytes = Unit {0}
+Says (Malformed kind offset) end bytes = Stands kind offset end bytes
+
+-- of the same bytes, with the same end
+abbrev pub Kept : Place → Place → Type 0
+Kept old new = (new.whole ≡ old.whole) × (new.end ≡ old.end)
+
+-- a reader stays in the bytes of its cursor, and its fault says something true of them
+abbrev pub Tells : {X : Type 0} → Result X DecodeFault → Place → Place → Type 0
+Tells (Ok x) old new = Kept old new
+Tells (Err e) old new = Says e old.end old.whole
