@@ -1,6 +1,6 @@
 -- What a fault inside a part says of the whole.
-use Rattle.std.proofs.Common.{◌≡◌, ℕ, ◌+◌, ◌≤◌, inl, inr, List, length, Some, slice_get, sym, subst}
-use Rattle.std.specs.Prelude.{MatchOption}
+use Rattle.std.proofs.Common.{◌≡◌, ℕ, ◌+◌, ◌≤◌, inl, inr, List, ◌++◌, length, Option, Some, None, slice_get, refl, sym, ap, ◌∙◌, subst}
+use Rattle.std.specs.Prelude.{MatchOption, option_map}
 use Rattle.wasm_bytes.specs.declared.fault.FaultKind.{FaultKind as ByteFaultKind}
 use Rattle.wasm_bytes.specs.declared.fault.FaultKind.TheVariants as byte
 use Rattle.wasm_bytes.specs.Spelling.{IsU32}
@@ -11,7 +11,14 @@ use Rattle.wasm_decode.specs.declared.fault.DecodeFault.TheVariants.{Memory, Mal
 use Rattle.wasm_decode.specs.declared.fault.FaultKind.{FaultKind}
 use Rattle.wasm_decode.specs.declared.fault.FaultKind.TheVariants.{Magic, Version, EndedEarly, BadNumber, SectionOrder, Length, Opcode, TypeByte, NotUtf8, Float, Limit, CountsDiffer, StartSection}
 use Rattle.wasm_decode.specs.FaultNumbers.{kind_of}
-use Rattle.wasm_decode.specs.Faults.{HasByte, PartEnds, Stands, Says}
+use Rattle.wasm_decode.specs.Faults.{HasByte, PartEnds, IsReserved, Stands, Says}
+use Rattle.grammar.specs.Table.{row_at}
+use Rattle.wasm_ast.specs.declared.operators.LoadOp.{LoadOp}
+use Rattle.wasm_ast.specs.declared.operators.StoreOp.{StoreOp}
+use Rattle.wasm_decode.specs.Operators.{operator_rows, comparison_rows, arithmetic_32_rows, arithmetic_64_rows, conversion_rows, load_rows, store_rows}
+use Rattle.wasm_decode.specs.Opcodes.{Form, bare, access, load_of, store_of, with_form, other_rows, opcodes}
+use Rattle.wasm_decode.specs.OpReading.{alone}
+use Rattle.wasm_decode.proofs.Rows.{first_of, row_at-append, row_at-map}
 
 pub has_byte : (P : ℕ → Type 0) (bytes : List ℕ) (offset b : ℕ) → slice_get bytes offset ≡ Some b → P b → HasByte P bytes offset
 has_byte P bytes offset b e h = subst (λ o. MatchOption o ⊥ P) (sym e) h
@@ -46,3 +53,37 @@ pub of_bytes : (kind : ByteFaultKind) (offset end : ℕ) (bytes : List ℕ) → 
 of_bytes byte.EndedEarly offset end bytes h = inl h
 of_bytes byte.BadNumber offset end bytes h = h
 of_bytes byte.NotUtf8 offset end bytes h = h
+
+none_mapped : {A B : Type 0} (f : A → B) (o : Option A) → None ≡ option_map f o → o ≡ None
+none_mapped f None e = refl
+none_mapped f (Some x) e = absurd cc
+
+pub no_operator : (b : ℕ) → None ≡ option_map alone (row_at operator_rows b) → row_at operator_rows b ≡ None
+no_operator b e = none_mapped alone (row_at operator_rows b) e
+
+-- a byte that is in no table of opcodes
+pub unlisted : (b : ℕ) → row_at operator_rows b ≡ None → row_at load_rows b ≡ None → row_at store_rows b ≡ None → row_at other_rows b ≡ None → row_at opcodes b ≡ None
+unfolding opcodes
+unlisted b operator load store other =
+    let access_load : LoadOp → Form = λ o. access (load_of o) in
+    let access_store : StoreOp → Form = λ o. access (store_of o) in
+    let first = row_at-map bare operator_rows b ∙ ap (option_map bare) operator in
+    let second = row_at-map access_load load_rows b ∙ ap (option_map access_load) load in
+    let third = row_at-map access_store store_rows b ∙ ap (option_map access_store) store in
+    let last = row_at-append (with_form access_store store_rows) other_rows b ∙ ap (λ o. first_of o (row_at other_rows b)) third ∙ other in
+    let rest = row_at-append (with_form access_load load_rows) (with_form access_store store_rows ++ other_rows) b ∙ ap (λ o. first_of o (row_at (with_form access_store store_rows ++ other_rows) b)) second ∙ last in
+    row_at-append (with_form bare operator_rows) (with_form access_load load_rows ++ (with_form access_store store_rows ++ other_rows)) b ∙ ap (λ o. first_of o (row_at (with_form access_load load_rows ++ (with_form access_store store_rows ++ other_rows)) b)) first ∙ rest
+
+pub else_unlisted : row_at opcodes 0x05 ≡ None
+unfolding opcodes operator_rows comparison_rows arithmetic_32_rows arithmetic_64_rows conversion_rows load_rows store_rows other_rows
+else_unlisted = refl
+
+-- behind the index of a `call_indirect`
+pub behind_index : (old mid : Place) (n start : ℕ) → HasByte (λ o. o ≡ 0x11) old.whole start → offset_of old ≡ start + 1 → Spans IsU32 n old.whole (offset_of old) (offset_of mid) → mid.whole ≡ old.whole → IsReserved mid.whole (offset_of mid)
+behind_index old mid n start op at spans same =
+    subst (λ bytes. IsReserved bytes (offset_of mid)) (sym same) (start, inr (op, (n, offset_of mid, subst (λ k. Spans IsU32 n old.whole k (offset_of mid)) at spans, refl)))
+
+-- behind `memory.size` or `memory.grow`
+pub behind_opcode : (p : Place) (byte offset : ℕ) → slice_get p.whole offset ≡ Some byte → 0x3f ≤ byte → byte ≤ 0x40 → offset_of p ≡ offset + 1 → IsReserved p.whole (offset_of p)
+behind_opcode p byte offset here least most behind =
+    (offset, inl (has_byte (λ o. (0x3f ≤ o) × (o ≤ 0x40)) p.whole offset byte here (least, most), behind))

@@ -1,5 +1,5 @@
 -- What a fault says of the bytes: what stands, or fails to stand, at its offset (Core 1.0, chapter 5).
-use Rattle.std.specs.Prelude.{◌≡◌, ◌≢◌, ℕ, ◌+◌, ◌<◌, ◌≤◌, ◌⊎◌, List, length, drop, slice_get, Some, MatchOption, Result, Ok, Err}
+use Rattle.std.specs.Prelude.{◌≡◌, ◌≢◌, ℕ, ◌+◌, ◌<◌, ◌≤◌, ◌⊎◌, List, length, drop, slice_get, Some, None, MatchOption, Result, Ok, Err}
 use Rattle.wasm_bytes.specs.Spelling.{IsU32}
 use Rattle.wasm_bytes.specs.Place.{Place}
 use Rattle.wasm_bytes.specs.Stands.{Spans, NoNumber, NoText}
@@ -7,6 +7,8 @@ use Rattle.wasm_decode.specs.declared.fault.DecodeFault.{DecodeFault}
 use Rattle.wasm_decode.specs.declared.fault.DecodeFault.TheVariants.{Memory, Malformed}
 use Rattle.wasm_decode.specs.declared.fault.FaultKind.{FaultKind}
 use Rattle.wasm_decode.specs.declared.fault.FaultKind.TheVariants.{Magic, Version, EndedEarly, BadNumber, SectionOrder, Length, Opcode, TypeByte, NotUtf8, Float, Limit, CountsDiffer, StartSection}
+use Rattle.grammar.specs.Table.{row_at}
+use Rattle.wasm_decode.specs.Opcodes.{opcodes}
 use Rattle.wasm_decode.specs.ModuleReading.{header_bytes}
 
 -- a byte of which P holds stands at an offset
@@ -49,6 +51,14 @@ PassesLimit bytes offset =
     ⊎ HasNumber (λ n _. 0 < n) bytes offset
     ⊎ HasByte (λ b. (b ≢ 0x05) × (b ≢ 0x0b)) bytes offset
 
+-- A byte that has to be 0 stands at an offset: behind `memory.size` or `memory.grow`, or behind the index of
+-- a `call_indirect` (5.4.1 and 5.4.4).
+abbrev pub IsReserved : List ℕ → ℕ → Type 0
+IsReserved bytes offset =
+    (start : ℕ) × (
+    (HasByte (λ o. (0x3f ≤ o) × (o ≤ 0x40)) bytes start × (offset ≡ start + 1))
+    ⊎ (HasByte (λ o. o ≡ 0x11) bytes start × HasNumber (λ _ behind. offset ≡ behind) bytes (start + 1)))
+
 -- what a kind of fault says of an offset, where the input ends at `end`
 abbrev pub Stands : FaultKind → (offset end : ℕ) → List ℕ → Type 0
 Stands Magic offset end bytes = (offset < 4) × Differs bytes offset
@@ -59,8 +69,8 @@ Stands BadNumber offset end bytes = NoNumber (drop offset bytes)
 Stands SectionOrder offset end bytes = HasByte (λ id. 0 < id) bytes offset
 -- the length of a section or of a body
 Stands Length offset end bytes = HasNumber (λ _ _. Unit {0}) bytes offset
--- an opcode that is not listed, an `else` of no `if`, or a reserved byte that is not 0
-Stands Opcode offset end bytes = HasByte (λ b. 0 < b) bytes offset
+-- a byte that is no opcode (as an `else` of no `if` is none), or a reserved byte that is not 0
+Stands Opcode offset end bytes = HasByte (λ b. (row_at opcodes b ≡ None) ⊎ ((0 < b) × IsReserved bytes offset)) bytes offset
 Stands TypeByte offset end bytes = HasByte (λ _. Unit {0}) bytes offset
 Stands NotUtf8 offset end bytes = NoText (drop offset bytes)
 Stands Float offset end bytes = HasByte IsFloat bytes offset

@@ -1,11 +1,14 @@
 //! Expressions and their instructions (WebAssembly Core 1.0, section 5.4).
 
-ghost use Rattle.std.specs.Prelude.{◌≡◌, ◌^◌, ◌<◌, ◌≤◌, ◌⊎◌, OnOk, IfOk, ℕ, List, [], ◌∷◌, Option, Some, None, slice_get};
-ghost use Rattle.grammar.specs.Table.{row_byte_at};
+ghost use Rattle.std.specs.Prelude.{◌≡◌, ◌+◌, ◌^◌, ◌<◌, ◌≤◌, ◌⊎◌, OnOk, IfOk, ℕ, List, [], ◌∷◌, Option, Some, None, slice_get};
+ghost use Rattle.grammar.specs.Table.{row_at, row_byte_at};
 ghost use Rattle.grammar.specs.Reading.{byte_at};
 ghost use Rattle.wasm_ast.specs.View.{code_of};
 ghost use Rattle.wasm_decode.specs.Parses.{Parses};
-ghost use Rattle.wasm_decode.specs.Faults.{Stands, Tells};
+ghost use Rattle.wasm_decode.specs.Faults.{HasByte, IsReserved, Stands, Tells};
+ghost use Rattle.wasm_decode.specs.Opcodes.{opcodes};
+ghost use Rattle.wasm_decode.specs.Operators.{load_rows, store_rows, operator_rows};
+ghost use Rattle.wasm_bytes.specs.Place.{offset_of};
 ghost use Rattle.wasm_decode.specs.OpReading.{reserved_at, reserved_index_at, argument_at, branch_table_at, other_at, plain_at};
 ghost use Rattle.wasm_decode.specs.CodeReading.{block_at, conditional_at, step_at, body_at, below, closed_at, expression_at};
 
@@ -34,6 +37,7 @@ fn next_opcode(cursor: &mut Cursor<'_>) -> Result<Opcode, DecodeFault>
     ensures read { Parses (λ o. o.byte) result cursor.new (byte_at cursor.old.rest) }
     ensures tells { Tells result cursor.old cursor.new }
     ensures here { IfOk result (λ o. slice_get cursor.old.whole o.offset ≡ Some o.byte) }
+    ensures behind { IfOk result (λ o. offset_of cursor.new ≡ o.offset + 1) }
 {
     let offset = cursor.offset();
     let byte = cursor.byte()?;
@@ -53,6 +57,7 @@ fn branch_table(alloc: Global, cursor: &mut Cursor<'_>) -> Result<BranchTable, D
 /// A byte that has to be 0.
 #[tactic(auto, unfolding(crate::specs::OpReading::reserved_at))]
 fn reserved(cursor: &mut Cursor<'_>) -> Result<(), DecodeFault>
+    requires { IsReserved cursor.old.whole (offset_of cursor.old) }
     ensures read { Parses (λ u. u) result cursor.new (reserved_at cursor.old.rest) }
     ensures tells { Tells result cursor.old cursor.new }
 {
@@ -66,6 +71,7 @@ fn reserved(cursor: &mut Cursor<'_>) -> Result<(), DecodeFault>
 /// The index of a type, and a byte that has to be 0.
 #[tactic(auto, unfolding(crate::specs::OpReading::reserved_index_at))]
 fn reserved_index(cursor: &mut Cursor<'_>) -> Result<u32, DecodeFault>
+    requires { (start : ℕ) × HasByte (λ o. o ≡ 0x11) cursor.old.whole start × (offset_of cursor.old ≡ start + 1) }
     ensures read { Parses (λ n. n) result cursor.new (reserved_index_at cursor.old.rest) }
     ensures tells { Tells result cursor.old cursor.new }
 {
@@ -87,7 +93,7 @@ fn memory_argument(cursor: &mut Cursor<'_>) -> Result<MemoryArgument, DecodeFaul
 
 /// The fault of an opcode that is not of the profile: those of floats are told apart.
 fn opcode_fault(opcode: u8) -> FaultKind
-    requires { 0 < opcode }
+    requires { row_at opcodes opcode ≡ None }
     ensures { (offset : ℕ) → (end : ℕ) → (bytes : List ℕ) → slice_get bytes offset ≡ Some opcode → Stands result offset end bytes }
 {
     match opcode {
@@ -101,6 +107,10 @@ fn opcode_fault(opcode: u8) -> FaultKind
 #[tactic(auto, unfolding(crate::specs::OpReading::other_at, crate::specs::Opcodes::other_rows))]
 fn other(alloc: Global, cursor: &mut Cursor<'_>, opcode: Opcode) -> Result<Instr, DecodeFault>
     requires here { slice_get cursor.old.whole opcode.offset ≡ Some opcode.byte }
+    requires behind { offset_of cursor.old ≡ opcode.offset + 1 }
+    requires operator { row_at operator_rows opcode.byte ≡ None }
+    requires load { row_at load_rows opcode.byte ≡ None }
+    requires store { row_at store_rows opcode.byte ≡ None }
     ensures read { Parses (λ i. code_of (i ∷ [])) result cursor.new (other_at opcode.byte cursor.old.rest) }
     ensures tells { Tells result cursor.old cursor.new }
 {
@@ -138,6 +148,7 @@ fn other(alloc: Global, cursor: &mut Cursor<'_>, opcode: Opcode) -> Result<Instr
 #[tactic(auto, unfolding(crate::specs::OpReading::plain_at))]
 fn plain(alloc: Global, cursor: &mut Cursor<'_>, opcode: Opcode) -> Result<Instr, DecodeFault>
     requires here { slice_get cursor.old.whole opcode.offset ≡ Some opcode.byte }
+    requires behind { offset_of cursor.old ≡ opcode.offset + 1 }
     ensures read { Parses (λ i. code_of (i ∷ [])) result cursor.new (plain_at opcode.byte cursor.old.rest) }
     ensures tells { Tells result cursor.old cursor.new }
 {
@@ -217,6 +228,7 @@ fn instruction(
     left: &mut u32,
 ) -> Result<Instr, DecodeFault>
     requires here { slice_get cursor.old.whole opcode.offset ≡ Some opcode.byte }
+    requires behind { offset_of cursor.old ≡ opcode.offset + 1 }
     ensures read { Parses (λ i. record { code = code_of (i ∷ []); left = left.new }) result cursor.new (step_at (below nesting) opcode.byte left.old cursor.old.rest) }
     ensures tells { Tells result cursor.old cursor.new }
     ensures fewer { OnOk result (left.new ≤ left.old) }

@@ -1,11 +1,11 @@
-use Rattle.std.proofs.Common.{◌≡◌, suc, ◌-◌, ◌<◌, inl, inr, true, [], ◌∷◌, Some, None, refl, sym, ap, ◌∙◌, arith, rules}
+use Rattle.std.proofs.Common.{◌≡◌, suc, ◌-◌, inl, inr, true, [], ◌∷◌, Some, None, refl, sym, ap, ◌∙◌, arith, rules}
 use Rattle.std.proofs.lemmas.Result.{err_from_is_err_and}
 use Rattle.grammar.specs.Reading.{byte_at}
 use Rattle.wasm_ast.specs.View.{code_of}
 use Rattle.wasm_decode.specs.CodeReading.{before, block_at, conditional_at, step_at, code_at, body_at, below, is_last}
 use Rattle.wasm_decode.proofs.Loop.{Fails-weaker, differs}
 use Rattle.wasm_decode.proofs.Turns.{code_of-append, body_is, below_is, no_block, nothing_before, no_opcode, is_over, too_many, no_step, turn}
-use Rattle.wasm_decode.proofs.FaultLaws.{has_byte}
+use Rattle.wasm_decode.proofs.FaultLaws.{has_byte, else_unlisted}
 use Rattle.wasm_decode.proofs.code.+code.Goals as goal
 use Rattle.wasm_decode.proofs.code.+code.Goals.{instructions-then-opcode-eq-END-via-then-opcode-eq-END, instructions-then-opcode-eq-END-via-else-opcode-eq-END+then-opcode-eq-ELSE}
 
@@ -109,5 +109,5 @@ conditional-returns-then-nesting-eq0-clause-tells t c =
 pub closed-returns-then-last-ne-END-clause-tells : goal.closed-returns-then-last-ne-END-clause-tells
 closed-returns-then-last-ne-END-clause-tells t c =
     let last = c.in_ok-body.last in
-    let some : 0 < last.byte = elim c.in_ok-body.ensures.last [ inl e ↦ omega (arith, e) | inr e ↦ omega (arith, e) ] in
-    rw c.refuse.ensures (has_byte _ c.args.cursor.now.whole last.offset last.byte c.in_ok-body.ensures.here some)
+    let other : last.byte ≡ 0x05 = elim c.in_ok-body.ensures.last [ inl e ↦ e | inr e ↦ absurd (c.if-last-ne-END.true e) ] in
+    rw c.refuse.ensures (has_byte _ c.args.cursor.now.whole last.offset last.byte c.in_ok-body.ensures.here (inl (rw other else_unlisted)))

@@ -1,4 +1,4 @@
-use Rattle.std.proofs.Common.{inl, inr}
+use Rattle.std.proofs.Common.{inr}
 use Rattle.wasm_decode.proofs.functions.functions.Goals as goal
 
 pub returns-then-count-type_indices-clause-tells : goal.returns-then-count-type_indices-clause-tells
