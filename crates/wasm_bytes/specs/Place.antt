@@ -1,4 +1,4 @@
--- Where a cursor stands: all the bytes, the offset at which its own end, and those of its own that are left.
+-- Where a cursor stands: all the bytes, the offset at which its own end, and those that are left.
 use Rattle.std.specs.Prelude.{◌≡◌, ℕ, ◌+◌, ◌-◌, List, ◌++◌, length}
 
 pub record Place : Type 0 where

@@ -11,7 +11,8 @@ use Rattle.wasm_bytes.specs.Place.{Place, offset_of}
 -- x is spelled from one offset up to another
 abbrev pub Spans : {A : Type 0} → (A → List ℕ → Type 0) → A → List ℕ → (from to : ℕ) → Type 0
 Spans Spells x bytes from to =
-    (text : List ℕ) × (rest : List ℕ) × Spells x text × (drop from bytes ≡ text ++ rest) × (to ≡ from + length text)
+    (text : List ℕ) × (rest : List ℕ) × Spells x text × (drop from bytes ≡ text ++ rest)
+    × (to ≡ from + length text)
 
 -- no item is spelled in front, and none would be whatever came after the bytes
 abbrev pub Never : {A : Type 0} → (A → List ℕ → Type 0) → List ℕ → Type 0
@@ -34,7 +35,8 @@ Says BadNumber offset end bytes = NoNumber (drop offset bytes)
 Says NotUtf8 offset end bytes = NoText (drop offset bytes)
 
 -- What a reader passes is its item, seen by view, and what its fault says is true.
-abbrev pub Tells : {X Y : Type 0} → (X → Y) → (Y → List ℕ → Type 0) → Result X ByteFault → Place → Place → Type 0
+abbrev pub Tells : {X Y : Type 0} → (X → Y) → (Y → List ℕ → Type 0)
+    → Result X ByteFault → Place → Place → Type 0
 Tells view Spells (Ok x) old new =
     Spans Spells (view x) old.whole (offset_of old) (offset_of new) × (new.whole ≡ old.whole)
 Tells view Spells (Err e) old new = Says e.kind e.offset old.end old.whole

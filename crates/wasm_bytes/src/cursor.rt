@@ -168,8 +168,17 @@ impl<'a> Cursor<'a> {
     /// left there is none, and the cursor stays.
     pub fn split(&mut self, len: u32) -> Option<Cursor<'a>>
         ensures front { MatchOption result ((length self.old.rest < len) × (self.new ≡ self.old))
-            (λ front. (len ≤ length self.old.rest) × (front ≡ record { whole = self.old.whole; end = offset_of self.old + len; rest = take len self.old.rest })
-            × (self.new ≡ record { whole = self.old.whole; end = self.old.end; rest = drop len self.old.rest })) }
+            (λ front. (len ≤ length self.old.rest)
+            × (front ≡ record {
+              whole = self.old.whole;
+              end = offset_of self.old + len;
+              rest = take len self.old.rest;
+            })
+            × (self.new ≡ record {
+              whole = self.old.whole;
+              end = self.old.end;
+              rest = drop len self.old.rest;
+            })) }
         ensures within { IfSome result (λ front. front.end ≤ length self.old.whole) }
     {
         let len = len as usize;

@@ -1,4 +1,4 @@
--- What a fault says of the bytes: what stands, or fails to stand, at its offset (Core 1.0, chapter 5).
+-- What a fault says of the bytes: what stands, or does not, at its offset (Core 1.0, chapter 5).
 use Rattle.std.specs.Prelude.{◌≡◌, ◌≢◌, ℕ, ◌+◌, ◌<◌, ◌≤◌, ◌⊎◌, List, length, drop, slice_get, Some, None, MatchOption, Result, Ok, Err}
 use Rattle.wasm_bytes.specs.Spelling.{IsU32}
 use Rattle.wasm_bytes.specs.Place.{Place}
@@ -19,9 +19,10 @@ HasByte P bytes offset = MatchOption (slice_get bytes offset) ⊥ P
 abbrev pub HasNumber : (ℕ → ℕ → Type 0) → List ℕ → ℕ → Type 0
 HasNumber P bytes offset = (n : ℕ) × (behind : ℕ) × Spans IsU32 n bytes offset behind × P n behind
 
--- a part that has its length in front (a section, 5.5.2, or the code of a function, 5.5.13) ends at an offset
+-- a part that has its length in front (a section, 5.5.2, or a function's code, 5.5.13) ends there
 abbrev pub PartEnds : List ℕ → ℕ → Type 0
-PartEnds bytes end = (start : ℕ) × (end ≤ length bytes) × HasNumber (λ n behind. end ≡ behind + n) bytes start
+PartEnds bytes end =
+    (start : ℕ) × (end ≤ length bytes) × HasNumber (λ n behind. end ≡ behind + n) bytes start
 
 -- the input, or a part of it, ends at an offset
 abbrev pub IsEnd : List ℕ → ℕ → ℕ → Type 0
@@ -38,26 +39,28 @@ IsFloatType b = (0x7c ≤ b) × (b ≤ 0x7d)
 -- the opcodes of instructions on floats (5.4.4 and 5.4.5)
 abbrev pub IsFloatOpcode : ℕ → Type 0
 IsFloatOpcode b =
-    ((0x2a ≤ b) × (b ≤ 0x2b)) ⊎ ((0x38 ≤ b) × (b ≤ 0x39)) ⊎ ((0x43 ≤ b) × (b ≤ 0x44)) ⊎ ((0x5b ≤ b) × (b ≤ 0x66))
+    ((0x2a ≤ b) × (b ≤ 0x2b)) ⊎ ((0x38 ≤ b) × (b ≤ 0x39)) ⊎ ((0x43 ≤ b) × (b ≤ 0x44))
+    ⊎ ((0x5b ≤ b) × (b ≤ 0x66))
     ⊎ ((0x8b ≤ b) × (b ≤ 0xa6)) ⊎ ((0xa8 ≤ b) × (b ≤ 0xab)) ⊎ ((0xae ≤ b) × (b ≤ 0xbf))
 
 abbrev pub IsFloat : ℕ → Type 0
 IsFloat b = IsFloatType b ⊎ IsFloatOpcode b
 
--- a limit is passed by the bytes of the module, by a number, or by an instruction, so no `else` or `end`
+-- the bytes of the module, a number, or an instruction (no `else` or `end`) pass a limit
 abbrev pub PassesLimit : List ℕ → ℕ → Type 0
 PassesLimit bytes offset =
     ((offset ≡ 262144) × (262144 < length bytes))
     ⊎ HasNumber (λ n _. 0 < n) bytes offset
     ⊎ HasByte (λ b. (b ≢ 0x05) × (b ≢ 0x0b)) bytes offset
 
--- A byte that has to be 0 stands at an offset: behind `memory.size` or `memory.grow`, or behind the index of
--- a `call_indirect` (5.4.1 and 5.4.4).
+-- A byte that has to be 0 stands at an offset: behind `memory.size` or `memory.grow`, or behind
+-- the index of a `call_indirect` (5.4.1 and 5.4.4).
 abbrev pub IsReserved : List ℕ → ℕ → Type 0
 IsReserved bytes offset =
     (start : ℕ) × (
     (HasByte (λ o. (0x3f ≤ o) × (o ≤ 0x40)) bytes start × (offset ≡ start + 1))
-    ⊎ (HasByte (λ o. o ≡ 0x11) bytes start × HasNumber (λ _ behind. offset ≡ behind) bytes (start + 1)))
+    ⊎ (HasByte (λ o. o ≡ 0x11) bytes start
+    × HasNumber (λ _ behind. offset ≡ behind) bytes (start + 1)))
 
 -- what a kind of fault says of an offset, where the input ends at `end`
 abbrev pub Stands : FaultKind → (offset end : ℕ) → List ℕ → Type 0
@@ -70,14 +73,21 @@ Stands SectionOrder offset end bytes = HasByte (λ id. 0 < id) bytes offset
 -- the length of a section or of a body
 Stands Length offset end bytes = HasNumber (λ _ _. Unit {0}) bytes offset
 -- a byte that is no opcode (as an `else` of no `if` is none), or a reserved byte that is not 0
-Stands Opcode offset end bytes = HasByte (λ b. (row_at opcodes b ≡ None) ⊎ ((0 < b) × IsReserved bytes offset)) bytes offset
+Stands Opcode offset end bytes =
+    HasByte (λ b. (row_at opcodes b ≡ None) ⊎ ((0 < b) × IsReserved bytes offset)) bytes offset
 Stands TypeByte offset end bytes = HasByte (λ _. Unit {0}) bytes offset
 Stands NotUtf8 offset end bytes = NoText (drop offset bytes)
 Stands Float offset end bytes = HasByte IsFloat bytes offset
 Stands Limit offset end bytes = PassesLimit bytes offset
 -- how many bodies there are, or the end where there is no code section
-Stands CountsDiffer offset end bytes = (offset ≡ length bytes) ⊎ HasNumber (λ _ _. Unit {0}) bytes offset
+Stands CountsDiffer offset end bytes =
+    (offset ≡ length bytes) ⊎ HasNumber (λ _ _. Unit {0}) bytes offset
 Stands StartSection offset end bytes = HasByte (λ id. id ≡ 8) bytes offset
+
+-- the kind says something true wherever the byte stands
+abbrev pub IsFaultOf : ℕ → FaultKind → Type 0
+IsFaultOf b kind =
+    (offset end : ℕ) (bytes : List ℕ) → slice_get bytes offset ≡ Some b → Stands kind offset end bytes
 
 -- want of memory says nothing of the bytes
 abbrev pub Says : DecodeFault → (end : ℕ) → List ℕ → Type 0

@@ -5,7 +5,7 @@ ghost use Rattle.grammar.specs.Table.{row_at, row_byte_at};
 ghost use Rattle.grammar.specs.Reading.{byte_at};
 ghost use Rattle.wasm_ast.specs.View.{code_of};
 ghost use Rattle.wasm_decode.specs.Parses.{Parses};
-ghost use Rattle.wasm_decode.specs.Faults.{HasByte, IsReserved, Stands, Tells};
+ghost use Rattle.wasm_decode.specs.Faults.{HasByte, IsFaultOf, IsReserved, Tells};
 ghost use Rattle.wasm_decode.specs.Opcodes.{opcodes};
 ghost use Rattle.wasm_decode.specs.Operators.{load_rows, store_rows, operator_rows};
 ghost use Rattle.wasm_bytes.specs.Place.{offset_of};
@@ -71,7 +71,8 @@ fn reserved(cursor: &mut Cursor<'_>) -> Result<(), DecodeFault>
 /// The index of a type, and a byte that has to be 0.
 #[tactic(auto, unfolding(crate::specs::OpReading::reserved_index_at))]
 fn reserved_index(cursor: &mut Cursor<'_>) -> Result<u32, DecodeFault>
-    requires { (start : ℕ) × HasByte (λ o. o ≡ 0x11) cursor.old.whole start × (offset_of cursor.old ≡ start + 1) }
+    requires { (start : ℕ) × HasByte (λ o. o ≡ 0x11) cursor.old.whole start
+        × (offset_of cursor.old ≡ start + 1) }
     ensures read { Parses (λ n. n) result cursor.new (reserved_index_at cursor.old.rest) }
     ensures tells { Tells result cursor.old cursor.new }
 {
@@ -94,7 +95,7 @@ fn memory_argument(cursor: &mut Cursor<'_>) -> Result<MemoryArgument, DecodeFaul
 /// The fault of an opcode that is not of the profile: those of floats are told apart.
 fn opcode_fault(opcode: u8) -> FaultKind
     requires { row_at opcodes opcode ≡ None }
-    ensures { (offset : ℕ) → (end : ℕ) → (bytes : List ℕ) → slice_get bytes offset ≡ Some opcode → Stands result offset end bytes }
+    ensures { IsFaultOf opcode result }
 {
     match opcode {
         0x2a | 0x2b | 0x38 | 0x39 | 0x43 | 0x44 | 0x5b..=0x66 => FaultKind::Float,

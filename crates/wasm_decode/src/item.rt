@@ -30,7 +30,8 @@ pub(crate) trait Item {
 pub(crate) fn number(cursor: &mut Cursor<'_>, most: u32) -> Result<u32, DecodeFault>
     ensures read { Parses (λ x. x) result cursor.new (at_most most u32_at cursor.old.rest) }
     ensures tells { Tells result cursor.old cursor.new }
-    ensures stands { IfOk result (λ n. Spans IsU32 n cursor.old.whole (offset_of cursor.old) (offset_of cursor.new)) }
+    ensures stands { IfOk result (λ n.
+        Spans IsU32 n cursor.old.whole (offset_of cursor.old) (offset_of cursor.new)) }
 {
     let offset = cursor.offset();
     let number = cursor.u32_leb()?;

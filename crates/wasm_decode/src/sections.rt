@@ -5,7 +5,7 @@ ghost use Rattle.grammar.specs.Reading.{whole_at};
 ghost use Rattle.grammar.specs.Table.{row_at};
 ghost use Rattle.wasm_bytes.specs.Reading.{sized_at};
 ghost use Rattle.wasm_decode.specs.Parses.{Parses, Makes};
-ghost use Rattle.wasm_decode.specs.Faults.{Stands, Tells};
+ghost use Rattle.wasm_decode.specs.Faults.{IsFaultOf, Tells};
 ghost use Rattle.wasm_decode.specs.SectionReading.{section_rows, custom_at, fill_at, section_at, sections_at};
 
 use crate::fault::{DecodeFault, FaultKind, refuse};
@@ -61,7 +61,7 @@ fn section_kind(id: u8) -> Option<Kind>
 /// The fault of a section that may not stand here.
 fn order_fault(last: u8, id: u8) -> FaultKind
     requires { 0 < id }
-    ensures { (offset : ℕ) → (end : ℕ) → (bytes : List ℕ) → slice_get bytes offset ≡ Some id → Stands result offset end bytes }
+    ensures { IsFaultOf id result }
 {
     if id == 8 && last < 8 {
         FaultKind::StartSection

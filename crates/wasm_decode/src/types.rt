@@ -4,7 +4,7 @@ ghost use Rattle.std.specs.Prelude.{◌≡◌, ◌^◌, ℕ, List, Option, Some,
 ghost use Rattle.grammar.specs.Table.{row_at, row_byte_at};
 ghost use Rattle.wasm_bytes.specs.Reading.{u32_at};
 ghost use Rattle.wasm_decode.specs.Parses.{Parses};
-ghost use Rattle.wasm_decode.specs.Faults.{Stands, Tells};
+ghost use Rattle.wasm_decode.specs.Faults.{IsFaultOf, Tells};
 ghost use Rattle.wasm_decode.specs.Tables.{value_type_rows, block_type_rows, flag_rows};
 ghost use Rattle.wasm_decode.specs.TypeReading.{value_type_at, result_at, func_type_at, limits_at, table_type_at, memory_type_at, global_type_at};
 
@@ -27,7 +27,7 @@ fn value_type_of(byte: u8) -> Option<ValueType>
 
 /// The fault of a byte that stands for no type: f32 and f64 are told apart.
 fn type_fault(byte: u8) -> FaultKind
-    ensures { (offset : ℕ) → (end : ℕ) → (bytes : List ℕ) → slice_get bytes offset ≡ Some byte → Stands result offset end bytes }
+    ensures { IsFaultOf byte result }
 {
     match byte {
         0x7c | 0x7d => FaultKind::Float,

@@ -38,10 +38,11 @@ pub data MissingIndex (m : Module) : Type 0 where
 
 -- code is a body of the function: it takes nothing and leaves the function's result
 abbrev pub IsBody : Module → Func → Code → Type 0
-IsBody m f code = Types (function_context m f) code [] (results (type_at m.types f.type_index).result)
+IsBody m f code =
+    Types (function_context m f) code [] (results (type_at m.types f.type_index).result)
 
--- Some function's body has no typing: neither has a front of it in which each instruction keeps the rules
--- that have a fault of their own. So what breaks one of those stands, if at all, behind that front.
+-- Some function's body has no typing: neither has a front of it in which each instruction keeps
+-- the rules that have a fault of their own. What breaks one of those stands behind that front.
 pub record MistypedBody (m : Module) : Type 0 where
   pub place : ℕ
   pub function : Func
@@ -98,3 +99,7 @@ Broken fault.NoInvoke m = NoEntry m
 Broken fault.Segment m = PassesEnd m
 Broken fault.Initializer m = NotConstant m
 Broken fault.Limits m = BadLimits m
+
+-- a module breaks the rule of one fault and of no other
+abbrev pub BreaksAlone : ValidateFault → Module → Type 0
+BreaksAlone e m = (other : ValidateFault) → Broken other m → other ≢ fault.Memory → other ≡ e

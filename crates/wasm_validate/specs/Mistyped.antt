@@ -15,11 +15,12 @@ abbrev pub Mismatch : ValidateFault → Type 0 → Type 0
 Mismatch TypeMismatch P = P
 Mismatch _ P = Unit {0}
 
--- Some front of the code breaks no rule with a fault of its own, and validation gives no operands for it,
--- or none that are of the type at its end.
+-- Some front of the code breaks no rule with a fault of its own, and validation gives no operands
+-- for it, or none of the type at its end.
 abbrev pub Mistyped : Context → BlockType → Code → Operands → Type 0
 Mistyped c t code s =
-    (front : Code) × IsFront code front × (then (check c front s) (finish t) ≡ None) × BreaksNone c front
+    (front : Code) × IsFront code front × (then (check c front s) (finish t) ≡ None)
+    × BreaksNone c front
 
 -- of an if, whose operand is tested first
 abbrev pub MistypedIf : Context → BlockType → (yes no : Code) → Operands → Type 0

@@ -34,7 +34,8 @@ pub fn check_load(
     ensures ok { IfOk result (λ _. step (context_of scope.now labels.now) (op.Load load argument.align argument.offset) stack.old.here ≡ Some stack.new.here) }
     ensures lower { IfOk result (λ _. stack.new.lower ≡ stack.old.lower) }
     ensures refused { IfErr result (λ e. Refused e (Breaks e (context_of scope.now labels.now) (op.Load load argument.align argument.offset)) (step (context_of scope.now labels.now) (op.Load load argument.align argument.offset) stack.old.here)) }
-    ensures keeps { IfErr result (λ e. Mismatch e (KeepsOwn (context_of scope.now labels.now) (op.Load load argument.align argument.offset))) }
+    ensures keeps { IfErr result (λ e. Mismatch e
+        (KeepsOwn (context_of scope.now labels.now) (op.Load load argument.align argument.offset))) }
 {
     if scope.memories.is_empty() {
         return Err(ValidateFault::Index);
@@ -56,7 +57,8 @@ pub fn check_store(
     ensures ok { IfOk result (λ _. step (context_of scope.now labels.now) (op.Store store argument.align argument.offset) stack.old.here ≡ Some stack.new.here) }
     ensures lower { IfOk result (λ _. stack.new.lower ≡ stack.old.lower) }
     ensures refused { IfErr result (λ e. Refused e (Breaks e (context_of scope.now labels.now) (op.Store store argument.align argument.offset)) (step (context_of scope.now labels.now) (op.Store store argument.align argument.offset) stack.old.here)) }
-    ensures keeps { IfErr result (λ e. Mismatch e (KeepsOwn (context_of scope.now labels.now) (op.Store store argument.align argument.offset))) }
+    ensures keeps { IfErr result (λ e. Mismatch e
+        (KeepsOwn (context_of scope.now labels.now) (op.Store store argument.align argument.offset))) }
 {
     if scope.memories.is_empty() {
         return Err(ValidateFault::Index);
@@ -77,7 +79,8 @@ pub fn check_memory_size(
     ensures ok { IfOk result (λ _. step (context_of scope.now labels.now) (op.MemorySize) stack.old.here ≡ Some stack.new.here) }
     ensures lower { IfOk result (λ _. stack.new.lower ≡ stack.old.lower) }
     ensures refused { IfErr result (λ e. Refused e (Breaks e (context_of scope.now labels.now) (op.MemorySize)) (step (context_of scope.now labels.now) (op.MemorySize) stack.old.here)) }
-    ensures keeps { IfErr result (λ e. Mismatch e (KeepsOwn (context_of scope.now labels.now) (op.MemorySize))) }
+    ensures keeps { IfErr result (λ e. Mismatch e
+        (KeepsOwn (context_of scope.now labels.now) (op.MemorySize))) }
 {
     if scope.memories.is_empty() {
         return Err(ValidateFault::Index);
@@ -94,7 +97,8 @@ pub fn check_memory_grow(
     ensures ok { IfOk result (λ _. step (context_of scope.now labels.now) (op.MemoryGrow) stack.old.here ≡ Some stack.new.here) }
     ensures lower { IfOk result (λ _. stack.new.lower ≡ stack.old.lower) }
     ensures refused { IfErr result (λ e. Refused e (Breaks e (context_of scope.now labels.now) (op.MemoryGrow)) (step (context_of scope.now labels.now) (op.MemoryGrow) stack.old.here)) }
-    ensures keeps { IfErr result (λ e. Mismatch e (KeepsOwn (context_of scope.now labels.now) (op.MemoryGrow))) }
+    ensures keeps { IfErr result (λ e. Mismatch e
+        (KeepsOwn (context_of scope.now labels.now) (op.MemoryGrow))) }
 {
     if scope.memories.is_empty() {
         return Err(ValidateFault::Index);

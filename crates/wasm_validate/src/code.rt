@@ -82,7 +82,8 @@ fn check_instr(
     ensures lower { IfOk result (λ _. stack.new.lower ≡ stack.old.lower) }
     ensures labels { IfOk result (λ _. labels.new ≡ labels.old) }
     ensures refused { IfErr result (λ e. Refused e (BreaksInstr e (context_of scope.now labels.old) instr.now) (instruction (context_of scope.now labels.old) instr.now stack.old.here)) }
-    ensures mistyped { IfErr result (λ e. Mismatch e (MistypedFirst (context_of scope.now labels.old) (then_code instr.now End) stack.old.here)) }
+    ensures mistyped { IfErr result (λ e. Mismatch e
+        (MistypedFirst (context_of scope.now labels.old) (then_code instr.now End) stack.old.here)) }
 {
     match instr {
         Instr::Unreachable => shapes::check_unreachable(stack),
@@ -132,7 +133,8 @@ fn check_block(
     ensures lower { IfOk result (λ _. stack.new.lower ≡ stack.old.lower) }
     ensures labels { IfOk result (λ _. labels.new ≡ labels.old) }
     ensures refused { IfErr result (λ e. Refused e (BreaksIn e (under carried (context_of scope.now labels.old)) block.now.body) (then (whole_body (under carried (context_of scope.now labels.old)) block.now.result block.now.body) (λ _. Some (push_result block.now.result stack.old.here)))) }
-    ensures mistyped { IfErr result (λ e. Mismatch e (Mistyped (under carried (context_of scope.now labels.old)) block.now.result block.now.body no_operands)) }
+    ensures mistyped { IfErr result (λ e. Mismatch e
+        (Mistyped (under carried (context_of scope.now labels.old)) block.now.result block.now.body no_operands)) }
 {
     check_body(scope, labels, stack, carried, block.result, &block.body)?;
     stack.push_result(block.result)
@@ -150,7 +152,8 @@ fn check_if(
     ensures lower { IfOk result (λ _. stack.new.lower ≡ stack.old.lower) }
     ensures labels { IfOk result (λ _. labels.new ≡ labels.old) }
     ensures refused { IfErr result (λ e. Refused e (BreaksIn e (under choice.now.result (context_of scope.now labels.old)) choice.now.yes ⊎ BreaksIn e (under choice.now.result (context_of scope.now labels.old)) choice.now.no) (conditional (context_of scope.now labels.old) choice.now.result choice.now.yes choice.now.no stack.old.here)) }
-    ensures mistyped { IfErr result (λ e. Mismatch e (MistypedIf (context_of scope.now labels.old) choice.now.result choice.now.yes choice.now.no stack.old.here)) }
+    ensures mistyped { IfErr result (λ e. Mismatch e
+        (MistypedIf (context_of scope.now labels.old) choice.now.result choice.now.yes choice.now.no stack.old.here)) }
 {
     let left = choice.result;
     stack.pop_as(I32)?;
@@ -173,7 +176,8 @@ fn check_body(
     ensures stack { IfOk result (λ _. stack.new ≡ stack.old) }
     ensures labels { IfOk result (λ _. labels.new ≡ labels.old) }
     ensures refused { IfErr result (λ e. Refused e (BreaksIn e (under carried (context_of scope.now labels.old)) body.now) (whole_body (under carried (context_of scope.now labels.old)) left body.now)) }
-    ensures mistyped { IfErr result (λ e. Mismatch e (Mistyped (under carried (context_of scope.now labels.old)) left body.now no_operands)) }
+    ensures mistyped { IfErr result (λ e. Mismatch e
+        (Mistyped (under carried (context_of scope.now labels.old)) left body.now no_operands)) }
 {
     labels.enter(carried)?;
     let outer = stack.enter();

@@ -62,7 +62,8 @@ pub fn check_br(
     ensures ok { IfOk result (λ _. step (context_of scope.now labels.now) (op.Br label) stack.old.here ≡ Some stack.new.here) }
     ensures lower { IfOk result (λ _. stack.new.lower ≡ stack.old.lower) }
     ensures refused { IfErr result (λ e. Refused e (Breaks e (context_of scope.now labels.now) (op.Br label)) (step (context_of scope.now labels.now) (op.Br label) stack.old.here)) }
-    ensures keeps { IfErr result (λ e. Mismatch e (KeepsOwn (context_of scope.now labels.now) (op.Br label))) }
+    ensures keeps { IfErr result (λ e. Mismatch e
+        (KeepsOwn (context_of scope.now labels.now) (op.Br label))) }
 {
     let Some(carried) = labels.get(label) else {
         return Err(ValidateFault::Index);
@@ -82,7 +83,8 @@ pub fn check_br_if(
     ensures ok { IfOk result (λ _. step (context_of scope.now labels.now) (op.BrIf label) stack.old.here ≡ Some stack.new.here) }
     ensures lower { IfOk result (λ _. stack.new.lower ≡ stack.old.lower) }
     ensures refused { IfErr result (λ e. Refused e (Breaks e (context_of scope.now labels.now) (op.BrIf label)) (step (context_of scope.now labels.now) (op.BrIf label) stack.old.here)) }
-    ensures keeps { IfErr result (λ e. Mismatch e (KeepsOwn (context_of scope.now labels.now) (op.BrIf label))) }
+    ensures keeps { IfErr result (λ e. Mismatch e
+        (KeepsOwn (context_of scope.now labels.now) (op.BrIf label))) }
 {
     let Some(carried) = labels.get(label) else {
         return Err(ValidateFault::Index);
@@ -102,7 +104,8 @@ pub fn check_br_table(
     ensures ok { IfOk result (λ _. step (context_of scope.now labels.now) (op.BrTable table.now.labels table.now.default) stack.old.here ≡ Some stack.new.here) }
     ensures lower { IfOk result (λ _. stack.new.lower ≡ stack.old.lower) }
     ensures refused { IfErr result (λ e. Refused e (Breaks e (context_of scope.now labels.now) (op.BrTable table.now.labels table.now.default)) (step (context_of scope.now labels.now) (op.BrTable table.now.labels table.now.default) stack.old.here)) }
-    ensures keeps { IfErr result (λ e. Mismatch e (KeepsOwn (context_of scope.now labels.now) (op.BrTable table.now.labels table.now.default))) }
+    ensures keeps { IfErr result (λ e. Mismatch e
+        (KeepsOwn (context_of scope.now labels.now) (op.BrTable table.now.labels table.now.default))) }
 {
     let Some(carried) = labels.get(table.default) else {
         return Err(ValidateFault::Index);
@@ -128,7 +131,8 @@ pub fn check_return(
     ensures ok { IfOk result (λ _. step (context_of scope.now labels.now) (op.Return) stack.old.here ≡ Some stack.new.here) }
     ensures lower { IfOk result (λ _. stack.new.lower ≡ stack.old.lower) }
     ensures refused { IfErr result (λ e. Refused e (Breaks e (context_of scope.now labels.now) (op.Return)) (step (context_of scope.now labels.now) (op.Return) stack.old.here)) }
-    ensures keeps { IfErr result (λ e. Mismatch e (KeepsOwn (context_of scope.now labels.now) (op.Return))) }
+    ensures keeps { IfErr result (λ e. Mismatch e
+        (KeepsOwn (context_of scope.now labels.now) (op.Return))) }
 {
     stack.pop_result(scope.result)?;
     stack.leave();
@@ -145,7 +149,8 @@ pub fn check_call(
     ensures ok { IfOk result (λ _. step (context_of scope.now labels.now) (op.Call function) stack.old.here ≡ Some stack.new.here) }
     ensures lower { IfOk result (λ _. stack.new.lower ≡ stack.old.lower) }
     ensures refused { IfErr result (λ e. Refused e (Breaks e (context_of scope.now labels.now) (op.Call function)) (step (context_of scope.now labels.now) (op.Call function) stack.old.here)) }
-    ensures keeps { IfErr result (λ e. Mismatch e (KeepsOwn (context_of scope.now labels.now) (op.Call function))) }
+    ensures keeps { IfErr result (λ e. Mismatch e
+        (KeepsOwn (context_of scope.now labels.now) (op.Call function))) }
 {
     let Some(function_type) = scope.type_of(function) else {
         return Err(ValidateFault::Index);
@@ -164,7 +169,8 @@ pub fn check_call_indirect(
     ensures ok { IfOk result (λ _. step (context_of scope.now labels.now) (op.CallIndirect type_index) stack.old.here ≡ Some stack.new.here) }
     ensures lower { IfOk result (λ _. stack.new.lower ≡ stack.old.lower) }
     ensures refused { IfErr result (λ e. Refused e (Breaks e (context_of scope.now labels.now) (op.CallIndirect type_index)) (step (context_of scope.now labels.now) (op.CallIndirect type_index) stack.old.here)) }
-    ensures keeps { IfErr result (λ e. Mismatch e (KeepsOwn (context_of scope.now labels.now) (op.CallIndirect type_index))) }
+    ensures keeps { IfErr result (λ e. Mismatch e
+        (KeepsOwn (context_of scope.now labels.now) (op.CallIndirect type_index))) }
 {
     if scope.tables.is_empty() {
         return Err(ValidateFault::Index);

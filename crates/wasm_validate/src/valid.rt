@@ -3,7 +3,7 @@
 ghost use Rattle.std.specs.Prelude.{◌≡◌, ◌≢◌, IfOk, IfErr, Some};
 ghost use Rattle.wasm_validate.specs.HostCalls.{host_calls};
 ghost use Rattle.wasm_validate.specs.ModuleRules.{IsValid, invoke_of};
-ghost use Rattle.wasm_validate.specs.Broken.{Broken};
+ghost use Rattle.wasm_validate.specs.Broken.{Broken, BreaksAlone};
 
 use crate::code::check_code;
 use crate::exports::{check_exports, find_entry};
@@ -84,7 +84,8 @@ pub fn validate(alloc: Global, given: Module) -> Result<ValidModule, ValidateFau
     ensures broken { IfErr result (λ e. Broken e given) }
     ensures refused { IfErr result (λ e. e ≢ ValidateFault.Memory → ¬ IsValid given) }
     // A module that breaks one rule alone is refused by its number, unless memory runs out.
-    ensures alone { IfErr result (λ e. e ≢ ValidateFault.Memory → (only : ValidateFault) → ((other : ValidateFault) → Broken other given → other ≢ ValidateFault.Memory → other ≡ only) → e ≡ only) }
+    ensures alone { IfErr result (λ e. e ≢ ValidateFault.Memory →
+        (only : ValidateFault) → BreaksAlone only given → e ≡ only) }
 {
     let (calls, invoke) = check_module(alloc, &given)?;
     Ok(ValidModule {

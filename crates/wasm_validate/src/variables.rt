@@ -23,7 +23,8 @@ pub fn check_local_get(
     ensures ok { IfOk result (λ _. step (context_of scope.now labels.now) (op.LocalGet local) stack.old.here ≡ Some stack.new.here) }
     ensures lower { IfOk result (λ _. stack.new.lower ≡ stack.old.lower) }
     ensures refused { IfErr result (λ e. Refused e (Breaks e (context_of scope.now labels.now) (op.LocalGet local)) (step (context_of scope.now labels.now) (op.LocalGet local) stack.old.here)) }
-    ensures keeps { IfErr result (λ e. Mismatch e (KeepsOwn (context_of scope.now labels.now) (op.LocalGet local))) }
+    ensures keeps { IfErr result (λ e. Mismatch e
+        (KeepsOwn (context_of scope.now labels.now) (op.LocalGet local))) }
 {
     match scope.locals.get(local as usize) {
         None => Err(ValidateFault::Index),
@@ -41,7 +42,8 @@ pub fn check_local_set(
     ensures ok { IfOk result (λ _. step (context_of scope.now labels.now) (op.LocalSet local) stack.old.here ≡ Some stack.new.here) }
     ensures lower { IfOk result (λ _. stack.new.lower ≡ stack.old.lower) }
     ensures refused { IfErr result (λ e. Refused e (Breaks e (context_of scope.now labels.now) (op.LocalSet local)) (step (context_of scope.now labels.now) (op.LocalSet local) stack.old.here)) }
-    ensures keeps { IfErr result (λ e. Mismatch e (KeepsOwn (context_of scope.now labels.now) (op.LocalSet local))) }
+    ensures keeps { IfErr result (λ e. Mismatch e
+        (KeepsOwn (context_of scope.now labels.now) (op.LocalSet local))) }
 {
     match scope.locals.get(local as usize) {
         None => Err(ValidateFault::Index),
@@ -59,7 +61,8 @@ pub fn check_local_tee(
     ensures ok { IfOk result (λ _. step (context_of scope.now labels.now) (op.LocalTee local) stack.old.here ≡ Some stack.new.here) }
     ensures lower { IfOk result (λ _. stack.new.lower ≡ stack.old.lower) }
     ensures refused { IfErr result (λ e. Refused e (Breaks e (context_of scope.now labels.now) (op.LocalTee local)) (step (context_of scope.now labels.now) (op.LocalTee local) stack.old.here)) }
-    ensures keeps { IfErr result (λ e. Mismatch e (KeepsOwn (context_of scope.now labels.now) (op.LocalTee local))) }
+    ensures keeps { IfErr result (λ e. Mismatch e
+        (KeepsOwn (context_of scope.now labels.now) (op.LocalTee local))) }
 {
     match scope.locals.get(local as usize) {
         None => Err(ValidateFault::Index),
@@ -80,7 +83,8 @@ pub fn check_global_get(
     ensures ok { IfOk result (λ _. step (context_of scope.now labels.now) (op.GlobalGet global) stack.old.here ≡ Some stack.new.here) }
     ensures lower { IfOk result (λ _. stack.new.lower ≡ stack.old.lower) }
     ensures refused { IfErr result (λ e. Refused e (Breaks e (context_of scope.now labels.now) (op.GlobalGet global)) (step (context_of scope.now labels.now) (op.GlobalGet global) stack.old.here)) }
-    ensures keeps { IfErr result (λ e. Mismatch e (KeepsOwn (context_of scope.now labels.now) (op.GlobalGet global))) }
+    ensures keeps { IfErr result (λ e. Mismatch e
+        (KeepsOwn (context_of scope.now labels.now) (op.GlobalGet global))) }
 {
     match scope.type_of_global(global) {
         None => Err(ValidateFault::Index),
@@ -98,7 +102,8 @@ pub fn check_global_set(
     ensures ok { IfOk result (λ _. step (context_of scope.now labels.now) (op.GlobalSet global) stack.old.here ≡ Some stack.new.here) }
     ensures lower { IfOk result (λ _. stack.new.lower ≡ stack.old.lower) }
     ensures refused { IfErr result (λ e. Refused e (Breaks e (context_of scope.now labels.now) (op.GlobalSet global)) (step (context_of scope.now labels.now) (op.GlobalSet global) stack.old.here)) }
-    ensures keeps { IfErr result (λ e. Mismatch e (KeepsOwn (context_of scope.now labels.now) (op.GlobalSet global))) }
+    ensures keeps { IfErr result (λ e. Mismatch e
+        (KeepsOwn (context_of scope.now labels.now) (op.GlobalSet global))) }
 {
     match scope.type_of_global(global) {
         None => Err(ValidateFault::Index),
