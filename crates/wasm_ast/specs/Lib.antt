@@ -6,3 +6,5 @@ pub mod Op
 pub mod Code
 pub mod View
 pub mod Smaller
+pub mod Functions
+pub mod HostTypes

@@ -16,7 +16,7 @@ mod trap;
 mod types;
 
 pub use body::{Block, Body, BranchTable, Conditional, Instr, MemoryArgument};
-pub use host_call::{HostAnswer, HostCall};
+pub use host_call::{HostAnswer, HostCall, arity};
 pub use module::{
     DataSegment, ElementSegment, Export, ExternalKind, Func, Global, Import, ImportKind, Module,
 };

@@ -1,24 +1,10 @@
 -- The functions that chaincode may import, all of the module `fabric`.
-use Rattle.std.specs.Prelude.{◌==◌, ℕ, List, [], ◌∷◌, Option, Some, None, cond, codes, replicate}
+use Rattle.std.specs.Prelude.{◌==◌, ℕ, List, [], ◌∷◌, Option, Some, None, cond, codes}
 use Rattle.std.specs.Cmp.Lexicographic.{pointwise}
-use Rattle.wasm_ast.specs.declared.types.ValueType.TheVariants.{I32}
-use Rattle.wasm_ast.specs.declared.types.FuncType.{FuncType}
 use Rattle.wasm_ast.specs.declared.module.Import.{Import}
 use Rattle.wasm_ast.specs.declared.host_call.HostCall.{HostCall}
+pub use Rattle.wasm_ast.specs.HostTypes.{arity, call_type}
 use Rattle.wasm_ast.specs.declared.host_call.HostCall.TheVariants.{GetState, PutState, DelState, RangeState, GetArg, SetResult}
-
--- how many parameters a call has
-abbrev pub arity : HostCall → ℕ
-arity GetState = 4
-arity PutState = 4
-arity DelState = 2
-arity RangeState = 7
-arity GetArg = 2
-arity SetResult = 2
-
--- all parameters are i32, and so is the answer
-abbrev pub call_type : HostCall → FuncType
-call_type which = record { params = replicate (arity which) I32; result = Some I32 }
 
 abbrev pub fabric : List ℕ
 fabric = codes "fabric"

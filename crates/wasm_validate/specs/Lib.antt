@@ -1,6 +1,7 @@
 pub mod Typing
 pub mod HostCalls
 pub mod ModuleRules
+pub mod Flat
 pub mod Indices
 pub mod FaultNumbers
 pub mod Operands

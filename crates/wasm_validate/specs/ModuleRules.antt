@@ -1,5 +1,5 @@
 -- When a module is valid (Core 1.0, section 3.4), cut to the profile.
-use Rattle.std.specs.Prelude.{◌≡◌, ◌<◌, ◌≤◌, ◌+◌, ◌*◌, ◌==◌, ℕ, List, [], ◌∷◌, ◌++◌, map, length, Option, Some, None, IfSome, get_or, codes, Bool, true, false, cond, ◌&&◌}
+use Rattle.std.specs.Prelude.{◌≡◌, ◌<◌, ◌≤◌, ◌+◌, ◌*◌, ◌==◌, ℕ, List, [], ◌∷◌, ◌++◌, map, length, Option, Some, None, IfSome, codes, Bool, true, false, cond, ◌&&◌}
 use Rattle.std.specs.Cmp.Lexicographic.{pointwise}
 use Rattle.wasm_ast.specs.declared.types.ValueType.TheVariants.{I32}
 use Rattle.wasm_ast.specs.declared.types.FuncType.{FuncType}
@@ -17,6 +17,7 @@ use Rattle.wasm_ast.specs.declared.module.ElementSegment.{ElementSegment}
 use Rattle.wasm_ast.specs.declared.module.DataSegment.{DataSegment}
 use Rattle.wasm_ast.specs.declared.module.Module.{Module}
 use Rattle.wasm_ast.specs.Types.{words}
+pub use Rattle.wasm_ast.specs.Functions.{no_type, type_at}
 use Rattle.wasm_ast.specs.Op.{Const}
 use Rattle.wasm_ast.specs.Code.{End, Do}
 use Rattle.wasm_validate.specs.Typing.{Context, Types, at, under, results}
@@ -30,13 +31,6 @@ imported (i ∷ is) = elim i.kind [ kind.Function t ↦ t ∷ imported is | _ �
 -- the type indices of all functions, the imported ones first
 abbrev pub type_indices : Module → List ℕ
 type_indices m = imported m.imports ++ map (λ (f : Func). f.type_index) m.functions
-
-abbrev pub no_type : FuncType
-no_type = record { params = []; result = None }
-
--- the type at an index; each index that a valid module uses has one
-abbrev pub type_at : List FuncType → ℕ → FuncType
-type_at types t = get_or types t no_type
 
 abbrev pub function_types : Module → List FuncType
 function_types m = map (type_at m.types) (type_indices m)

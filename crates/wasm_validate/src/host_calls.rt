@@ -3,21 +3,9 @@
 ghost use Rattle.std.specs.Prelude.{◌≡◌, IsTrue, ◌↔◌, replicate};
 ghost use Rattle.std.specs.List.{All};
 ghost use Rattle.wasm_ast.specs.declared.types.ValueType.TheVariants.{I32};
-ghost use Rattle.wasm_validate.specs.HostCalls.{arity, call_type};
+ghost use Rattle.wasm_validate.specs.HostCalls.{call_type};
 
-use wasm_ast::{FuncType, HostCall, ValueType};
-
-/// How many parameters a host call has: 2 to 7.
-#[inline(always)]
-pub fn arity(call: HostCall) -> usize
-    ensures { result ≡ arity call }
-{
-    match call {
-        HostCall::GetState | HostCall::PutState => 4,
-        HostCall::RangeState => 7,
-        HostCall::DelState | HostCall::GetArg | HostCall::SetResult => 2,
-    }
-}
+use wasm_ast::{FuncType, HostCall, ValueType, arity};
 
 /// Whether a function type is that of a host call, whose parameters and result are all i32.
 pub fn is_type_of_call(function_type: &FuncType, call: HostCall) -> bool

@@ -33,5 +33,6 @@ mod valid;
 mod variables;
 
 pub use fault::ValidateFault;
-pub use host_calls::{arity, is_type_of_call};
+pub use host_calls::is_type_of_call;
 pub use valid::{ValidModule, validate};
+pub use wasm_ast::arity;

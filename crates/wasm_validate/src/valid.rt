@@ -1,6 +1,8 @@
 //! Modules that are known to be valid.
 
-ghost use Rattle.std.specs.Prelude.{◌≡◌, ◌≢◌, IfOk, IfErr, Some};
+ghost use Rattle.std.specs.Prelude.{◌≡◌, ◌≢◌, IfOk, IfErr, IfSome, Some};
+ghost use Rattle.flat_text.specs.Spelling.{Spells};
+ghost use Rattle.wasm_validate.specs.Flat.{context_of};
 ghost use Rattle.wasm_validate.specs.HostCalls.{host_calls};
 ghost use Rattle.wasm_validate.specs.ModuleRules.{IsValid, invoke_of};
 ghost use Rattle.wasm_validate.specs.Broken.{Broken, BreaksAlone};
@@ -12,6 +14,7 @@ use crate::globals::check_globals;
 use crate::imports::{check_imports, function_indices};
 use crate::limits::{check_memories, check_tables};
 use crate::segments::{check_data, check_elements};
+use flat_text::{FlatText, Source, flatten};
 use std::alloc::Global;
 use std::marker::Model;
 use wasm_ast::{HostCall, Module};
@@ -26,10 +29,14 @@ pub struct ValidModule {
     calls: Vec<HostCall>,
     // The index of the function that is exported as `invoke`.
     invoke: u32,
+    // The flat code of the functions, where there is one.
+    flat: Option<FlatText>,
 }
 
 impl Model for ValidModule {
-    ghost use Rattle.std.specs.Prelude.{◌≡◌, Some};
+    ghost use Rattle.std.specs.Prelude.{◌≡◌, IfSome, Some};
+    ghost use Rattle.flat_text.specs.Spelling.{Spells};
+    ghost use Rattle.wasm_validate.specs.Flat.{context_of};
     ghost use Rattle.wasm_ast.specs.declared.module.Module.{Module};
     ghost use Rattle.wasm_ast.specs.contracts.module.Module as declared;
     ghost use Rattle.wasm_validate.specs.HostCalls.{host_calls};
@@ -41,7 +48,7 @@ impl Model for ValidModule {
 
     ghost view = { λ v. v.module };
 
-    ghost invariant = { λ v. IsValid v.module × (v.calls.items ≡ host_calls v.module.imports) × (invoke_of v.module ≡ Some v.invoke) };
+    ghost invariant = { λ v. IsValid v.module × (v.calls.items ≡ host_calls v.module.imports) × (invoke_of v.module ≡ Some v.invoke) × IfSome v.flat (λ t. Spells t (context_of v.module)) };
 }
 
 impl ValidModule {
@@ -66,6 +73,13 @@ impl ValidModule {
     {
         self.invoke
     }
+
+    /// The flat code of the module's functions, where there is one.
+    pub fn flat(&self) -> Option<&FlatText>
+        ensures { IfSome result (λ t. Spells t.now (context_of self.now)) }
+    {
+        self.flat.as_ref()
+    }
 }
 
 /// Takes a module in where it is valid.
@@ -88,11 +102,31 @@ pub fn validate(alloc: Global, given: Module) -> Result<ValidModule, ValidateFau
         (only : ValidateFault) → BreaksAlone only given → e ≡ only) }
 {
     let (calls, invoke) = check_module(alloc, &given)?;
+    let flat = flatten_module(alloc, &given, &calls)?;
     Ok(ValidModule {
         module: given,
         calls,
         invoke,
+        flat,
     })
+}
+
+// The flat code of a module with these host calls, where there is one.
+fn flatten_module(
+    alloc: Global,
+    given: &Module,
+    calls: &[HostCall],
+) -> Result<Option<FlatText>, ValidateFault>
+    requires { calls.now ≡ host_calls given.now.imports }
+    ensures spelled { IfOk result (λ r. IfSome r (λ t. Spells t (context_of given.now))) }
+    ensures fault { IfErr result (λ e. e ≡ ValidateFault.Memory) }
+{
+    let source = Source {
+        imports: calls,
+        types: given.types.as_slice(),
+        defined: given.functions.as_slice(),
+    };
+    Ok(flatten(alloc, &source)?)
 }
 
 // The host calls and the index of `invoke` of a module that is valid.
