@@ -15,7 +15,7 @@ use crate::book::Book;
 use crate::refusal::SimRefusal;
 use fab_types::{Payload, Proposal};
 use host_api::{Parts, PlainMap, Recorder, View};
-use interp::{Outcome, run};
+use flat_interp::{Outcome, run};
 use std::alloc::Global;
 use world_state::Snapshot;
 

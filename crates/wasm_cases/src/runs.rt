@@ -6,7 +6,7 @@ use crate::modules::valid_module;
 use crate::steps::step_through;
 use fab_types::{Value, WriteItem, WriteSet};
 use host_api::{PlainMap, Recorder};
-use interp::{Outcome, run};
+use interp::Outcome;
 use std::alloc::{AllocError, Global};
 use wasm_trace::run_by_reduction;
 use wasm_validate::ValidModule;
@@ -14,8 +14,10 @@ use wasm_validate::ValidModule;
 /// What runs a module.
 #[derive(Clone, Copy)]
 pub enum Runner {
-    /// `run` of `interp`.
-    Machine,
+    /// `run` of `interp`, on the tree.
+    Tree,
+    /// `run` of `flat_interp`.
+    Flat,
     /// `run_by_reduction`.
     Reduction,
     /// A stepper, to its end.
@@ -27,7 +29,7 @@ pub enum Runner {
 pub fn run_module(alloc: Global, text: &str) -> Result<String, CaseFault> {
     let (fuel, pieces) = split_fuel(text)?;
     let valid = valid_module(alloc, pieces)?;
-    Ok(run_invoke(alloc, &valid, fuel, Runner::Machine)?)
+    Ok(run_invoke(alloc, &valid, fuel, Runner::Flat)?)
 }
 
 /// Whether all runners answer the same with every fuel up to what the first word is.
@@ -57,10 +59,11 @@ fn compared(alloc: Global, valid: &ValidModule, last: u64) -> Result<String, All
 
 /// Whether all runners answer the same with this fuel.
 fn is_same(alloc: Global, valid: &ValidModule, fuel: u64) -> Result<bool, AllocError> {
-    let wanted = run_invoke(alloc, valid, fuel, Runner::Machine)?;
+    let wanted = run_invoke(alloc, valid, fuel, Runner::Flat)?;
+    let on_tree = run_invoke(alloc, valid, fuel, Runner::Tree)?;
     let reduced = run_invoke(alloc, valid, fuel, Runner::Reduction)?;
     let stepped = run_invoke(alloc, valid, fuel, Runner::Stepper)?;
-    Ok(reduced == wanted && stepped == wanted)
+    Ok(on_tree == wanted && reduced == wanted && stepped == wanted)
 }
 
 /// The run of `invoke` without an argument on a state without keys.
@@ -74,7 +77,8 @@ fn run_invoke(
     let argument = Value::new(Vec::new(alloc)).unwrap();
     let mut recorder = Recorder::new(alloc, &state, &argument);
     let outcome = match runner {
-        Runner::Machine => run(alloc, valid, &mut recorder, fuel)?,
+        Runner::Tree => interp::run(alloc, valid, &mut recorder, fuel)?,
+        Runner::Flat => flat_interp::run(alloc, valid, &mut recorder, fuel)?,
         Runner::Reduction => run_by_reduction(alloc, valid, &mut recorder, fuel)?,
         Runner::Stepper => step_through(alloc, valid, &mut recorder, fuel, &mut Vec::new(alloc))?,
     };
