@@ -33,7 +33,7 @@ const USAGE: &str = "usage: ledger check MODULE
 
 /// Does what the words ask for, the command first, and answers the exit status: 0 for done, 1 for a
 /// refusal or a difference, which are printed, and 2 where the words name no task.
-pub fn program<R: Threads + Wait + Sync, F: Files, W: Write>(
+pub fn program<R: Threads + Wait + Sync + Send + Copy + 'static, F: Files, W: Write>(
     rt: &R,
     alloc: Global,
     words: &[String],
@@ -61,7 +61,7 @@ fn tell<W: Write>(failure: Failure, out: &mut W) -> io::Result<()> {
     }
 }
 
-fn carry_out<R: Threads + Wait + Sync, F: Files, W: Write>(
+fn carry_out<R: Threads + Wait + Sync + Send + Copy + 'static, F: Files, W: Write>(
     rt: &R,
     alloc: Global,
     words: &[String],

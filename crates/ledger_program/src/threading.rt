@@ -13,7 +13,7 @@ use std::thread::Threads;
 
 /// Lets each seat of the first peer endorse and submit so many calls of a chaincode on a thread of its own, and
 /// prints how many were endorsed and refused, how many blocks came of them, and what the audit of the chain says.
-pub fn threads<R: Threads + Wait + Sync, F: Files, W: Write>(
+pub fn threads<R: Threads + Wait + Sync + Send + Copy + 'static, F: Files, W: Write>(
     rt: &R,
     alloc: Global,
     files: &mut F,

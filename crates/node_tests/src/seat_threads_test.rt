@@ -11,7 +11,7 @@ use std::test::Fail;
 use std::thread::Threads;
 
 /// What comes of so many seats that endorse so many calls each, all of which read and put one key.
-fn report_of<R: Threads + Wait + Sync>(
+fn report_of<R: Threads + Wait + Sync + Send + Copy + 'static>(
     rt: &R,
     alloc: Global,
     seats: usize,

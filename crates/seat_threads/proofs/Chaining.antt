@@ -1,5 +1,5 @@
 -- The peer's chain as the orderer's grows and as blocks are committed.
-use Rattle.std.proofs.Common.{◌≡◌, ◌≤◌, ◌+◌, ◌++◌, ◌∷◌, [], List, Some, length, length-append, sym, ap, ◌∙◌, slice_get, subst, arith}
+use Rattle.std.proofs.Common.{◌≡◌, ◌+◌, ◌++◌, ◌∷◌, [], List, Some, length, length-append, sym, ap, ◌∙◌, slice_get, subst}
 use Rattle.fab_types.specs.declared.block.Block.{Block}
 use Rattle.ledger_model.specs.Chain.{Chain, Envelope}
 use Rattle.endorsement_policy.specs.Endorsed.{Listed}

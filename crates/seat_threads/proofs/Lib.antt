@@ -1,3 +1,3 @@
 pub mod Chaining
-pub mod Rows
 pub mod Sending
+pub mod Sums

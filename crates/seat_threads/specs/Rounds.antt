@@ -1,5 +1,5 @@
 -- The rounds of a seat: what each proposes, and how rounds are counted.
-use Rattle.std.specs.Prelude.{ℕ, ◌+◌, ◌==◌, List, [], ◌++◌, Option, Some, None, if◌then◌else◌}
+use Rattle.std.specs.Prelude.{ℕ, ◌+◌, ◌==◌, [], ◌++◌, Option, Some, None, if◌then◌else◌}
 use Rattle.std.specs.Int.{w64, to_be_bytes}
 use Rattle.fab_types.specs.declared.payload.Proposal.{Proposal}
 use Rattle.simulator.specs.declared.refusal.SimRefusal.{SimRefusal}

@@ -1,10 +1,12 @@
 -- What a worker does, and what the desk keeps.
-use Rattle.std.specs.Prelude.{◌≡◌, ℕ, ◌+◌, ◌<◌, List, length, false, slice_index_or}
+use Rattle.std.specs.Prelude.{◌≡◌, ℕ, ◌+◌, List, length, false, All}
+use Rattle.std.specs.declared.thread.PromisedHandle.{PromisedHandle}
 use Rattle.std.specs.Arc.{arc_value}
 use Rattle.atomic_table.specs.Seated.{TableId}
 use Rattle.intake.specs.Seats.{intake_of_sender, intake_of_receiver, put}
 use Rattle.peer_node.specs.Writers.{published}
 use Rattle.seat_threads.specs.declared.worker.Worker.{Worker}
+use Rattle.seat_threads.specs.declared.crew.Rounds.{Rounds}
 use Rattle.seat_threads.specs.declared.desk.Desk.{Desk}
 use Rattle.seat_threads.specs.Rounds.{rounds_in}
 use Rattle.seat_threads.specs.Chains.{IsFirstOf}
@@ -19,13 +21,17 @@ Works rounds old new =
 abbrev pub IsWorkerOf : TableId → Worker → Type 0
 IsWorkerOf intake w = intake_of_sender w.sender ≡ intake
 
--- each of the workers has worked so many rounds
-abbrev pub HaveWorked : ℕ → List Worker → List Worker → Type 0
-HaveWorked rounds old new = (i : ℕ) (d : Worker) → i < length old → Works rounds (slice_index_or old i d) (slice_index_or new i d)
-
 -- a worker of an intake that has worked so many rounds
 abbrev pub IsDone : TableId → ℕ → Worker → Type 0
 IsDone intake rounds w = IsWorkerOf intake w × (rounds_in w.counts ≡ rounds)
+
+-- a promise of a worker of an intake that has worked so many rounds
+abbrev pub Promises : TableId → ℕ → Rounds → Type 0
+Promises intake rounds p = (intake_of_sender p.sender.value ≡ intake) × (p.rounds ≡ rounds)
+
+-- threads, each of which promises a worker of an intake that has worked so many rounds
+abbrev pub AllPromise : TableId → ℕ → List (PromisedHandle Worker Rounds) → Type 0
+AllPromise intake rounds threads = All (λ t. Promises intake rounds t.promise) threads
 
 -- the peer has the first of the orderer's blocks
 abbrev pub HasFirst : Desk → Type 0

@@ -4,6 +4,7 @@
 
 mod committing;
 mod counts;
+mod crew;
 mod desk;
 mod endorsing;
 mod refusal;

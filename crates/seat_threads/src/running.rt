@@ -2,17 +2,17 @@
 
 ghost use Rattle.std.specs.Prelude.{◌≡◌, ℕ, ◌<◌, ◌≤◌, ◌+◌, ◌*◌, ◌^◌, [], length, All, IfOk, Ok, false};
 ghost use Rattle.std.specs.Arc.{arc_value};
-ghost use denote.Param.Send.{IsSync};
 ghost use Rattle.atomic_table.specs.Seated.{TableId};
 ghost use Rattle.orderer.specs.Ordering.{AreLimits};
 ghost use Rattle.intake.specs.Seats.{intake_of_sender, intake_of_receiver, put};
 ghost use Rattle.fabric_core.specs.Setting.{limits_of};
 ghost use Rattle.peer_node.specs.Writers.{published};
 ghost use Rattle.seat_threads.specs.Rounds.{rounds_in};
-ghost use Rattle.seat_threads.specs.Work.{IsWorkerOf, IsDone, HaveWorked, IsAtWork, IsSameDesk};
+ghost use Rattle.seat_threads.specs.Work.{IsWorkerOf, IsAtWork};
 ghost use Rattle.seat_threads.specs.Reports.{TellsOfChain};
 
 use crate::counts::Counts;
+use crate::crew::Crew;
 use crate::desk::{Desk, take_until_ended};
 use crate::refusal::SeatsRefusal;
 use crate::worker::Worker;
@@ -23,8 +23,7 @@ use orderer::Orderer;
 use peer_node::{Peer, Seat};
 use std::alloc::{AllocError, Global};
 use std::sync::Wait;
-use std::sync::atomic::AtomicU64;
-use std::thread::{Threads, for_each_mut, join_mut};
+use std::thread::Threads;
 
 /// What came of the work of seats.
 #[derive(Clone, Copy, Debug, PartialEq, Eq)]
@@ -47,9 +46,10 @@ pub struct Report {
 /// each block as it comes, until all seats have ended and nothing is left; then it ticks once. An envelope that
 /// the orderer refuses is dropped.
 ///
-/// Refused for want of memory (9), where a seat got no place in the cell (431), and where the cell gave one no
-/// entry (432).
-pub fn run_seats<R: Threads + Wait + Sync>(
+/// Refused for want of memory or of a thread (9), where a seat got no place in the cell (431), and where
+/// the cell gave one no entry (432). Where no further thread can be made, the seats that have one work to
+/// their end, and what they submitted is ordered and committed.
+pub fn run_seats<R: Threads + Wait + Sync + Send + Copy + 'static>(
     rt: &R,
     alloc: Global,
     genesis: &Genesis,
@@ -63,12 +63,8 @@ pub fn run_seats<R: Threads + Wait + Sync>(
     ensures counted { IfOk result (λ r. r.endorsed + r.refused ≡ genesis.now.seats * rounds) }
     ensures chain { IfOk result (λ r. TellsOfChain (arc_value genesis.now.book) (arc_value genesis.now.rules) r) }
 {
-    let (mut workers, mut desk) = opened(rt, alloc, genesis)?;
-    at_work(rt, chaincode, rounds, &mut workers, &mut desk);
-    let counts = retired(&mut desk, workers);
-    desk.take_rest(rt);
-    desk.tick(rt);
-    let report = reported(alloc, genesis, &desk, counts);
+    let (workers, mut desk) = opened(rt, alloc, genesis, chaincode)?;
+    let report = at_work(rt, alloc, genesis, rounds, workers, &mut desk);
     desk.close(rt);
     report
 }
@@ -78,6 +74,7 @@ fn opened<R: Threads + Wait + Sync>(
     rt: &R,
     alloc: Global,
     genesis: &Genesis,
+    chaincode: &Name,
 ) -> Result<(Vec<Worker>, Desk), SeatsRefusal>
     requires limits { AreLimits (limits_of genesis.now) }
     requires peers { 0 < length genesis.now.peers.items }
@@ -91,7 +88,7 @@ fn opened<R: Threads + Wait + Sync>(
     let (senders, receiver) = Intake::open(alloc, genesis.queue, genesis.seats)?;
     let (writer, seats) = Peer::open(rt, alloc, genesis, &genesis.peers[0], genesis.seats)?;
     let desk = Desk::new(receiver, orderer(alloc, genesis), writer);
-    match workers(alloc, seats, senders) {
+    match workers(alloc, chaincode, seats, senders) {
         Ok(workers) => Ok((workers, desk)),
         Err(error) => {
             desk.close(rt);
@@ -117,6 +114,7 @@ fn orderer(alloc: Global, genesis: &Genesis) -> Orderer
 /// A worker on each seat. The error is of memory.
 fn workers(
     alloc: Global,
+    chaincode: &Name,
     mut seats: Vec<Seat>,
     mut senders: Vec<SenderSeat>,
 ) -> Result<Vec<Worker>, AllocError>
@@ -130,6 +128,7 @@ fn workers(
         workers.push(Worker {
             alloc,
             number: number as u64,
+            chaincode: chaincode.clone()?,
             seat,
             sender,
             counts: Counts::none(),
@@ -139,78 +138,29 @@ fn workers(
 }
 
 /// Lets the workers work, each on a thread of its own, while this thread takes, orders and commits what they
-/// submit.
-fn at_work<R: Threads + Wait + Sync>(
+/// submit. Where a thread is refused, those that were started work to their end.
+fn at_work<R: Threads + Wait + Sync + Send + Copy + 'static>(
     rt: &R,
-    chaincode: &Name,
+    alloc: Global,
+    genesis: &Genesis,
     rounds: u32,
-    workers: &mut [Worker],
+    workers: Vec<Worker>,
     desk: &mut Desk,
-)
-    requires { IsAtWork desk.old }
-    ensures length { length workers.new ≡ length workers.old }
-    ensures worked { HaveWorked rounds workers.old workers.new }
-    ensures work { IsAtWork desk.new }
-    ensures same { IsSameDesk desk.new desk.old }
-{
-    let count = workers.len() as u64;
-    let ended = AtomicU64::new(0);
-    let ended = &ended;
-    let mut work = ||
-        requires { IsSync R.row }
-        ensures { HaveWorked rounds workers.entry.now workers.exit.now }
-    { work_all(rt, chaincode, rounds, ended, workers) };
-    let mut take = ||
-        requires { IsAtWork desk.now }
-        ensures { IsAtWork desk.exit.now × IsSameDesk desk.exit.now desk.entry.now }
-    { take_until_ended(rt, ended, count, desk) };
-    join_mut(rt, &mut work, &mut take);
-}
-
-/// Lets the workers work, each on a thread of its own, and then counts them as ended.
-fn work_all<R: Threads + Wait + Sync>(
-    rt: &R,
-    chaincode: &Name,
-    rounds: u32,
-    ended: &AtomicU64,
-    workers: &mut [Worker],
-)
-    ensures { HaveWorked rounds workers.old workers.new }
-{
-    if workers.is_empty() {
-        return;
-    }
-    let threads = workers.len();
-    for_each_mut(
-        rt,
-        workers,
-        threads,
-        &|_, worker| worker.work(rt, chaincode, rounds, ended),
-    );
-}
-
-/// Takes in the seats of the workers, and adds up what they counted.
-fn retired(desk: &mut Desk, mut workers: Vec<Worker>) -> Counts
-    requires work { IsAtWork desk.old }
-    requires each { (rounds : ℕ) × (rounds < 2 ^ 32) × All (IsDone (intake_of_receiver desk.old.receiver) rounds) workers.items }
+) -> Result<Report, SeatsRefusal>
+    requires intake { All (IsWorkerOf (intake_of_receiver desk.old.receiver)) workers.items }
     requires count { length workers.items < 2 ^ 32 }
-    ensures work { IsAtWork desk.new }
-    ensures same { IsSameDesk desk.new desk.old }
-    ensures rounds { (rounds : ℕ) → All (IsDone (intake_of_receiver desk.old.receiver) rounds) workers.items → rounds_in result ≡ length workers.items * rounds }
+    requires work { IsAtWork desk.old }
+    ensures counted { IfOk result (λ r. r.endorsed + r.refused ≡ length workers.items * rounds) }
+    ensures chain { IfOk result (λ r. TellsOfChain (arc_value genesis.now.book) (arc_value desk.old.writer.rules) r) }
 {
-    let mut counts = Counts::none();
-    for _worker in 0..workers.len() {
-        let Worker {
-            alloc: _,
-            number: _,
-            seat: _,
-            sender,
-            counts: more,
-        } = workers.pop().unwrap();
-        desk.retire(sender);
-        counts = counts.plus(more);
-    }
-    counts
+    let mut crew = Crew::new(alloc, workers.len())?;
+    let started = crew.start_all(rt, workers, rounds);
+    take_until_ended(rt, &crew.ended, crew.threads.len() as u64, desk);
+    let counts = crew.retire(rt, desk);
+    desk.take_rest(rt);
+    desk.tick(rt);
+    started?;
+    reported(alloc, genesis, desk, counts)
 }
 
 /// What the counts and the committed chain come to.

@@ -15,11 +15,12 @@ use std::sync::Wait;
 use std::sync::atomic::{AtomicU64, Ordering};
 use std::thread;
 
-/// A seat with its number, where it submits, and what its rounds came to.
+/// A seat with its number, the chaincode that it calls, where it submits, and what its rounds came to.
 #[derive(Drop)]
 pub struct Worker {
     pub alloc: Global,
     pub number: u64,
+    pub chaincode: Name,
     pub seat: Seat,
     pub sender: SenderSeat,
     pub counts: Counts,
@@ -27,12 +28,12 @@ pub struct Worker {
 
 impl Worker {
     /// Endorses and submits a proposal in each of so many rounds, and then counts itself as ended.
-    pub fn work<R: Wait>(&mut self, rt: &R, chaincode: &Name, rounds: u32, ended: &AtomicU64)
-        ensures { Works rounds self.old self.new }
+    pub fn work<R: Wait>(mut self, rt: &R, rounds: u32, ended: &AtomicU64) -> Worker
+        ensures { Works rounds self result }
     {
         self.counts = Counts::none();
         for round in 0..rounds {
-            match self.endorse(chaincode, round) {
+            match self.endorse(round) {
                 Ok(envelope) => {
                     submit(rt, &mut self.sender, envelope);
                     self.counts.endorsed += 1;
@@ -41,14 +42,15 @@ impl Worker {
             }
         }
         ended.fetch_add(1, Ordering::SeqCst);
+        self
     }
 
     /// The envelope of a round.
-    fn endorse(&mut self, chaincode: &Name, round: u32) -> Result<Envelope, FinishRefusal>
+    fn endorse(&mut self, round: u32) -> Result<Envelope, FinishRefusal>
         ensures sender { self.new.sender ≡ self.old.sender }
         ensures counts { self.new.counts ≡ self.old.counts }
     {
-        let proposal = proposal(self.alloc, chaincode, self.number, u64::from(round))?;
+        let proposal = proposal(self.alloc, &self.chaincode, self.number, u64::from(round))?;
         envelope(self.alloc, &mut self.seat, &proposal)
     }
 }

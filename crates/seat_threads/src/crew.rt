@@ -1,0 +1,133 @@
+//! Workers on threads of their own.
+
+ghost use Rattle.std.specs.Prelude.{◌≡◌, ℕ, ◌<◌, ◌≤◌, ◌+◌, ◌*◌, ◌^◌, [], length, vec_capacity, All, IfOk, OnOk};
+ghost use Rattle.atomic_table.specs.Seated.{TableId};
+ghost use Rattle.intake.specs.Seats.{intake_of_sender, intake_of_receiver};
+ghost use Rattle.seat_threads.specs.Rounds.{rounds_in};
+ghost use Rattle.seat_threads.specs.Work.{IsWorkerOf, IsDone, AllPromise, IsAtWork, IsSameDesk};
+
+use crate::counts::Counts;
+use crate::desk::Desk;
+use crate::worker::Worker;
+use intake::SenderSeat;
+use std::alloc::{AllocError, Global};
+use std::snapshot::Snapshot;
+use std::sync::atomic::AtomicU64;
+use std::sync::{Arc, Wait};
+use std::thread::{self, Promise, PromisedHandle, Threads};
+
+/// What a thread promises: a worker of this sender's intake that has worked so many rounds.
+#[derive(Drop)]
+pub struct Rounds {
+    pub sender: Snapshot<SenderSeat>,
+    pub rounds: u32,
+}
+
+impl Promise<Worker> for Rounds {
+    ghost kept_by = { λ p w. IsDone (intake_of_sender p.sender.value) p.rounds w };
+}
+
+/// The threads that were started, and how many of their workers have ended.
+#[derive(Drop)]
+pub struct Crew {
+    pub threads: Vec<PromisedHandle<Worker, Rounds>>,
+    pub ended: Arc<AtomicU64>,
+}
+
+impl Crew {
+    /// No threads, with room for so many.
+    pub fn new(alloc: Global, size: usize) -> Result<Crew, AllocError>
+        ensures none { IfOk result (λ c. c.threads.items ≡ []) }
+        ensures room { IfOk result (λ c. size ≤ vec_capacity c.threads) }
+    {
+        Ok(Crew {
+            threads: Vec::with_capacity(alloc, size)?,
+            ended: Arc::new(alloc, AtomicU64::new(0))?,
+        })
+    }
+
+    /// Starts a thread for each worker. Where one is refused, no further ones are started, and the workers
+    /// without a thread are dropped.
+    pub fn start_all<R: Threads + Wait + Send + Copy + 'static>(
+        &mut self,
+        rt: &R,
+        mut workers: Vec<Worker>,
+        rounds: u32,
+    ) -> Result<(), AllocError>
+        requires none { self.old.threads.items ≡ [] }
+        requires room { length workers.items ≤ vec_capacity self.old.threads }
+        ensures each { (intake : TableId) → All (IsWorkerOf intake) workers.items
+            → AllPromise intake rounds self.new.threads.items }
+        ensures all { OnOk result (length self.new.threads.items ≡ length workers.items) }
+        ensures most { length self.new.threads.items ≤ length workers.items }
+    {
+        for _started in 0..workers.len() {
+            self.start(rt, workers.pop().unwrap(), rounds)?;
+        }
+        Ok(())
+    }
+
+    /// Starts a thread for a worker, which is dropped where that is refused.
+    fn start<R: Threads + Wait + Send + Copy + 'static>(
+        &mut self,
+        rt: &R,
+        worker: Worker,
+        rounds: u32,
+    ) -> Result<(), AllocError>
+        requires { length self.old.threads.items < vec_capacity self.old.threads }
+        ensures each { (intake : TableId) → IsWorkerOf intake worker
+            → AllPromise intake rounds self.old.threads.items
+            → AllPromise intake rounds self.new.threads.items }
+        ensures one { OnOk result (length self.new.threads.items ≡ length self.old.threads.items + 1) }
+        ensures most { length self.new.threads.items ≤ length self.old.threads.items + 1 }
+        ensures room { vec_capacity self.old.threads ≤ vec_capacity self.new.threads }
+    {
+        let promise = Rounds {
+            sender: Snapshot::of(&worker.sender),
+            rounds,
+        };
+        let ended = Arc::try_clone(&self.ended)?;
+        let thread = thread_of(rt, worker, promise, ended)?;
+        self.threads.push(thread).unwrap();
+        Ok(())
+    }
+
+    /// Joins the threads, takes in the seats of their workers, and adds up what they counted.
+    pub fn retire<R: Threads>(mut self, rt: &R, desk: &mut Desk) -> Counts
+        requires work { IsAtWork desk.old }
+        requires each { (rounds : ℕ) × (rounds < 2 ^ 32)
+            × AllPromise (intake_of_receiver desk.old.receiver) rounds self.threads.items }
+        requires count { length self.threads.items < 2 ^ 32 }
+        ensures work { IsAtWork desk.new }
+        ensures same { IsSameDesk desk.new desk.old }
+        ensures rounds { (rounds : ℕ)
+            → AllPromise (intake_of_receiver desk.old.receiver) rounds self.threads.items
+            → rounds_in result ≡ length self.threads.items * rounds }
+    {
+        let mut counts = Counts::none();
+        for _joined in 0..self.threads.len() {
+            let thread = self.threads.pop().unwrap();
+            let worker = thread.join(rt);
+            counts = counts.plus(worker.counts);
+            desk.retire(worker.sender);
+        }
+        counts
+    }
+}
+
+/// A thread on which a worker works the rounds that are promised of it. Where none can be made, the worker
+/// is dropped.
+fn thread_of<R: Threads + Wait + Send + Copy + 'static>(
+    rt: &R,
+    worker: Worker,
+    promise: Rounds,
+    ended: Arc<AtomicU64>,
+) -> Result<PromisedHandle<Worker, Rounds>, AllocError>
+    requires { intake_of_sender promise.sender.value ≡ intake_of_sender worker.sender }
+    ensures { IfOk result (λ t. t.promise ≡ promise) }
+{
+    let there = *rt;
+    let rounds = promise.rounds;
+    let work = move || worker.work(&there, rounds, &ended);
+    Ok(thread::spawn_with(rt, promise, work)?)
+}
