@@ -12,9 +12,9 @@ use std::mem;
 
 /// Cuts messages into batches, by their count, their sizes and timeouts.
 ///
-/// A message above the preferred size is a batch alone, after one of the messages that wait, if there are any. A message
-/// that would take those that wait above the preferred size waits after a batch of them. A batch with the greatest count
-/// is cut at once, and a timeout cuts what waits.
+/// A message above the preferred size is a batch alone, after one of the messages that wait, if
+/// there are any. A message that would take those that wait above the preferred size waits after a
+/// batch of them. A batch with the greatest count is cut at once, and a timeout cuts what waits.
 #[derive(Drop)]
 pub struct Cutter<M: Weigh> {
     /// The messages that wait.
@@ -42,16 +42,19 @@ impl<M: Weigh> Model for Cutter<M> {
       pending = c.pending.items;
     } };
 
-    ghost invariant = { λ c. (length c.pending.items < c.count) × (sum_by M.weight c.pending.items ≡ c.size) × (c.size ≤ c.preferred) };
+    ghost invariant = { λ c. (length c.pending.items < c.count) ×
+        (sum_by M.weight c.pending.items ≡ c.size) × (c.size ≤ c.preferred) };
 }
 
 impl<M: Weigh + Drop> Cutter<M> {
-    /// A cutter of batches of at most `count` messages, one at least. Messages of at most `preferred` bytes together
-    /// share a batch; none above `absolute` bytes is taken. Nothing waits.
+    /// A cutter of batches of at most `count` messages, one at least. Messages of at most
+    /// `preferred` bytes together share a batch; none above `absolute` bytes is taken. Nothing
+    /// waits.
     pub fn new(alloc: Global, count: usize, preferred: usize, absolute: usize) -> Self
         requires { 0 < count }
         ensures pending { result.pending ≡ [] }
-        ensures limits { result.limits ≡ record { count = count; preferred = preferred; absolute = absolute } }
+        ensures limits { result.limits
+            ≡ record { count = count; preferred = preferred; absolute = absolute } }
     {
         Cutter {
             pending: Vec::new(alloc),
@@ -77,12 +80,13 @@ impl<M: Weigh + Drop> Cutter<M> {
 
     /// Takes a message, and cuts the batches that end with it or before it.
     ///
-    /// A refusal hands the message back and changes nothing. Its cause is 421 where the message is above the absolute
-    /// size, or 9 where a growth of memory was refused.
+    /// A refusal hands the message back and changes nothing. Its cause is 421 where the message is
+    /// above the absolute size, or 9 where a growth of memory was refused.
     pub fn offer(&mut self, given: M) -> Result<Cut<M>, Offered<M>>
         ensures cut { IfOk result (λ cut. Offers M.weight self.old given cut self.new) }
         ensures size { OnOk result (M.weight given ≤ self.old.limits.absolute) }
-        ensures handed_back { IfErr result (λ o. (o.message ≡ given) × IsCause o.cause self.old.limits (M.weight given)) }
+        ensures handed_back { IfErr result
+            (λ o. (o.message ≡ given) × IsCause o.cause self.old.limits (M.weight given)) }
         ensures unchanged { OnErr result (self.new ≡ self.old) }
     {
         let size = given.weight();
@@ -107,7 +111,8 @@ impl<M: Weigh + Drop> Cutter<M> {
         requires fits { sum_by M.weight self.old.pending + size ≤ self.old.limits.preferred }
         requires within { size ≤ self.old.limits.absolute }
         ensures cut { IfOk result (λ cut. Offers M.weight self.old given cut self.new) }
-        ensures handed_back { IfErr result (λ o. (o.message ≡ given) × IsCause o.cause self.old.limits (M.weight given)) }
+        ensures handed_back { IfErr result
+            (λ o. (o.message ≡ given) × IsCause o.cause self.old.limits (M.weight given)) }
         ensures unchanged { OnErr result (self.new ≡ self.old) }
     {
         if let Err(failed) = self.pending.push(given) {
@@ -125,14 +130,16 @@ impl<M: Weigh + Drop> Cutter<M> {
         Ok(Cut::One(mem::replace(&mut self.pending, empty)))
     }
 
-    /// Cuts the messages that wait, and lets a message wait that would take them above the preferred size.
+    /// Cuts the messages that wait, and lets a message wait that would take them above the
+    /// preferred size.
     fn cut_before(&mut self, given: M, size: usize) -> Result<Cut<M>, Offered<M>>
         requires size { M.weight given ≡ size }
         requires small { size ≤ self.old.limits.preferred }
         requires stops { self.old.limits.preferred < sum_by M.weight self.old.pending + size }
         requires within { size ≤ self.old.limits.absolute }
         ensures cut { IfOk result (λ cut. Offers M.weight self.old given cut self.new) }
-        ensures handed_back { IfErr result (λ o. (o.message ≡ given) × IsCause o.cause self.old.limits (M.weight given)) }
+        ensures handed_back { IfErr result
+            (λ o. (o.message ≡ given) × IsCause o.cause self.old.limits (M.weight given)) }
         ensures unchanged { OnErr result (self.new ≡ self.old) }
     {
         let mut next = Vec::new(self.alloc);
@@ -146,12 +153,14 @@ impl<M: Weigh + Drop> Cutter<M> {
         Ok(Cut::One(mem::replace(&mut self.pending, next)))
     }
 
-    /// Cuts the messages that wait, if there are any, and after them a message above the preferred size.
+    /// Cuts the messages that wait, if there are any, and after them a message above the preferred
+    /// size.
     fn cut_alone(&mut self, given: M) -> Result<Cut<M>, Offered<M>>
         requires large { self.old.limits.preferred < M.weight given }
         requires within { M.weight given ≤ self.old.limits.absolute }
         ensures cut { IfOk result (λ cut. Offers M.weight self.old given cut self.new) }
-        ensures handed_back { IfErr result (λ o. (o.message ≡ given) × IsCause o.cause self.old.limits (M.weight given)) }
+        ensures handed_back { IfErr result
+            (λ o. (o.message ≡ given) × IsCause o.cause self.old.limits (M.weight given)) }
         ensures unchanged { OnErr result (self.new ≡ self.old) }
     {
         let mut alone = Vec::new(self.alloc);
@@ -169,11 +178,12 @@ impl<M: Weigh + Drop> Cutter<M> {
         Ok(Cut::Two(mem::replace(&mut self.pending, empty), alone))
     }
 
-    /// Takes back the last offer, which cut `cut`: what waited before waits again, and the message is handed back. No
-    /// memory is taken. The cutter has to be as that offer left it.
+    /// Takes back the last offer, which cut `cut`: what waited before waits again, and the message
+    /// is handed back. No memory is taken. The cutter has to be as that offer left it.
     pub fn undo(&mut self, cut: Cut<M>) -> M
         requires { IsAfterOffer M.weight cut self.old }
-        ensures { (old : State M) (given : M) → Offers M.weight old given cut self.old → (self.new ≡ old) × (result ≡ given) }
+        ensures { (old : State M) (given : M) → Offers M.weight old given cut self.old →
+            (self.new ≡ old) × (result ≡ given) }
     {
         match cut {
             Cut::Nothing => self.take_last(),
@@ -195,11 +205,12 @@ impl<M: Weigh + Drop> Cutter<M> {
         }
     }
 
-    /// Takes back the last timeout, which cut `batch`: its messages wait again. No memory is taken. The cutter has to be
-    /// as that timeout left it.
+    /// Takes back the last timeout, which cut `batch`: its messages wait again. No memory is taken.
+    /// The cutter has to be as that timeout left it.
     pub fn put_back(&mut self, batch: Vec<M>)
         requires { IsAfterTimeout M.weight batch.items self.old }
-        ensures { (old : State M) → Times M.weight old (batch.items ∷ []) self.old → self.new ≡ old }
+        ensures { (old : State M) → Times M.weight old (batch.items ∷ []) self.old →
+            self.new ≡ old }
     {
         self.restore(batch);
     }

@@ -1,5 +1,5 @@
-//! Cuts messages into batches, by their count, their sizes and timeouts. It knows nothing of what a message is but its
-//! size.
+//! Cuts messages into batches, by their count, their sizes and timeouts. It knows nothing of what a
+//! message is but its size.
 #![tactic(auto)]
 
 mod cut;

@@ -65,7 +65,8 @@ fn push_flags(flags: &[Flag], out: &mut Vec<u8>) -> Result<(), AllocError>
 
 /// The bytes of the record.
 fn encode_record(alloc: Global, block: &Block, flags: &[Flag]) -> Result<Vec<u8>, AllocError>
-    ensures spelled { IfOk result (λ v. v.items ≡ record_bytes (record { block = block.now; flags = flags.now })) }
+    ensures spelled { IfOk result
+        (λ v. v.items ≡ record_bytes (record { block = block.now; flags = flags.now })) }
     ensures within { OnOk result (IsBlock block.now) }
 {
     let bytes = encode_block(alloc, block)?;
@@ -80,7 +81,8 @@ fn encode_record(alloc: Global, block: &Block, flags: &[Flag]) -> Result<Vec<u8>
 }
 
 fn write_whole<W: CountedWrite>(writer: &mut W, bytes: &[u8]) -> Result<(), AppendFault>
-    ensures { Appended result bytes.now (W.written writer.old) (W.written writer.new) (W.failures writer.old) (W.failures writer.new) }
+    ensures { Appended result bytes.now (W.written writer.old) (W.written writer.new)
+        (W.failures writer.old) (W.failures writer.new) }
 {
     let mut at = 0;
     while at < bytes.len() {
@@ -93,8 +95,8 @@ fn write_whole<W: CountedWrite>(writer: &mut W, bytes: &[u8]) -> Result<(), Appe
 }
 
 /// Appends the record of a block and its flags, one for each transaction. After
-/// [`AppendFault::Device`] a beginning of the record stands there, and the store loads as torn, or clean
-/// where not one byte was taken.
+/// [`AppendFault::Device`] a beginning of the record stands there, and the store loads as torn, or
+/// clean where not one byte was taken.
 pub fn append<W: CountedWrite>(
     alloc: Global,
     writer: &mut W,
@@ -102,8 +104,9 @@ pub fn append<W: CountedWrite>(
     flags: &[Flag],
 ) -> Result<(), AppendFault>
     requires { length flags.now ≡ length block.now.envelopes }
-    ensures written { Appended result (record_bytes (record { block = block.now; flags = flags.now }))
-        (W.written writer.old) (W.written writer.new) (W.failures writer.old) (W.failures writer.new) }
+    ensures written { Appended result
+        (record_bytes (record { block = block.now; flags = flags.now })) (W.written writer.old)
+        (W.written writer.new) (W.failures writer.old) (W.failures writer.new) }
     // Each block is within its limits, so the record is loaded again.
     ensures within { OnOk result (IsBlock block.now) }
 {

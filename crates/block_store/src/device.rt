@@ -21,11 +21,12 @@ pub trait CountedRead {
     /// Fills the front of the buffer, and answers with how many bytes. It is 0 only at the end.
     fn read(&mut self, buffer: &mut [u8]) -> Result<usize, DeviceError>
         requires { 0 < length buffer.old }
-        ensures { ReadOnce result buffer.new (taken self.old) (taken self.new) (failures self.old) (failures self.new) (IsAtEnd self.new) };
+        ensures { ReadOnce result buffer.new (taken self.old) (taken self.new) (failures self.old)
+            (failures self.new) (IsAtEnd self.new) };
 }
 
-/// A device that takes bytes at its end and counts its failed calls. Whether bytes that it took outlast
-/// a crash is for the device to say.
+/// A device that takes bytes at its end and counts its failed calls. Whether bytes that it took
+/// outlast a crash is for the device to say.
 pub trait CountedWrite {
     /// The bytes that it has taken so far.
     ghost written: { Self → List ℕ };
@@ -36,5 +37,6 @@ pub trait CountedWrite {
     /// Takes some of the bytes from the front, at least one, and answers with how many.
     fn write(&mut self, bytes: &[u8]) -> Result<usize, DeviceError>
         requires { 0 < length bytes.now }
-        ensures { WroteOnce result bytes.now (written self.old) (written self.new) (failures self.old) (failures self.new) };
+        ensures { WroteOnce result bytes.now (written self.old) (written self.new)
+            (failures self.old) (failures self.new) };
 }

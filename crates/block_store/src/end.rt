@@ -19,8 +19,8 @@ pub enum End {
 }
 
 impl End {
-    /// The number by which a refusal names the end: 701 where it is torn, 702 where it is damaged and
-    /// 703 where the device failed. A clean end has none.
+    /// The number by which a refusal names the end: 701 where it is torn, 702 where it is damaged
+    /// and 703 where the device failed. A clean end has none.
     pub fn number(self) -> Option<u16>
         ensures { result ≡ end_number self }
     {

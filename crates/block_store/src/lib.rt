@@ -1,10 +1,10 @@
 //! A store of blocks: a list of records, each a block with its flags and a digest.
 //!
-//! [`append`] writes a record (`specs/Record.antt`). [`load`] reads a store to its end or to damage, in
-//! pieces of at most 65,536 bytes, and gives the records and the end that its bytes have
+//! [`append`] writes a record (`specs/Record.antt`). [`load`] reads a store to its end or to
+//! damage, in pieces of at most 65,536 bytes, and gives the records and the end that its bytes have
 //! (`specs/Store.antt`). Both work over devices that count their failed calls in the contract alone
-//! ([`CountedWrite`], [`CountedRead`]); a device is blamed exactly where its count rose. [`RecordReader`]
-//! does the reading for a store that comes in pieces (`specs/Progress.antt`).
+//! ([`CountedWrite`], [`CountedRead`]); a device is blamed exactly where its count rose.
+//! [`RecordReader`] does the reading for a store that comes in pieces (`specs/Progress.antt`).
 #![tactic(auto)]
 
 mod appending;

@@ -33,9 +33,11 @@ fn load_by<R: CountedRead>(
     piece: &mut [u8],
 ) -> Result<Loaded, AllocError>
     requires { 0 < length piece.old }
-    ensures loaded { IfOk result (λ l. IsLoaded (R.taken reader.old) (R.taken reader.new) l.blocks.items l.end) }
+    ensures loaded { IfOk result
+        (λ l. IsLoaded (R.taken reader.old) (R.taken reader.new) l.blocks.items l.end) }
     ensures all { IfOk result (λ l. ReadsAll l.end (R.IsAtEnd reader.new)) }
-    ensures device { IfOk result (λ l. IsTold l.end (R.failures reader.old) (R.failures reader.new)) }
+    ensures device { IfOk result
+        (λ l. IsTold l.end (R.failures reader.old) (R.failures reader.new)) }
 {
     let mut records = RecordReader::new(alloc);
     let mut blocks = Vec::new(alloc);
@@ -61,15 +63,18 @@ fn load_by<R: CountedRead>(
     }
 }
 
-/// Reads a store to the end of its device, to damage or to the first call that fails. It holds one piece
-/// and what has come of the next record beside the blocks that it gives. The error is of memory.
+/// Reads a store to the end of its device, to damage or to the first call that fails. It holds one
+/// piece and what has come of the next record beside the blocks that it gives. The error is of
+/// memory.
 pub fn load<R: CountedRead>(alloc: Global, reader: &mut R) -> Result<Loaded, AllocError>
     // The records and the end are those of the bytes that were read.
-    ensures loaded { IfOk result (λ l. IsLoaded (R.taken reader.old) (R.taken reader.new) l.blocks.items l.end) }
+    ensures loaded { IfOk result
+        (λ l. IsLoaded (R.taken reader.old) (R.taken reader.new) l.blocks.items l.end) }
     // These were all, unless there was damage or the device failed.
     ensures all { IfOk result (λ l. ReadsAll l.end (R.IsAtEnd reader.new)) }
     // The device is blamed exactly where a call of it failed.
-    ensures device { IfOk result (λ l. IsTold l.end (R.failures reader.old) (R.failures reader.new)) }
+    ensures device { IfOk result
+        (λ l. IsTold l.end (R.failures reader.old) (R.failures reader.new)) }
 {
     let mut piece = zeros(alloc, PIECE)?;
     load_by(alloc, reader, &mut piece)

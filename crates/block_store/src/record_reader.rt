@@ -55,8 +55,8 @@ impl RecordReader {
         }
     }
 
-    /// Takes the next piece of the store, and gives the records that are whole now. Behind damage it
-    /// gives none. The error is of memory; it changes nothing, and the piece may be fed again.
+    /// Takes the next piece of the store, and gives the records that are whole now. Behind damage
+    /// it gives none. The error is of memory; it changes nothing, and the piece may be fed again.
     pub fn feed(&mut self, piece: &[u8]) -> Result<Vec<CommittedBlock>, AllocError>
         ensures fed { IfOk result (λ v. Feeds self.old piece.now v.items self.new) }
         ensures err { OnErr result (self.new ≡ self.old) }
@@ -94,8 +94,8 @@ impl RecordReader {
         self.held.len()
     }
 
-    /// The number of the next record, 1 to 65,536. Records have numbers up to 65,535, so none has the
-    /// last.
+    /// The number of the next record, 1 to 65,536. Records have numbers up to 65,535, so none has
+    /// the last.
     pub fn next(&self) -> u32
         ensures value { result ≡ self.now.next }
         ensures limits { result ≤ 65536 }

@@ -14,7 +14,8 @@ use std::alloc::{AllocError, Global};
 use wire::{data_hash, header_hash};
 use world_state::Snapshot;
 
-/// The hash that the next header names: that of the last header, or 32 zero bytes where there is none.
+/// The hash that the next header names: that of the last header, or 32 zero bytes where there is
+/// none.
 fn last_hash(snapshot: &Snapshot) -> [u8; 32]
     ensures { result ≡ next_link (blocks_of snapshot.now) }
 {
@@ -24,11 +25,12 @@ fn last_hash(snapshot: &Snapshot) -> [u8; 32]
     }
 }
 
-/// Tests whether a block is the next one: whether there is room, and then its number, the hash that it names, and that of
-/// its data.
+/// Tests whether a block is the next one: whether there is room, and then its number, the hash that
+/// it names, and that of its data.
 fn check(alloc: Global, snapshot: &Snapshot, block: &Block) -> Result<(), CommitRefusal>
     ensures fits { OnOk result (Fits (blocks_of snapshot.now) block.now) }
-    ensures refused { IfErr result (λ refusal. IsRefused refusal (blocks_of snapshot.now) block.now) }
+    ensures refused { IfErr result
+        (λ refusal. IsRefused refusal (blocks_of snapshot.now) block.now) }
 {
     let height = snapshot.height();
     if height == 65_535 {
@@ -46,17 +48,20 @@ fn check(alloc: Global, snapshot: &Snapshot, block: &Block) -> Result<(), Commit
     Ok(())
 }
 
-/// The snapshot after one block more, with the flags of its transactions. `snapshot` stays as it is. `endorsed` says of
-/// each transaction, by its place, whether its chaincode is known and its policy satisfied.
+/// The snapshot after one block more, with the flags of its transactions. `snapshot` stays as it
+/// is. `endorsed` says of each transaction, by its place, whether its chaincode is known and its
+/// policy satisfied.
 ///
 /// These are tested in turn, and the first that stands refuses the block:
 ///
 /// - `AtEnd` (604): there are 65,535 blocks.
 /// - `Number` (601): its number is not the next one.
-/// - `PreviousHash` (602): it does not name the hash of the last header, or 32 zero bytes as block 1.
+/// - `PreviousHash` (602): it does not name the hash of the last header, or 32 zero bytes as block
+///   1.
 /// - `DataHash` (603): its header does not name the hash of its data.
 ///
-/// `OutOfMemory` (9) is answered where a growth of memory was refused. The block of a refused call is dropped.
+/// `OutOfMemory` (9) is answered where a growth of memory was refused. The block of a refused call
+/// is dropped.
 pub fn commit_on(
     alloc: Global,
     snapshot: &Snapshot,
@@ -64,7 +69,15 @@ pub fn commit_on(
     endorsed: &[bool],
 ) -> Result<Snapshot, CommitRefusal>
     requires one_each { length endorsed.now ≡ length block.envelopes }
-    ensures committed { IfOk result (λ s. s ≡ snapshot.now ++ record { block = block; flags = flags_told id_of (history snapshot.now) block.header.number 0 block.envelopes endorsed.now } ∷ []) }
+    ensures committed { IfOk result
+        (λ s. s
+        ≡ snapshot.now ++
+        record {
+          block = block;
+          flags = flags_told id_of (history snapshot.now) block.header.number 0
+              block.envelopes endorsed.now;
+        } ∷
+        []) }
     ensures fits { OnOk result (Fits (blocks_of snapshot.now) block) }
     ensures refused { IfErr result (λ refusal. IsRefused refusal (blocks_of snapshot.now) block) }
 {

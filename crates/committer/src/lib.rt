@@ -1,4 +1,5 @@
-//! Commits: a block is tested to be the next one of a chain, its transactions get their flags, and it joins the chain.
+//! Commits: a block is tested to be the next one of a chain, its transactions get their flags, and
+//! it joins the chain.
 #![tactic(auto)]
 
 mod commit;

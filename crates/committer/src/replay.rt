@@ -57,8 +57,12 @@ impl Replay {
         endorsed: &[bool],
     ) -> Result<&[Flag], CommitRefusal>
         requires one_each { length endorsed.now ≡ length block.envelopes }
-        ensures* after { sem 𝓛 (Rests the_row self.entry (λ new. Pushes self.old block endorsed.now result new)) }
-        ensures flags { IfOk result (λ flags. flags.now ≡ flags_told id_of (history self.old) block.header.number 0 block.envelopes endorsed.now) }
+        ensures* after { sem 𝓛
+            (Rests the_row self.entry (λ new. Pushes self.old block endorsed.now result new)) }
+        ensures flags { IfOk result
+            (λ flags. flags.now
+            ≡ flags_told id_of (history self.old) block.header.number 0 block.envelopes
+            endorsed.now) }
         ensures fits { OnOk result (Fits (blocks_of self.old) block) }
         ensures refused { IfErr result (λ refusal. IsRefused refusal (blocks_of self.old) block) }
     {
@@ -69,7 +73,8 @@ impl Replay {
 
 /// The flags of the last block, or none where there is no block.
 fn last_flags(snapshot: &Snapshot) -> &[Flag]
-    ensures { (before : Chain) (last : Committed) → snapshot.now ≡ before ++ last ∷ [] → result.now ≡ last.flags }
+    ensures { (before : Chain) (last : Committed) → snapshot.now ≡ before ++ last ∷ [] →
+        result.now ≡ last.flags }
 {
     match snapshot.blocks().last() {
         None => &[],

@@ -5,8 +5,8 @@ ghost use Rattle.std.specs.Borrow.{ftrue};
 
 use std::marker::Model;
 
-/// The bytes that a device has moved, and how many of its calls have failed. It takes no memory, and
-/// its functions do nothing at run time.
+/// The bytes that a device has moved, and how many of its calls have failed. It takes no memory,
+/// and its functions do nothing at run time.
 #[derive(Drop)]
 pub(crate) struct History {
     ghost moved: { List ℕ },

@@ -13,12 +13,12 @@ use crate::history::{Call, History};
 use block_store::{CountedRead, CountedWrite, DeviceError};
 use std::io::{Read, Write};
 
-/// A reader or a writer with the history of its calls. Each error is a failed call, an interrupted one
-/// too, and so is a write that takes no byte.
+/// A reader or a writer with the history of its calls. Each error is a failed call, an interrupted
+/// one too, and so is a write that takes no byte.
 ///
-/// A file hands each write to the system before it answers. That the bytes are on the disk is promised
-/// by `sync_all` alone. A `BufWriter` takes bytes that it writes later, so its errors may come after an
-/// append that was done: put none in between.
+/// A file hands each write to the system before it answers. That the bytes are on the disk is
+/// promised by `sync_all` alone. A `BufWriter` takes bytes that it writes later, so its errors may
+/// come after an append that was done: put none in between.
 #[derive(Drop)]
 pub struct Counted<D: Drop> {
     device: D,

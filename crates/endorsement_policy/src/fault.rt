@@ -13,8 +13,8 @@ use std::fmt::{self, Display, Formatter, Write};
 pub enum PolicyFault {
     /// A growth of memory was refused.
     Memory,
-    /// At this offset, in bytes, no token stands that a policy's text may have there. A text of more than
-    /// 1,024 bytes is refused at offset 1,024.
+    /// At this offset, in bytes, no token stands that a policy's text may have there. A text of
+    /// more than 1,024 bytes is refused at offset 1,024.
     Syntax(usize),
     /// A name is not that of a known organisation.
     UnknownOrganisation,

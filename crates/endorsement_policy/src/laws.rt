@@ -11,7 +11,8 @@ use crate::rules::Rules;
 
 /// A text spells at most one policy.
 pub fn spelled_once()
-    ensures { (orgs : Names) (a b : Policy) (text : List ℕ) → IsText orgs a text → IsText orgs b text → a ≡ b }
+    ensures { (orgs : Names) (a b : Policy) (text : List ℕ) → IsText orgs a text →
+        IsText orgs b text → a ≡ b }
 {}
 
 /// Where an envelope is endorsed, a right tag stands on it.

@@ -1,13 +1,15 @@
-//! Endorsement policies: which organisations' endorsements suffice, and whether those of an envelope do.
+//! Endorsement policies: which organisations' endorsements suffice, and whether those of an
+//! envelope do.
 //!
-//! A policy is the name of an organisation, or an operator over policies: all of them, any of them, or
-//! at least so many of them. Its *good sets* (`specs/GoodSets.antt`) are the sets of organisations that
-//! suffice; a policy is satisfied where some good set lies within the organisations that endorsed.
+//! A policy is the name of an organisation, or an operator over policies: all of them, any of them,
+//! or at least so many of them. Its *good sets* (`specs/GoodSets.antt`) are the sets of
+//! organisations that suffice; a policy is satisfied where some good set lies within the
+//! organisations that endorsed.
 //!
 //! A text spells a policy by the grammar of `specs/Spelling.antt`, within the limits of
 //! `specs/Limits.antt`. A tag is right where it is that of the organisation that it names, on the
-//! payload's bytes; an envelope is endorsed where its chaincode is known, and its policy is satisfied by
-//! the organisations of which it carries a right tag (`specs/Endorsed.antt`).
+//! payload's bytes; an envelope is endorsed where its chaincode is known, and its policy is
+//! satisfied by the organisations of which it carries a right tag (`specs/Endorsed.antt`).
 #![tactic(auto)]
 
 mod check;

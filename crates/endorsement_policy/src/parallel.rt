@@ -20,10 +20,10 @@ pub trait Gate: Sync {
     fn after(&self, index: usize);
 }
 
-/// For each envelope whether it is endorsed, by 1 to 16 workers at once: the same as `check_plain` for
-/// every number of them. Worker `w` of `n` checks the envelopes at the places `w`, `w + n`, `w + 2n` and
-/// so on, in this order. The caller is one of the workers, and does the checks of one that cannot be
-/// started. The only error is want of memory.
+/// For each envelope whether it is endorsed, by 1 to 16 workers at once: the same as `check_plain`
+/// for every number of them. Worker `w` of `n` checks the envelopes at the places `w`, `w + n`, `w
+/// + 2n` and so on, in this order. The caller is one of the workers, and does the checks of one
+/// that cannot be started. The only error is want of memory.
 pub fn check_all<R: Threads + Sync, G: Gate>(
     rt: &R,
     alloc: Global,
@@ -42,7 +42,9 @@ pub fn check_all<R: Threads + Sync, G: Gate>(
         workers,
         &|worker: usize| -> Result<Vec<bool>, AllocError>
             requires { (worker < workers) × (1 ≤ workers) × (workers ≤ 16) }
-            ensures { IfOk result (λ v. IsShare (map (is_endorsed rules.entry.now) envelopes.entry.now) worker workers v.items) }
+            ensures { IfOk result
+                (λ v. IsShare (map (is_endorsed rules.entry.now) envelopes.entry.now) worker workers
+                v.items) }
         { check_share(alloc, rules, envelopes, worker, workers, gate) },
     )?;
     gathered(alloc, rules, envelopes, &shares)
@@ -60,8 +62,10 @@ fn check_share<G: Gate>(
 ) -> Result<Vec<bool>, AllocError>
     requires worker { worker < workers }
     requires workers { workers ≤ 16 }
-    ensures share { IfOk result (λ v. IsShare (map (is_endorsed rules.now) envelopes.now) worker workers v.items) }
-    ensures no_others { IfOk result (λ v. (turn : ℕ) → turn < length v.items → worker + workers * turn < length envelopes.now) }
+    ensures share { IfOk result
+        (λ v. IsShare (map (is_endorsed rules.now) envelopes.now) worker workers v.items) }
+    ensures no_others { IfOk result
+        (λ v. (turn : ℕ) → turn < length v.items → worker + workers * turn < length envelopes.now) }
 {
     let mut answers = Vec::new(alloc);
     let mut index = worker;
@@ -83,7 +87,10 @@ fn gathered(
     shares: &[Result<Vec<bool>, AllocError>],
 ) -> Result<Vec<bool>, AllocError>
     requires least { 1 ≤ length shares.now }
-    requires shares { (worker : ℕ) (none : _) → worker < length shares.now → IfOk (slice_index_or shares.now worker none) (λ v. IsShare (map (is_endorsed rules.now) envelopes.now) worker (length shares.now) v.items) }
+    requires shares { (worker : ℕ) (none : _) → worker < length shares.now →
+        IfOk (slice_index_or shares.now worker none)
+        (λ v. IsShare (map (is_endorsed rules.now) envelopes.now) worker (length shares.now)
+        v.items) }
     ensures { IfOk result (λ v. v.items ≡ map (is_endorsed rules.now) envelopes.now) }
 {
     let mut answers = Vec::with_capacity(alloc, envelopes.len())?;

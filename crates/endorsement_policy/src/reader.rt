@@ -12,7 +12,8 @@ use crate::fault::PolicyFault;
 use crate::operator::Operator;
 use std::marker::Model;
 
-/// The bytes that are still to be read. Each reader gives what stands at their front and moves past it.
+/// The bytes that are still to be read. Each reader gives what stands at their front and moves past
+/// it.
 #[derive(Drop)]
 pub(crate) struct Reader<'a> {
     rest: &'a [u8],

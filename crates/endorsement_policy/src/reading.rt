@@ -29,15 +29,17 @@ const MOST_CHILDREN: u32 = 1024;
 /// The policy that the text spells, where these organisations are known. It needs at least one
 /// endorsement.
 ///
-/// A text of more than 1,024 bytes is refused at offset 1,024 before it is read. On another fault than
-/// want of memory the text spells no policy within the limits: on `Syntax` none at all, and on the others
-/// each policy that it spells has the cause that the fault names. The text is read from the left up to
-/// the first fault; a threshold is judged once its children are read.
+/// A text of more than 1,024 bytes is refused at offset 1,024 before it is read. On another fault
+/// than want of memory the text spells no policy within the limits: on `Syntax` none at all, and on
+/// the others each policy that it spells has the cause that the fault names. The text is read from
+/// the left up to the first fault; a threshold is judged once its children are read.
 pub fn parse(alloc: Global, text: &str, orgs: &[OrgName]) -> Result<Policy, PolicyFault>
     ensures spelled { IfOk result (λ p. IsText orgs.now p text.now) }
     ensures only { (p : Policy) → IsText orgs.now p text.now → Finds result p }
     ensures long { 1024 < length text.now → result ≡ Err (PolicyFault.Syntax 1024) }
-    ensures causes { IfErr result (λ e. (p : Policy) → IsSpelled p text.now → length text.now ≤ 1024 → HasCause orgs.now e p) }
+    ensures causes { IfErr result
+        (λ e. (p : Policy) → IsSpelled p text.now → length text.now ≤ 1024 →
+        HasCause orgs.now e p) }
     ensures needed { IfOk result (λ p. needs_someone p ≡ true) }
 {
     let bytes = text.as_bytes();
@@ -91,7 +93,8 @@ fn children(
     orgs: &[OrgName],
     levels: u32,
 ) -> Result<Vec<Policy>, PolicyFault>
-    ensures { ParsesBy (λ v. v.items) result reader.new (λ m. children_at (policy_by orgs.now m levels) 1024 reader.old) }
+    ensures { ParsesBy (λ v. v.items) result reader.new
+        (λ m. children_at (policy_by orgs.now m levels) 1024 reader.old) }
 {
     let mut children = Vec::new(alloc);
     for _ in 0..MOST_CHILDREN {
@@ -106,7 +109,8 @@ fn children(
 
 /// The name of a known organisation in quotes.
 fn leaf(alloc: Global, reader: &mut Reader<'_>, orgs: &[OrgName]) -> Result<Policy, PolicyFault>
-    ensures { ParsesBy (λ p. p) result reader.new (λ m. leaf_at (is_known_by orgs.now m) reader.old) }
+    ensures { ParsesBy (λ p. p) result reader.new
+        (λ m. leaf_at (is_known_by orgs.now m) reader.old) }
 {
     let fault = reader.syntax();
     let name = reader.quoted()?.to_vec(alloc)?;

@@ -55,11 +55,12 @@ fn do_need_someone(policies: &[ChaincodePolicy]) -> bool
 }
 
 impl Rules {
-    /// The rules of these organisations and policies. None where some policy is satisfied without any
-    /// endorsement, as `And` of no policies is.
+    /// The rules of these organisations and policies. None where some policy is satisfied without
+    /// any endorsement, as `And` of no policies is.
     pub fn new(organisations: Vec<Organisation>, policies: Vec<ChaincodePolicy>) -> Option<Rules>
         ensures accepted { IsSome result ↔ (do_need_someone policies.items ≡ true) }
-        ensures value { IfSome result (λ r. r ≡ record { orgs = organisations.items; policies = policies.items }) }
+        ensures value { IfSome result
+            (λ r. r ≡ record { orgs = organisations.items; policies = policies.items }) }
     {
         if !do_need_someone(&policies) {
             return None;
@@ -87,7 +88,8 @@ impl Rules {
 
     /// The policy of this chaincode.
     pub fn policy(&self, chaincode: &Name) -> Option<&ChaincodePolicy>
-        ensures { option_map (λ p. p.now) result ≡ find (is_policy_of chaincode.now) self.now.policies }
+        ensures { option_map (λ p. p.now) result
+            ≡ find (is_policy_of chaincode.now) self.now.policies }
     {
         self.policies.iter().find(|p| p.is_of(chaincode))
     }
@@ -105,7 +107,9 @@ impl Rules {
     /// Whether the organisation that an endorsement names is known, and the tag is its tag on these
     /// bytes.
     pub(crate) fn is_tag(&self, endorsement: &Endorsement, bytes: &[u8]) -> bool
-        ensures { result ≡ is_tag_of (find (is_org endorsement.now.org) self.now.orgs) bytes.now endorsement.now.tag }
+        ensures { result
+            ≡ is_tag_of (find (is_org endorsement.now.org) self.now.orgs) bytes.now
+            endorsement.now.tag }
     {
         match self.organisation(&endorsement.org) {
             Some(organisation) => {

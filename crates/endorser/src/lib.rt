@@ -1,5 +1,5 @@
-//! What a peer does with the payload of a simulation before it hands it out: it looks once more whether all
-//! that was read is as it was, and puts its organisation's tag on it.
+//! What a peer does with the payload of a simulation before it hands it out: it looks once more
+//! whether all that was read is as it was, and puts its organisation's tag on it.
 #![tactic(auto)]
 
 mod rechecking;

@@ -14,11 +14,12 @@ use world_state::Snapshot;
 
 /// Looks whether all that a payload read is as it is in this snapshot's state.
 ///
-/// Refused as stale (405) where a read has another version there, or the first keys or versions of a range,
-/// up to its limit, differ; and for want of memory (9).
+/// Refused as stale (405) where a read has another version there, or the first keys or versions of
+/// a range, up to its limit, differ; and for want of memory (9).
 pub fn recheck(alloc: Global, payload: &Payload, snapshot: &Snapshot) -> Result<(), SimRefusal>
     ensures current { OnOk result (is_current (state (history snapshot.now)) payload.now ≡ true) }
-    ensures refused { IfErr result (λ r. IsRecheckRefused (state (history snapshot.now)) payload.now r) }
+    ensures refused { IfErr result
+        (λ r. IsRecheckRefused (state (history snapshot.now)) payload.now r) }
 {
     if is_current(alloc, snapshot, payload)? {
         Ok(())

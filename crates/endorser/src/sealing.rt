@@ -7,8 +7,8 @@ use fab_types::{Endorsement, OrgName, Payload};
 use std::alloc::{AllocError, Global};
 use wire::encode_payload;
 
-/// An organisation's endorsement of a payload: its tag under this key on the payload's bytes. The error is
-/// of memory.
+/// An organisation's endorsement of a payload: its tag under this key on the payload's bytes. The
+/// error is of memory.
 pub fn seal(
     alloc: Global,
     org: &OrgName,

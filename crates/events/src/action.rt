@@ -6,7 +6,8 @@ ghost use Rattle.events.specs.declared.action.BadLine.TheVariants.{Memory};
 use fab_types::Proposal;
 use std::alloc::{AllocError, AllocFailed};
 
-/// What a line asks for. Peers, and the seats of a peer, are counted from 0; whether there are so many is not said.
+/// What a line asks for. Peers, and the seats of a peer, are counted from 0; whether there are so
+/// many is not said.
 #[derive(Drop)]
 pub enum Action {
     /// A seat of a peer begins to simulate a proposal.

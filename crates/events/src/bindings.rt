@@ -42,9 +42,14 @@ impl Bindings {
         payload: Payload,
         endorsement: Endorsement,
     ) -> Result<(), AllocError>
-        ensures ok { OnOk result ((other : List ℕ) → bound_as self.new other
-            ≡ (if bytes_eq other (string_bytes name) then Some (record { payload = payload; endorsement = endorsement }) else bound_as self.old other)) }
-        ensures err { OnErr result ((other : List ℕ) → bound_as self.new other ≡ bound_as self.old other) }
+        ensures ok { OnOk result
+            ((other : List ℕ) →
+            bound_as self.new other
+            ≡ (if bytes_eq other (string_bytes name) then Some
+            (record { payload = payload; endorsement = endorsement }) else bound_as
+            self.old other)) }
+        ensures err { OnErr result
+            ((other : List ℕ) → bound_as self.new other ≡ bound_as self.old other) }
     {
         let endorsed = Endorsed {
             payload,
@@ -54,11 +59,13 @@ impl Bindings {
         Ok(())
     }
 
-    /// The envelope that names stand for together: the payload of the first, and the endorsements of all in order.
+    /// The envelope that names stand for together: the payload of the first, and the endorsements
+    /// of all in order.
     ///
     /// None where there is no name, where one stands for nothing, and where there are more than 32.
     pub fn resolve(&self, names: &[String]) -> Result<Option<Envelope>, AllocError>
-        ensures { IfOk result (λ found. found ≡ resolved (bound_as self.now) (map string_bytes names.now)) }
+        ensures { IfOk result
+            (λ found. found ≡ resolved (bound_as self.now) (map string_bytes names.now)) }
     {
         let Some(payload) = self.payload(names) else {
             return Ok(None);
@@ -85,7 +92,8 @@ impl Bindings {
 
     /// The payload that the first name stands for.
     fn payload(&self, names: &[String]) -> Option<&Payload>
-        ensures { option_map (λ p. p.now) result ≡ payload_of (bound_as self.now) (map string_bytes names.now) }
+        ensures { option_map (λ p. p.now) result
+            ≡ payload_of (bound_as self.now) (map string_bytes names.now) }
     {
         let endorsed = self.get(names.first()?.as_str())?;
         Some(&endorsed.payload)
@@ -93,7 +101,9 @@ impl Bindings {
 
     /// The endorsements that all the names stand for, in order. None where one stands for nothing.
     fn endorsements(&self, names: &[String]) -> Result<Option<Vec<Endorsement>>, AllocError>
-        ensures { IfOk result (λ found. option_map (λ v. v.items) found ≡ endorsements_of (bound_as self.now) (map string_bytes names.now)) }
+        ensures { IfOk result
+            (λ found. option_map (λ v. v.items) found
+            ≡ endorsements_of (bound_as self.now) (map string_bytes names.now)) }
     {
         let mut found = Vec::new(self.alloc);
         'names: for name in names {

@@ -41,8 +41,10 @@ pub(crate) struct BeginFields<'a> {
 /// The fields of a begin. None where the line is of another form.
 pub(crate) fn begin_fields(value: &Value) -> Option<BeginFields<'_>>
     ensures { MatchOption result
-        ((arg chaincode nonce : List ℕ) (peer seat : ℕ) → view value.now ≢ begin_object arg chaincode nonce peer seat)
-        (λ f. view value.now ≡ begin_object f.arg.now f.chaincode.now f.nonce.now f.place.peer f.place.seat) }
+        ((arg chaincode nonce : List ℕ) (peer seat : ℕ) →
+        view value.now ≢ begin_object arg chaincode nonce peer seat)
+        (λ f. view value.now
+        ≡ begin_object f.arg.now f.chaincode.now f.nonce.now f.place.peer f.place.seat) }
 {
     let mut left = fields(value)?;
     let arg = take_text(&mut left, "arg")?;
@@ -110,7 +112,8 @@ pub(crate) fn submitted_hex(value: &Value) -> Option<&str>
 
 /// Whether the line has this word alone.
 pub(crate) fn is_word(value: &Value, word: &str) -> bool
-    ensures { MatchBool result (view value.now ≡ word_object word.now) (view value.now ≢ word_object word.now) }
+    ensures { MatchBool result (view value.now ≡ word_object word.now)
+        (view value.now ≢ word_object word.now) }
 {
     let Some(mut left) = fields(value) else {
         return false;

@@ -1,7 +1,8 @@
 //! The events of a run, line by line.
 //!
-//! `read_event` gives the action that a line spells, over the data that `serde_json` reads in it. `Bindings` keeps
-//! what a run's finishes gave under the names of their `as`, and makes the envelope that a `use` asks for.
+//! `read_event` gives the action that a line spells, over the data that `serde_json` reads in it.
+//! `Bindings` keeps what a run's finishes gave under the names of their `as`, and makes the
+//! envelope that a `use` asks for.
 #![tactic(auto)]
 
 mod action;

@@ -16,9 +16,9 @@ use std::alloc::Global;
 
 /// The action that a line spells.
 ///
-/// `NoForm` only where the line spells none: it is not JSON, has a field too few or too many, or a field holds what
-/// it may not. `Memory` where a growth was refused. A text that is not UTF-8 is no line of any form either, which
-/// its reader tells before this call.
+/// `NoForm` only where the line spells none: it is not JSON, has a field too few or too many, or a
+/// field holds what it may not. `Memory` where a growth was refused. A text that is not UTF-8 is no
+/// line of any form either, which its reader tells before this call.
 pub fn read_event(alloc: Global, line: &str) -> Result<Action, BadLine>
     ensures ok { IfOk result (λ a. Spells line.now a) }
     ensures refused { IfErr result (λ r. NoneIs (Spells line.now) r) }

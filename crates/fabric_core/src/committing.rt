@@ -12,18 +12,27 @@ use fab_types::Block;
 use std::alloc::Global;
 use world_state::Snapshot;
 
-/// The chain with one block more, whose envelopes are checked under the rules and whose transactions are
-/// marked by the table.
+/// The chain with one block more, whose envelopes are checked under the rules and whose
+/// transactions are marked by the table.
 ///
-/// Refused where the chain is full (604), where the block has not the next number (601), names another hash
-/// than that of the last header (602) or says another hash of its data (603), and for want of memory (9).
+/// Refused where the chain is full (604), where the block has not the next number (601), names
+/// another hash than that of the last header (602) or says another hash of its data (603), and for
+/// want of memory (9).
 pub fn commit_checked(
     alloc: Global,
     rules: &Rules,
     snapshot: &Snapshot,
     block: Block,
 ) -> Result<Snapshot, CommitRefusal>
-    ensures committed { IfOk result (λ s. s ≡ snapshot.now ++ record { block = block; flags = judged (table_of rules.now) (history snapshot.now) (length snapshot.now + 1) 0 block.envelopes } ∷ []) }
+    ensures committed { IfOk result
+        (λ s. s
+        ≡ snapshot.now ++
+        record {
+          block = block;
+          flags = judged (table_of rules.now) (history snapshot.now)
+              (length snapshot.now + 1) 0 block.envelopes;
+        } ∷
+        []) }
     ensures fits { OnOk result (Fits (blocks_of snapshot.now) block) }
     ensures refused { IfErr result (λ refusal. IsRefused refusal (blocks_of snapshot.now) block) }
 {

@@ -73,8 +73,8 @@ pub enum Reply {
     Begun(usize),
     /// Finish: nothing was begun at the seat (453).
     NothingBegun,
-    /// Finish: the simulation gave no payload (401 to 404), or something that the payload read is not as it is
-    /// in the peer's newest state (405).
+    /// Finish: the simulation gave no payload (401 to 404), or something that the payload read is
+    /// not as it is in the peer's newest state (405).
     Refused(SimRefusal),
     /// Finish: the payload of the simulation, with the tag of the peer's organisation.
     Endorsed(Payload, Endorsement),
@@ -90,7 +90,8 @@ pub enum Reply {
     Cut(BatchReport),
     /// Take: the envelope is above the absolute size (421). It is handed back.
     TooLarge(Envelope),
-    /// Take, Tick: a block would be needed past the last number (422). A taken envelope is handed back.
+    /// Take, Tick: a block would be needed past the last number (422). A taken envelope is handed
+    /// back.
     NoBlockLeft(Option<Envelope>),
     /// Commit: the block is on the peer's chain, with these flags.
     Committed(Seq<Flag>),

@@ -46,7 +46,15 @@ fn extended(
     block: Block,
 ) -> Result<Snapshot, AllocError>
     requires fits { Fits (blocks_of snapshot.now) block }
-    ensures { IfOk result (λ s. s ≡ snapshot.now ++ record { block = block; flags = judged (table_of rules.now) (history snapshot.now) (length snapshot.now + 1) 0 block.envelopes } ∷ []) }
+    ensures { IfOk result
+        (λ s. s
+        ≡ snapshot.now ++
+        record {
+          block = block;
+          flags = judged (table_of rules.now) (history snapshot.now)
+              (length snapshot.now + 1) 0 block.envelopes;
+        } ∷
+        []) }
 {
     match commit_checked(alloc, rules, snapshot, block) {
         Ok(snapshot) => Ok(snapshot),
@@ -59,7 +67,9 @@ fn extended(
 
 /// The flags of the last block.
 fn last_flags(alloc: Global, snapshot: &Snapshot) -> Result<Vec<Flag>, AllocError>
-    ensures { IfOk result (λ v. (before : Chain) (last : Committed) → snapshot.now ≡ before ++ last ∷ [] → v.items ≡ last.flags) }
+    ensures { IfOk result
+        (λ v. (before : Chain) (last : Committed) → snapshot.now ≡ before ++ last ∷ [] →
+        v.items ≡ last.flags) }
 {
     match snapshot.blocks().last() {
         None => Ok(Vec::new(alloc)),
@@ -74,7 +84,8 @@ fn simulated(
     snapshot: &Snapshot,
     proposal: &Proposal,
 ) -> Result<Result<Payload, SimRefusal>, AllocError>
-    ensures { IfOk result (λ answer. payload_or_refusal (exec_of book.now) proposal.now snapshot.now ≡ answer) }
+    ensures { IfOk result
+        (λ answer. payload_or_refusal (exec_of book.now) proposal.now snapshot.now ≡ answer) }
 {
     match simulate(alloc, book, snapshot, proposal) {
         Err(SimRefusal::Memory) => Err(AllocError),
@@ -90,7 +101,9 @@ fn endorsed(
     newest: &Snapshot,
     payload: Payload,
 ) -> Result<Reply, AllocError>
-    ensures { IfOk result (λ reply. reply ≡ finished (state (history newest.now)) (seal_of rules.now org.now) (Ok payload)) }
+    ensures { IfOk result
+        (λ reply. reply
+        ≡ finished (state (history newest.now)) (seal_of rules.now org.now) (Ok payload)) }
 {
     match recheck(alloc, &payload, newest) {
         Ok(()) => {}
@@ -106,7 +119,8 @@ impl Peer {
     /// A peer without blocks, all of whose seats are free.
     pub fn new(alloc: Global, org: OrgName, seats: usize) -> Result<Peer, AllocError>
         ensures state { IfOk result (λ p. peer_of p ≡ fresh seats org) }
-        ensures right { IfOk result (λ p. (chain : ℕ → Chain) → chain 0 ≡ [] → IsPeerRight chain p) }
+        ensures right { IfOk result
+            (λ p. (chain : ℕ → Chain) → chain 0 ≡ [] → IsPeerRight chain p) }
     {
         let snapshot = Arc::new(alloc, Snapshot::empty(alloc))?;
         let mut free = Vec::new(alloc);
@@ -122,8 +136,10 @@ impl Peer {
 
     /// Begins a proposal at a seat, on the newest snapshot.
     pub fn begin(&mut self, seat: usize, proposal: Proposal) -> Result<Reply, AllocError>
-        ensures step { IfOk result (λ reply. begin (peer_of self.old) seat proposal ≡ (reply, peer_of self.new)) }
-        ensures right { (chain : ℕ → Chain) → IsPeerRight chain self.old → IsPeerRight chain self.new }
+        ensures step { IfOk result
+            (λ reply. begin (peer_of self.old) seat proposal ≡ (reply, peer_of self.new)) }
+        ensures right { (chain : ℕ → Chain) → IsPeerRight chain self.old →
+            IsPeerRight chain self.new }
         ensures unchanged { OnErr result (self.new ≡ self.old) }
     {
         match self.seats.get(seat) {
@@ -138,8 +154,9 @@ impl Peer {
         }
     }
 
-    /// Simulates what a seat has begun, on the snapshot that it began on, and frees the seat. A payload
-    /// that is current on the newest snapshot comes with the tag of the peer's organisation.
+    /// Simulates what a seat has begun, on the snapshot that it began on, and frees the seat. A
+    /// payload that is current on the newest snapshot comes with the tag of the peer's
+    /// organisation.
     pub fn finish(
         &mut self,
         alloc: Global,
@@ -147,8 +164,12 @@ impl Peer {
         rules: &Rules,
         seat: usize,
     ) -> Result<Reply, AllocError>
-        ensures step { IfOk result (λ reply. (chain : ℕ → Chain) → IsPeerRight chain self.old → finish (exec_of book.now) (seal_of rules.now) chain (peer_of self.old) seat ≡ (reply, peer_of self.new)) }
-        ensures right { (chain : ℕ → Chain) → IsPeerRight chain self.old → IsPeerRight chain self.new }
+        ensures step { IfOk result
+            (λ reply. (chain : ℕ → Chain) → IsPeerRight chain self.old →
+            finish (exec_of book.now) (seal_of rules.now) chain (peer_of self.old) seat
+            ≡ (reply, peer_of self.new)) }
+        ensures right { (chain : ℕ → Chain) → IsPeerRight chain self.old →
+            IsPeerRight chain self.new }
         ensures unchanged { OnErr result (self.new ≡ self.old) }
     {
         match self.seats.get(seat) {
@@ -173,8 +194,20 @@ impl Peer {
         block: Block,
     ) -> Result<Reply, AllocError>
         requires next { Fits (blocks_of self.old.snapshot.value) block }
-        ensures reply { IfOk result (λ reply. reply ≡ IsCommitted (judged (table_of rules.now) (history self.old.snapshot.value) (length self.old.snapshot.value + 1) 0 block.envelopes)) }
-        ensures chain { IfOk result (λ _. self.new.snapshot.value ≡ self.old.snapshot.value ++ record { block = block; flags = judged (table_of rules.now) (history self.old.snapshot.value) (length self.old.snapshot.value + 1) 0 block.envelopes } ∷ []) }
+        ensures reply { IfOk result
+            (λ reply. reply
+            ≡ IsCommitted
+            (judged (table_of rules.now) (history self.old.snapshot.value)
+            (length self.old.snapshot.value + 1) 0 block.envelopes)) }
+        ensures chain { IfOk result
+            (λ _. self.new.snapshot.value
+            ≡ self.old.snapshot.value ++
+            record {
+              block = block;
+              flags = judged (table_of rules.now) (history self.old.snapshot.value)
+                  (length self.old.snapshot.value + 1) 0 block.envelopes;
+            } ∷
+            []) }
         ensures seats { self.new.seats ≡ self.old.seats }
         ensures org { self.new.org ≡ self.old.org }
         ensures unchanged { OnErr result (self.new ≡ self.old) }

@@ -33,7 +33,13 @@ pub struct Ran {
 impl Ran {
     /// One step more. Where memory is refused, the system and the replies stay.
     fn advance(&mut self, event: &Event) -> Result<(), AllocError>
-        ensures step { OnOk result ((reply : Reply) × IsStep (rules_of (exec_of self.old.system.book) self.old.system.rules self.old.system.capacity) self.old.system.world event.now reply self.new.system.world × (self.new.replies.items ≡ self.old.replies.items ++ reply ∷ [])) }
+        ensures step { OnOk result
+            ((reply : Reply) ×
+            IsStep
+            (rules_of (exec_of self.old.system.book) self.old.system.rules
+            self.old.system.capacity)
+            self.old.system.world event.now reply self.new.system.world ×
+            (self.new.replies.items ≡ self.old.replies.items ++ reply ∷ [])) }
         ensures system { OnErr result (self.new.system ≡ self.old.system) }
         ensures replies { OnErr result (self.new.replies.items ≡ self.old.replies.items) }
         ensures book { self.new.system.book ≡ self.old.system.book }
@@ -49,17 +55,44 @@ impl Ran {
     }
 }
 
-/// The events in order, from the opening of the system on. Where memory is refused after the opening, the
-/// system and the replies are those after the steps done.
+/// The events in order, from the opening of the system on. Where memory is refused after the
+/// opening, the system and the replies are those after the steps done.
 pub fn run(alloc: Global, genesis: &Genesis, events: &[Event]) -> Result<Ran, AllocError>
     requires { AreLimits (limits_of genesis.now) }
-    ensures run { IfOk result (λ ran. IsRun (rules_of (exec_of genesis.now.book.value) genesis.now.rules.value genesis.now.queue) genesis.now.peers.items genesis.now.seats (limits_of genesis.now) genesis.now.reorder events.now ran.replies.items ran.system.world ran.refused) }
+    ensures run { IfOk result
+        (λ ran. IsRun
+        (rules_of (exec_of genesis.now.book.value) genesis.now.rules.value genesis.now.queue)
+        genesis.now.peers.items genesis.now.seats (limits_of genesis.now) genesis.now.reorder
+        events.now ran.replies.items ran.system.world ran.refused) }
     ensures book { IfOk result (λ ran. ran.system.book ≡ genesis.now.book.value) }
     ensures rules { IfOk result (λ ran. ran.system.rules ≡ genesis.now.rules.value) }
     ensures capacity { IfOk result (λ ran. ran.system.capacity ≡ genesis.now.queue) }
-    ensures honest { IfOk result (λ ran. (peer : ℕ) (chain : Chain) → chain_of (rules_of (exec_of genesis.now.book.value) genesis.now.rules.value genesis.now.queue) ran.system.world peer ≡ Some chain → IsHonest (exec_of genesis.now.book.value) (table_of genesis.now.rules.value) (is_right genesis.now.rules.value.orgs) ran.replies.items chain) }
-    ensures conflicts { IfOk result (λ ran. genesis.now.reorder ≡ true → (peer : ℕ) (chain : Chain) → chain_of (rules_of (exec_of genesis.now.book.value) genesis.now.rules.value genesis.now.queue) ran.system.world peer ≡ Some chain → ConflictsAreOlder chain) }
-    ensures fits { IfOk result (λ ran. (peer : ℕ) (chain : Chain) (next : Block) → chain_of (rules_of (exec_of genesis.now.book.value) genesis.now.rules.value genesis.now.queue) ran.system.world peer ≡ Some chain → slice_get ran.system.world.orderer.chain (length chain) ≡ Some next → Fits (blocks_of chain) next) }
+    ensures honest { IfOk result
+        (λ ran. (peer : ℕ) (chain : Chain) →
+        chain_of
+        (rules_of (exec_of genesis.now.book.value) genesis.now.rules.value
+        genesis.now.queue)
+        ran.system.world peer
+        ≡ Some chain →
+        IsHonest (exec_of genesis.now.book.value) (table_of genesis.now.rules.value)
+        (is_right genesis.now.rules.value.orgs) ran.replies.items chain) }
+    ensures conflicts { IfOk result
+        (λ ran. genesis.now.reorder ≡ true → (peer : ℕ) (chain : Chain) →
+        chain_of
+        (rules_of (exec_of genesis.now.book.value) genesis.now.rules.value
+        genesis.now.queue)
+        ran.system.world peer
+        ≡ Some chain →
+        ConflictsAreOlder chain) }
+    ensures fits { IfOk result
+        (λ ran. (peer : ℕ) (chain : Chain) (next : Block) →
+        chain_of
+        (rules_of (exec_of genesis.now.book.value) genesis.now.rules.value
+        genesis.now.queue)
+        ran.system.world peer
+        ≡ Some chain →
+        slice_get ran.system.world.orderer.chain (length chain) ≡ Some next →
+        Fits (blocks_of chain) next) }
 {
     ordering_laws();
     reads_alone(&genesis.book);

@@ -67,7 +67,13 @@ impl Model for System {
 
     ghost coded = { Prim.hlevel (codes, chaincode.the_row.coded, listed.the_row.coded) };
 
-    ghost view = { λ s. record { book = s.book.value; rules = s.rules.value; capacity = s.capacity; world = world_of s.peers.items s.queue.items s.orderer } };
+    ghost view = { λ s.
+        record {
+          book = s.book.value;
+          rules = s.rules.value;
+          capacity = s.capacity;
+          world = world_of s.peers.items s.queue.items s.orderer;
+        } };
 
     ghost invariant = { λ s. IsRight s.rules.value s.peers.items s.orderer.chain };
 }
@@ -76,7 +82,15 @@ impl System {
     /// The system at its opening: no blocks, free seats and an empty queue.
     pub fn new(alloc: Global, genesis: &Genesis) -> Result<System, AllocError>
         requires { AreLimits (limits_of genesis.now) }
-        ensures { IfOk result (λ s. s ≡ record { book = genesis.now.book.value; rules = genesis.now.rules.value; capacity = genesis.now.queue; world = opening genesis.now.peers.items genesis.now.seats (limits_of genesis.now) genesis.now.reorder }) }
+        ensures { IfOk result
+            (λ s. s
+            ≡ record {
+              book = genesis.now.book.value;
+              rules = genesis.now.rules.value;
+              capacity = genesis.now.queue;
+              world = opening genesis.now.peers.items genesis.now.seats
+                  (limits_of genesis.now) genesis.now.reorder;
+            }) }
     {
         let mut peers = Vec::new(alloc);
         let orgs = genesis.peers.as_slice();
@@ -101,7 +115,9 @@ impl System {
     }
 
     fn begin(&mut self, peer: usize, seat: usize, proposal: Proposal) -> Result<Reply, AllocError>
-        ensures step { IfOk result (λ reply. IsStep (rules_of (exec_of self.old.book) self.old.rules self.old.capacity) self.old.world (Begin peer seat proposal) reply self.new.world) }
+        ensures step { IfOk result
+            (λ reply. IsStep (rules_of (exec_of self.old.book) self.old.rules self.old.capacity)
+            self.old.world (Begin peer seat proposal) reply self.new.world) }
         ensures book { self.new.book ≡ self.old.book }
         ensures rules { self.new.rules ≡ self.old.rules }
         ensures capacity { self.new.capacity ≡ self.old.capacity }
@@ -114,7 +130,9 @@ impl System {
     }
 
     fn finish(&mut self, peer: usize, seat: usize) -> Result<Reply, AllocError>
-        ensures step { IfOk result (λ reply. IsStep (rules_of (exec_of self.old.book) self.old.rules self.old.capacity) self.old.world (Finish peer seat) reply self.new.world) }
+        ensures step { IfOk result
+            (λ reply. IsStep (rules_of (exec_of self.old.book) self.old.rules self.old.capacity)
+            self.old.world (Finish peer seat) reply self.new.world) }
         ensures book { self.new.book ≡ self.old.book }
         ensures rules { self.new.rules ≡ self.old.rules }
         ensures capacity { self.new.capacity ≡ self.old.capacity }
@@ -127,7 +145,9 @@ impl System {
     }
 
     fn submit(&mut self, envelope: Envelope) -> Result<Reply, AllocError>
-        ensures step { IfOk result (λ reply. IsStep (rules_of (exec_of self.old.book) self.old.rules self.old.capacity) self.old.world (Submit envelope) reply self.new.world) }
+        ensures step { IfOk result
+            (λ reply. IsStep (rules_of (exec_of self.old.book) self.old.rules self.old.capacity)
+            self.old.world (Submit envelope) reply self.new.world) }
         ensures book { self.new.book ≡ self.old.book }
         ensures rules { self.new.rules ≡ self.old.rules }
         ensures capacity { self.new.capacity ≡ self.old.capacity }
@@ -141,7 +161,9 @@ impl System {
     }
 
     fn take(&mut self) -> Result<Reply, AllocError>
-        ensures step { IfOk result (λ reply. IsStep (rules_of (exec_of self.old.book) self.old.rules self.old.capacity) self.old.world Take reply self.new.world) }
+        ensures step { IfOk result
+            (λ reply. IsStep (rules_of (exec_of self.old.book) self.old.rules self.old.capacity)
+            self.old.world Take reply self.new.world) }
         ensures book { self.new.book ≡ self.old.book }
         ensures rules { self.new.rules ≡ self.old.rules }
         ensures capacity { self.new.capacity ≡ self.old.capacity }
@@ -167,7 +189,9 @@ impl System {
     }
 
     fn tick(&mut self) -> Result<Reply, AllocError>
-        ensures step { IfOk result (λ reply. IsStep (rules_of (exec_of self.old.book) self.old.rules self.old.capacity) self.old.world Tick reply self.new.world) }
+        ensures step { IfOk result
+            (λ reply. IsStep (rules_of (exec_of self.old.book) self.old.rules self.old.capacity)
+            self.old.world Tick reply self.new.world) }
         ensures book { self.new.book ≡ self.old.book }
         ensures rules { self.new.rules ≡ self.old.rules }
         ensures capacity { self.new.capacity ≡ self.old.capacity }
@@ -184,7 +208,9 @@ impl System {
     }
 
     fn commit(&mut self, peer: usize) -> Result<Reply, AllocError>
-        ensures step { IfOk result (λ reply. IsStep (rules_of (exec_of self.old.book) self.old.rules self.old.capacity) self.old.world (Commit peer) reply self.new.world) }
+        ensures step { IfOk result
+            (λ reply. IsStep (rules_of (exec_of self.old.book) self.old.rules self.old.capacity)
+            self.old.world (Commit peer) reply self.new.world) }
         ensures book { self.new.book ≡ self.old.book }
         ensures rules { self.new.rules ≡ self.old.rules }
         ensures capacity { self.new.capacity ≡ self.old.capacity }
@@ -204,7 +230,9 @@ impl System {
 
     /// One step. Where memory is refused, nothing changes, and there was no step.
     pub fn step(&mut self, event: Event) -> Result<Reply, AllocError>
-        ensures step { IfOk result (λ reply. IsStep (rules_of (exec_of self.old.book) self.old.rules self.old.capacity) self.old.world event reply self.new.world) }
+        ensures step { IfOk result
+            (λ reply. IsStep (rules_of (exec_of self.old.book) self.old.rules self.old.capacity)
+            self.old.world event reply self.new.world) }
         ensures book { self.new.book ≡ self.old.book }
         ensures rules { self.new.rules ≡ self.old.rules }
         ensures capacity { self.new.capacity ≡ self.old.capacity }
@@ -233,10 +261,12 @@ impl System {
         self.orderer.blocks()
     }
 
-    /// The newest snapshot of a peer: its chain, with the flags that the rule gives. None where there is no
-    /// such peer. It takes no memory.
+    /// The newest snapshot of a peer: its chain, with the flags that the rule gives. None where
+    /// there is no such peer. It takes no memory.
     pub fn snapshot(&self, peer: usize) -> Option<&Snapshot>
-        ensures { option_map (λ s. s.now) result ≡ chain_of (rules_of (exec_of self.now.book) self.now.rules self.now.capacity) self.now.world peer }
+        ensures { option_map (λ s. s.now) result
+            ≡ chain_of (rules_of (exec_of self.now.book) self.now.rules self.now.capacity)
+            self.now.world peer }
     {
         match self.peers.get(peer) {
             Some(peer) => Some(&*peer.snapshot),

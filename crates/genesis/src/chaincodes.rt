@@ -70,7 +70,8 @@ fn module(alloc: Global, hex: &str) -> Result<ValidModule, GenesisRefusal>
 /// The valid module that bytes spell.
 fn valid_module(alloc: Global, bytes: &[u8]) -> Result<ValidModule, GenesisRefusal>
     ensures ok { IfOk result (λ m. IsModule m bytes.now × IsValid m) }
-    ensures refused { IfErr result (λ r. NoneIs (λ (m : Module). IsModule m bytes.now × IsValid m) r) }
+    ensures refused { IfErr result
+        (λ r. NoneIs (λ (m : Module). IsModule m bytes.now × IsValid m) r) }
 {
     let module = match decode(alloc, bytes) {
         Ok(module) => module,

@@ -29,7 +29,8 @@ pub(crate) fn read_each<R: ReadItem>(
     values: &[Value],
 ) -> Result<Vec<R::Item>, GenesisRefusal>
     ensures ok { IfOk result (λ v. AreItems (R.spells reader.now) (items_view values.now) v.items) }
-    ensures refused { IfErr result (λ r. NoneIs (AreItems (R.spells reader.now) (items_view values.now)) r) }
+    ensures refused { IfErr result
+        (λ r. NoneIs (AreItems (R.spells reader.now) (items_view values.now)) r) }
 {
     let mut found = Vec::new(alloc);
     'items: for value in values {

@@ -9,8 +9,8 @@ use simulator::{Book, Chaincode};
 pub struct Genesis {
     /// The chaincodes, 1 to 16.
     pub book: Book,
-    /// The organisations, 1 to 16 of different names, with their keys; and the policy of each chaincode of the book,
-    /// in the book's order.
+    /// The organisations, 1 to 16 of different names, with their keys; and the policy of each
+    /// chaincode of the book, in the book's order.
     pub rules: Rules,
     /// Each peer's organisation, which the rules know: 1 to 8 peers.
     pub peers: Vec<OrgName>,

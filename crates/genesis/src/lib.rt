@@ -1,7 +1,8 @@
 //! The genesis file: what a ledger begins with, as one JSON object.
 //!
-//! `read_genesis` gives the genesis that a text spells (`specs/Spelling.antt`), with modules decoded and validated and
-//! policies parsed. What a system's opening asks of a genesis (`specs/Opening.antt`) holds of each that is read.
+//! `read_genesis` gives the genesis that a text spells (`specs/Spelling.antt`), with modules
+//! decoded and validated and policies parsed. What a system's opening asks of a genesis
+//! (`specs/Opening.antt`) holds of each that is read.
 #![tactic(auto)]
 
 mod chaincodes;

@@ -12,8 +12,8 @@ use hex::FromHexError;
 use serde_json::Value;
 use std::alloc::Global;
 
-/// A whole number from the least to the greatest. Of the wrong kind where the value is no number, out of range where it
-/// is another one.
+/// A whole number from the least to the greatest. Of the wrong kind where the value is no number,
+/// out of range where it is another one.
 pub(crate) fn within(value: &Value, least: u64, greatest: u64) -> Result<u64, GenesisRefusal>
     ensures ok { IfOk result (λ n. IsNumber least greatest (view value.now) n) }
     ensures refused { IfErr result (λ r. NoneIs (IsNumber least greatest (view value.now)) r) }

@@ -45,10 +45,10 @@ const MOST_BYTES: u64 = 524_288;
 
 /// The genesis that a text spells.
 ///
-/// Refused where the text is not JSON (801), where a field is missing, left over or of the wrong kind or hex
-/// is not read (802), where a number, a length or a name is out of its range (803), where a module (804) or a
-/// policy (805) is refused, where a name stands twice or a peer's organisation is unknown (806), and for want
-/// of memory (9). Of several causes any may be told.
+/// Refused where the text is not JSON (801), where a field is missing, left over or of the wrong
+/// kind or hex is not read (802), where a number, a length or a name is out of its range (803),
+/// where a module (804) or a policy (805) is refused, where a name stands twice or a peer's
+/// organisation is unknown (806), and for want of memory (9). Of several causes any may be told.
 pub fn read_genesis(alloc: Global, text: &str) -> Result<Genesis, GenesisRefusal>
     ensures ok { IfOk result (λ g. Spells text.now g) }
     ensures opening { IfOk result (λ g. CanOpen g) }

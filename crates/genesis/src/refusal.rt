@@ -23,7 +23,8 @@ pub enum GenesisRefusal {
     Module,
     /// A policy is refused.
     Policy,
-    /// The name of an organisation or of a chaincode stands twice, or a peer's organisation is unknown.
+    /// The name of an organisation or of a chaincode stands twice, or a peer's organisation is
+    /// unknown.
     Names,
 }
 

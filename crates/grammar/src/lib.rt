@@ -3,8 +3,8 @@
 //! A *spelling* says, for a value, which lists of bytes spell it: a relation, written as a format's
 //! document writes its grammar, one part after another (`specs/Spelling.antt`). A *reading
 //! function* gives the value at the front of a list of bytes and the bytes after it, or nothing
-//! (`specs/Reading.antt`). That a reading function *reads* a spelling (`specs/Reads.antt`) says both
-//! ways that they fit: what it gives is spelled at the front, and each spelled value is given,
+//! (`specs/Reading.antt`). That a reading function *reads* a spelling (`specs/Reads.antt`) says
+//! both ways that they fit: what it gives is spelled at the front, and each spelled value is given,
 //! whatever follows. So no two values are spelled by the beginnings of one list of bytes.
 //!
 //! The laws of `specs/Laws.antt` prove this for a whole from its parts, so that a crate that reads

@@ -1,12 +1,12 @@
 //! The host of chaincode: what the functions that it imports answer, and what they record.
 //!
-//! `specs/HostStep.antt` has the meaning of each call, as a step on the memory and on what was recorded,
-//! over a plain state and the proposal's argument. `Recorder` does these steps over any `View` of a state,
-//! and gives at the end what a payload is made of. `specs/Executing.antt` says what the execution of a
-//! module comes to, and `reads_alone` that it depends only on what it read.
+//! `specs/HostStep.antt` has the meaning of each call, as a step on the memory and on what was
+//! recorded, over a plain state and the proposal's argument. `Recorder` does these steps over any
+//! `View` of a state, and gives at the end what a payload is made of. `specs/Executing.antt` says
+//! what the execution of a module comes to, and `reads_alone` that it depends only on what it read.
 //!
-//! Reads look at the state alone, also after the same run wrote the key. Writes are recorded, and change
-//! nothing that a run sees.
+//! Reads look at the state alone, also after the same run wrote the key. Writes are recorded, and
+//! change nothing that a run sees.
 #![tactic(auto)]
 
 ghost use Rattle.std.specs.Prelude.{◌≡◌, ℕ};
@@ -28,15 +28,19 @@ pub use plain_map::PlainMap;
 pub use recorder::{Parts, Recorder};
 pub use view::View;
 
-/// The execution of a valid module depends only on what it read: what it saw is so, and on each state
-/// where that is so it comes to the same.
+/// The execution of a valid module depends only on what it read: what it saw is so, and on each
+/// state where that is so it comes to the same.
 pub fn reads_alone()
-    ensures { (wasm : Module) (fuel : ℕ) (argument : Bytes) → IsValid wasm → ReadsAlone wasm fuel argument }
+    ensures { (wasm : Module) (fuel : ℕ) (argument : Bytes) → IsValid wasm →
+        ReadsAlone wasm fuel argument }
 {}
 
-/// Views whose states have the same values answer and record alike, whatever their versions: in each call
-/// (`step`) and over a whole execution (`execution`).
+/// Views whose states have the same values answer and record alike, whatever their versions: in
+/// each call (`step`) and over a whole execution (`execution`).
 pub fn equal_views()
-    ensures step { (a b : Versioned) → values_of a ≡ values_of b → (argument : Bytes) → host_step (values_of a) argument ≡ host_step (values_of b) argument }
-    ensures execution { (a b : Versioned) → values_of a ≡ values_of b → (wasm : Module) (fuel : ℕ) (argument : Bytes) → outcome wasm fuel argument (values_of a) ≡ outcome wasm fuel argument (values_of b) }
+    ensures step { (a b : Versioned) → values_of a ≡ values_of b → (argument : Bytes) →
+        host_step (values_of a) argument ≡ host_step (values_of b) argument }
+    ensures execution { (a b : Versioned) → values_of a ≡ values_of b →
+        (wasm : Module) (fuel : ℕ) (argument : Bytes) →
+        outcome wasm fuel argument (values_of a) ≡ outcome wasm fuel argument (values_of b) }
 {}

@@ -28,7 +28,9 @@ pub fn negative(k: u32) -> HostAnswer
 pub fn reply(bytes: &[u8], target: u32, capacity: u32, memory: &mut [u8]) -> HostAnswer
     requires room { target + capacity ≤ length memory.old }
     requires small { length bytes.now < 2 ^ 32 }
-    ensures { (s : Recorded) → replies bytes.now target capacity memory.old s ≡ record { answer = result; memory = memory.new; records = s } }
+    ensures { (s : Recorded) →
+        replies bytes.now target capacity memory.old s
+        ≡ record { answer = result; memory = memory.new; records = s } }
 {
     if bytes.len() <= capacity as usize {
         write_bytes(memory, target as usize, bytes);

@@ -11,8 +11,9 @@ use std::alloc::{AllocError, Global};
 use std::marker::Model;
 use world_state::{StateMap, first_entries};
 
-/// Keys with their values: the state that the serial run goes on. As a view each key has the version of
-/// block 1 and place 0, which says no more than that it is there. Contracts see the entries.
+/// Keys with their values: the state that the serial run goes on. As a view each key has the
+/// version of block 1 and place 0, which says no more than that it is there. Contracts see the
+/// entries.
 #[derive(Drop)]
 pub struct PlainMap {
     map: StateMap,
@@ -47,9 +48,11 @@ impl PlainMap {
         }
     }
 
-    /// Puts the key's value, or takes the key out. Where memory is refused the state stays as it was.
+    /// Puts the key's value, or takes the key out. Where memory is refused the state stays as it
+    /// was.
     pub fn write(&mut self, item: &WriteItem) -> Result<(), AllocError>
-        ensures written { OnOk result (plain_of self.new ≡ write (plain_of self.old) item.now.key item.now.value) }
+        ensures written { OnOk result
+            (plain_of self.new ≡ write (plain_of self.old) item.now.key item.now.value) }
         ensures refused { OnErr result (self.new ≡ self.old) }
     {
         match &item.value {

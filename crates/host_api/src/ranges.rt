@@ -38,7 +38,10 @@ pub fn range_reply(
 ) -> HostAnswer
     requires count { length entries.now ≤ 64 }
     requires room { target + capacity ≤ length memory.old }
-    ensures { (s : Recorded) → replies (range_bytes (map entry_of (map deref_pair entries.now))) target capacity memory.old s ≡ record { answer = result; memory = memory.new; records = s } }
+    ensures { (s : Recorded) →
+        replies (range_bytes (map entry_of (map deref_pair entries.now))) target capacity memory.old
+        s
+        ≡ record { answer = result; memory = memory.new; records = s } }
 {
     let len = reply_len(entries);
     if len <= capacity {
@@ -62,8 +65,10 @@ fn reply_len(entries: &[(&Key, &(Value, Version))]) -> u32
 // Writes the reply from a place on.
 fn write_entries(entries: &[(&Key, &(Value, Version))], at: usize, memory: &mut [u8])
     requires count { length entries.now ≤ 64 }
-    requires room { at + length (range_bytes (map entry_of (map deref_pair entries.now))) ≤ length memory.old }
-    ensures { memory.new ≡ written memory.old at (range_bytes (map entry_of (map deref_pair entries.now))) }
+    requires room { at + length (range_bytes (map entry_of (map deref_pair entries.now)))
+        ≤ length memory.old }
+    ensures { memory.new
+        ≡ written memory.old at (range_bytes (map entry_of (map deref_pair entries.now))) }
 {
     memory[at] = entries.len() as u8;
     let mut next = at + 1;

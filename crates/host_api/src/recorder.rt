@@ -29,8 +29,8 @@ const MOST_RANGES: usize = 16;
 /// The most keys that a run may write.
 const MOST_WRITES: usize = 64;
 
-/// Answers -1 to -5: the key is absent, a key or a bound has a wrong length, there is no room for one more,
-/// the value is too long, the limit is not 1 to 64.
+/// Answers -1 to -5: the key is absent, a key or a bound has a wrong length, there is no room for
+/// one more, the value is too long, the limit is not 1 to 64.
 const ABSENT: u32 = 1;
 
 const KEY_LENGTH: u32 = 2;
@@ -41,8 +41,8 @@ const VALUE_LENGTH: u32 = 4;
 
 const WRONG_LIMIT: u32 = 5;
 
-/// Answers chaincode from a view of the state, and records what it reads and writes. The items are kept
-/// as a payload has them: in key order, with the view's versions.
+/// Answers chaincode from a view of the state, and records what it reads and writes. The items are
+/// kept as a payload has them: in key order, with the view's versions.
 #[derive(Drop)]
 pub struct Recorder<'v, V: View> {
     alloc: Global,
@@ -59,9 +59,14 @@ impl<'v, V: View> Model for Recorder<'v, V> {
 
     ghost Value = { Recording V };
 
-    ghost view = { λ r. record { opened = record { view = r.view.now; argument = r.argument.now }; records = recorded_of r.reads.items r.ranges.items r.result r.writes.items } };
+    ghost view = { λ r.
+        record {
+          opened = record { view = r.view.now; argument = r.argument.now };
+          records = recorded_of r.reads.items r.ranges.items r.result r.writes.items;
+        } };
 
-    ghost invariant = { λ r. AreItems (V.state r.view.now) r.reads.items r.ranges.items r.writes.items };
+    ghost invariant = { λ r. AreItems (V.state r.view.now) r.reads.items r.ranges.items
+        r.writes.items };
 }
 
 /// What a payload is made of, besides its proposal.
@@ -78,7 +83,11 @@ impl<'v, V: View> Recorder<'v, V> {
 
     /// Nothing recorded yet, for a call with this argument. It takes no memory.
     pub fn new(alloc: Global, view: &'v V, argument: &'v Value) -> Self
-        ensures { result ≡ record { opened = record { view = view.now; argument = argument.now }; records = nothing_recorded } }
+        ensures { result
+            ≡ record {
+              opened = record { view = view.now; argument = argument.now };
+              records = nothing_recorded;
+            } }
     {
         Recorder {
             alloc,
@@ -93,7 +102,9 @@ impl<'v, V: View> Recorder<'v, V> {
 
     /// What was recorded, with the view's answers and versions.
     pub fn into_parts(self) -> Parts
-        ensures { result ≡ parts_of (V.state self.entry.opened.view) (seen_on (values_of (V.state self.entry.opened.view)) self.entry.records) }
+        ensures { result
+            ≡ parts_of (V.state self.entry.opened.view)
+            (seen_on (values_of (V.state self.entry.opened.view)) self.entry.records) }
     {
         Parts {
             reads: ReadSet::new(self.reads).unwrap(),
@@ -106,7 +117,10 @@ impl<'v, V: View> Recorder<'v, V> {
     /// The value of a key, by the view alone.
     fn get_state(&mut self, args: &[u32], memory: &mut [u8]) -> Result<HostAnswer, AllocError>
         requires { length args.now ≡ 4 }
-        ensures answer { IfOk result (λ a. host_step (values_of (V.state self.old.opened.view)) self.old.opened.argument host_call.GetState args.now memory.old self.old.records ≡ record { answer = a; memory = memory.new; records = self.new.records }) }
+        ensures answer { IfOk result
+            (λ a. host_step (values_of (V.state self.old.opened.view)) self.old.opened.argument
+            host_call.GetState args.now memory.old self.old.records
+            ≡ record { answer = a; memory = memory.new; records = self.new.records }) }
         ensures opened { self.new.opened ≡ self.old.opened }
     {
         let Some(key) = bytes_at(memory, args[0], args[1]) else {
@@ -128,7 +142,12 @@ impl<'v, V: View> Recorder<'v, V> {
     /// The value of a key, which is recorded once. None where there is no room for one more key.
     fn read(&mut self, key: &[u8]) -> Result<Option<Option<&'v Value>>, AllocError>
         requires { IsKey key.now }
-        ensures answer { IfOk result (λ found. (target capacity : ℕ) (memory : List ℕ) → read_key (values_of (V.state self.old.opened.view)) key.now target capacity memory self.old.records ≡ read_reply (option_map (option_map (λ v. v.now)) found) target capacity memory self.new.records) }
+        ensures answer { IfOk result
+            (λ found. (target capacity : ℕ) (memory : List ℕ) →
+            read_key (values_of (V.state self.old.opened.view)) key.now target capacity memory
+            self.old.records
+            ≡ read_reply (option_map (option_map (λ v. v.now)) found) target capacity memory
+            self.new.records) }
         ensures opened { self.new.opened ≡ self.old.opened }
     {
         match search(&self.reads, key) {
@@ -146,7 +165,10 @@ impl<'v, V: View> Recorder<'v, V> {
     /// Puts a value at a key.
     fn put_state(&mut self, args: &[u32], memory: &[u8]) -> Result<HostAnswer, AllocError>
         requires { length args.now ≡ 4 }
-        ensures answer { IfOk result (λ a. host_step (values_of (V.state self.old.opened.view)) self.old.opened.argument host_call.PutState args.now memory.now self.old.records ≡ record { answer = a; memory = memory.now; records = self.new.records }) }
+        ensures answer { IfOk result
+            (λ a. host_step (values_of (V.state self.old.opened.view)) self.old.opened.argument
+            host_call.PutState args.now memory.now self.old.records
+            ≡ record { answer = a; memory = memory.now; records = self.new.records }) }
         ensures opened { self.new.opened ≡ self.old.opened }
     {
         let Some(key) = bytes_at(memory, args[0], args[1]) else {
@@ -167,7 +189,10 @@ impl<'v, V: View> Recorder<'v, V> {
     /// Deletes a key.
     fn del_state(&mut self, args: &[u32], memory: &[u8]) -> Result<HostAnswer, AllocError>
         requires { length args.now ≡ 2 }
-        ensures answer { IfOk result (λ a. host_step (values_of (V.state self.old.opened.view)) self.old.opened.argument host_call.DelState args.now memory.now self.old.records ≡ record { answer = a; memory = memory.now; records = self.new.records }) }
+        ensures answer { IfOk result
+            (λ a. host_step (values_of (V.state self.old.opened.view)) self.old.opened.argument
+            host_call.DelState args.now memory.now self.old.records
+            ≡ record { answer = a; memory = memory.now; records = self.new.records }) }
         ensures opened { self.new.opened ≡ self.old.opened }
     {
         let Some(key) = bytes_at(memory, args[0], args[1]) else {
@@ -183,7 +208,11 @@ impl<'v, V: View> Recorder<'v, V> {
     fn write(&mut self, key: &[u8], value: Option<&[u8]>) -> Result<HostAnswer, AllocError>
         requires key { IsKey key.now }
         requires value { IfSome value (λ v. IsValue v.now) }
-        ensures answer { IfOk result (λ a. (memory : List ℕ) → write (record { key = key.now; value = option_map (λ v. v.now) value.entry }) memory self.old.records ≡ record { answer = a; memory = memory; records = self.new.records }) }
+        ensures answer { IfOk result
+            (λ a. (memory : List ℕ) →
+            write (record { key = key.now; value = option_map (λ v. v.now) value.entry }) memory
+            self.old.records
+            ≡ record { answer = a; memory = memory; records = self.new.records }) }
         ensures opened { self.new.opened ≡ self.old.opened }
     {
         match search(&self.writes, key) {
@@ -201,7 +230,10 @@ impl<'v, V: View> Recorder<'v, V> {
     /// The first entries of a range, by the view alone.
     fn range_state(&mut self, args: &[u32], memory: &mut [u8]) -> Result<HostAnswer, AllocError>
         requires { length args.now ≡ 7 }
-        ensures answer { IfOk result (λ a. host_step (values_of (V.state self.old.opened.view)) self.old.opened.argument host_call.RangeState args.now memory.old self.old.records ≡ record { answer = a; memory = memory.new; records = self.new.records }) }
+        ensures answer { IfOk result
+            (λ a. host_step (values_of (V.state self.old.opened.view)) self.old.opened.argument
+            host_call.RangeState args.now memory.old self.old.records
+            ≡ record { answer = a; memory = memory.new; records = self.new.records }) }
         ensures opened { self.new.opened ≡ self.old.opened }
     {
         let Some(start) = bytes_at(memory, args[0], args[1]) else {
@@ -225,7 +257,8 @@ impl<'v, V: View> Recorder<'v, V> {
         }
     }
 
-    /// The first entries of a range, which is recorded. None where there is no room for one more range.
+    /// The first entries of a range, which is recorded. None where there is no room for one more
+    /// range.
     fn ask(
         &mut self,
         start: &[u8],
@@ -236,7 +269,13 @@ impl<'v, V: View> Recorder<'v, V> {
         requires end { IsBound end.now }
         requires least { 1 ≤ limit }
         requires greatest { limit ≤ 64 }
-        ensures answer { IfOk result (λ found. (target capacity : ℕ) (memory : List ℕ) → ask_range (values_of (V.state self.old.opened.view)) (record { start = start.now; end = end.now; limit = limit }) target capacity memory self.old.records ≡ range_reply (option_map (λ v. map entry_of (map deref_pair v.items)) found) target capacity memory self.new.records) }
+        ensures answer { IfOk result
+            (λ found. (target capacity : ℕ) (memory : List ℕ) →
+            ask_range (values_of (V.state self.old.opened.view))
+            (record { start = start.now; end = end.now; limit = limit }) target capacity
+            memory self.old.records
+            ≡ range_reply (option_map (λ v. map entry_of (map deref_pair v.items)) found)
+            target capacity memory self.new.records) }
         ensures count { IfOk result (λ found. IfSome found (λ v. length v.items ≤ 64)) }
         ensures opened { self.new.opened ≡ self.old.opened }
     {
@@ -255,7 +294,10 @@ impl<'v, V: View> Recorder<'v, V> {
     /// The argument of the proposal.
     fn get_arg(&mut self, args: &[u32], memory: &mut [u8]) -> Result<HostAnswer, AllocError>
         requires { length args.now ≡ 2 }
-        ensures answer { IfOk result (λ a. host_step (values_of (V.state self.old.opened.view)) self.old.opened.argument host_call.GetArg args.now memory.old self.old.records ≡ record { answer = a; memory = memory.new; records = self.new.records }) }
+        ensures answer { IfOk result
+            (λ a. host_step (values_of (V.state self.old.opened.view)) self.old.opened.argument
+            host_call.GetArg args.now memory.old self.old.records
+            ≡ record { answer = a; memory = memory.new; records = self.new.records }) }
         ensures opened { self.new.opened ≡ self.old.opened }
     {
         if bytes_at(memory, args[0], args[1]).is_none() {
@@ -268,7 +310,10 @@ impl<'v, V: View> Recorder<'v, V> {
     /// The result of the chaincode, in place of an earlier one.
     fn set_result(&mut self, args: &[u32], memory: &[u8]) -> Result<HostAnswer, AllocError>
         requires { length args.now ≡ 2 }
-        ensures answer { IfOk result (λ a. host_step (values_of (V.state self.old.opened.view)) self.old.opened.argument host_call.SetResult args.now memory.now self.old.records ≡ record { answer = a; memory = memory.now; records = self.new.records }) }
+        ensures answer { IfOk result
+            (λ a. host_step (values_of (V.state self.old.opened.view)) self.old.opened.argument
+            host_call.SetResult args.now memory.now self.old.records
+            ≡ record { answer = a; memory = memory.now; records = self.new.records }) }
         ensures opened { self.new.opened ≡ self.old.opened }
     {
         let Some(bytes) = bytes_at(memory, args[0], args[1]) else {

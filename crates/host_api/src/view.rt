@@ -18,8 +18,8 @@ pub trait View {
     fn get(&self, key: &Key) -> Option<(&Value, Version)>
         ensures { option_map (λ e. (e.0.now, e.1)) result ≡ get (state self.now) key.now };
 
-    /// The first `n` entries in key order of the keys from `start` on and below `end`, where an empty `end`
-    /// is no bound.
+    /// The first `n` entries in key order of the keys from `start` on and below `end`, where an
+    /// empty `end` is no bound.
     fn range(
         &self,
         alloc: Global,
@@ -27,7 +27,8 @@ pub trait View {
         end: &Bound,
         n: usize,
     ) -> Result<Vec<(&Key, &(Value, Version))>, AllocError>
-        ensures { IfOk result (λ v. map deref_pair v.items ≡ first (state self.now) start.now end.now n) };
+        ensures { IfOk result
+            (λ v. map deref_pair v.items ≡ first (state self.now) start.now end.now n) };
 }
 
 impl View for Snapshot {

@@ -1,7 +1,7 @@
 //! The intake: a bounded queue of envelopes from several senders to one receiver.
 //!
-//! Each envelope that was put is taken at most once, and those of one sender in its order. Once each sender is
-//! retired and `take` has then answered None, none is missing.
+//! Each envelope that was put is taken at most once, and those of one sender in its order. Once
+//! each sender is retired and `take` has then answered None, none is missing.
 #![tactic(auto)]
 
 mod opening;

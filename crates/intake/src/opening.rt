@@ -14,18 +14,23 @@ use std::sync::Arc;
 pub struct Intake;
 
 impl Intake {
-    /// A queue of so many places, at least 1, with the seats of so many senders, numbered from 0. The only error is want
-    /// of memory.
+    /// A queue of so many places, at least 1, with the seats of so many senders, numbered from 0.
+    /// The only error is want of memory.
     pub fn open(
         alloc: Global,
         capacity: usize,
         senders: usize,
     ) -> Result<(Vec<SenderSeat>, ReceiverSeat), AllocError>
         requires { 0 < capacity }
-        ensures receiver { IfOk result (λ t. (capacity_of_receiver t.1 ≡ capacity) × (knows t.1 ≡ receiver senders senders [] [])) }
+        ensures receiver { IfOk result
+            (λ t. (capacity_of_receiver t.1 ≡ capacity) ×
+            (knows t.1 ≡ receiver senders senders [] [])) }
         ensures length { IfOk result (λ t. length t.0.items ≡ senders) }
-        ensures of { IfOk result (λ t. All (λ s. intake_of_sender s ≡ intake_of_receiver t.1) t.0.items) }
-        ensures seats { IfOk result (λ t. (k : ℕ) (s : SenderSeat) → slice_get t.0.items k ≡ Some s → IsFresh t.1 senders k s) }
+        ensures of { IfOk result
+            (λ t. All (λ s. intake_of_sender s ≡ intake_of_receiver t.1) t.0.items) }
+        ensures seats { IfOk result
+            (λ t. (k : ℕ) (s : SenderSeat) → slice_get t.0.items k ≡ Some s →
+            IsFresh t.1 senders k s) }
     {
         let (queue, pass) = Queue::ruled(alloc, capacity)?;
         let queue = Arc::new(alloc, queue)?;

@@ -26,11 +26,16 @@ impl ReceiverSeat {
 
     /// Takes the front in one step. It may spin.
     ///
-    /// None only where the queue was empty at one moment of the call: then nothing is missing of the senders
-    /// that were retired before.
+    /// None only where the queue was empty at one moment of the call: then nothing is missing of
+    /// the senders that were retired before.
     pub fn take<R: Wait>(&mut self, rt: &R) -> Option<Envelope>
-        ensures same { IsSameIntake self.new self.old × ((knows self.new).senders ≡ (knows self.old).senders) × ((knows self.new).known ≡ (knows self.old).known) }
-        ensures got { MatchOption result ((knows self.new).got ≡ (knows self.old).got) (λ e. (from : ℕ) × ((knows self.new).got ≡ (knows self.old).got ++ record { from = from; envelope = e } ∷ [])) }
+        ensures same { IsSameIntake self.new self.old ×
+            ((knows self.new).senders ≡ (knows self.old).senders) ×
+            ((knows self.new).known ≡ (knows self.old).known) }
+        ensures got { MatchOption result ((knows self.new).got ≡ (knows self.old).got)
+            (λ e. (from : ℕ) ×
+            ((knows self.new).got
+            ≡ (knows self.old).got ++ record { from = from; envelope = e } ∷ [])) }
         ensures none { MatchOption result (NoneMissing (knows self.new)) (λ _. Unit {0}) }
     {
         match self.queue.pop_as::<Takes, R>(rt, &mut self.pass) {
@@ -42,8 +47,11 @@ impl ReceiverSeat {
     /// Takes in a sender that has ended. It takes no memory.
     pub fn retire(&mut self, seat: SenderSeat)
         requires { intake_of_sender seat ≡ intake_of_receiver self.old }
-        ensures same { IsSameIntake self.new self.old × ((knows self.new).senders ≡ (knows self.old).senders) × ((knows self.new).got ≡ (knows self.old).got) }
-        ensures known { (knows self.new).known ≡ (knows self.old).known ++ (number seat, put seat) ∷ [] }
+        ensures same { IsSameIntake self.new self.old ×
+            ((knows self.new).senders ≡ (knows self.old).senders) ×
+            ((knows self.new).got ≡ (knows self.old).got) }
+        ensures known { (knows self.new).known
+            ≡ (knows self.old).known ++ (number seat, put seat) ∷ [] }
     {
         let SenderSeat {
             queue: _,
@@ -69,7 +77,10 @@ impl ReceiverSeat {
         requires next { index ≡ (knows self.old).made }
         requires room { index < (knows self.old).senders }
         ensures same { IsSameIntake self.new self.old }
-        ensures made { IfOk result (λ _. knows self.new ≡ receiver (knows self.old).senders (index + 1) (knows self.old).got (knows self.old).known) }
+        ensures made { IfOk result
+            (λ _. knows self.new
+            ≡ receiver (knows self.old).senders (index + 1) (knows self.old).got
+            (knows self.old).known) }
         ensures seat { IfOk result (λ s. IsFresh self.old (knows self.old).senders index s) }
     {
         let queue = Arc::try_clone(&self.queue)?;

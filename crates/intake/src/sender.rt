@@ -43,12 +43,16 @@ impl SenderSeat {
 
     /// Puts the envelope behind all that the queue holds, in one step. It may spin.
     ///
-    /// Refused only where the queue was full at one moment of the call (411): it then held as many envelopes as
-    /// it has places, all of them of its senders.
+    /// Refused only where the queue was full at one moment of the call (411): it then held as many
+    /// envelopes as it has places, all of them of its senders.
     pub fn submit<R: Wait>(&mut self, rt: &R, envelope: Envelope) -> Result<(), Full>
-        ensures same { (intake_of_sender self.new ≡ intake_of_sender self.old) × (capacity_of_sender self.new ≡ capacity_of_sender self.old) × (senders self.new ≡ senders self.old) × (number self.new ≡ number self.old) }
-        ensures put { MatchResult result (λ _. put self.new ≡ put self.old ++ envelope ∷ []) (λ full. (full.envelope ≡ envelope) × (put self.new ≡ put self.old)) }
-        ensures full { IfErr result (λ _. Held (capacity_of_sender self.old) (HoldsMine (sender_knows self.old))) }
+        ensures same { (intake_of_sender self.new ≡ intake_of_sender self.old) ×
+            (capacity_of_sender self.new ≡ capacity_of_sender self.old) ×
+            (senders self.new ≡ senders self.old) × (number self.new ≡ number self.old) }
+        ensures put { MatchResult result (λ _. put self.new ≡ put self.old ++ envelope ∷ [])
+            (λ full. (full.envelope ≡ envelope) × (put self.new ≡ put self.old)) }
+        ensures full { IfErr result
+            (λ _. Held (capacity_of_sender self.old) (HoldsMine (sender_knows self.old))) }
     {
         let parcel = Parcel {
             from: self.from,

@@ -9,8 +9,9 @@ use wasm_ast::{HostAnswer, HostCall};
 
 /// What a module imports. A host answers calls and records what they were.
 ///
-/// Its answers depend on the call, the arguments, the memory and the records so far alone: `answers`
-/// is that function, and no call changes it. After want of memory a host is only to be dropped.
+/// Its answers depend on the call, the arguments, the memory and the records so far alone:
+/// `answers` is that function, and no call changes it. After want of memory a host is only to be
+/// dropped.
 pub trait Host {
     // What is recorded.
     ghost Records: { Type 0 };
@@ -33,7 +34,9 @@ pub trait Host {
         memory: &mut [u8],
     ) -> Result<HostAnswer, AllocError>
         requires { length args.now ≡ arity which }
-        ensures answer { IfOk result (λ a. Self.answers self.old which args.now memory.old (Self.records self.old) ≡ record { answer = a; memory = memory.new; records = Self.records self.new }) }
+        ensures answer { IfOk result
+            (λ a. Self.answers self.old which args.now memory.old (Self.records self.old)
+            ≡ record { answer = a; memory = memory.new; records = Self.records self.new }) }
         ensures stays { IfOk result (λ _. Self.answers self.new ≡ Self.answers self.old) }
         ensures keeps { IfOk result (λ _. Self.context self.new ≡ Self.context self.old) };
 }

@@ -1,9 +1,9 @@
 //! JSON objects with exactly the fields that are asked for, and what their fields hold.
 //!
-//! `serde_json` keeps an object's fields in the byte order of their names, each name once: of a name that stands
-//! twice in the text the last value counts. So the fields of an object are taken in the order of their names, and
-//! `is_end` tells that none is left over. A number is read only where it is written in digits alone: `4.0`, `-4`
-//! and whatever is not below 2^64 are none.
+//! `serde_json` keeps an object's fields in the byte order of their names, each name once: of a
+//! name that stands twice in the text the last value counts. So the fields of an object are taken
+//! in the order of their names, and `is_end` tells that none is left over. A number is read only
+//! where it is written in digits alone: `4.0`, `-4` and whatever is not below 2^64 are none.
 #![tactic(auto)]
 
 ghost use Rattle.std.specs.Prelude.{◌≡◌, ◌≢◌, ◌↔◌, ℕ, List, Bool, true, MatchOption, MatchBool};
@@ -27,8 +27,8 @@ pub fn fields(value: &Value) -> Option<Fields<'_>>
     }
 }
 
-/// Takes the first field that is left, which has this name, and gives its value. None where it has another name
-/// or no field is left; what is left after that is not said.
+/// Takes the first field that is left, which has this name, and gives its value. None where it has
+/// another name or no field is left; what is left after that is not said.
 pub fn take<'a>(fields: &mut Fields<'a>, name: &str) -> Option<&'a Value>
     ensures { MatchOption result
         ((d : Data) (rest : Members) → members_view fields.old ≢ member name.now d rest)
@@ -42,8 +42,8 @@ pub fn take<'a>(fields: &mut Fields<'a>, name: &str) -> Option<&'a Value>
     }
 }
 
-/// Takes the first field that is left, which has this name and holds a string, and gives the string. None in
-/// every other case; what is left after that is not said.
+/// Takes the first field that is left, which has this name and holds a string, and gives the
+/// string. None in every other case; what is left after that is not said.
 pub fn take_text<'a>(fields: &mut Fields<'a>, name: &str) -> Option<&'a str>
     ensures { MatchOption result
         ((s : List ℕ) (rest : Members) → members_view fields.old ≢ member name.now (string s) rest)
@@ -52,12 +52,14 @@ pub fn take_text<'a>(fields: &mut Fields<'a>, name: &str) -> Option<&'a str>
     text(take(fields, name)?)
 }
 
-/// Takes the first field that is left, which has this name and holds a whole number below 2^64, and gives the
-/// number. None in every other case; what is left after that is not said.
+/// Takes the first field that is left, which has this name and holds a whole number below 2^64, and
+/// gives the number. None in every other case; what is left after that is not said.
 pub fn take_number(fields: &mut Fields<'_>, name: &str) -> Option<u64>
     ensures { MatchOption result
-        ((n : ℕ) (rest : Members) → members_view fields.old ≢ member name.now (number (unsigned n)) rest)
-        (λ n. members_view fields.old ≡ member name.now (number (unsigned n)) (members_view fields.new)) }
+        ((n : ℕ) (rest : Members) →
+        members_view fields.old ≢ member name.now (number (unsigned n)) rest)
+        (λ n. members_view fields.old
+        ≡ member name.now (number (unsigned n)) (members_view fields.new)) }
 {
     number(take(fields, name)?)
 }

@@ -23,7 +23,8 @@ pub struct Channel {
 }
 
 impl Channel {
-    /// A channel after so many blocks of transactions over so many keys. Each was made on the state after the block before.
+    /// A channel after so many blocks of transactions over so many keys. Each was made on the state
+    /// after the block before.
     pub fn after(alloc: Global, blocks: u32, keys: u32, reorder: bool) -> Result<Channel, Failure> {
         let mut channel = Channel {
             rules: rules(alloc)?,

@@ -17,7 +17,8 @@ pub enum Done {
         count: u64,
         micros: u64,
     },
-    /// Of so many transactions these are VALID in batches as they were cut, and in the orderer's order.
+    /// Of so many transactions these are VALID in batches as they were cut, and in the orderer's
+    /// order.
     Valid {
         transactions: u64,
         as_cut: u64,

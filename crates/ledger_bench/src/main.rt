@@ -1,21 +1,24 @@
 //! Calls of the ledger, to be timed: `bench/run` says how fast they are.
 //!
-//! - `ledger_bench simulate MODULE COUNT` simulates so many transfers of assets, and `flags MODULE COUNT` flags so many in
-//!   blocks of 500. MODULE is the asset register of `examples/chaincode`; the state has 1,000 assets.
-//! - `check WORKERS COUNT` checks a batch of 512 envelopes so many times, each with two tags of three organisations.
+//! - `ledger_bench simulate MODULE COUNT` simulates so many transfers of assets, and `flags MODULE
+//!   COUNT` flags so many in blocks of 500. MODULE is the asset register of `examples/chaincode`;
+//!   the state has 1,000 assets.
+//! - `check WORKERS COUNT` checks a batch of 512 envelopes so many times, each with two tags of
+//!   three organisations.
 //! - `order COUNT` orders so many envelopes of 1,024 bytes in blocks of 64.
 //! - `commit COUNT` checks and commits so many blocks of 512 transactions.
-//! - `plan KEYS COUNT` reorders a batch of 512 transactions so many times, each with four reads and two writes over so many
-//!   keys.
-//! - `valid KEYS COUNT` says how many of the transactions of so many such batches end VALID, as they were cut and reordered.
-//! - `state KEYS COUNT` commits so many blocks of 64 transactions of two writes each on a state of so many keys, and
-//!   prints how many microseconds that took.
-//! - `read BLOCKS COUNT` lets a seat read a key so many times on a thread of its own while so many blocks at most are
-//!   committed, and prints how many microseconds the reads took.
+//! - `plan KEYS COUNT` reorders a batch of 512 transactions so many times, each with four reads and
+//!   two writes over so many keys.
+//! - `valid KEYS COUNT` says how many of the transactions of so many such batches end VALID, as
+//!   they were cut and reordered.
+//! - `state KEYS COUNT` commits so many blocks of 64 transactions of two writes each on a state of
+//!   so many keys, and prints how many microseconds that took.
+//! - `read BLOCKS COUNT` lets a seat read a key so many times on a thread of its own while so many
+//!   blocks at most are committed, and prints how many microseconds the reads took.
 //! - `load STORE` reads the store of this name.
 //!
-//! It prints `done` and how many transactions, plans or blocks that were. The exit status is 0 for done, 1 for a failure,
-//! which is printed, and 2 where the words name no task.
+//! It prints `done` and how many transactions, plans or blocks that were. The exit status is 0 for
+//! done, 1 for a failure, which is printed, and 2 where the words name no task.
 #![tactic(auto)]
 
 mod blocks;
@@ -110,8 +113,8 @@ fn load<R: Files>(rt: &R, alloc: Global, store: &str) -> Result<Done, Failure> {
     }
 }
 
-/// The bytes of a file. A module has at most 262,144 bytes; one more is read, so that a longer file is
-/// told apart.
+/// The bytes of a file. A module has at most 262,144 bytes; one more is read, so that a longer file
+/// is told apart.
 fn bytes_of<R: Files>(rt: &R, alloc: Global, file: &str) -> Result<Vec<u8>, Failure> {
     let mut bytes = Vec::new(alloc);
     let Ok(opened) = fs::open(rt, file) else {

@@ -88,7 +88,8 @@ pub fn plan(alloc: Global, keys: u32, count: u32) -> Result<Done, Failure> {
     Ok(Done::Count(u64::from(count)))
 }
 
-/// Commits so many batches over so many keys, as they were cut, and such ones in the orderer's order.
+/// Commits so many batches over so many keys, as they were cut, and such ones in the orderer's
+/// order.
 pub fn valid(alloc: Global, keys: u32, count: u32) -> Result<Done, Failure> {
     let as_cut = Channel::after(alloc, count, keys, false)?.valid();
     let ordered = Channel::after(alloc, count, keys, true)?.valid();

@@ -17,8 +17,8 @@ const FILLING: u64 = 256;
 /// How many keys each transaction of the blocks that make the state writes.
 const KEYS: u64 = 64;
 
-/// Flags and commits so many blocks of 64 transactions, each with two writes, on a state of so many keys, and keeps
-/// each snapshot. Only this is timed, and not what makes the state and the blocks.
+/// Flags and commits so many blocks of 64 transactions, each with two writes, on a state of so many
+/// keys, and keeps each snapshot. Only this is timed, and not what makes the state and the blocks.
 pub fn commit<R: Clock>(rt: &R, alloc: Global, keys: u32, count: u32) -> Result<Done, Failure> {
     let mut workload = Workload::new(keys, 0);
     let first = filled(alloc, &mut workload, u64::from(keys))?;

@@ -15,7 +15,8 @@ const WRITES: usize = 2;
 /// How many bytes a written value has.
 const VALUE: usize = 8;
 
-/// Draws transactions over so many keys, each as likely as another. The draws are the same in every run.
+/// Draws transactions over so many keys, each as likely as another. The draws are the same in every
+/// run.
 #[derive(Drop)]
 pub struct Workload {
     keys: u64,
@@ -48,7 +49,8 @@ impl Workload {
         self.writing(alloc, &numbers)
     }
 
-    /// The next transaction, which reads nothing and writes the keys of these numbers, which ascend.
+    /// The next transaction, which reads nothing and writes the keys of these numbers, which
+    /// ascend.
     pub fn writing(&mut self, alloc: Global, numbers: &[u64]) -> Result<Payload, Failure> {
         let reads = ReadSet::new(Vec::new(alloc)).ok_or(Failure::Limit)?;
         let writes = writes(alloc, numbers)?;

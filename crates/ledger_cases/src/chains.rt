@@ -186,7 +186,8 @@ pub fn block_of(height: usize, envelopes: Vec<Envelope>) -> Result<Block, CaseFa
     Ok(Block { header, envelopes })
 }
 
-/// The snapshot after one block more. A bad line where the block is not the next, or has other flags.
+/// The snapshot after one block more. A bad line where the block is not the next, or has other
+/// flags.
 pub fn extended(
     alloc: Global,
     snapshot: &Snapshot,
@@ -201,7 +202,9 @@ pub fn extended(
 
 /// Whether the block is the next in number, with a flag for each transaction.
 fn comes_next(snapshot: &Snapshot, block: &Block, flags: &[Flag]) -> bool
-    ensures { IsTrue result ↔ ((block.now.header.number ≡ length snapshot.now + 1) × (length flags.now ≡ length block.now.envelopes)) }
+    ensures { IsTrue result
+        ↔ ((block.now.header.number ≡ length snapshot.now + 1) ×
+        (length flags.now ≡ length block.now.envelopes)) }
 {
     let number = block.header.number.get() as usize;
     number == snapshot.height() + 1 && flags.len() == block.envelopes.as_slice().len()

@@ -52,7 +52,8 @@ impl Draft {
         Ok(())
     }
 
-    /// The transaction, without endorsements. A bad line where its sets are not within their limits.
+    /// The transaction, without endorsements. A bad line where its sets are not within their
+    /// limits.
     pub fn into_envelope(self, alloc: Global) -> Result<Envelope, CaseFault> {
         let proposal = Proposal {
             chaincode: chaincode_name(alloc)?,

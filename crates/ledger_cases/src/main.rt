@@ -1,40 +1,42 @@
-//! Cases of the ledger's crates as data: a line of the input is a case, and the line of the output with the
-//! same number is its answer.
+//! Cases of the ledger's crates as data: a line of the input is a case, and the line of the output
+//! with the same number is its answer.
 //!
-//! A line is a verb and its words, and may have a note behind ` #`. Lines that are empty or begin with `#`
-//! are printed as they are, and `bad line` stands for what is no case.
+//! A line is a verb and its words, and may have a note behind ` #`. Lines that are empty or begin
+//! with `#` are printed as they are, and `bad line` stands for what is no case.
 //!
 //! In HEX bytes are pieces with blanks between them; a piece with `*N` behind it stands N times:
 //!
-//! - `payload HEX`, `envelope HEX`, `block HEX`: the value that the bytes spell, and whether its own bytes
-//!   are the same, or `refused NUMBER`;
-//! - `tx_id HEX`: the id of the payload's proposal; `hashes HEX`: those of the block's header and data;
+//! - `payload HEX`, `envelope HEX`, `block HEX`: the value that the bytes spell, and whether its
+//!   own bytes are the same, or `refused NUMBER`;
+//! - `tx_id HEX`: the id of the payload's proposal; `hashes HEX`: those of the block's header and
+//!   data;
 //! - `tag KEY HEX`: the tag of the bytes under the key, which is one piece.
 //!
 //! Of policies, where names stand between commas and `-` is none:
 //!
-//! - `policy NAMES TEXT`: `policy` where the text spells one over the organisations of these names, or its
-//!   fault; `satisfied NAMES NAMES TEXT`: whether the organisations named second satisfy it;
-//! - `endorsed NAMES TAGS TEXT`: whether an envelope with these tags is endorsed, each `NAME/KEY`: by name,
-//!   under the key of another, which is its name.
+//! - `policy NAMES TEXT`: `policy` where the text spells one over the organisations of these names,
+//!   or its fault; `satisfied NAMES NAMES TEXT`: whether the organisations named second satisfy it;
+//! - `endorsed NAMES TAGS TEXT`: whether an envelope with these tags is endorsed, each `NAME/KEY`:
+//!   by name, under the key of another, which is its name.
 //!
-//! `event TEXT` tells what a line of an events file asks for, with bytes in hex and `-` for none, and
-//! `genesis TEXT` what the genesis has that the text spells, or why it spells none.
+//! `event TEXT` tells what a line of an events file asks for, with bytes in hex and `-` for none,
+//! and `genesis TEXT` what the genesis has that the text spells, or why it spells none.
 //!
-//! A transaction is words: `r:KEY@BLOCK.PLACE` and `r:KEY@-` for a key read and its version or absence,
-//! `q:START..END*LIMIT=KEY@BLOCK.PLACE,..` for a range with the entries seen, `w:KEY=VALUE` and `d:KEY` for a
-//! key put and deleted, `n:BYTE` for its nonce and `e:no` for one that is not endorsed. Bytes are written as
-//! they are where all of them are printed characters or blanks, and else in hex behind `0x`. Transactions stand between
-//! ` | ` in a block, and blocks between ` / ` in a chain. Where no nonce is said, each has its own.
+//! A transaction is words: `r:KEY@BLOCK.PLACE` and `r:KEY@-` for a key read and its version or
+//! absence, `q:START..END*LIMIT=KEY@BLOCK.PLACE,..` for a range with the entries seen,
+//! `w:KEY=VALUE` and `d:KEY` for a key put and deleted, `n:BYTE` for its nonce and `e:no` for one
+//! that is not endorsed. Bytes are written as they are where all of them are printed characters or
+//! blanks, and else in hex behind `0x`. Transactions stand between ` | ` in a block, and blocks
+//! between ` / ` in a chain. Where no nonce is said, each has its own.
 //!
 //! - `flags CHAIN`: the flags of each block, each judged after those before it;
-//! - `state CHAIN`, `get KEY CHAIN`, `range START..END*LIMIT CHAIN`: the state after the chain so judged,
-//!   what it has at a key, and its first entries of a range;
-//! - `call STATE | ARGUMENT | MEMORY | CALL | ..`: what the host answers to each call on the state that the
-//!   writes leave, the memory after them, where it changed, and what was recorded. The argument and the
-//!   memory are in hex, and a call is its name and its numbers;
-//! - `simulate NAME FUEL HEX | ARGUMENT | ..`: the payload or the refusal of each call of `kv` by the book
-//!   that has the module under a name, on the state that the earlier calls leave.
+//! - `state CHAIN`, `get KEY CHAIN`, `range START..END*LIMIT CHAIN`: the state after the chain so
+//!   judged, what it has at a key, and its first entries of a range;
+//! - `call STATE | ARGUMENT | MEMORY | CALL | ..`: what the host answers to each call on the state
+//!   that the writes leave, the memory after them, where it changed, and what was recorded. The
+//!   argument and the memory are in hex, and a call is its name and its numbers;
+//! - `simulate NAME FUEL HEX | ARGUMENT | ..`: the payload or the refusal of each call of `kv` by
+//!   the book that has the module under a name, on the state that the earlier calls leave.
 #![tactic(auto)]
 
 mod bytes;

@@ -1,4 +1,5 @@
-//! The program of the ledger on a machine: the words of the command line, its files and its standard output.
+//! The program of the ledger on a machine: the words of the command line, its files and its
+//! standard output.
 //!
 //! What it does is `ledger_program`'s.
 #![tactic(auto)]

@@ -11,9 +11,9 @@ use std::alloc::Global;
 use std::io::Write;
 use store_replay::Replayed;
 
-/// Prints how many blocks a store has, and what is found of them: the first with flags that are not the
-/// rule's, why one does not fit, or what the audit of the chain says. Last comes how the store ends, unless
-/// it ends with a record.
+/// Prints how many blocks a store has, and what is found of them: the first with flags that are not
+/// the rule's, why one does not fit, or what the audit of the chain says. Last comes how the store
+/// ends, unless it ends with a record.
 pub fn audit<F: Files, W: Write>(
     alloc: Global,
     files: &mut F,
@@ -33,8 +33,8 @@ pub fn audit<F: Files, W: Write>(
     }
 }
 
-/// Prints the first thing that is wrong with the committed blocks, or what their audit says, and answers
-/// whether nothing was found.
+/// Prints the first thing that is wrong with the committed blocks, or what their audit says, and
+/// answers whether nothing was found.
 fn print_findings<W: Write>(
     alloc: Global,
     genesis: &Genesis,

@@ -41,8 +41,8 @@ pub enum Failure {
     Output,
 }
 
-/// What the program prints of it, without the line's end. Nothing of a failure that was printed, or of
-/// one that can't be.
+/// What the program prints of it, without the line's end. Nothing of a failure that was printed, or
+/// of one that can't be.
 impl Display for Failure {
     fn fmt<W: Write>(&self, f: &mut Formatter<W>) -> fmt::Result {
         match self {

@@ -15,7 +15,8 @@ pub trait Files {
     /// Makes a file, or empties the one of that name, for writing. None where that cannot be done.
     fn create(&mut self, name: &str) -> Option<Self::Writer>;
 
-    /// Gives a file another name, in the place of a file that has it. Answers whether that was done.
+    /// Gives a file another name, in the place of a file that has it. Answers whether that was
+    /// done.
     fn rename(&mut self, from: &str, to: &str) -> bool;
 }
 

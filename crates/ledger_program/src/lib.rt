@@ -1,16 +1,17 @@
 //! The program of the ledger: all of it but the machine that it runs on.
 //!
-//! - `check MODULE` tells whether the bytes of a file are a valid module, and how many functions it defines.
+//! - `check MODULE` tells whether the bytes of a file are a valid module, and how many functions it
+//!   defines.
 //! - `sim GENESIS CHAINCODE ARG` simulates one call, on the empty state or on that after a store.
-//! - `run GENESIS EVENTS` runs the events of a file on the system that the genesis opens, and writes the
-//!   chain of its first peer.
+//! - `run GENESIS EVENTS` runs the events of a file on the system that the genesis opens, and
+//!   writes the chain of its first peer.
 //! - `trace GENESIS CHAINCODE ARG` shows the steps of one call on the empty state.
-//! - `threads GENESIS CHAINCODE ROUNDS` lets the seats of the first peer endorse on threads of their own while
-//!   its blocks are committed, and audits the chain.
+//! - `threads GENESIS CHAINCODE ROUNDS` lets the seats of the first peer endorse on threads of
+//!   their own while its blocks are committed, and audits the chain.
 //! - `audit GENESIS STORE` commits a store's chain again, and runs its VALID transactions again.
 //!
-//! [`program`] takes the words of the command line, the files by [`Files`], and where lines are printed. It starts
-//! threads for `threads` alone.
+//! [`program`] takes the words of the command line, the files by [`Files`], and where lines are
+//! printed. It starts threads for `threads` alone.
 #![tactic(auto)]
 
 mod auditing;

@@ -57,7 +57,8 @@ pub fn print_audit<W: Write>(audit: Audit, out: &mut W) -> Result<bool, Failure>
     }
 }
 
-/// Prints the block of a batch, where it made one, with its count of transactions, and what was aborted.
+/// Prints the block of a batch, where it made one, with its count of transactions, and what was
+/// aborted.
 pub fn print_batch<W: Write>(report: &BatchReport, txs: usize, out: &mut W) -> Result<(), Failure> {
     match report.block {
         Some(number) => writeln!(out, "block {number} txs {txs}")?,

@@ -76,8 +76,8 @@ pub fn valid_module(alloc: Global, bytes: &[u8]) -> Result<ValidModule, ModuleRe
 
 /// How many functions the valid module of these bytes defines. Imports are not among them.
 ///
-/// Refused where the bytes spell no module of the profile, where the module is not valid, and for want of
-/// memory.
+/// Refused where the bytes spell no module of the profile, where the module is not valid, and for
+/// want of memory.
 pub fn defined_functions(alloc: Global, bytes: &[u8]) -> Result<usize, ModuleRefusal>
     ensures ok { IfOk result (λ n. IsDefinedBy bytes.now n) }
     ensures refused { IfErr result (λ r. NoModule bytes.now r) }

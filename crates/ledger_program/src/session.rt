@@ -34,8 +34,8 @@ enum Step {
     Refused(WireFault),
 }
 
-/// Runs the lines of a file of events, prints what each comes to, the state of the first peer after them
-/// and the audit of its chain, and writes that chain to a store if there is one.
+/// Runs the lines of a file of events, prints what each comes to, the state of the first peer after
+/// them and the audit of its chain, and writes that chain to a store if there is one.
 ///
 /// A line that stands for nothing ends the run, and then no store is written.
 pub fn run<F: Files, W: Write>(
@@ -233,8 +233,8 @@ impl Session {
         }
     }
 
-    /// Prints the state of the first peer and what the audit of its chain says, and answers whether all
-    /// transactions agree with their reruns.
+    /// Prints the state of the first peer and what the audit of its chain says, and answers whether
+    /// all transactions agree with their reruns.
     fn print_end<W: Write>(&self, out: &mut W) -> Result<bool, Failure> {
         let Some(snapshot) = self.system.snapshot(0) else {
             return Ok(true);

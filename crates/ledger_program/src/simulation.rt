@@ -30,8 +30,8 @@ pub fn simulate<F: Files, W: Write>(
     print_payload(alloc, &payload, out)
 }
 
-/// The chain of a store. Refused where one of its blocks does not fit, and where it does not end with its
-/// last record. Flags that the store has are passed over.
+/// The chain of a store. Refused where one of its blocks does not fit, and where it does not end
+/// with its last record. Flags that the store has are passed over.
 fn whole_store<F: Files>(
     alloc: Global,
     files: &mut F,

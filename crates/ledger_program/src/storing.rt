@@ -26,8 +26,8 @@ pub fn replayed<F: Files>(
     Ok(replay_store(alloc, genesis, &mut device)?)
 }
 
-/// Writes a chain as a store. A store of that name stays as it was until this one is whole: it is written
-/// beside it, under the name with `.part` behind it, and then takes its place.
+/// Writes a chain as a store. A store of that name stays as it was until this one is whole: it is
+/// written beside it, under the name with `.part` behind it, and then takes its place.
 pub fn write_store<F: Files>(
     alloc: Global,
     files: &mut F,

@@ -11,8 +11,9 @@ use std::io::Write;
 use std::sync::Wait;
 use std::thread::Threads;
 
-/// Lets each seat of the first peer endorse and submit so many calls of a chaincode on a thread of its own, and
-/// prints how many were endorsed and refused, how many blocks came of them, and what the audit of the chain says.
+/// Lets each seat of the first peer endorse and submit so many calls of a chaincode on a thread of
+/// its own, and prints how many were endorsed and refused, how many blocks came of them, and what
+/// the audit of the chain says.
 pub fn threads<R: Threads + Wait + Sync + Send + Copy + 'static, F: Files, W: Write>(
     rt: &R,
     alloc: Global,

@@ -11,8 +11,8 @@ use std::alloc::Global;
 use std::io::Write;
 use wasm_trace::Stepper;
 
-/// Runs a call on the empty state by reduction. Prints so many at most of the steps that cost fuel, each
-/// with its number from 1 on, and how the call ends.
+/// Runs a call on the empty state by reduction. Prints so many at most of the steps that cost fuel,
+/// each with its number from 1 on, and how the call ends.
 pub fn trace<F: Files, W: Write>(
     alloc: Global,
     files: &mut F,
@@ -31,7 +31,8 @@ pub fn trace<F: Files, W: Write>(
     print_outcome(outcome, out)
 }
 
-/// Prints the first steps that cost fuel, and answers how the run ends: long before the count of the loop does.
+/// Prints the first steps that cost fuel, and answers how the run ends: long before the count of
+/// the loop does.
 fn print_steps<H: Host, W: Write>(
     alloc: Global,
     chaincode: &Chaincode,

@@ -133,7 +133,8 @@ fn text<'a>(matches: &ArgMatches<'a>, name: &str) -> Result<&'a str, WordsFault>
 
 /// The task that the words name, the command first.
 ///
-/// Usage where they are no command, or a word is missing, left over, or no hex or name within its limits.
+/// Usage where they are no command, or a word is missing, left over, or no hex or name within its
+/// limits.
 pub fn parse<'a>(alloc: Global, words: &'a [String]) -> Result<Task<'a>, WordsFault> {
     let matches = commands(alloc)?.try_get_matches_from(words)?;
     if let Some(check) = matches.subcommand_matches("check") {

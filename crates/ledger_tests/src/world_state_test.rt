@@ -10,7 +10,8 @@ use std::test::Fail;
 use wire::tx_id;
 use world_state::{Snapshot, TxIds, add_id, is_known};
 
-/// The snapshot after this block, all of whose transactions have this flag. None where it is not the next.
+/// The snapshot after this block, all of whose transactions have this flag. None where it is not
+/// the next.
 pub fn extended(
     alloc: Global,
     snapshot: &Snapshot,
@@ -29,7 +30,9 @@ pub fn extended(
 
 /// Whether the block is the next in number, with a flag for each transaction.
 fn comes_next(snapshot: &Snapshot, block: &Block, flags: &[Flag]) -> bool
-    ensures { IsTrue result ↔ ((block.now.header.number ≡ length snapshot.now + 1) × (length flags.now ≡ length block.now.envelopes)) }
+    ensures { IsTrue result
+        ↔ ((block.now.header.number ≡ length snapshot.now + 1) ×
+        (length flags.now ≡ length block.now.envelopes)) }
 {
     let number = block.header.number.get() as usize;
     number == snapshot.height() + 1 && flags.len() == block.envelopes.as_slice().len()

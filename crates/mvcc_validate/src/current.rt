@@ -13,8 +13,8 @@ use std::alloc::{AllocError, Global};
 use std::collections::BTreeMap;
 use world_state::Snapshot;
 
-/// Whether all that a payload read is as it is in a snapshot: each key's version, and each range's first keys and
-/// versions.
+/// Whether all that a payload read is as it is in a snapshot: each key's version, and each range's
+/// first keys and versions.
 pub fn is_current(alloc: Global, snapshot: &Snapshot, payload: &Payload) -> Result<bool, AllocError>
     ensures { IfOk result (λ b. b ≡ is_current (state (history snapshot.now)) payload.now) }
 {

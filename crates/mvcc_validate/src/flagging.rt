@@ -24,7 +24,8 @@ fn is_valid(flag: Flag) -> bool
 
 /// Whether an id stands in the chain or in the block so far.
 fn is_duplicate(snapshot: &Snapshot, ids: &TxIds, id: &[u8; 32]) -> bool
-    ensures { (earlier : List Placed) → AreNewIds ids.now.keys (history snapshot.now) earlier → result ≡ stands_in id_of earlier id.now }
+    ensures { (earlier : List Placed) → AreNewIds ids.now.keys (history snapshot.now) earlier →
+        result ≡ stands_in id_of earlier id.now }
 {
     snapshot.has_tx(id) || is_known(ids, id)
 }
@@ -40,7 +41,10 @@ fn flag_of(
     payload: &Payload,
 ) -> Result<Flag, AllocError>
     requires id { id.now ≡ id_of payload.now.proposal }
-    ensures { IfOk result (λ flag. (earlier : List Placed) → AreNewIds ids.now.keys (history snapshot.now) earlier → IsOver written.now.entries (state (history snapshot.now)) (state earlier) → flag ≡ flag_at id_of earlier endorsed payload.now) }
+    ensures { IfOk result
+        (λ flag. (earlier : List Placed) → AreNewIds ids.now.keys (history snapshot.now) earlier →
+        IsOver written.now.entries (state (history snapshot.now)) (state earlier) →
+        flag ≡ flag_at id_of earlier endorsed payload.now) }
 {
     if is_duplicate(snapshot, ids, id) {
         return Ok(Flag::DuplicateTxid);
@@ -57,14 +61,17 @@ fn flag_of(
     Ok(Flag::Valid)
 }
 
-/// The flags of a block that is put on a snapshot, one for each transaction. `endorsed` says of each
-/// whether its chaincode is known and its policy satisfied. A flag is the first of these that applies on
-/// the state to which all earlier VALID transactions were applied, those of this block included:
+/// The flags of a block that is put on a snapshot, one for each transaction. `endorsed` says of
+/// each whether its chaincode is known and its policy satisfied. A flag is the first of these that
+/// applies on the state to which all earlier VALID transactions were applied, those of this block
+/// included:
 ///
 /// - `DuplicateTxid`: its id stands earlier in the chain or in this block, whatever flag is there.
 /// - `EndorsementPolicyFailure`: it is not endorsed.
-/// - `MvccReadConflict`: a key that it read has another version, or is absent, or is not absent any more.
-/// - `PhantomReadConflict`: a range that it read has other first keys, up to its limit, or other versions.
+/// - `MvccReadConflict`: a key that it read has another version, or is absent, or is not absent any
+///   more.
+/// - `PhantomReadConflict`: a range that it read has other first keys, up to its limit, or other
+///   versions.
 /// - `Valid`.
 pub fn flags(
     alloc: Global,
@@ -73,7 +80,10 @@ pub fn flags(
     endorsed: &[bool],
 ) -> Result<Vec<Flag>, AllocError>
     requires one_each { length endorsed.now ≡ length block.now.envelopes }
-    ensures { IfOk result (λ v. v.items ≡ flags_told id_of (history snapshot.now) block.now.header.number 0 block.now.envelopes endorsed.now) }
+    ensures { IfOk result
+        (λ v. v.items
+        ≡ flags_told id_of (history snapshot.now) block.now.header.number 0 block.now.envelopes
+        endorsed.now) }
 {
     let number = block.header.number.get();
     let envelopes = block.envelopes.as_slice();

@@ -61,8 +61,8 @@ fn commit_each<R: Threads + Wait + Sync>(rt: &R, writer: &mut PeerWriter, chain:
     are_committed
 }
 
-/// What the threads met: the number of the refusal of the endorsement, and whether each read was answered and
-/// each block taken.
+/// What the threads met: the number of the refusal of the endorsement, and whether each read was
+/// answered and each block taken.
 #[derive(Clone, Copy, Debug, PartialEq, Eq)]
 struct Met {
     refused: u16,

@@ -11,7 +11,8 @@ fn nonce(envelope: &Envelope) -> u8 {
     envelope.payload.proposal.nonce[0]
 }
 
-/// Whether the second of two envelopes comes back from an intake of one place, and the first is taken.
+/// Whether the second of two envelopes comes back from an intake of one place, and the first is
+/// taken.
 fn is_handed_back<R: Wait>(rt: &R, alloc: Global) -> Result<bool, Fail> {
     let (mut seats, mut receiver) = Intake::open(alloc, 1, 1)?;
     let mut seat = seats.pop().ok_or("a seat")?;

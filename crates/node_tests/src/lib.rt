@@ -1,4 +1,5 @@
-//! Tests of orderers and peers, on threads too, a file for each crate. There is no code beside them.
+//! Tests of orderers and peers, on threads too, a file for each crate. There is no code beside
+//! them.
 #![tactic(auto)]
 
 #[cfg(test)]

@@ -37,8 +37,8 @@ fn offered(orderer: &mut Orderer, envelope: Envelope) -> Result<Vec<BatchReport>
     }
 }
 
-/// The numbers of the blocks that the reports of one more envelope name, and 0 for a batch without one. A refusal by its
-/// number.
+/// The numbers of the blocks that the reports of one more envelope name, and 0 for a batch without
+/// one. A refusal by its number.
 fn accepted(alloc: Global, orderer: &mut Orderer) -> Result<Vec<u32>, Fail> {
     let mut numbers = Vec::new(alloc);
     match offered(orderer, put(alloc)?) {
@@ -89,7 +89,8 @@ fn blocks_are_linked(rt: HostRuntime) -> Result<(), Fail> {
     Ok(())
 }
 
-/// The length of a block's bytes: a header of 68, a count of 2, and for each envelope a length of 4 and 36.
+/// The length of a block's bytes: a header of 68, a count of 2, and for each envelope a length of 4
+/// and 36.
 #[test]
 fn a_block_has_its_length(rt: HostRuntime) -> Result<(), Fail> {
     let alloc = rt.alloc();

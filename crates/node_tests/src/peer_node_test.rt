@@ -158,8 +158,8 @@ fn place(seat: &mut Seat, key: &Key) -> Option<(u32, u32)>
     }
 }
 
-/// What a seat saw: whether it endorsed, where `k` was written after it was told of block 3, and the number of
-/// the refusal of what it had begun before it was told of block 4.
+/// What a seat saw: whether it endorsed, where `k` was written after it was told of block 3, and
+/// the number of the refusal of what it had begun before it was told of block 4.
 #[derive(Clone, Copy, Debug, PartialEq, Eq)]
 struct Sight {
     endorsed: bool,

@@ -55,8 +55,8 @@ fn commit_from<R: Threads + Wait + Sync>(
     is_done
 }
 
-/// The store of a peer that committed five blocks, whole, cut inside its fourth record, and with other flags of
-/// its second block.
+/// The store of a peer that committed five blocks, whole, cut inside its fourth record, and with
+/// other flags of its second block.
 #[derive(Drop)]
 struct Stores {
     whole: Vec<u8>,
@@ -96,8 +96,8 @@ fn make_stores<R: Threads + Wait + Sync>(
     }
 }
 
-/// The height of a peer that comes back with a store, and its store once it has taken all blocks from 4 on; or
-/// the number of the refusal.
+/// The height of a peer that comes back with a store, and its store once it has taken all blocks
+/// from 4 on; or the number of the refusal.
 fn reopened<R: Threads + Wait + Sync>(
     rt: &R,
     alloc: Global,

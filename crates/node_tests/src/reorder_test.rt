@@ -70,7 +70,8 @@ fn with_range(alloc: Global, end: &[u8]) -> Result<Vec<Envelope>, Fail> {
     Ok(batch)
 }
 
-/// A range that ends before `c` holds `b`, and so does one without an end. One that ends before `b` does not.
+/// A range that ends before `c` holds `b`, and so does one without an end. One that ends before `b`
+/// does not.
 #[test]
 fn a_range_stands_before_the_writers_of_its_keys(rt: HostRuntime) -> Result<(), Fail> {
     let alloc = rt.alloc();

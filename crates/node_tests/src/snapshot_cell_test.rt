@@ -40,7 +40,8 @@ fn height_after(seat: Reader, told: Told) -> usize
     }
 }
 
-/// The height that a seat takes on a second thread, where it learns of a block that was published on this one.
+/// The height that a seat takes on a second thread, where it learns of a block that was published
+/// on this one.
 fn height_elsewhere<R: Threads + Wait + Sync>(
     rt: &R,
     writer: &mut Writer,

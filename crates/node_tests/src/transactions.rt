@@ -17,7 +17,8 @@ fn bound(alloc: Global, text: &[u8]) -> Result<Bound, Fail> {
     Ok(Bound::new(bytes).ok_or("a bound")?)
 }
 
-/// Reads of keys, each with the version of a block's first transaction, or as absent where the block is 0.
+/// Reads of keys, each with the version of a block's first transaction, or as absent where the
+/// block is 0.
 fn reads(alloc: Global, read: &[(&[u8], u32)]) -> Result<ReadSet, Fail> {
     let mut items = Vec::new(alloc);
     for (text, block) in read {
@@ -72,7 +73,8 @@ fn envelope(
     })
 }
 
-/// A transaction that reads these keys at these blocks, 0 for absent, and puts `1` at the written ones.
+/// A transaction that reads these keys at these blocks, 0 for absent, and puts `1` at the written
+/// ones.
 pub fn transaction(
     alloc: Global,
     nonce: u8,
@@ -96,8 +98,9 @@ pub fn range_transaction(alloc: Global, start: &[u8], end: &[u8]) -> Result<Enve
     envelope(alloc, proposal(alloc, 0)?, reads, ranges, writes)
 }
 
-/// Five transactions. All that is read was written in block 1. The first writes `k1` and `k2`; the second reads `k1` and
-/// writes `k3`; the third writes `k2`; the fourth reads and writes `k2`; the fifth reads `k5` and writes `k6`.
+/// Five transactions. All that is read was written in block 1. The first writes `k1` and `k2`; the
+/// second reads `k1` and writes `k3`; the third writes `k2`; the fourth reads and writes `k2`; the
+/// fifth reads `k5` and writes `k6`.
 pub fn five(alloc: Global) -> Result<Vec<Envelope>, Fail> {
     let mut batch = Vec::with_capacity(alloc, 5)?;
     batch.push(transaction(alloc, 1, &[], &[b"k1", b"k2"])?)?;

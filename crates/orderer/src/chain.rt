@@ -17,7 +17,8 @@ use seq::Seq;
 use std::alloc::{AllocError, Global};
 use wire::{data_hash, header_hash};
 
-/// The hash that the next header names: that of the last header, or 32 zero bytes where there is none.
+/// The hash that the next header names: that of the last header, or 32 zero bytes where there is
+/// none.
 fn next_link(blocks: &[Block]) -> [u8; 32]
     ensures { result ≡ next_link blocks.now }
 {
@@ -70,7 +71,8 @@ fn push_block(
 ) -> Result<(), AllocError>
     requires number { number ≡ next_number blocks.old.items }
     requires envelopes { IsBlockData envelopes.items }
-    ensures pushed { OnOk result (blocks.new.items ≡ blocks.old.items ++ next_block blocks.old.items envelopes.items ∷ []) }
+    ensures pushed { OnOk result
+        (blocks.new.items ≡ blocks.old.items ++ next_block blocks.old.items envelopes.items ∷ []) }
     ensures unchanged { OnErr result (blocks.new.items ≡ blocks.old.items) }
 {
     let block = next_block(alloc, blocks, number, envelopes)?;
@@ -86,8 +88,8 @@ fn next_number(count: usize) -> Option<BlockNumber>
     BlockNumber::new(count as u32 + 1)
 }
 
-/// Plans a batch, and puts a block of what survives at the end of the chain, if anything does. On a refusal the chain is
-/// as it was.
+/// Plans a batch, and puts a block of what survives at the end of the chain, if anything does. On a
+/// refusal the chain is as it was.
 pub(crate) fn add_batch(
     alloc: Global,
     reorder: bool,
@@ -96,10 +98,12 @@ pub(crate) fn add_batch(
 ) -> Result<BatchReport, OrderCause>
     requires blocks { length blocks.old.items ≤ 65535 }
     requires batch { IsBlockData batch.now }
-    ensures added { IfOk result (λ report. Adds (plans_of reorder) blocks.old.items batch.now report blocks.new.items) }
+    ensures added { IfOk result
+        (λ report. Adds (plans_of reorder) blocks.old.items batch.now report blocks.new.items) }
     ensures number { OnOk result (length blocks.new.items ≤ 65535) }
     ensures unchanged { OnErr result (blocks.new.items ≡ blocks.old.items) }
-    ensures refused { IfErr result (λ cause. IsBatchRefused (plans_of reorder) cause blocks.old.items batch.now) }
+    ensures refused { IfErr result
+        (λ cause. IsBatchRefused (plans_of reorder) cause blocks.old.items batch.now) }
 {
     let plan = plan_of(alloc, reorder, batch)?;
     let survivors = picked(alloc, batch, &plan.order)?;
@@ -129,10 +133,13 @@ fn add_each(
 ) -> Result<Vec<BatchReport>, OrderCause>
     requires blocks { length blocks.old.items ≤ 65535 }
     requires batches { AllByRecursion IsBlockData (batches cut.now) }
-    ensures added { IfOk result (λ reports. AddsEach (plans_of reorder) blocks.old.items (batches cut.now) reports.items blocks.new.items) }
+    ensures added { IfOk result
+        (λ reports. AddsEach (plans_of reorder) blocks.old.items (batches cut.now) reports.items
+        blocks.new.items) }
     ensures number { OnOk result (length blocks.new.items ≤ 65535) }
     ensures begins { BeginsWith blocks.old.items blocks.new.items }
-    ensures refused { IfErr result (λ cause. IsCutRefused (plans_of reorder) cause blocks.old.items (batches cut.now)) }
+    ensures refused { IfErr result
+        (λ cause. IsCutRefused (plans_of reorder) cause blocks.old.items (batches cut.now)) }
 {
     let mut reports = Vec::new(alloc);
     match cut {
@@ -157,10 +164,13 @@ pub(crate) fn add_cut(
 ) -> Result<Vec<BatchReport>, OrderCause>
     requires blocks { length blocks.old.items ≤ 65535 }
     requires batches { AllByRecursion IsBlockData (batches cut.now) }
-    ensures added { IfOk result (λ reports. AddsEach (plans_of reorder) blocks.old.items (batches cut.now) reports.items blocks.new.items) }
+    ensures added { IfOk result
+        (λ reports. AddsEach (plans_of reorder) blocks.old.items (batches cut.now) reports.items
+        blocks.new.items) }
     ensures number { OnOk result (length blocks.new.items ≤ 65535) }
     ensures unchanged { OnErr result (blocks.new.items ≡ blocks.old.items) }
-    ensures refused { IfErr result (λ cause. IsCutRefused (plans_of reorder) cause blocks.old.items (batches cut.now)) }
+    ensures refused { IfErr result
+        (λ cause. IsCutRefused (plans_of reorder) cause blocks.old.items (batches cut.now)) }
 {
     let before = blocks.len();
     let added = add_each(alloc, reorder, blocks, cut);

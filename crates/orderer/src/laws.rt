@@ -10,17 +10,20 @@ ghost use Rattle.orderer.specs.Ordering.{Ordering, IsOrdered, IsOpening, RunsOut
 use batch_cutter::division_laws;
 use fab_types::Envelope;
 
-/// What holds of each orderer. One without blocks has made what no marks ask for, and what it makes of one mark more is what
-/// all the marks ask for. Marks ask for one chain, one step gives one answer, and where a block would be needed past the
-/// last number each way of taking the mark goes past it. Where batches are put in a legal order, the blocks are of legal
-/// order.
+/// What holds of each orderer. One without blocks has made what no marks ask for, and what it makes
+/// of one mark more is what all the marks ask for. Marks ask for one chain, one step gives one
+/// answer, and where a block would be needed past the last number each way of taking the mark goes
+/// past it. Where batches are put in a legal order, the blocks are of legal order.
 pub fn ordering_laws()
     ensures opening { (now : Ordering) → 0 < now.limits.count → IsOpening now → IsOrdered [] now }
-    ensures step { (marks : List (Mark Envelope)) (old new : Ordering) (mark : Mark Envelope) (reports : List BatchReport) →
+    ensures step { (marks : List (Mark Envelope)) (old new : Ordering) (mark : Mark Envelope)
+        (reports : List BatchReport) →
         IsOrdered marks old → Takes old mark reports new → IsOrdered (marks ++ mark ∷ []) new }
-    ensures one { (marks : List (Mark Envelope)) (now other : Ordering) → IsOrdered marks now → IsOrdered marks other →
-        now.reorder ≡ other.reorder → now.limits ≡ other.limits → now ≡ other }
-    ensures answer { (old new other : Ordering) (mark : Mark Envelope) (reports left : List BatchReport) →
+    ensures one { (marks : List (Mark Envelope)) (now other : Ordering) → IsOrdered marks now →
+        IsOrdered marks other → now.reorder ≡ other.reorder → now.limits ≡ other.limits →
+        now ≡ other }
+    ensures answer { (old new other : Ordering) (mark : Mark Envelope)
+        (reports left : List BatchReport) →
         Takes old mark reports new → Takes old mark left other → (reports ≡ left) × (new ≡ other) }
     ensures past { (old new : Ordering) (mark : Mark Envelope) (reports : List BatchReport) →
         RunsOut old mark → Takes old mark reports new → 65535 < length new.chain }

@@ -1,5 +1,5 @@
-//! The orderer: it cuts envelopes into batches, thins and orders each batch where that is asked for, and makes a chain of
-//! blocks of them, each linked to the one before by its hash.
+//! The orderer: it cuts envelopes into batches, thins and orders each batch where that is asked
+//! for, and makes a chain of blocks of them, each linked to the one before by its hash.
 #![tactic(auto)]
 
 mod chain;

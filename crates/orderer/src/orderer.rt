@@ -17,8 +17,9 @@ use std::marker::Model;
 
 /// Cuts envelopes into batches, and puts a block of what survives of each at the end of a chain.
 ///
-/// Each block has the number after that of the block before it, from 1 to 65,535, the hash of that block's header (32 zero
-/// bytes in block 1) and the hash of its own data. A call that is refused changes nothing.
+/// Each block has the number after that of the block before it, from 1 to 65,535, the hash of that
+/// block's header (32 zero bytes in block 1) and the hash of its own data. A call that is refused
+/// changes nothing.
 #[derive(Drop)]
 pub struct Orderer {
     reorder: bool,
@@ -34,17 +35,25 @@ impl Model for Orderer {
 
     ghost Value = { Ordering };
 
-    ghost view = { λ o. record { reorder = o.reorder; limits = o.cutter.limits; pending = o.cutter.pending; chain = o.blocks.items } };
+    ghost view = { λ o.
+        record {
+          reorder = o.reorder;
+          limits = o.cutter.limits;
+          pending = o.cutter.pending;
+          chain = o.blocks.items;
+        } };
 
-    ghost invariant = { λ o. AreLimits o.cutter.limits × (length o.blocks.items ≤ 65535) × AreLinked [] o.blocks.items };
+    ghost invariant = { λ o. AreLimits o.cutter.limits × (length o.blocks.items ≤ 65535) ×
+        AreLinked [] o.blocks.items };
 }
 
 impl Orderer {
     /// An orderer without blocks, where nothing waits.
     ///
-    /// A batch has at most `count` envelopes, 1 to 512. Envelopes of at most `preferred` bytes together share a batch,
-    /// and one above it is a batch alone; none above `absolute` bytes is taken. Both are at most 524,288. With `reorder`
-    /// early abort and reordering act on each batch, else its block has the envelopes as they were cut.
+    /// A batch has at most `count` envelopes, 1 to 512. Envelopes of at most `preferred` bytes
+    /// together share a batch, and one above it is a batch alone; none above `absolute` bytes is
+    /// taken. Both are at most 524,288. With `reorder` early abort and reordering act on each
+    /// batch, else its block has the envelopes as they were cut.
     pub fn new(
         alloc: Global,
         count: usize,
@@ -52,8 +61,15 @@ impl Orderer {
         absolute: usize,
         reorder: bool,
     ) -> Self
-        requires { AreLimits (record { count = count; preferred = preferred; absolute = absolute }) }
-        ensures { result ≡ record { reorder = reorder; limits = record { count = count; preferred = preferred; absolute = absolute }; pending = []; chain = [] } }
+        requires { AreLimits
+            (record { count = count; preferred = preferred; absolute = absolute }) }
+        ensures { result
+            ≡ record {
+              reorder = reorder;
+              limits = record { count = count; preferred = preferred; absolute = absolute };
+              pending = [];
+              chain = [];
+            } }
     {
         Orderer {
             reorder,
@@ -65,13 +81,16 @@ impl Orderer {
 
     /// Takes an envelope in, and reports the batches that it ends, none to two, in their order.
     ///
-    /// A refusal hands the envelope back. Its cause is 421 where the envelope is above the absolute size, 422 where a block
-    /// past number 65,535 would be needed, or 9 where a growth of memory was refused.
+    /// A refusal hands the envelope back. Its cause is 421 where the envelope is above the absolute
+    /// size, 422 where a block past number 65,535 would be needed, or 9 where a growth of memory
+    /// was refused.
     pub fn accept(&mut self, given: Envelope) -> Result<Vec<BatchReport>, OrderRefusal>
-        ensures taken { IfOk result (λ reports. Takes self.old (message given) reports.items self.new) }
+        ensures taken { IfOk result
+            (λ reports. Takes self.old (message given) reports.items self.new) }
         ensures size { OnOk result (envelope_size given ≤ self.old.limits.absolute) }
         ensures numbers { OnOk result (length self.new.chain ≤ 65535) }
-        ensures refused { IfErr result (λ refusal. IsRefused refusal.cause self.old (message given)) }
+        ensures refused { IfErr result
+            (λ refusal. IsRefused refusal.cause self.old (message given)) }
         ensures handed_back { IfErr result (λ refusal. refusal.envelope ≡ Some given) }
         ensures unchanged { OnErr result (self.new ≡ self.old) }
     {
@@ -93,12 +112,14 @@ impl Orderer {
         }
     }
 
-    /// Cuts the envelopes that wait, as a timeout does, and reports their batch. None where no envelope waits.
+    /// Cuts the envelopes that wait, as a timeout does, and reports their batch. None where no
+    /// envelope waits.
     ///
-    /// A refusal has no envelope. Its cause is 422 where a block past number 65,535 would be needed, or 9 where a growth of
-    /// memory was refused.
+    /// A refusal has no envelope. Its cause is 422 where a block past number 65,535 would be
+    /// needed, or 9 where a growth of memory was refused.
     pub fn tick(&mut self) -> Result<Option<BatchReport>, OrderRefusal>
-        ensures taken { IfOk result (λ report. Takes self.old timeout (option_to_list report) self.new) }
+        ensures taken { IfOk result
+            (λ report. Takes self.old timeout (option_to_list report) self.new) }
         ensures numbers { OnOk result (length self.new.chain ≤ 65535) }
         ensures refused { IfErr result (λ refusal. IsRefused refusal.cause self.old timeout) }
         ensures handed_back { IfErr result (λ refusal. refusal.envelope ≡ None) }

@@ -36,7 +36,8 @@ impl Display for AbortCause {
     }
 }
 
-/// The places of a batch that survive, in their order, and the others, ascending, with why they do not.
+/// The places of a batch that survive, in their order, and the others, ascending, with why they do
+/// not.
 #[derive(Drop)]
 pub(crate) struct Plan {
     pub order: Vec<usize>,
@@ -66,7 +67,8 @@ fn aborts(
     dropped: &[usize],
 ) -> Result<Vec<(u16, AbortCause)>, AllocError>
     requires { count ≤ 512 }
-    ensures { IfOk result (λ v. v.items ≡ aborts outdated.now dropped.now (range_with_len 0 count)) }
+    ensures { IfOk result
+        (λ v. v.items ≡ aborts outdated.now dropped.now (range_with_len 0 count)) }
 {
     let mut aborted = Vec::new(alloc);
     for place in 0..count {

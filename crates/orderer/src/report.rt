@@ -17,7 +17,8 @@ use std::fmt::{self, Display, Formatter, Write};
 pub struct BatchReport {
     /// The number of its block. None where nothing survived, so that there is no block.
     pub block: Option<u32>,
-    /// The places in the batch as it was cut, from 0, of the transactions that are left out, ascending, and why.
+    /// The places in the batch as it was cut, from 0, of the transactions that are left out,
+    /// ascending, and why.
     pub aborted: Seq<(u16, AbortCause)>,
 }
 

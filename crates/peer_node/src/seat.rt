@@ -14,7 +14,8 @@ use std::alloc::{AllocError, Global};
 use std::sync::Arc;
 use world_state::Snapshot;
 
-/// What a seat endorses by: the chaincodes, the organisations with their keys, and its own organisation.
+/// What a seat endorses by: the chaincodes, the organisations with their keys, and its own
+/// organisation.
 #[derive(Drop)]
 pub struct Endorser {
     pub book: Arc<Book>,
@@ -44,29 +45,35 @@ impl Seat {
     ghost use Rattle.snapshot_cell.specs.Seats.{cell_of_told, told_list};
     ghost use Rattle.peer_node.specs.Seats.{seen, peer_of, FinishesBy, Endorses};
 
-    /// Takes the snapshot on which a proposal is simulated: its blocks begin with all that this seat has seen
-    /// or was told of, and are what it has seen afterwards.
+    /// Takes the snapshot on which a proposal is simulated: its blocks begin with all that this
+    /// seat has seen or was told of, and are what it has seen afterwards.
     ///
-    /// Refused where the cell gave no entry, as after its writer's end (432), and for want of memory (9).
+    /// Refused where the cell gave no entry, as after its writer's end (432), and for want of
+    /// memory (9).
     pub fn begin(&mut self, proposal: &Proposal) -> Result<Begun, TakeRefusal>
-        ensures begun { IfOk result (λ b. (b.proposal ≡ proposal.now) × IsPrefix (seen self.old) (arc_value b.snapshot) × (seen self.new ≡ arc_value b.snapshot)) }
+        ensures begun { IfOk result
+            (λ b. (b.proposal ≡ proposal.now) × IsPrefix (seen self.old) (arc_value b.snapshot) ×
+            (seen self.new ≡ arc_value b.snapshot)) }
         ensures refused { IfErr result (λ _. seen self.new ≡ seen self.old) }
-        ensures same { (self.new.endorser ≡ self.old.endorser) × (peer_of self.new ≡ peer_of self.old) }
+        ensures same { (self.new.endorser ≡ self.old.endorser) ×
+            (peer_of self.new ≡ peer_of self.old) }
     {
         let proposal = proposal.clone()?;
         let snapshot = self.reader.take()?;
         Ok(Begun { proposal, snapshot })
     }
 
-    /// Simulates what was begun on the snapshot taken then, checks on a second one that all that was read is
-    /// as it was, and endorses the payload. The blocks of the second snapshot begin with all that this seat
-    /// has seen or was told of, and are what it has seen afterwards.
+    /// Simulates what was begun on the snapshot taken then, checks on a second one that all that
+    /// was read is as it was, and endorses the payload. The blocks of the second snapshot begin
+    /// with all that this seat has seen or was told of, and are what it has seen afterwards.
     ///
-    /// Refused as the simulation is (401 to 404), where something that was read has changed (405), where the
-    /// cell gave no entry (432), and for want of memory (9).
+    /// Refused as the simulation is (401 to 404), where something that was read has changed (405),
+    /// where the cell gave no entry (432), and for want of memory (9).
     pub fn finish(&mut self, begun: Begun) -> Result<(Payload, Endorsement), FinishRefusal>
-        ensures finished { FinishesBy self.old.endorser begun.proposal (arc_value begun.snapshot) (seen self.old) (seen self.new) result }
-        ensures same { (self.new.endorser ≡ self.old.endorser) × (peer_of self.new ≡ peer_of self.old) }
+        ensures finished { FinishesBy self.old.endorser begun.proposal (arc_value begun.snapshot)
+            (seen self.old) (seen self.new) result }
+        ensures same { (self.new.endorser ≡ self.old.endorser) ×
+            (peer_of self.new ≡ peer_of self.old) }
     {
         let Endorser {
             book,
@@ -83,32 +90,40 @@ impl Seat {
 
     /// Begins and finishes a proposal. Refused as these are.
     pub fn endorse(&mut self, proposal: &Proposal) -> Result<(Payload, Endorsement), FinishRefusal>
-        ensures endorsed { Endorses self.old.endorser proposal.now (seen self.old) (seen self.new) result }
-        ensures same { (self.new.endorser ≡ self.old.endorser) × (peer_of self.new ≡ peer_of self.old) }
+        ensures endorsed { Endorses self.old.endorser proposal.now (seen self.old) (seen self.new)
+            result }
+        ensures same { (self.new.endorser ≡ self.old.endorser) ×
+            (peer_of self.new ≡ peer_of self.old) }
     {
         let begun = self.begin(proposal)?;
         self.finish(begun)
     }
 
-    /// A key's value and version in the state after a list of blocks that begins with all that this seat has
-    /// seen or was told of, and is what it has seen afterwards.
+    /// A key's value and version in the state after a list of blocks that begins with all that this
+    /// seat has seen or was told of, and is what it has seen afterwards.
     ///
     /// Refused where the cell gave no entry (432), and for want of memory (9).
     pub fn read(&mut self, key: &Key) -> Result<Option<(Value, Version)>, TakeRefusal>
-        ensures answer { IfOk result (λ entry. IsPrefix (seen self.old) (seen self.new) × (entry ≡ state_at (history (seen self.new)) key.now)) }
+        ensures answer { IfOk result
+            (λ entry. IsPrefix (seen self.old) (seen self.new) ×
+            (entry ≡ state_at (history (seen self.new)) key.now)) }
         ensures refused { IfErr result (λ _. IsPrefix (seen self.old) (seen self.new)) }
-        ensures same { (self.new.endorser ≡ self.old.endorser) × (peer_of self.new ≡ peer_of self.old) }
+        ensures same { (self.new.endorser ≡ self.old.endorser) ×
+            (peer_of self.new ≡ peer_of self.old) }
     {
         let snapshot = self.reader.take()?;
         Ok(entry_at(&snapshot, key)?)
     }
 
-    /// Takes in what the peer's writer told. One of the two lists begins with the other, and the seat has then
-    /// seen the longer one.
+    /// Takes in what the peer's writer told. One of the two lists begins with the other, and the
+    /// seat has then seen the longer one.
     pub fn learn(&mut self, told: &Told)
         requires { cell_of_told told.now ≡ peer_of self.old }
-        ensures longer { (IsPrefix (seen self.old) (told_list told.now) × (seen self.new ≡ told_list told.now)) ⊎ (IsPrefix (told_list told.now) (seen self.old) × (seen self.new ≡ seen self.old)) }
-        ensures same { (self.new.endorser ≡ self.old.endorser) × (peer_of self.new ≡ peer_of self.old) }
+        ensures longer { (IsPrefix (seen self.old) (told_list told.now) ×
+            (seen self.new ≡ told_list told.now)) ⊎
+            (IsPrefix (told_list told.now) (seen self.old) × (seen self.new ≡ seen self.old)) }
+        ensures same { (self.new.endorser ≡ self.old.endorser) ×
+            (peer_of self.new ≡ peer_of self.old) }
     {
         self.reader.learn(told);
     }

@@ -32,7 +32,8 @@ const WORKERS: usize = 4;
 /// Opens peers.
 pub struct Peer;
 
-/// The writer of a peer. Contracts see the list of whole blocks that it committed. It is ended by `close`.
+/// The writer of a peer. Contracts see the list of whole blocks that it committed. It is ended by
+/// `close`.
 pub struct PeerWriter {
     pub cell: Writer,
     pub rules: Arc<Rules>,
@@ -49,8 +50,9 @@ impl Gate for NoGate {
 }
 
 impl Peer {
-    /// A peer of an organisation, without blocks, and so many seats, at least 1 and below 2^32. Tags of an organisation that the genesis
-    /// does not list are made with the empty key and count for nothing.
+    /// A peer of an organisation, without blocks, and so many seats, at least 1 and below 2^32.
+    /// Tags of an organisation that the genesis does not list are made with the empty key and count
+    /// for nothing.
     ///
     /// Refused where a seat got no place in the cell (431), and for want of memory (9).
     pub fn open<R: Wait>(
@@ -61,18 +63,24 @@ impl Peer {
         seats: usize,
     ) -> Result<(PeerWriter, Vec<Seat>), OpenRefusal>
         requires seats { (0 < seats) × (seats < 2 ^ 32) }
-        ensures writer { IfOk result (λ t. (published t.0 ≡ []) × (arc_value t.0.rules ≡ arc_value genesis.now.rules)) }
+        ensures writer { IfOk result
+            (λ t. (published t.0 ≡ []) × (arc_value t.0.rules ≡ arc_value genesis.now.rules)) }
         ensures length { IfOk result (λ t. length t.1.items ≡ seats) }
-        ensures seats { IfOk result (λ t. All (IsSeat (arc_value genesis.now.book) (arc_value genesis.now.rules) org.now (peer_of_writer t.0)) t.1.items) }
+        ensures seats { IfOk result
+            (λ t. All
+            (IsSeat (arc_value genesis.now.book) (arc_value genesis.now.rules) org.now
+            (peer_of_writer t.0))
+            t.1.items) }
     {
         open_with(rt, alloc, genesis, org, seats, Snapshot::empty(alloc))
     }
 
-    /// A peer that comes back with the blocks of its store, whatever the store's end was, and so many seats, at
-    /// least 1 and below 2^32. The blocks are committed again from the empty state on.
+    /// A peer that comes back with the blocks of its store, whatever the store's end was, and so
+    /// many seats, at least 1 and below 2^32. The blocks are committed again from the empty state
+    /// on.
     ///
-    /// Refused at the first block that does not fit (601 to 604) or is stored with other flags than the table's
-    /// (711), where a seat got no place in the cell (431), and for want of memory (9).
+    /// Refused at the first block that does not fit (601 to 604) or is stored with other flags than
+    /// the table's (711), where a seat got no place in the cell (431), and for want of memory (9).
     pub fn reopen<R: Wait>(
         rt: &R,
         alloc: Global,
@@ -82,11 +90,20 @@ impl Peer {
         loaded: Loaded,
     ) -> Result<(PeerWriter, Vec<Seat>), ReopenRefusal>
         requires seats { (0 < seats) × (seats < 2 ^ 32) }
-        ensures writer { IfOk result (λ t. (published t.0 ≡ loaded.blocks.items) × (arc_value t.0.rules ≡ arc_value genesis.now.rules)) }
-        ensures lawful { IfOk result (λ _. AreLawful (table_of (arc_value genesis.now.rules)) [] loaded.blocks.items) }
+        ensures writer { IfOk result
+            (λ t. (published t.0 ≡ loaded.blocks.items) ×
+            (arc_value t.0.rules ≡ arc_value genesis.now.rules)) }
+        ensures lawful { IfOk result
+            (λ _. AreLawful (table_of (arc_value genesis.now.rules)) [] loaded.blocks.items) }
         ensures length { IfOk result (λ t. length t.1.items ≡ seats) }
-        ensures seats { IfOk result (λ t. All (IsSeatBehind (arc_value genesis.now.book) (arc_value genesis.now.rules) org.now (peer_of_writer t.0) loaded.blocks.items) t.1.items) }
-        ensures refused { IfErr result (λ refusal. IsReopenRefused (table_of (arc_value genesis.now.rules)) loaded.blocks.items refusal) }
+        ensures seats { IfOk result
+            (λ t. All
+            (IsSeatBehind (arc_value genesis.now.book) (arc_value genesis.now.rules) org.now
+            (peer_of_writer t.0) loaded.blocks.items)
+            t.1.items) }
+        ensures refused { IfErr result
+            (λ refusal. IsReopenRefused (table_of (arc_value genesis.now.rules)) loaded.blocks.items
+            refusal) }
     {
         let first = recommit(alloc, &genesis.rules, loaded.blocks)?;
         let opened = open_with(rt, alloc, genesis, org, seats, first)?;
@@ -104,9 +121,14 @@ fn open_with<R: Wait>(
     first: Snapshot,
 ) -> Result<(PeerWriter, Vec<Seat>), OpenRefusal>
     requires seats { (0 < seats) × (seats < 2 ^ 32) }
-    ensures writer { IfOk result (λ t. (published t.0 ≡ first) × (arc_value t.0.rules ≡ arc_value genesis.now.rules)) }
+    ensures writer { IfOk result
+        (λ t. (published t.0 ≡ first) × (arc_value t.0.rules ≡ arc_value genesis.now.rules)) }
     ensures length { IfOk result (λ t. length t.1.items ≡ seats) }
-    ensures seats { IfOk result (λ t. All (IsSeatBehind (arc_value genesis.now.book) (arc_value genesis.now.rules) org.now (peer_of_writer t.0) first) t.1.items) }
+    ensures seats { IfOk result
+        (λ t. All
+        (IsSeatBehind (arc_value genesis.now.book) (arc_value genesis.now.rules) org.now
+        (peer_of_writer t.0) first)
+        t.1.items) }
 {
     let rules = Arc::try_clone(&genesis.rules)?;
     let (cell, readers) = open(rt, alloc, first, seats)?;
@@ -132,23 +154,29 @@ impl PeerWriter {
         self.cell.newest()
     }
 
-    /// Puts one whole block, with the flags of its transactions, after the list in one step, and tells of that
-    /// list. Four workers check the envelopes.
+    /// Puts one whole block, with the flags of its transactions, after the list in one step, and
+    /// tells of that list. Four workers check the envelopes.
     ///
-    /// Refused as `commit_on` refuses: where the chain is full (604), where the block has not the next number
-    /// (601), names another hash than that of the last header (602) or says another hash of its data (603),
-    /// and for want of memory (9). A refusal leaves the list as it was.
+    /// Refused as `commit_on` refuses: where the chain is full (604), where the block has not the
+    /// next number (601), names another hash than that of the last header (602) or says another
+    /// hash of its data (603), and for want of memory (9). A refusal leaves the list as it was.
     pub fn commit<R: Threads + Wait + Sync>(
         &mut self,
         rt: &R,
         block: Block,
     ) -> Result<Told, CommitRefusal>
-        ensures committed { IfOk result (λ _. published self.new ≡ published self.old ++ next_by (arc_value self.old.rules) (published self.old) block ∷ []) }
-        ensures told { IfOk result (λ t. (cell_of_told t ≡ peer_of_writer self.old) × (told_list t ≡ published self.new)) }
+        ensures committed { IfOk result
+            (λ _. published self.new
+            ≡ published self.old ++
+            next_by (arc_value self.old.rules) (published self.old) block ∷ []) }
+        ensures told { IfOk result
+            (λ t. (cell_of_told t ≡ peer_of_writer self.old) × (told_list t ≡ published self.new)) }
         ensures fits { OnOk result (Fits (blocks_of (published self.old)) block) }
-        ensures refused { IfErr result (λ refusal. IsRefused refusal (blocks_of (published self.old)) block) }
+        ensures refused { IfErr result
+            (λ refusal. IsRefused refusal (blocks_of (published self.old)) block) }
         ensures unchanged { OnErr result (published self.new ≡ published self.old) }
-        ensures same { (peer_of_writer self.new ≡ peer_of_writer self.old) × (self.new.rules ≡ self.old.rules) }
+        ensures same { (peer_of_writer self.new ≡ peer_of_writer self.old) ×
+            (self.new.rules ≡ self.old.rules) }
     {
         let envelopes = block.envelopes.as_slice();
         let endorsed = check_all(rt, self.alloc, &self.rules, envelopes, WORKERS, &NoGate)?;
@@ -169,7 +197,8 @@ impl PeerWriter {
 
 /// What a seat of an organisation endorses by.
 fn endorser(alloc: Global, genesis: &Genesis, org: &OrgName) -> Result<Endorser, AllocError>
-    ensures { IfOk result (λ e. Serves (arc_value genesis.now.book) (arc_value genesis.now.rules) org.now e) }
+    ensures { IfOk result
+        (λ e. Serves (arc_value genesis.now.book) (arc_value genesis.now.rules) org.now e) }
 {
     Ok(Endorser {
         book: Arc::try_clone(&genesis.book)?,
@@ -187,7 +216,12 @@ fn seats_of(
     mut readers: Vec<Reader>,
 ) -> Result<Vec<Seat>, AllocError>
     ensures length { IfOk result (λ v. length v.items ≡ length readers.items) }
-    ensures each { IfOk result (λ v. (peer : PeerId) (chain : Chain) → EachBegins peer chain readers.items → All (IsSeatBehind (arc_value genesis.now.book) (arc_value genesis.now.rules) org.now peer chain) v.items) }
+    ensures each { IfOk result
+        (λ v. (peer : PeerId) (chain : Chain) → EachBegins peer chain readers.items →
+        All
+        (IsSeatBehind (arc_value genesis.now.book) (arc_value genesis.now.rules) org.now
+        peer chain)
+        v.items) }
 {
     let mut seats = Vec::with_capacity(alloc, readers.len())?;
     for _seat in 0..readers.len() {

@@ -63,8 +63,8 @@ impl<K: Ord, V> PMap<K, V> {
         self.pages.len()
     }
 
-    /// The value at a key, and the number of comparisons: of the binary digits that the number of pages has,
-    /// at least as many but one, and at most as many and 7 more. It takes no memory.
+    /// The value at a key, and the number of comparisons: of the binary digits that the number of
+    /// pages has, at least as many but one, and at most as many and 7 more. It takes no memory.
     pub fn get_counted(&self, key: &K) -> (Option<&V>, u32)
         ensures value { option_map (λ v. v.now) result.0 ≡ get K.cmp self.now.entries key.now }
         ensures at_least { (d : ℕ) → 2 ^ d ≤ self.now.pages → d ≤ result.1 }
@@ -86,10 +86,13 @@ impl<K: Ord, V> PMap<K, V> {
         self.get_counted(key).0
     }
 
-    /// The entries from a start on and before an end, in key order. Without a start they are those from the first
-    /// key on, without an end those up to the last. It takes no memory, and no more is visited than is asked for.
+    /// The entries from a start on and before an end, in key order. Without a start they are those
+    /// from the first key on, without an end those up to the last. It takes no memory, and no more
+    /// is visited than is asked for.
     pub fn range(&self, start: Option<&K>, end: Option<&K>) -> Range<'_, K, V>
-        ensures all { result ≡ between K.cmp (option_map (λ k. k.now) start.entry) (option_map (λ k. k.now) end.entry) self.now.entries }
+        ensures all { result
+            ≡ between K.cmp (option_map (λ k. k.now) start.entry)
+            (option_map (λ k. k.now) end.entry) self.now.entries }
         ensures ordered { IsStrictlySortedBy K.cmp (keys_of self.now.entries) }
     {
         range_in(&self.pages, start, end)
@@ -102,7 +105,11 @@ impl<K: Ord, V> PMap<K, V> {
         end: Option<&K>,
         n: usize,
     ) -> Result<Vec<(&K, &V)>, AllocError>
-        ensures { IfOk result (λ v. map deref_pair v.items ≡ take n (between K.cmp (option_map (λ k. k.now) start.entry) (option_map (λ k. k.now) end.entry) self.now.entries)) }
+        ensures { IfOk result
+            (λ v. map deref_pair v.items
+            ≡ take n
+            (between K.cmp (option_map (λ k. k.now) start.entry)
+            (option_map (λ k. k.now) end.entry) self.now.entries)) }
     {
         let alloc = *self.pages.allocator();
         self.range(start, end).take(n).collect(alloc)
@@ -110,7 +117,8 @@ impl<K: Ord, V> PMap<K, V> {
 }
 
 impl<K: Ord + Drop, V: Drop> PMap<K, V> {
-    /// Puts a value at a key, in place of the one that was there. Where memory is refused, the map stays.
+    /// Puts a value at a key, in place of the one that was there. Where memory is refused, the map
+    /// stays.
     pub fn put(&mut self, key: K, value: V) -> Result<(), AllocError>
         ensures ok { OnOk result (self.new.entries ≡ put K.cmp self.old.entries key value) }
         ensures err { OnErr result (self.new ≡ self.old) }

@@ -21,7 +21,8 @@ fn place_in<K: Drop, V: Drop>(
     entry: Arc<(K, V)>,
 ) -> Result<(), AllocError>
     requires { next_of place ≤ vec_len page.old }
-    ensures ok { OnOk result (shared page.new.items ≡ placed (shared page.old.items) place entry.value) }
+    ensures ok { OnOk result
+        (shared page.new.items ≡ placed (shared page.old.items) place entry.value) }
     ensures err { OnErr result (page.new.items ≡ page.old.items) }
 {
     match place {
@@ -38,7 +39,8 @@ fn place_in_shared<K: Drop, V: Drop>(
     entry: Arc<(K, V)>,
 ) -> Result<(), AllocError>
     requires { next_of place ≤ vec_len page.old.value }
-    ensures ok { OnOk result (shared page.new.value.items ≡ placed (shared page.old.value.items) place entry.value) }
+    ensures ok { OnOk result
+        (shared page.new.value.items ≡ placed (shared page.old.value.items) place entry.value) }
     ensures err { OnErr result (shared page.new.value.items ≡ shared page.old.value.items) }
 {
     let own = Arc::make_mut(page)?;
@@ -68,7 +70,10 @@ fn set_entry<K: Drop, V: Drop>(
 ) -> Result<(), AllocError>
     requires page { page < vec_len pages.old }
     requires place { next_of place ≤ length (page_at (pages_of pages.old.items) page) }
-    ensures ok { OnOk result (pages_of pages.new.items ≡ replaced (pages_of pages.old.items) page (placed (page_at (pages_of pages.old.items) page) place entry.value ∷ [])) }
+    ensures ok { OnOk result
+        (pages_of pages.new.items
+        ≡ replaced (pages_of pages.old.items) page
+        (placed (page_at (pages_of pages.old.items) page) place entry.value ∷ [])) }
     ensures err { OnErr result (pages_of pages.new.items ≡ pages_of pages.old.items) }
 {
     place_in_shared(&mut pages[page], place, entry)
@@ -82,13 +87,17 @@ fn cut_entry<K: Drop, V: Drop>(
 ) -> Result<(), AllocError>
     requires page { page < vec_len pages.old }
     requires place { at < length (page_at (pages_of pages.old.items) page) }
-    ensures ok { OnOk result (pages_of pages.new.items ≡ replaced (pages_of pages.old.items) page (cut (page_at (pages_of pages.old.items) page) at ∷ [])) }
+    ensures ok { OnOk result
+        (pages_of pages.new.items
+        ≡ replaced (pages_of pages.old.items) page
+        (cut (page_at (pages_of pages.old.items) page) at ∷ [])) }
     ensures err { OnErr result (pages_of pages.new.items ≡ pages_of pages.old.items) }
 {
     cut_from_shared(&mut pages[page], at)
 }
 
-/// How many of a page's entries stay before the entry of a key, and from which on they stay after it.
+/// How many of a page's entries stay before the entry of a key, and from which on they stay after
+/// it.
 fn ends(place: Result<usize, usize>) -> (usize, usize)
     requires { next_of place ≤ 64 }
     ensures at { result.0 ≡ at_of place }
@@ -129,7 +138,10 @@ fn set_pages<K: Drop, V: Drop>(
     rest: Page<K, V>,
 ) -> Result<(), AllocError>
     requires { page < vec_len pages.old }
-    ensures ok { OnOk result (pages_of pages.new.items ≡ replaced (pages_of pages.old.items) page (shared first.items ∷ shared rest.items ∷ [])) }
+    ensures ok { OnOk result
+        (pages_of pages.new.items
+        ≡ replaced (pages_of pages.old.items) page
+        (shared first.items ∷ shared rest.items ∷ [])) }
     ensures err { OnErr result (pages.new.items ≡ pages.old.items) }
 {
     let first = Arc::new(alloc, first)?;
@@ -151,8 +163,12 @@ fn split_page<K: Drop, V: Drop>(
     requires at { at_of place ≤ length (page_at (pages_of pages.old.items) page) }
     requires next { next_of place ≤ length (page_at (pages_of pages.old.items) page) }
     requires size { length (page_at (pages_of pages.old.items) page) ≤ 64 }
-    requires full { 64 + next_of place ≤ length (page_at (pages_of pages.old.items) page) + at_of place }
-    ensures ok { OnOk result (pages_of pages.new.items ≡ replaced (pages_of pages.old.items) page (halves (placed (page_at (pages_of pages.old.items) page) place entry.value))) }
+    requires full { 64 + next_of place
+        ≤ length (page_at (pages_of pages.old.items) page) + at_of place }
+    ensures ok { OnOk result
+        (pages_of pages.new.items
+        ≡ replaced (pages_of pages.old.items) page
+        (halves (placed (page_at (pages_of pages.old.items) page) place entry.value))) }
     ensures err { OnErr result (pages.new.items ≡ pages.old.items) }
 {
     let old: &Page<K, V> = &pages[page];
@@ -161,7 +177,8 @@ fn split_page<K: Drop, V: Drop>(
     set_pages(alloc, pages, page, first, rest)
 }
 
-/// Whether a page has no room for an entry at a place: all places are taken, and none of them is its own.
+/// Whether a page has no room for an entry at a place: all places are taken, and none of them is
+/// its own.
 fn is_full<K, V>(page: &[Arc<(K, V)>], place: Result<usize, usize>) -> bool
     requires { length page.now ≤ 64 }
     ensures full { IsTrue result → 64 + next_of place ≤ length page.now + at_of place }
@@ -197,7 +214,9 @@ pub fn put_in<K: Ord + Drop, V: Drop>(
 ) -> Result<(), AllocError>
     requires { AreLaid K.cmp (pages_of pages.old.items) }
     ensures laid { AreLaid K.cmp (pages_of pages.new.items) }
-    ensures ok { OnOk result (joined (pages_of pages.new.items) ≡ put K.cmp (joined (pages_of pages.old.items)) entry.value.0 entry.value.1) }
+    ensures ok { OnOk result
+        (joined (pages_of pages.new.items)
+        ≡ put K.cmp (joined (pages_of pages.old.items)) entry.value.0 entry.value.1) }
     ensures err { OnErr result (pages_of pages.new.items ≡ pages_of pages.old.items) }
 {
     if pages.is_empty() {
@@ -219,14 +238,17 @@ fn is_single<K, V>(page: &[Arc<(K, V)>]) -> bool
     page.len() == 1
 }
 
-/// Takes a key's entry out, and a page that it leaves empty. Where memory is refused, the pages stay.
+/// Takes a key's entry out, and a page that it leaves empty. Where memory is refused, the pages
+/// stay.
 pub fn delete_in<K: Ord + Drop, V: Drop>(
     pages: &mut Vec<Arc<Page<K, V>>>,
     key: &K,
 ) -> Result<(), AllocError>
     requires { AreLaid K.cmp (pages_of pages.old.items) }
     ensures laid { AreLaid K.cmp (pages_of pages.new.items) }
-    ensures ok { OnOk result (joined (pages_of pages.new.items) ≡ without K.cmp (joined (pages_of pages.old.items)) key.now) }
+    ensures ok { OnOk result
+        (joined (pages_of pages.new.items)
+        ≡ without K.cmp (joined (pages_of pages.old.items)) key.now) }
     ensures err { OnErr result (pages_of pages.new.items ≡ pages_of pages.old.items) }
 {
     let sought = find(pages, key);

@@ -31,7 +31,8 @@ impl<'a, K, V> Model for Range<'a, K, V> {
 
     ghost Value = { List (K × V) };
 
-    ghost view = { λ r. shared r.front.now ++ (joined (pages_of r.middle.now) ++ shared r.back.now) };
+    ghost view = { λ r. shared r.front.now ++
+        (joined (pages_of r.middle.now) ++ shared r.back.now) };
 
     ghost invariant = { λ r. AllByRecursion IsPage (pages_of r.middle.now) };
 }
@@ -80,7 +81,9 @@ fn starting<'a, K: Ord, V>(
     start: Option<&K>,
 ) -> (&'a [Arc<(K, V)>], &'a [Arc<Page<K, V>>])
     requires { AreLaid K.cmp (pages_of pages.now) }
-    ensures entries { shared result.0.now ++ joined (pages_of result.1.now) ≡ filter (λ e. is_from K.cmp (option_map (λ k. k.now) start.entry) e.0) (joined (pages_of pages.now)) }
+    ensures entries { shared result.0.now ++ joined (pages_of result.1.now)
+        ≡ filter (λ e. is_from K.cmp (option_map (λ k. k.now) start.entry) e.0)
+        (joined (pages_of pages.now)) }
     ensures front { IsStrictlySortedBy K.cmp (keys_of (shared result.0.now)) }
     ensures rest { AreLaid K.cmp (pages_of result.1.now) }
 {
@@ -104,7 +107,9 @@ fn ending<'a, K: Ord, V>(
 ) -> Range<'a, K, V>
     requires front { IsStrictlySortedBy K.cmp (keys_of (shared front.now)) }
     requires rest { AreLaid K.cmp (pages_of rest.now) }
-    ensures { result ≡ filter (λ e. is_before K.cmp (option_map (λ k. k.now) end.entry) e.0) (shared front.now ++ joined (pages_of rest.now)) }
+    ensures { result
+        ≡ filter (λ e. is_before K.cmp (option_map (λ k. k.now) end.entry) e.0)
+        (shared front.now ++ joined (pages_of rest.now)) }
 {
     let none = &front[..0];
     let Some(end) = end else {
@@ -139,7 +144,9 @@ pub fn range_in<'a, K: Ord, V>(
     end: Option<&K>,
 ) -> Range<'a, K, V>
     requires { AreLaid K.cmp (pages_of pages.now) }
-    ensures { result ≡ between K.cmp (option_map (λ k. k.now) start.entry) (option_map (λ k. k.now) end.entry) (joined (pages_of pages.now)) }
+    ensures { result
+        ≡ between K.cmp (option_map (λ k. k.now) start.entry) (option_map (λ k. k.now) end.entry)
+        (joined (pages_of pages.now)) }
 {
     let (front, rest) = starting(pages, start);
     ending(front, rest, end)

@@ -1,6 +1,6 @@
-//! Cases of the program as data: each line of the input is the words of a command line. The line is printed,
-//! then what the program prints on those words, and then its status. Lines that are empty or begin with `#`
-//! are printed as they are.
+//! Cases of the program as data: each line of the input is the words of a command line. The line is
+//! printed, then what the program prints on those words, and then its status. Lines that are empty
+//! or begin with `#` are printed as they are.
 //!
 //! The files that the words name lie in `data`, in which the cases are run.
 #![tactic(auto)]

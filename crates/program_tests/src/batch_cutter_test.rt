@@ -24,8 +24,8 @@ fn note(said: &mut Vec<usize>, batch: &[Parcel]) -> Result<(), AllocError> {
     Ok(())
 }
 
-/// Offers a message of this size, or times out where it is 0. Notes the sizes of what is cut, each batch with a zero after
-/// it, or the number of a refusal, and then a one.
+/// Offers a message of this size, or times out where it is 0. Notes the sizes of what is cut, each
+/// batch with a zero after it, or the number of a refusal, and then a one.
 fn step(said: &mut Vec<usize>, cutter: &mut Cutter<Parcel>, size: usize) -> Result<(), AllocError> {
     if size == 0 {
         if let Some(batch) = cutter.timeout() {

@@ -234,8 +234,8 @@ fn a_failed_write_leaves_a_beginning(rt: HostRuntime) -> Result<(), Fail> {
     Ok(())
 }
 
-/// Whether a read that fails at each call in turn gives the whole blocks before, and no failure gives
-/// all.
+/// Whether a read that fails at each call in turn gives the whole blocks before, and no failure
+/// gives all.
 fn are_read_up_to_the_failure(alloc: Global, bytes: &[u8]) -> Result<bool, AllocError> {
     let mut are = answer_of_tape(alloc, bytes, 10, NEVER)? == (3, End::Clean);
     for calls in 0..45 {
@@ -254,7 +254,8 @@ fn a_failed_read_gives_the_blocks_before(rt: HostRuntime) -> Result<(), Fail> {
     Ok(())
 }
 
-/// Whether a store of which this byte is flipped loads as the blocks before the record that holds it.
+/// Whether a store of which this byte is flipped loads as the blocks before the record that holds
+/// it.
 fn is_found(alloc: Global, bytes: &mut [u8], at: usize) -> Result<bool, AllocError> {
     let Some(byte) = bytes.get_mut(at) else {
         return Ok(false);

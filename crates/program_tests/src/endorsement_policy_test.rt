@@ -1,4 +1,5 @@
-//! Policies, rules and checks of envelopes: each public function once, and checks by several workers.
+//! Policies, rules and checks of envelopes: each public function once, and checks by several
+//! workers.
 
 use endorsement_policy::{
     ChaincodePolicy, Gate, OrgSet, Organisation, Policies, Policy, PolicyFault, Rules, TagKey,

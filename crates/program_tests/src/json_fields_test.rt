@@ -6,7 +6,8 @@ use json_fields::{
 use serde_json::Value;
 use std::test::Fail;
 
-/// The object's fields are `a`, a list of one truth value; `b`, a number; `c`, a text; and `d`, the word `end`.
+/// The object's fields are `a`, a list of one truth value; `b`, a number; `c`, a text; and `d`, the
+/// word `end`.
 fn has_the_fields(value: &Value) -> bool {
     let Some(mut left) = fields(value) else {
         return false;

@@ -1,5 +1,5 @@
-//! Tests of the ledger's upper crates, a file for each. There is no code beside them. What can be said as data
-//! is a line of `ledger_cases`, or of `program_cases`.
+//! Tests of the ledger's upper crates, a file for each. There is no code beside them. What can be
+//! said as data is a line of `ledger_cases`, or of `program_cases`.
 #![tactic(auto)]
 
 #[cfg(test)]

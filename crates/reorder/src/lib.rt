@@ -1,5 +1,6 @@
-//! Early abort and reordering: which transactions of a batch cannot become valid, since another one read a newer version,
-//! and an order of the others in which none sees a key that an earlier one writes.
+//! Early abort and reordering: which transactions of a batch cannot become valid, since another one
+//! read a newer version, and an order of the others in which none sees a key that an earlier one
+//! writes.
 #![tactic(auto)]
 
 mod counting;

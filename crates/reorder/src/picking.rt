@@ -14,7 +14,8 @@ use std::alloc::{AllocError, Global};
 /// The smallest index that waits and has no edge into it.
 fn first_free(left: &[bool], into: &[usize]) -> Option<usize>
     requires { length into.now ≡ length left.now }
-    ensures { MatchOption result (IsNoneZero left.now into.now) (λ i. IsFirstZero left.now into.now i) }
+    ensures { MatchOption result (IsNoneZero left.now into.now)
+        (λ i. IsFirstZero left.now into.now i) }
 {
     for (i, waits) in left.iter().enumerate() {
         if *waits && into[i] == 0 {
@@ -30,7 +31,8 @@ fn busiest(left: &[bool], into: &[usize], out: &[usize]) -> Option<usize>
     requires out_long { length out.now ≡ length left.now }
     requires into_small { (k : ℕ) → k < length left.now → slice_index into.now k < 2 ^ 32 }
     requires out_small { (k : ℕ) → k < length left.now → slice_index out.now k < 2 ^ 32 }
-    ensures { MatchOption result (IsDone left.now) (λ i. IsBusiest (λ k. slice_index into.now k + slice_index out.now k) left.now i) }
+    ensures { MatchOption result (IsDone left.now)
+        (λ i. IsBusiest (λ k. slice_index into.now k + slice_index out.now k) left.now i) }
 {
     let mut found = false;
     let mut best = 0;
@@ -54,7 +56,8 @@ fn next_pick(left: &[bool], into: &[usize], out: &[usize]) -> Option<Pick>
     requires out_long { length out.now ≡ length left.now }
     requires into_small { (k : ℕ) → k < length left.now → slice_index into.now k < 2 ^ 32 }
     requires out_small { (k : ℕ) → k < length left.now → slice_index out.now k < 2 ^ 32 }
-    ensures { MatchOption result (IsDone left.now) (λ pick. IsCountedPick left.now into.now out.now pick) }
+    ensures { MatchOption result (IsDone left.now)
+        (λ pick. IsCountedPick left.now into.now out.now pick) }
 {
     if let Some(i) = first_free(left, into) {
         return Some(Pick::Place(i));
@@ -72,11 +75,14 @@ fn take_out(
     i: usize,
 )
     requires size { back.now.size ≡ edges.now.size }
-    requires back { (from to : ℕ) → from < edges.now.size → to < edges.now.size → edge_at back.now from to ≡ edge_at edges.now to from }
-    requires counted { IsCounted edges.now.size (edge_at edges.now) left.old.items into.old.items out.old.items }
+    requires back { (from to : ℕ) → from < edges.now.size → to < edges.now.size →
+        edge_at back.now from to ≡ edge_at edges.now to from }
+    requires counted { IsCounted edges.now.size (edge_at edges.now) left.old.items into.old.items
+        out.old.items }
     requires waits { waits left.old.items i ≡ true }
     ensures left { left.new.items ≡ slice_set left.old.items i false }
-    ensures counted { IsCounted edges.now.size (edge_at edges.now) left.new.items into.new.items out.new.items }
+    ensures counted { IsCounted edges.now.size (edge_at edges.now) left.new.items into.new.items
+        out.new.items }
 {
     left[i] = false;
     lower(into, edges.row(i));
@@ -87,7 +93,8 @@ fn take_out(
 pub fn picks(alloc: Global, edges: &Matrix, gone: &[usize]) -> Result<Vec<Pick>, AllocError>
     requires size { edges.now.size < 2 ^ 32 }
     requires gone { AllByRecursion (λ i. i < edges.now.size) gone.now }
-    ensures { IfOk result (λ v. IsPlan edges.now.size (edge_at edges.now) (all_but gone.now edges.now.size) v.items) }
+    ensures { IfOk result
+        (λ v. IsPlan edges.now.size (edge_at edges.now) (all_but gone.now edges.now.size) v.items) }
 {
     let back = edges.flipped(alloc)?;
     let mut left = vec![in alloc; true; edges.size]?;

@@ -34,8 +34,10 @@ impl Plan {
 
     /// Adds the pick that comes next.
     fn add(&mut self, pick: Pick) -> Result<(), AllocError>
-        ensures order { OnOk result (self.new.order.items ≡ self.old.order.items ++ placed (pick ∷ [])) }
-        ensures aborted { OnOk result (self.new.aborted.items ≡ self.old.aborted.items ++ aborted (pick ∷ [])) }
+        ensures order { OnOk result
+            (self.new.order.items ≡ self.old.order.items ++ placed (pick ∷ [])) }
+        ensures aborted { OnOk result
+            (self.new.aborted.items ≡ self.old.aborted.items ++ aborted (pick ∷ [])) }
     {
         match pick {
             Pick::Place(i) => self.order.push(i)?,
@@ -47,23 +49,34 @@ impl Plan {
 
 /// The plan of the transactions of a batch but those at the indices `gone`, which take no part.
 ///
-/// A transaction has to stand before each other one that writes a key that it reads, or that one of its ranges holds:
-/// it has an edge to it. Again and again one transaction is picked, as long as any are left. It is the first that no edge
-/// comes into from those that are left, and is placed. Where each has such an edge, it is the one with the most edges in
-/// and out among those left, of several the last, and is aborted.
+/// A transaction has to stand before each other one that writes a key that it reads, or that one of
+/// its ranges holds: it has an edge to it. Again and again one transaction is picked, as long as
+/// any are left. It is the first that no edge comes into from those that are left, and is placed.
+/// Where each has such an edge, it is the one with the most edges in and out among those left, of
+/// several the last, and is aborted.
 ///
-/// So each transaction that takes part is placed or aborted once, and no other. In the order none sees a key that an
-/// earlier one writes. Where some order of all that take part is such, none is aborted.
+/// So each transaction that takes part is placed or aborted once, and no other. In the order none
+/// sees a key that an earlier one writes. Where some order of all that take part is such, none is
+/// aborted.
 ///
-/// The only error is that a growth of memory was refused. With n transactions that see and write k keys in all it takes
-/// time for k log k comparisons of keys, and memory and time for n squared edges.
+/// The only error is that a growth of memory was refused. With n transactions that see and write k
+/// keys in all it takes time for k log k comparisons of keys, and memory and time for n squared
+/// edges.
 pub fn reorder(alloc: Global, batch: &[Envelope], gone: &[usize]) -> Result<Plan, AllocError>
     requires size { length batch.now < 2 ^ 32 }
     requires gone { AllByRecursion (λ i. i < length batch.now) gone.now }
-    ensures plan { IfOk result (λ p. IsPlanned (length batch.now) (edge_of batch.now) (all_but gone.now (length batch.now)) p.order.items p.aborted.items) }
-    ensures once { IfOk result (λ p. (k : ℕ) → count_by (λ x. x == k) (p.order.items ++ p.aborted.items) ≡ (if waits (all_but gone.now (length batch.now)) k then 1 else 0)) }
+    ensures plan { IfOk result
+        (λ p. IsPlanned (length batch.now) (edge_of batch.now) (all_but gone.now (length batch.now))
+        p.order.items p.aborted.items) }
+    ensures once { IfOk result
+        (λ p. (k : ℕ) →
+        count_by (λ x. x == k) (p.order.items ++ p.aborted.items)
+        ≡ (if waits (all_but gone.now (length batch.now)) k then 1 else 0)) }
     ensures legal { IfOk result (λ p. IsLegal (edge_of batch.now) p.order.items) }
-    ensures none_aborted { IfOk result (λ p. (order : List ℕ) → IsLegal (edge_of batch.now) order → ((k : ℕ) → waits (all_but gone.now (length batch.now)) k ≡ true → IsIn k order) → p.aborted.items ≡ []) }
+    ensures none_aborted { IfOk result
+        (λ p. (order : List ℕ) → IsLegal (edge_of batch.now) order →
+        ((k : ℕ) → waits (all_but gone.now (length batch.now)) k ≡ true → IsIn k order) →
+        p.aborted.items ≡ []) }
 {
     let edges = edges_between(alloc, batch)?;
     let picks = picks(alloc, &edges, gone)?;

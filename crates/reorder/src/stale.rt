@@ -26,7 +26,9 @@ fn order(a: &Seen<'_>, b: &Seen<'_>) -> Ordering
 
 /// Adds a read, unless the key was absent.
 fn add_read<'a>(index: &mut Vec<Seen<'a>>, read: &'a ReadItem) -> Result<(), AllocError>
-    ensures { OnOk result (map as_seen index.new.items ≡ map as_seen index.old.items ++ with_version read.now.key read.now.version) }
+    ensures { OnOk result
+        (map as_seen index.new.items
+        ≡ map as_seen index.old.items ++ with_version read.now.key read.now.version) }
 {
     match &read.version {
         None => Ok(()),
@@ -40,7 +42,8 @@ fn add_read<'a>(index: &mut Vec<Seen<'a>>, read: &'a ReadItem) -> Result<(), All
 
 /// Adds the reads of one transaction.
 fn add_reads<'a>(index: &mut Vec<Seen<'a>>, reads: &'a [ReadItem]) -> Result<(), AllocError>
-    ensures { OnOk result (map as_seen index.new.items ≡ map as_seen index.old.items ++ seen_by reads.now) }
+    ensures { OnOk result
+        (map as_seen index.new.items ≡ map as_seen index.old.items ++ seen_by reads.now) }
 {
     for read in reads {
         add_read(index, read)?;
@@ -78,7 +81,8 @@ fn is_outdated(index: &[Seen<'_>], key: &Key, version: Version) -> bool
 /// Whether for some of these reads a newer version of the key was seen.
 fn are_outdated(index: &[Seen<'_>], reads: &[ReadItem]) -> bool
     requires { IsSortedBy seen_before index.now }
-    ensures { result ≡ list_any (λ r. newer_seen r.key r.version (map as_seen index.now)) reads.now }
+    ensures { result
+        ≡ list_any (λ r. newer_seen r.key r.version (map as_seen index.now)) reads.now }
 {
     for read in reads {
         if let Some(version) = read.version {
@@ -90,11 +94,12 @@ fn are_outdated(index: &[Seen<'_>], reads: &[ReadItem]) -> bool
     false
 }
 
-/// The transactions of a batch that read an older version of a key than another one of the batch, by their indices,
-/// ascending. A key that one of the two read as absent does not count, and ranges take no part.
+/// The transactions of a batch that read an older version of a key than another one of the batch,
+/// by their indices, ascending. A key that one of the two read as absent does not count, and ranges
+/// take no part.
 ///
-/// Where the newer read was really made, the older one is a conflict in any order. The cause of each is 441. The only
-/// error is that a growth of memory was refused.
+/// Where the newer read was really made, the older one is a conflict in any order. The cause of
+/// each is 441. The only error is that a growth of memory was refused.
 pub fn early_abort(alloc: Global, batch: &[Envelope]) -> Result<Vec<usize>, AllocError>
     ensures { IfOk result (λ v. v.items ≡ stale batch.now) }
 {

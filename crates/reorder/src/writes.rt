@@ -24,7 +24,9 @@ fn add_writes<'a>(
     writes: &'a [WriteItem],
     writer: usize,
 ) -> Result<(), AllocError>
-    ensures { OnOk result (map as_pair index.new.items ≡ map as_pair index.old.items ++ written_by writer writes.now) }
+    ensures { OnOk result
+        (map as_pair index.new.items
+        ≡ map as_pair index.old.items ++ written_by writer writes.now) }
 {
     for write in writes {
         index.push(Written {
@@ -37,7 +39,8 @@ fn add_writes<'a>(
 
 /// The writes of a batch, in key order.
 pub fn writes_of<'a>(alloc: Global, batch: &'a [Envelope]) -> Result<Vec<Written<'a>>, AllocError>
-    ensures all { IfOk result (λ v. IsPermutation (written_from 0 batch.now) (map as_pair v.items)) }
+    ensures all { IfOk result
+        (λ v. IsPermutation (written_from 0 batch.now) (map as_pair v.items)) }
     ensures sorted { IfOk result (λ v. IsSortedByKey key_of key_cmp v.items) }
     ensures inside { IfOk result (λ v. All (λ w. w.writer < length batch.now) v.items) }
 {
@@ -53,7 +56,8 @@ pub fn writes_of<'a>(alloc: Global, batch: &'a [Envelope]) -> Result<Vec<Written
 fn first_from(index: &[Written<'_>], bound: &[u8]) -> usize
     requires { IsSortedByKey key_of key_cmp index.now }
     ensures within { result ≤ length index.now }
-    ensures point { IsPartitionPoint (λ w. is_lt (key_cmp w.key.now bound.now) ≡ true) (λ w. is_lt (key_cmp w.key.now bound.now) ≡ false) index.now result }
+    ensures point { IsPartitionPoint (λ w. is_lt (key_cmp w.key.now bound.now) ≡ true)
+        (λ w. is_lt (key_cmp w.key.now bound.now) ≡ false) index.now result }
 {
     index.partition_point(|w| w.key.as_slice().cmp(bound).is_lt())
 }
@@ -62,7 +66,8 @@ fn first_from(index: &[Written<'_>], bound: &[u8]) -> usize
 fn first_after(index: &[Written<'_>], bound: &[u8]) -> usize
     requires { IsSortedByKey key_of key_cmp index.now }
     ensures within { result ≤ length index.now }
-    ensures point { IsPartitionPoint (λ w. is_le (key_cmp w.key.now bound.now) ≡ true) (λ w. is_le (key_cmp w.key.now bound.now) ≡ false) index.now result }
+    ensures point { IsPartitionPoint (λ w. is_le (key_cmp w.key.now bound.now) ≡ true)
+        (λ w. is_le (key_cmp w.key.now bound.now) ≡ false) index.now result }
 {
     index.partition_point(|w| w.key.as_slice().cmp(bound).is_le())
 }
@@ -70,7 +75,9 @@ fn first_after(index: &[Written<'_>], bound: &[u8]) -> usize
 /// Marks the writers of a stretch.
 fn mark(row: &mut [bool], stretch: &[Written<'_>])
     requires { All (λ w. w.writer < length row.old) stretch.now }
-    ensures { (j : ℕ) → slice_index_or row.new j false ≡ (slice_index_or row.old j false || list_any (λ w. w.writer == j) stretch.now) }
+    ensures { (j : ℕ) →
+        slice_index_or row.new j false
+        ≡ (slice_index_or row.old j false || list_any (λ w. w.writer == j) stretch.now) }
 {
     for written in stretch {
         row[written.writer] = true;
@@ -81,7 +88,9 @@ fn mark(row: &mut [bool], stretch: &[Written<'_>])
 fn mark_key(row: &mut [bool], index: &[Written<'_>], key: &Key)
     requires inside { All (λ w. w.writer < length row.old) index.now }
     requires sorted { IsSortedByKey key_of key_cmp index.now }
-    ensures { (j : ℕ) → slice_index_or row.new j false ≡ (slice_index_or row.old j false || hits (λ k. same_key key.now k) index.now j) }
+    ensures { (j : ℕ) →
+        slice_index_or row.new j false
+        ≡ (slice_index_or row.old j false || hits (λ k. same_key key.now k) index.now j) }
 {
     let first = first_from(index, key.as_slice());
     let end = first_after(index, key.as_slice());
@@ -94,7 +103,10 @@ fn mark_key(row: &mut [bool], index: &[Written<'_>], key: &Key)
 fn mark_range(row: &mut [bool], index: &[Written<'_>], range: &RangeItem)
     requires inside { All (λ w. w.writer < length row.old) index.now }
     requires sorted { IsSortedByKey key_of key_cmp index.now }
-    ensures { (j : ℕ) → slice_index_or row.new j false ≡ (slice_index_or row.old j false || hits (λ k. is_within range.now.start range.now.end k) index.now j) }
+    ensures { (j : ℕ) →
+        slice_index_or row.new j false
+        ≡ (slice_index_or row.old j false || hits
+        (λ k. is_within range.now.start range.now.end k) index.now j) }
 {
     let bound = range.end().as_slice();
     let first = first_from(index, range.start().as_slice());
@@ -112,7 +124,10 @@ fn mark_range(row: &mut [bool], index: &[Written<'_>], range: &RangeItem)
 fn mark_reads(row: &mut [bool], index: &[Written<'_>], reads: &[ReadItem])
     requires inside { All (λ w. w.writer < length row.old) index.now }
     requires sorted { IsSortedByKey key_of key_cmp index.now }
-    ensures { (j : ℕ) → slice_index_or row.new j false ≡ (slice_index_or row.old j false || hits (λ k. list_any (λ r. same_key r.key k) reads.now) index.now j) }
+    ensures { (j : ℕ) →
+        slice_index_or row.new j false
+        ≡ (slice_index_or row.old j false || hits
+        (λ k. list_any (λ r. same_key r.key k) reads.now) index.now j) }
 {
     for read in reads {
         mark_key(row, index, &read.key);
@@ -123,7 +138,10 @@ fn mark_reads(row: &mut [bool], index: &[Written<'_>], reads: &[ReadItem])
 fn mark_ranges(row: &mut [bool], index: &[Written<'_>], ranges: &[RangeItem])
     requires inside { All (λ w. w.writer < length row.old) index.now }
     requires sorted { IsSortedByKey key_of key_cmp index.now }
-    ensures { (j : ℕ) → slice_index_or row.new j false ≡ (slice_index_or row.old j false || hits (λ k. list_any (λ r. is_within r.start r.end k) ranges.now) index.now j) }
+    ensures { (j : ℕ) →
+        slice_index_or row.new j false
+        ≡ (slice_index_or row.old j false || hits
+        (λ k. list_any (λ r. is_within r.start r.end k) ranges.now) index.now j) }
 {
     for range in ranges {
         mark_range(row, index, range);
@@ -135,7 +153,10 @@ pub fn mark_row(row: &mut [bool], index: &[Written<'_>], payload: &Payload, from
     requires inside { All (λ w. w.writer < length row.old) index.now }
     requires sorted { IsSortedByKey key_of key_cmp index.now }
     requires from_in { from < length row.old }
-    ensures { (j : ℕ) → slice_index_or row.new j false ≡ (not (from == j) && (slice_index_or row.old j false || hits (sees payload.now) index.now j)) }
+    ensures { (j : ℕ) →
+        slice_index_or row.new j false
+        ≡ (not (from == j) &&
+        (slice_index_or row.old j false || hits (sees payload.now) index.now j)) }
 {
     mark_reads(row, index, payload.reads.as_slice());
     mark_ranges(row, index, payload.ranges.as_slice());

@@ -41,7 +41,10 @@ fn commit<R: Threads + Wait + Sync>(
 ) -> Result<(), AllocError>
     requires { Fits (blocks_of (published writer.old)) block.now }
     ensures rules { writer.new.rules ≡ writer.old.rules }
-    ensures committed { OnOk result (published writer.new ≡ published writer.old ++ next_by (arc_value writer.old.rules) (published writer.old) block.now ∷ []) }
+    ensures committed { OnOk result
+        (published writer.new
+        ≡ published writer.old ++
+        next_by (arc_value writer.old.rules) (published writer.old) block.now ∷ []) }
     ensures unchanged { OnErr result (published writer.new ≡ published writer.old) }
 {
     match writer.commit(rt, block.clone()?) {

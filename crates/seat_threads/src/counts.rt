@@ -23,7 +23,8 @@ pub struct Counts {
 impl Counts {
     /// No rounds.
     pub(crate) fn none() -> Counts
-        ensures { result ≡ record { endorsed = 0; refused = 0; out_of_memory = 0; without_entry = 0 } }
+        ensures { result
+            ≡ record { endorsed = 0; refused = 0; out_of_memory = 0; without_entry = 0 } }
     {
         Counts {
             endorsed: 0,

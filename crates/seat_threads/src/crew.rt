@@ -46,8 +46,8 @@ impl Crew {
         })
     }
 
-    /// Starts a thread for each worker. Where one is refused, no further ones are started, and the workers
-    /// without a thread are dropped.
+    /// Starts a thread for each worker. Where one is refused, no further ones are started, and the
+    /// workers without a thread are dropped.
     pub fn start_all<R: Threads + Wait + Send + Copy + 'static>(
         &mut self,
         rt: &R,
@@ -78,7 +78,8 @@ impl Crew {
         ensures each { (intake : TableId) → IsWorkerOf intake worker
             → AllPromise intake rounds self.old.threads.items
             → AllPromise intake rounds self.new.threads.items }
-        ensures one { OnOk result (length self.new.threads.items ≡ length self.old.threads.items + 1) }
+        ensures one { OnOk result
+            (length self.new.threads.items ≡ length self.old.threads.items + 1) }
         ensures most { length self.new.threads.items ≤ length self.old.threads.items + 1 }
         ensures room { vec_capacity self.old.threads ≤ vec_capacity self.new.threads }
     {
@@ -115,8 +116,8 @@ impl Crew {
     }
 }
 
-/// A thread on which a worker works the rounds that are promised of it. Where none can be made, the worker
-/// is dropped.
+/// A thread on which a worker works the rounds that are promised of it. Where none can be made, the
+/// worker is dropped.
 fn thread_of<R: Threads + Wait + Send + Copy + 'static>(
     rt: &R,
     worker: Worker,

@@ -63,7 +63,8 @@ impl Desk {
         self.receiver.retire(sender);
     }
 
-    /// Orders an envelope, and commits the blocks that come of it. One that the orderer refuses is dropped.
+    /// Orders an envelope, and commits the blocks that come of it. One that the orderer refuses is
+    /// dropped.
     fn order<R: Threads + Wait + Sync>(&mut self, rt: &R, envelope: Envelope)
         requires { IsAtWork self.old }
         ensures work { IsAtWork self.new }

@@ -36,13 +36,18 @@ pub fn proposal(
     })
 }
 
-/// The envelope of a proposal, with the seat's endorsement alone. Refused as the seat's endorsement is.
+/// The envelope of a proposal, with the seat's endorsement alone. Refused as the seat's endorsement
+/// is.
 pub fn envelope(
     alloc: Global,
     seat: &mut Seat,
     proposal: &Proposal,
 ) -> Result<Envelope, FinishRefusal>
-    ensures endorsed { IfOk result (λ e. (tag : Endorsement) × Endorses seat.old.endorser proposal.now (seen seat.old) (seen seat.new) (Ok (e.payload, tag)) × (e.endorsements ≡ tag ∷ [])) }
+    ensures endorsed { IfOk result
+        (λ e. (tag : Endorsement) ×
+        Endorses seat.old.endorser proposal.now (seen seat.old) (seen seat.new)
+        (Ok (e.payload, tag)) ×
+        (e.endorsements ≡ tag ∷ [])) }
     ensures same { (seat.new.endorser ≡ seat.old.endorser) × (peer_of seat.new ≡ peer_of seat.old) }
 {
     let (payload, endorsement) = seat.endorse(proposal)?;

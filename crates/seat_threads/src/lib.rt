@@ -1,5 +1,6 @@
-//! Seats of a peer at work on threads: each endorses on a thread of its own and submits to the intake, while
-//! one thread takes what was submitted, orders it, and commits each block as it comes.
+//! Seats of a peer at work on threads: each endorses on a thread of its own and submits to the
+//! intake, while one thread takes what was submitted, orders it, and commits each block as it
+//! comes.
 #![tactic(auto)]
 
 mod committing;

@@ -40,15 +40,15 @@ pub struct Report {
 
 /// Lets each seat of a genesis's first peer work on a thread of its own.
 ///
-/// A seat endorses so many proposals without argument, whose nonces are the numbers of the seat and of the
-/// round, 8 bytes each, the highest byte first. It submits each envelope to an intake with as many places as
-/// the genesis's queue, again while that is full. This thread takes what was submitted, orders it, and commits
-/// each block as it comes, until all seats have ended and nothing is left; then it ticks once. An envelope that
-/// the orderer refuses is dropped.
+/// A seat endorses so many proposals without argument, whose nonces are the numbers of the seat and
+/// of the round, 8 bytes each, the highest byte first. It submits each envelope to an intake with
+/// as many places as the genesis's queue, again while that is full. This thread takes what was
+/// submitted, orders it, and commits each block as it comes, until all seats have ended and nothing
+/// is left; then it ticks once. An envelope that the orderer refuses is dropped.
 ///
-/// Refused for want of memory or of a thread (9), where a seat got no place in the cell (431), and where
-/// the cell gave one no entry (432). Where no further thread can be made, the seats that have one work to
-/// their end, and what they submitted is ordered and committed.
+/// Refused for want of memory or of a thread (9), where a seat got no place in the cell (431), and
+/// where the cell gave one no entry (432). Where no further thread can be made, the seats that have
+/// one work to their end, and what they submitted is ordered and committed.
 pub fn run_seats<R: Threads + Wait + Sync + Send + Copy + 'static>(
     rt: &R,
     alloc: Global,
@@ -61,7 +61,8 @@ pub fn run_seats<R: Threads + Wait + Sync + Send + Copy + 'static>(
     requires seats { (0 < genesis.now.seats) × (genesis.now.seats < 2 ^ 32) }
     requires queue { 0 < genesis.now.queue }
     ensures counted { IfOk result (λ r. r.endorsed + r.refused ≡ genesis.now.seats * rounds) }
-    ensures chain { IfOk result (λ r. TellsOfChain (arc_value genesis.now.book) (arc_value genesis.now.rules) r) }
+    ensures chain { IfOk result
+        (λ r. TellsOfChain (arc_value genesis.now.book) (arc_value genesis.now.rules) r) }
 {
     let (workers, mut desk) = opened(rt, alloc, genesis, chaincode)?;
     let report = at_work(rt, alloc, genesis, rounds, workers, &mut desk);
@@ -81,7 +82,8 @@ fn opened<R: Threads + Wait + Sync>(
     requires seats { (0 < genesis.now.seats) × (genesis.now.seats < 2 ^ 32) }
     requires queue { 0 < genesis.now.queue }
     ensures count { IfOk result (λ t. length t.0.items ≡ genesis.now.seats) }
-    ensures intake { IfOk result (λ t. All (IsWorkerOf (intake_of_receiver t.1.receiver)) t.0.items) }
+    ensures intake { IfOk result
+        (λ t. All (IsWorkerOf (intake_of_receiver t.1.receiver)) t.0.items) }
     ensures work { IfOk result (λ t. IsAtWork t.1) }
     ensures rules { IfOk result (λ t. arc_value t.1.writer.rules ≡ arc_value genesis.now.rules) }
 {
@@ -120,7 +122,9 @@ fn workers(
 ) -> Result<Vec<Worker>, AllocError>
     requires { length seats.items ≡ length senders.items }
     ensures length { IfOk result (λ v. length v.items ≡ length senders.items) }
-    ensures each { IfOk result (λ v. (intake : TableId) → All (λ s. intake_of_sender s ≡ intake) senders.items → All (IsWorkerOf intake) v.items) }
+    ensures each { IfOk result
+        (λ v. (intake : TableId) → All (λ s. intake_of_sender s ≡ intake) senders.items →
+        All (IsWorkerOf intake) v.items) }
 {
     let mut workers = Vec::with_capacity(alloc, seats.len())?;
     for number in 0..seats.len() {
@@ -137,8 +141,8 @@ fn workers(
     Ok(workers)
 }
 
-/// Lets the workers work, each on a thread of its own, while this thread takes, orders and commits what they
-/// submit. Where a thread is refused, those that were started work to their end.
+/// Lets the workers work, each on a thread of its own, while this thread takes, orders and commits
+/// what they submit. Where a thread is refused, those that were started work to their end.
 fn at_work<R: Threads + Wait + Sync + Send + Copy + 'static>(
     rt: &R,
     alloc: Global,
@@ -151,7 +155,8 @@ fn at_work<R: Threads + Wait + Sync + Send + Copy + 'static>(
     requires count { length workers.items < 2 ^ 32 }
     requires work { IsAtWork desk.old }
     ensures counted { IfOk result (λ r. r.endorsed + r.refused ≡ length workers.items * rounds) }
-    ensures chain { IfOk result (λ r. TellsOfChain (arc_value genesis.now.book) (arc_value desk.old.writer.rules) r) }
+    ensures chain { IfOk result
+        (λ r. TellsOfChain (arc_value genesis.now.book) (arc_value desk.old.writer.rules) r) }
 {
     let mut crew = Crew::new(alloc, workers.len())?;
     let started = crew.start_all(rt, workers, rounds);
@@ -172,7 +177,8 @@ fn reported(
 ) -> Result<Report, SeatsRefusal>
     requires { IsAtWork desk.now }
     ensures counted { IfOk result (λ r. r.endorsed + r.refused ≡ rounds_in counts) }
-    ensures chain { IfOk result (λ r. TellsOfChain (arc_value genesis.now.book) (arc_value desk.now.writer.rules) r) }
+    ensures chain { IfOk result
+        (λ r. TellsOfChain (arc_value genesis.now.book) (arc_value desk.now.writer.rules) r) }
 {
     if let Some(refusal) = counts.refusal() {
         return Err(refusal);

@@ -15,7 +15,8 @@ use std::sync::Wait;
 use std::sync::atomic::{AtomicU64, Ordering};
 use std::thread;
 
-/// A seat with its number, the chaincode that it calls, where it submits, and what its rounds came to.
+/// A seat with its number, the chaincode that it calls, where it submits, and what its rounds came
+/// to.
 #[derive(Drop)]
 pub struct Worker {
     pub alloc: Global,

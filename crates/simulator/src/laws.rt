@@ -5,8 +5,8 @@ ghost use Rattle.simulator.specs.Execution.{exec_of};
 
 use crate::book::Book;
 
-/// An execution by a book depends only on what it read: the state has what it read, and on each state
-/// that has the same it comes to the same.
+/// An execution by a book depends only on what it read: the state has what it read, and on each
+/// state that has the same it comes to the same.
 pub fn reads_alone(book: &Book)
     ensures { ReadsAlone (exec_of book.now) }
 {

@@ -19,8 +19,8 @@ pub enum SimRefusal {
     Spent,
     /// The execution returned this status, which is not 0.
     Status(u32),
-    /// Something that the payload read is not as it was. A simulation never answers it; a recheck on a newer
-    /// state does.
+    /// Something that the payload read is not as it was. A simulation never answers it; a recheck
+    /// on a newer state does.
     Stale,
     /// Want of memory.
     Memory,

@@ -14,24 +14,26 @@ ghost use Rattle.simulator.specs.declared.refusal.SimRefusal.TheVariants.{Unknow
 use crate::book::Book;
 use crate::refusal::SimRefusal;
 use fab_types::{Payload, Proposal};
-use host_api::{Parts, PlainMap, Recorder, View};
 use flat_interp::{Outcome, run};
+use host_api::{Parts, PlainMap, Recorder, View};
 use std::alloc::Global;
 use world_state::Snapshot;
 
-/// The payload of a proposal on a snapshot's state: the chaincode is executed once, on a fresh instance
-/// and with the fuel that the book gives it. What was read has the versions of that state.
+/// The payload of a proposal on a snapshot's state: the chaincode is executed once, on a fresh
+/// instance and with the fuel that the book gives it. What was read has the versions of that state.
 ///
-/// Refused where the book has no such chaincode (401), where the execution traps (402), runs out of fuel
-/// (403) or returns a status that is not 0 (404), and for want of memory (9).
+/// Refused where the book has no such chaincode (401), where the execution traps (402), runs out of
+/// fuel (403) or returns a status that is not 0 (404), and for want of memory (9).
 pub fn simulate(
     alloc: Global,
     book: &Book,
     snapshot: &Snapshot,
     proposal: &Proposal,
 ) -> Result<Payload, SimRefusal>
-    ensures answer { Answers (payload_or_refusal (exec_of book.now) proposal.now snapshot.now) result }
-    ensures unknown { result ≡ Err UnknownChaincode ↔ chaincode_at book.now proposal.now.chaincode ≡ None }
+    ensures answer { Answers (payload_or_refusal (exec_of book.now) proposal.now snapshot.now)
+        result }
+    ensures unknown { result ≡ Err UnknownChaincode ↔ chaincode_at book.now proposal.now.chaincode
+        ≡ None }
 {
     let parts = execute(alloc, book, snapshot, proposal)?;
     Ok(Payload {
@@ -43,8 +45,8 @@ pub fn simulate(
     })
 }
 
-/// What the execution of a proposal on a plain state reads, answers and writes. The versions in it are
-/// those of the state as a view, and say no more than that a key was there.
+/// What the execution of a proposal on a plain state reads, answers and writes. The versions in it
+/// are those of the state as a view, and say no more than that a key was there.
 ///
 /// Refused as `simulate`.
 pub fn rerun(
@@ -53,9 +55,12 @@ pub fn rerun(
     state: &PlainMap,
     proposal: &Proposal,
 ) -> Result<Parts, SimRefusal>
-    ensures told { Answers (rerun_or_refusal (exec_of book.now proposal.now (plain_of state.now))) (told_in result) }
-    ensures recorded { let o = exec_of book.now proposal.now (plain_of state.now) in Answers (done_or_refusal o.ending (parts_of (as_state state.now) o.seen)) result }
-    ensures unknown { result ≡ Err UnknownChaincode ↔ chaincode_at book.now proposal.now.chaincode ≡ None }
+    ensures told { Answers (rerun_or_refusal (exec_of book.now proposal.now (plain_of state.now)))
+        (told_in result) }
+    ensures recorded { let o = exec_of book.now proposal.now (plain_of state.now) in Answers
+        (done_or_refusal o.ending (parts_of (as_state state.now) o.seen)) result }
+    ensures unknown { result ≡ Err UnknownChaincode ↔ chaincode_at book.now proposal.now.chaincode
+        ≡ None }
 {
     execute(alloc, book, state, proposal)
 }
@@ -67,8 +72,10 @@ fn execute<V: View>(
     view: &V,
     proposal: &Proposal,
 ) -> Result<Parts, SimRefusal>
-    ensures answer { let o = exec_of book.now proposal.now (values_of (V.state view.now)) in Answers (done_or_refusal o.ending (parts_of (V.state view.now) o.seen)) result }
-    ensures unknown { result ≡ Err UnknownChaincode ↔ chaincode_at book.now proposal.now.chaincode ≡ None }
+    ensures answer { let o = exec_of book.now proposal.now (values_of (V.state view.now)) in Answers
+        (done_or_refusal o.ending (parts_of (V.state view.now) o.seen)) result }
+    ensures unknown { result ≡ Err UnknownChaincode ↔ chaincode_at book.now proposal.now.chaincode
+        ≡ None }
 {
     let Some(chaincode) = book.get(&proposal.chaincode) else {
         return Err(SimRefusal::UnknownChaincode);

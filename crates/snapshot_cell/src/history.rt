@@ -1,4 +1,5 @@
-//! The history of what was published. It exists in proofs alone: what threads share is a word, its length.
+//! The history of what was published. It exists in proofs alone: what threads share is a word, its
+//! length.
 
 ghost use Rattle.std.specs.Prelude.{◌≡◌, ◌+◌, ◌<◌, ◌^◌, ◌++◌, ◌∷◌, [], length, MatchBool, IsTrue};
 ghost use mathlib.Core.List.{IsPrefix};
@@ -96,14 +97,16 @@ impl Front {
     /// Whether this one begins the other. If not, the other begins this one.
     pub fn begins(&self, other: &Front) -> bool
         requires { other.now.seen.book ≡ self.now.seen.book }
-        ensures { MatchBool result (IsPrefix self.now.seen.log other.now.seen.log) (IsPrefix other.now.seen.log self.now.seen.log) }
+        ensures { MatchBool result (IsPrefix self.now.seen.log other.now.seen.log)
+            (IsPrefix other.now.seen.log self.now.seen.log) }
     {
         let mut both = self.seen.again();
         both.learn(&other.seen);
         self.count <= other.count
     }
 
-    /// Adds a block to all that was seen, and says whether it did. It did not where the history is longer.
+    /// Adds a block to all that was seen, and says whether it did. It did not where the history is
+    /// longer.
     pub fn extend(&mut self, history: &History, block: &CommittedBlock) -> bool
         requires same { history.now.head.book ≡ self.old.seen.book }
         requires room { length self.old.seen.log < 2 ^ 62 }

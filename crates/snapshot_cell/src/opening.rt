@@ -30,7 +30,8 @@ pub fn open<R: Wait>(
 ) -> Result<(Writer, Vec<Reader>), OpenRefusal>
     requires { (0 < seats) × (seats < 2 ^ 32) }
     ensures writer { IfOk result (λ t. published t.0 ≡ first) }
-    ensures seats { IfOk result (λ t. (length t.1.items ≡ seats) × EachBegins (cell_of_writer t.0) first t.1.items) }
+    ensures seats { IfOk result
+        (λ t. (length t.1.items ≡ seats) × EachBegins (cell_of_writer t.0) first t.1.items) }
 {
     let (history, front) = History::new();
     let front = reach(&history, front, first.blocks())?;
@@ -59,7 +60,8 @@ fn reach(
 ) -> Result<Front, AllocError>
     requires new { (history.now.head.book ≡ front.seen.book) × (front.seen.log ≡ []) }
     requires limit { length blocks.now ≤ 65535 }
-    ensures { IfOk result (λ f. (f.seen.log ≡ blocks_in blocks.now) × (f.seen.book ≡ front.seen.book)) }
+    ensures { IfOk result
+        (λ f. (f.seen.log ≡ blocks_in blocks.now) × (f.seen.book ≡ front.seen.book)) }
 {
     let mut front = front;
     for block in blocks {
@@ -114,7 +116,9 @@ fn fill(
 ) -> Result<(), OpenRefusal>
     requires empty { readers.old.items ≡ [] }
     requires knows { view inner.old.desk.place ≡ mark_of front.now.seen.book }
-    ensures seats { IfOk result (λ _. (length readers.new.items ≡ seats) × EachBegins front.now.seen.book front.now.seen.log readers.new.items) }
+    ensures seats { IfOk result
+        (λ _. (length readers.new.items ≡ seats) ×
+        EachBegins front.now.seen.book front.now.seen.log readers.new.items) }
     ensures shown { inner.new.desk.shown.value ≡ inner.old.desk.shown.value }
 {
     for _seat in 0..seats {
@@ -134,7 +138,8 @@ fn seat(
     front: &Front,
 ) -> Result<Reader, AllocError>
     requires { view inner.old.desk.place ≡ mark_of front.now.seen.book }
-    ensures seat { IfOk result (λ r. (cell_of_reader r ≡ front.now.seen.book) × (seen r ≡ front.now.seen.log)) }
+    ensures seat { IfOk result
+        (λ r. (cell_of_reader r ≡ front.now.seen.book) × (seen r ≡ front.now.seen.log)) }
     ensures knows { view inner.new.desk.place ≡ view inner.old.desk.place }
     ensures shown { inner.new.desk.shown.value ≡ inner.old.desk.shown.value }
 {

@@ -28,13 +28,14 @@ impl Reader {
     ghost use Rattle.std.specs.Prelude.{◌⊎◌};
     ghost use Rattle.snapshot_cell.specs.Seats.{seen, told_list, cell_of_reader, cell_of_told};
 
-    /// The newest snapshot. Its blocks begin with all that this seat has seen or was told of, and are what it
-    /// has seen afterwards. A refusal leaves what it has seen as it was.
+    /// The newest snapshot. Its blocks begin with all that this seat has seen or was told of, and
+    /// are what it has seen afterwards. A refusal leaves what it has seen as it was.
     ///
-    /// Refused where the cell gave no entry, as after its writer's end (432), and where one more owner of the
-    /// snapshot was refused (9).
+    /// Refused where the cell gave no entry, as after its writer's end (432), and where one more
+    /// owner of the snapshot was refused (9).
     pub fn take(&mut self) -> Result<Arc<Snapshot>, TakeRefusal>
-        ensures taken { IfOk result (λ s. IsPrefix (seen self.old) (arc_value s) × (seen self.new ≡ arc_value s)) }
+        ensures taken { IfOk result
+            (λ s. IsPrefix (seen self.old) (arc_value s) × (seen self.new ≡ arc_value s)) }
         ensures refused { IfErr result (λ _. seen self.new ≡ seen self.old) }
         ensures same { cell_of_reader self.new ≡ cell_of_reader self.old }
     {
@@ -54,11 +55,13 @@ impl Reader {
         }
     }
 
-    /// Takes in what the writer told. One of the two lists begins with the other, and the seat has then seen
-    /// the longer one. It takes no memory.
+    /// Takes in what the writer told. One of the two lists begins with the other, and the seat has
+    /// then seen the longer one. It takes no memory.
     pub fn learn(&mut self, told: &Told)
         requires { cell_of_told told.now ≡ cell_of_reader self.old }
-        ensures longer { (IsPrefix (seen self.old) (told_list told.now) × (seen self.new ≡ told_list told.now)) ⊎ (IsPrefix (told_list told.now) (seen self.old) × (seen self.new ≡ seen self.old)) }
+        ensures longer { (IsPrefix (seen self.old) (told_list told.now) ×
+            (seen self.new ≡ told_list told.now)) ⊎
+            (IsPrefix (told_list told.now) (seen self.old) × (seen self.new ≡ seen self.old)) }
         ensures same { cell_of_reader self.new ≡ cell_of_reader self.old }
     {
         if self.front.begins(&told.front) {
@@ -70,7 +73,8 @@ impl Reader {
 /// The snapshot that lies in the copy, if it is no older than what is known.
 fn look(front: &mut Front, kept: &Kept) -> Result<Arc<Snapshot>, TakeRefusal>
     requires { kept.now.front.seen.book ≡ front.old.seen.book }
-    ensures taken { IfOk result (λ s. IsPrefix front.old.seen.log (arc_value s) × (front.new.seen.log ≡ arc_value s)) }
+    ensures taken { IfOk result
+        (λ s. IsPrefix front.old.seen.log (arc_value s) × (front.new.seen.log ≡ arc_value s)) }
     ensures refused { IfErr result (λ _. front.new.seen.log ≡ front.old.seen.log) }
     ensures same { front.new.seen.book ≡ front.old.seen.book }
 {

@@ -23,7 +23,8 @@ pub struct Writer {
     pub ghost shows: { arc_value inner.desk.shown.value.snapshot ≡ front.seen.log },
 }
 
-/// What the writer tells: a list of whole blocks that it published. Any number of seats may learn it.
+/// What the writer tells: a list of whole blocks that it published. Any number of seats may learn
+/// it.
 #[derive(Drop)]
 pub struct Told {
     pub front: Front,
@@ -41,12 +42,13 @@ impl Writer {
         &*self.inner.published().snapshot
     }
 
-    /// Shows the seats the next snapshot, which has one block more, in one step. What is told names its blocks.
-    /// The only error is want of memory (9): what is published is then as it was.
+    /// Shows the seats the next snapshot, which has one block more, in one step. What is told names
+    /// its blocks. The only error is want of memory (9): what is published is then as it was.
     pub fn publish<R: Wait>(&mut self, rt: &R, next: Snapshot) -> Result<Told, AllocError>
         requires { OneMore (published self.old) next }
         ensures published { IfOk result (λ _. published self.new ≡ next) }
-        ensures told { IfOk result (λ t. (cell_of_told t ≡ cell_of_writer self.old) × (told_list t ≡ next)) }
+        ensures told { IfOk result
+            (λ t. (cell_of_told t ≡ cell_of_writer self.old) × (told_list t ≡ next)) }
         ensures refused { OnErr result (published self.new ≡ published self.old) }
         ensures same { cell_of_writer self.new ≡ cell_of_writer self.old }
     {
@@ -64,7 +66,8 @@ impl Writer {
     /// The operation that puts this snapshot into a copy.
     fn operation(&self, next: Snapshot) -> Result<Next, AllocError>
         requires { OneMore (published self.now) next }
-        ensures { IfOk result (λ o. (arc_value o.snapshot ≡ next) × (o.parent.seen.book ≡ cell_of_writer self.now)) }
+        ensures { IfOk result
+            (λ o. (arc_value o.snapshot ≡ next) × (o.parent.seen.book ≡ cell_of_writer self.now)) }
     {
         let history = Arc::try_clone(&self.history)?;
         Ok(Next {
@@ -94,9 +97,13 @@ fn show<R: Wait>(
     writer::Writer<Kept, Next, Mark, Tie>,
     Result<(), AllocError>,
 )
-    requires { (xs : List Next) × (op : Next) × (drop inner.behind inner.log.items ≡ xs ++ op ∷ []) × (op.parent.seen.book ≡ inner.desk.shown.value.front.seen.book) }
-    ensures { (xs : List Next) → (op : Next) → drop inner.behind inner.log.items ≡ xs ++ op ∷ [] → MatchResult result.1
-        (λ _. (arc_value result.0.desk.shown.value.snapshot ≡ arc_value op.snapshot) × (result.0.desk.shown.value.front.seen.book ≡ op.parent.seen.book))
+    requires { (xs : List Next) × (op : Next) ×
+        (drop inner.behind inner.log.items ≡ xs ++ op ∷ []) ×
+        (op.parent.seen.book ≡ inner.desk.shown.value.front.seen.book) }
+    ensures { (xs : List Next) → (op : Next) → drop inner.behind inner.log.items ≡ xs ++ op ∷ [] →
+        MatchResult result.1
+        (λ _. (arc_value result.0.desk.shown.value.snapshot ≡ arc_value op.snapshot) ×
+        (result.0.desk.shown.value.front.seen.book ≡ op.parent.seen.book))
         (λ _. result.0.desk.shown.value ≡ inner.desk.shown.value) }
 {
     inner.publish_as::<Sees, R>(rt)
@@ -107,9 +114,14 @@ fn turn<R: Wait>(
     rt: &R,
     inner: &mut writer::Writer<Kept, Next, Mark, Tie>,
 ) -> Result<(), AllocError>
-    requires { (xs : List Next) × (op : Next) × (drop inner.old.behind inner.old.log.items ≡ xs ++ op ∷ []) × (op.parent.seen.book ≡ inner.old.desk.shown.value.front.seen.book) }
-    ensures { (xs : List Next) → (op : Next) → drop inner.old.behind inner.old.log.items ≡ xs ++ op ∷ [] → MatchResult result
-        (λ _. (arc_value inner.new.desk.shown.value.snapshot ≡ arc_value op.snapshot) × (inner.new.desk.shown.value.front.seen.book ≡ op.parent.seen.book))
+    requires { (xs : List Next) × (op : Next) ×
+        (drop inner.old.behind inner.old.log.items ≡ xs ++ op ∷ []) ×
+        (op.parent.seen.book ≡ inner.old.desk.shown.value.front.seen.book) }
+    ensures { (xs : List Next) → (op : Next) →
+        drop inner.old.behind inner.old.log.items ≡ xs ++ op ∷ [] →
+        MatchResult result
+        (λ _. (arc_value inner.new.desk.shown.value.snapshot ≡ arc_value op.snapshot) ×
+        (inner.new.desk.shown.value.front.seen.book ≡ op.parent.seen.book))
         (λ _. inner.new.desk.shown.value ≡ inner.old.desk.shown.value) }
 {
     replace_with(inner, rt, |inner, rt| show(rt, inner))
@@ -117,7 +129,8 @@ fn turn<R: Wait>(
 
 /// The front of a copy that readers are shown. Such a copy is whole: `absorb_first` made it.
 fn shown_front<R: Wait>(rt: &R, kept: &Kept) -> Front
-    ensures { (result.seen.log ≡ arc_value kept.now.snapshot) × (result.seen.book ≡ kept.now.front.seen.book) }
+    ensures { (result.seen.log ≡ arc_value kept.now.snapshot) ×
+        (result.seen.book ≡ kept.now.front.seen.book) }
 {
     for _ in rt.forever() {
         if kept.whole {

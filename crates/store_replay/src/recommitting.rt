@@ -11,11 +11,11 @@ use fab_types::CommittedBlock;
 use std::alloc::Global;
 use world_state::Snapshot;
 
-/// The chain of these blocks: each is committed again behind those before it, and has to have the flags with
-/// which it is stored.
+/// The chain of these blocks: each is committed again behind those before it, and has to have the
+/// flags with which it is stored.
 ///
-/// Refused at the first block that does not fit (601 to 604) or has other flags than the table's (711), and
-/// for want of memory (9).
+/// Refused at the first block that does not fit (601 to 604) or has other flags than the table's
+/// (711), and for want of memory (9).
 pub fn recommit(
     alloc: Global,
     rules: &Rules,

@@ -49,7 +49,8 @@ struct Progress {
 
 /// The flags of the last block of a chain; none where there is no block.
 fn last_flags(snapshot: &Snapshot) -> &[Flag]
-    ensures { (before : Chain) (last : Committed) → snapshot.now ≡ before ++ last ∷ [] → result.now ≡ last.flags }
+    ensures { (before : Chain) (last : Committed) → snapshot.now ≡ before ++ last ∷ [] →
+        result.now ≡ last.flags }
 {
     match snapshot.blocks().last() {
         None => &[],
@@ -77,14 +78,15 @@ pub fn push(
     }
 }
 
-/// Commits the blocks of records behind one another from the empty state on, as far as they fit. The error
-/// is of memory.
+/// Commits the blocks of records behind one another from the empty state on, as far as they fit.
+/// The error is of memory.
 fn commit_all(
     alloc: Global,
     rules: &Rules,
     records: Vec<CommittedBlock>,
 ) -> Result<Progress, AllocError>
-    ensures { IfOk result (λ p. Replays (table_of rules.now) [] records.items p.snapshot p.differs p.refused) }
+    ensures { IfOk result
+        (λ p. Replays (table_of rules.now) [] records.items p.snapshot p.differs p.refused) }
 {
     let mut progress = Progress {
         snapshot: Snapshot::empty(alloc),
@@ -107,7 +109,8 @@ impl Progress {
     /// Goes on to a chain with one block more, for which the store has the table's flags or not.
     fn advance(&mut self, snapshot: Snapshot, is_same: bool)
         ensures chain { self.new.snapshot ≡ snapshot }
-        ensures differs { self.new.differs ≡ earlier self.old.differs (first_of is_same (length snapshot) None) }
+        ensures differs { self.new.differs
+            ≡ earlier self.old.differs (first_of is_same (length snapshot) None) }
         ensures refused { self.new.refused ≡ self.old.refused }
     {
         if !is_same && self.differs.is_none() {
@@ -119,19 +122,22 @@ impl Progress {
 
 /// Reads a store from its device and commits its blocks again under the rules of a genesis.
 ///
-/// The whole blocks that the store has are committed from the empty state on, up to the first that does not
-/// fit. The error is of memory.
+/// The whole blocks that the store has are committed from the empty state on, up to the first that
+/// does not fit. The error is of memory.
 pub fn replay_store<R: CountedRead>(
     alloc: Global,
     genesis: &Genesis,
     reader: &mut R,
 ) -> Result<Replayed, AllocError>
     // The blocks and the end are those of the bytes that were read.
-    ensures replayed { IfOk result (λ r. IsReplayed (table_of genesis.now.rules.value) (R.taken reader.old) (R.taken reader.new) r) }
+    ensures replayed { IfOk result
+        (λ r. IsReplayed (table_of genesis.now.rules.value) (R.taken reader.old)
+        (R.taken reader.new) r) }
     // These were all, unless there was damage or the device failed.
     ensures all { IfOk result (λ r. ReadsAll r.end (R.IsAtEnd reader.new)) }
     // The device is blamed exactly where a call of it failed.
-    ensures device { IfOk result (λ r. IsTold r.end (R.failures reader.old) (R.failures reader.new)) }
+    ensures device { IfOk result
+        (λ r. IsTold r.end (R.failures reader.old) (R.failures reader.new)) }
 {
     let loaded = load(alloc, reader)?;
     let blocks = loaded.blocks.len();

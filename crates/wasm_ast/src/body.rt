@@ -49,8 +49,8 @@ pub enum Instr {
     Convert(ConvertOp),
 }
 
-/// Where a load or a store accesses the memory: at its operand plus `offset`. The address is said to be a
-/// multiple of 2 to the power of `align`; this is a hint without effect.
+/// Where a load or a store accesses the memory: at its operand plus `offset`. The address is said
+/// to be a multiple of 2 to the power of `align`; this is a hint without effect.
 #[derive(Clone, Copy, Debug, PartialEq, Eq)]
 pub struct MemoryArgument {
     pub align: u32,

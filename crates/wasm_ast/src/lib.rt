@@ -1,9 +1,9 @@
 //! WebAssembly modules as trees (Core 1.0, chapter 2), cut to the integer profile of Regtuma.
 //!
-//! In memory an instruction is one flat enum of at most 16 bytes, whose children are boxed. Contracts
-//! see a body as `Code` (`specs/Code.antt`): a tree in which each constructor holds what follows, with
-//! plain instructions grouped by shape as an `Op`. So the module in a clause is the module of every
-//! definition (spelling, typing, meaning), and modules are compared by value.
+//! In memory an instruction is one flat enum of at most 16 bytes, whose children are boxed.
+//! Contracts see a body as `Code` (`specs/Code.antt`): a tree in which each constructor holds what
+//! follows, with plain instructions grouped by shape as an `Op`. So the module in a clause is the
+//! module of every definition (spelling, typing, meaning), and modules are compared by value.
 #![tactic(auto)]
 
 mod body;

@@ -1,5 +1,5 @@
-//! Operators on integers (Core 1.0, section 2.4.1), each for 32 and for 64 bits, and accesses to memory
-//! (section 2.4.4).
+//! Operators on integers (Core 1.0, section 2.4.1), each for 32 and for 64 bits, and accesses to
+//! memory (section 2.4.4).
 
 ghost use Rattle.std.specs.Prelude.{◌≡◌};
 ghost use Rattle.wasm_ast.specs.Access.{load_type, load_width, store_type, store_width};
@@ -60,8 +60,8 @@ pub enum ConvertOp {
     ExtendI32U,
 }
 
-/// A load from memory: the type of the word, and the bits that are read where they are fewer, which a
-/// signed load extends by their sign and an unsigned one by zeros.
+/// A load from memory: the type of the word, and the bits that are read where they are fewer, which
+/// a signed load extends by their sign and an unsigned one by zeros.
 #[derive(Clone, Copy, Debug, PartialEq, Eq)]
 pub enum LoadOp {
     I32,

@@ -68,7 +68,8 @@ pub(crate) fn signed(bytes: &[u8], half: u64) -> Result<(i64, &[u8]), FaultKind>
 
 #[tactic(auto, using(crate::proofs::Utf8::utf8_true, crate::proofs::Utf8::utf8_false))]
 fn text(bytes: &[u8]) -> Option<&str>
-    ensures { MatchOption result (is_utf8 bytes.now ≡ false) (λ s. (s.now ≡ bytes.now) × (is_utf8 bytes.now ≡ true)) }
+    ensures { MatchOption result (is_utf8 bytes.now ≡ false)
+        (λ s. (s.now ≡ bytes.now) × (is_utf8 bytes.now ≡ true)) }
 {
     str::from_utf8(bytes).ok()
 }

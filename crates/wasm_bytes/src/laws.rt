@@ -25,7 +25,10 @@ pub fn items_once()
 
 /// Where no number stands, the bytes ended early exactly where they begin some number.
 pub fn refusals()
-    ensures u32 { (bytes : List ℕ) → ¬ InFront IsU32 bytes → (u32_fault bytes ≡ EndedEarly) ↔ Begins IsU32 bytes }
-    ensures i32 { (bytes : List ℕ) → ¬ InFront IsS32 bytes → (s32_fault bytes ≡ EndedEarly) ↔ Begins IsS32 bytes }
-    ensures i64 { (bytes : List ℕ) → ¬ InFront IsS64 bytes → (s64_fault bytes ≡ EndedEarly) ↔ Begins IsS64 bytes }
+    ensures u32 { (bytes : List ℕ) → ¬ InFront IsU32 bytes →
+        (u32_fault bytes ≡ EndedEarly) ↔ Begins IsU32 bytes }
+    ensures i32 { (bytes : List ℕ) → ¬ InFront IsS32 bytes →
+        (s32_fault bytes ≡ EndedEarly) ↔ Begins IsS32 bytes }
+    ensures i64 { (bytes : List ℕ) → ¬ InFront IsS64 bytes →
+        (s64_fault bytes ≡ EndedEarly) ↔ Begins IsS64 bytes }
 {}

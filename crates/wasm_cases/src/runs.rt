@@ -24,8 +24,8 @@ pub enum Runner {
     Stepper,
 }
 
-/// How `invoke` ends with the fuel that the first word is, what it used, and the keys that it wrote with
-/// their values.
+/// How `invoke` ends with the fuel that the first word is, what it used, and the keys that it wrote
+/// with their values.
 pub fn run_module(alloc: Global, text: &str) -> Result<String, CaseFault> {
     let (fuel, pieces) = split_fuel(text)?;
     let valid = valid_module(alloc, pieces)?;

@@ -10,8 +10,8 @@ use std::alloc::{AllocError, Global};
 use wasm_trace::Stepper;
 use wasm_validate::ValidModule;
 
-/// What each step executes and the fuel that it leaves, where it costs fuel, and how `invoke` ends with the
-/// fuel that the first word is.
+/// What each step executes and the fuel that it leaves, where it costs fuel, and how `invoke` ends
+/// with the fuel that the first word is.
 pub fn trace_module(alloc: Global, text: &str) -> Result<String, CaseFault> {
     let (fuel, pieces) = split_fuel(text)?;
     let valid = valid_module(alloc, pieces)?;

@@ -46,7 +46,8 @@ fn next_opcode(cursor: &mut Cursor<'_>) -> Result<Opcode, DecodeFault>
 
 #[tactic(auto, unfolding(crate::specs::OpReading::branch_table_at))]
 fn branch_table(alloc: Global, cursor: &mut Cursor<'_>) -> Result<BranchTable, DecodeFault>
-    ensures read { Parses (λ t. (t.labels, t.default)) result cursor.new (branch_table_at cursor.old.rest) }
+    ensures read { Parses (λ t. (t.labels, t.default)) result cursor.new
+        (branch_table_at cursor.old.rest) }
     ensures tells { Tells result cursor.old cursor.new }
 {
     let labels = list::<u32>(alloc, cursor, MOST_LABELS)?;
@@ -112,7 +113,8 @@ fn other(alloc: Global, cursor: &mut Cursor<'_>, opcode: Opcode) -> Result<Instr
     requires operator { row_at operator_rows opcode.byte ≡ None }
     requires load { row_at load_rows opcode.byte ≡ None }
     requires store { row_at store_rows opcode.byte ≡ None }
-    ensures read { Parses (λ i. code_of (i ∷ [])) result cursor.new (other_at opcode.byte cursor.old.rest) }
+    ensures read { Parses (λ i. code_of (i ∷ [])) result cursor.new
+        (other_at opcode.byte cursor.old.rest) }
     ensures tells { Tells result cursor.old cursor.new }
 {
     Ok(match opcode.byte {
@@ -150,7 +152,8 @@ fn other(alloc: Global, cursor: &mut Cursor<'_>, opcode: Opcode) -> Result<Instr
 fn plain(alloc: Global, cursor: &mut Cursor<'_>, opcode: Opcode) -> Result<Instr, DecodeFault>
     requires here { slice_get cursor.old.whole opcode.offset ≡ Some opcode.byte }
     requires behind { offset_of cursor.old ≡ opcode.offset + 1 }
-    ensures read { Parses (λ i. code_of (i ∷ [])) result cursor.new (plain_at opcode.byte cursor.old.rest) }
+    ensures read { Parses (λ i. code_of (i ∷ [])) result cursor.new
+        (plain_at opcode.byte cursor.old.rest) }
     ensures tells { Tells result cursor.old cursor.new }
 {
     if let Some(instruction) = operator(opcode.byte) {
@@ -177,7 +180,8 @@ fn block(
 ) -> Result<Block, DecodeFault>
     requires here { slice_get cursor.old.whole opcode.offset ≡ Some opcode.byte }
     requires opens { (0x02 ≤ opcode.byte) × (opcode.byte ≤ 0x04) }
-    ensures read { Parses (λ b. record { result = b.result; body = b.body; left = left.new }) result cursor.new (block_at (below nesting) left.old cursor.old.rest) }
+    ensures read { Parses (λ b. record { result = b.result; body = b.body; left = left.new }) result
+        cursor.new (block_at (below nesting) left.old cursor.old.rest) }
     ensures tells { Tells result cursor.old cursor.new }
     ensures fewer { OnOk result (left.new ≤ left.old) }
 {
@@ -201,7 +205,9 @@ fn conditional(
 ) -> Result<Conditional, DecodeFault>
     requires here { slice_get cursor.old.whole opcode.offset ≡ Some opcode.byte }
     requires opens { (0x02 ≤ opcode.byte) × (opcode.byte ≤ 0x04) }
-    ensures read { Parses (λ c. record { result = c.result; yes = c.yes; no = c.no; left = left.new }) result cursor.new (conditional_at (below nesting) left.old cursor.old.rest) }
+    ensures read { Parses
+        (λ c. record { result = c.result; yes = c.yes; no = c.no; left = left.new }) result
+        cursor.new (conditional_at (below nesting) left.old cursor.old.rest) }
     ensures tells { Tells result cursor.old cursor.new }
     ensures fewer { OnOk result (left.new ≤ left.old) }
 {
@@ -230,7 +236,8 @@ fn instruction(
 ) -> Result<Instr, DecodeFault>
     requires here { slice_get cursor.old.whole opcode.offset ≡ Some opcode.byte }
     requires behind { offset_of cursor.old ≡ opcode.offset + 1 }
-    ensures read { Parses (λ i. record { code = code_of (i ∷ []); left = left.new }) result cursor.new (step_at (below nesting) opcode.byte left.old cursor.old.rest) }
+    ensures read { Parses (λ i. record { code = code_of (i ∷ []); left = left.new }) result
+        cursor.new (step_at (below nesting) opcode.byte left.old cursor.old.rest) }
     ensures tells { Tells result cursor.old cursor.new }
     ensures fewer { OnOk result (left.new ≤ left.old) }
 {
@@ -257,7 +264,8 @@ fn instructions(
     nesting: u32,
     left: &mut u32,
 ) -> Result<(Body, Opcode), DecodeFault>
-    ensures read { Parses (λ x. record { code = x.0; last = x.1.byte; left = left.new }) result cursor.new (body_at nesting left.old cursor.old.rest) }
+    ensures read { Parses (λ x. record { code = x.0; last = x.1.byte; left = left.new }) result
+        cursor.new (body_at nesting left.old cursor.old.rest) }
     ensures tells { Tells result cursor.old cursor.new }
     ensures here { IfOk result (λ x. slice_get cursor.old.whole x.1.offset ≡ Some x.1.byte) }
     ensures last { IfOk result (λ x. (x.1.byte ≡ 0x05) ⊎ (x.1.byte ≡ 0x0b)) }
@@ -286,7 +294,8 @@ fn closed(
     nesting: u32,
     left: &mut u32,
 ) -> Result<Body, DecodeFault>
-    ensures read { Parses (λ b. record { code = b; left = left.new }) result cursor.new (closed_at (body_at nesting) left.old cursor.old.rest) }
+    ensures read { Parses (λ b. record { code = b; left = left.new }) result cursor.new
+        (closed_at (body_at nesting) left.old cursor.old.rest) }
     ensures tells { Tells result cursor.old cursor.new }
     ensures fewer { OnOk result (left.new ≤ left.old) }
 {

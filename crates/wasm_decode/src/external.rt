@@ -36,7 +36,8 @@ fn external_kind_of(byte: u8) -> Option<ExternalKind>
 }
 
 fn external_kind(cursor: &mut Cursor<'_>) -> Result<ExternalKind, DecodeFault>
-    ensures read { Parses (λ x. x) result cursor.new (row_byte_at external_kind_rows cursor.old.rest) }
+    ensures read { Parses (λ x. x) result cursor.new
+        (row_byte_at external_kind_rows cursor.old.rest) }
     ensures tells { Tells result cursor.old cursor.new }
 {
     let offset = cursor.offset();

@@ -1,4 +1,5 @@
-//! Globals, the code of functions, and segments (WebAssembly Core 1.0, sections 5.5.9 and 5.5.12 to 5.5.14).
+//! Globals, the code of functions, and segments (WebAssembly Core 1.0, sections 5.5.9 and 5.5.12 to
+//! 5.5.14).
 
 ghost use Rattle.std.specs.Prelude.{◌≡◌, ◌^◌, ◌-◌, ◌++◌, ℕ, List, Option, Some, IfOk, replicate, length};
 ghost use Rattle.wasm_decode.specs.Parses.{Parses};
@@ -108,7 +109,8 @@ pub(crate) fn functions(
     cursor: &mut Cursor<'_>,
     type_indices: &[u32],
 ) -> Result<Seq<Func>, DecodeFault>
-    ensures read { Parses (λ x. x) result cursor.new (functions_at type_indices.now cursor.old.rest) }
+    ensures read { Parses (λ x. x) result cursor.new
+        (functions_at type_indices.now cursor.old.rest) }
     ensures tells { Tells result cursor.old cursor.new }
 {
     let offset = cursor.offset();

@@ -1,8 +1,9 @@
 //! Modules of WebAssembly, read from their bytes (WebAssembly Core 1.0, chapter 5).
 //!
-//! [`decode`] gives the module that the bytes spell (`specs/ModuleSpelling.antt`), within the limits
-//! of the profile, or refuses with the kind and the offset of the first fault. On a fault in the
-//! bytes they spell no module of the profile; and bytes spell at most one module ([`one_module`]).
+//! [`decode`] gives the module that the bytes spell (`specs/ModuleSpelling.antt`), within the
+//! limits of the profile, or refuses with the kind and the offset of the first fault. On a fault in
+//! the bytes they spell no module of the profile; and bytes spell at most one module
+//! ([`one_module`]).
 //!
 //! Reading goes once from left to right, in time in proportion to the bytes. No byte is copied but
 //! into the module, no list is copied, and the recursion is as deep as blocks may nest.

@@ -1,5 +1,5 @@
-//! The opcodes of operators on integers and of accesses to memory (WebAssembly Core 1.0, sections 5.4.4
-//! and 5.4.5).
+//! The opcodes of operators on integers and of accesses to memory (WebAssembly Core 1.0, sections
+//! 5.4.4 and 5.4.5).
 
 ghost use Rattle.std.specs.Prelude.{◌≡◌, [], ◌∷◌, option_map};
 ghost use Rattle.grammar.specs.Table.{row_at};
@@ -51,7 +51,8 @@ pub(crate) fn store(byte: u8) -> Option<StoreOp>
 /// The test or comparison of an opcode.
 #[tactic(auto, unfolding(crate::specs::Operators::comparison_rows))]
 fn comparison(byte: u8) -> Option<Instr>
-    ensures { option_map (λ i. code_of (i ∷ [])) result ≡ option_map alone (row_at comparison_rows byte) }
+    ensures { option_map (λ i. code_of (i ∷ [])) result
+        ≡ option_map alone (row_at comparison_rows byte) }
 {
     match byte {
         0x45 => Some(Instr::I32Eqz),
@@ -83,7 +84,8 @@ fn comparison(byte: u8) -> Option<Instr>
 /// The operator on words of 32 bits of an opcode.
 #[tactic(auto, unfolding(crate::specs::Operators::arithmetic_32_rows))]
 fn arithmetic_32(byte: u8) -> Option<Instr>
-    ensures { option_map (λ i. code_of (i ∷ [])) result ≡ option_map alone (row_at arithmetic_32_rows byte) }
+    ensures { option_map (λ i. code_of (i ∷ [])) result
+        ≡ option_map alone (row_at arithmetic_32_rows byte) }
 {
     match byte {
         0x67 => Some(Instr::I32Unary(UnaryOp::Clz)),
@@ -111,7 +113,8 @@ fn arithmetic_32(byte: u8) -> Option<Instr>
 /// The operator on words of 64 bits of an opcode.
 #[tactic(auto, unfolding(crate::specs::Operators::arithmetic_64_rows))]
 fn arithmetic_64(byte: u8) -> Option<Instr>
-    ensures { option_map (λ i. code_of (i ∷ [])) result ≡ option_map alone (row_at arithmetic_64_rows byte) }
+    ensures { option_map (λ i. code_of (i ∷ [])) result
+        ≡ option_map alone (row_at arithmetic_64_rows byte) }
 {
     match byte {
         0x79 => Some(Instr::I64Unary(UnaryOp::Clz)),
@@ -139,7 +142,8 @@ fn arithmetic_64(byte: u8) -> Option<Instr>
 /// The conversion of an opcode.
 #[tactic(auto, unfolding(crate::specs::Operators::conversion_rows))]
 fn conversion(byte: u8) -> Option<Instr>
-    ensures { option_map (λ i. code_of (i ∷ [])) result ≡ option_map alone (row_at conversion_rows byte) }
+    ensures { option_map (λ i. code_of (i ∷ [])) result
+        ≡ option_map alone (row_at conversion_rows byte) }
 {
     match byte {
         0xa7 => Some(Instr::Convert(ConvertOp::WrapI64)),
@@ -151,7 +155,8 @@ fn conversion(byte: u8) -> Option<Instr>
 
 /// The operator of an opcode.
 pub(crate) fn operator(byte: u8) -> Option<Instr>
-    ensures { option_map (λ i. code_of (i ∷ [])) result ≡ option_map alone (row_at operator_rows byte) }
+    ensures { option_map (λ i. code_of (i ∷ [])) result
+        ≡ option_map alone (row_at operator_rows byte) }
 {
     if let Some(operator) = comparison(byte) {
         return Some(operator);

@@ -77,7 +77,8 @@ fn fill(
     kind: Kind,
     parts: &mut Parts,
 ) -> Result<(), DecodeFault>
-    ensures read { Parses (λ _. parts.new) result cursor.new (fill_at kind parts.old cursor.old.rest) }
+    ensures read { Parses (λ _. parts.new) result cursor.new
+        (fill_at kind parts.old cursor.old.rest) }
     ensures tells { Tells result cursor.old cursor.new }
 {
     match kind {
@@ -125,7 +126,8 @@ fn known(
     kind: Kind,
     parts: &mut Parts,
 ) -> Result<(), DecodeFault>
-    ensures read { Parses (λ _. parts.new) result cursor.new (sized_at (whole_at (fill_at kind parts.old)) cursor.old.rest) }
+    ensures read { Parses (λ _. parts.new) result cursor.new
+        (sized_at (whole_at (fill_at kind parts.old)) cursor.old.rest) }
     ensures tells { Tells result cursor.old cursor.new }
     ensures shorter { OnOk result (length cursor.new.rest < length cursor.old.rest) }
 {
@@ -149,7 +151,8 @@ fn section(
     last: u8,
     parts: &mut Parts,
 ) -> Result<u8, DecodeFault>
-    ensures read { Parses (λ id. (id, parts.new)) result cursor.new (section_at last parts.old cursor.old.rest) }
+    ensures read { Parses (λ id. (id, parts.new)) result cursor.new
+        (section_at last parts.old cursor.old.rest) }
     ensures tells { Tells result cursor.old cursor.new }
     ensures shorter { OnOk result (length cursor.new.rest < length cursor.old.rest) }
 {
@@ -175,7 +178,8 @@ pub(crate) fn sections(
     cursor: &mut Cursor<'_>,
     parts: &mut Parts,
 ) -> Result<(), DecodeFault>
-    ensures read { Makes (λ _. parts.new) result (sections_at (length cursor.old.rest) 0 parts.old cursor.old.rest) }
+    ensures read { Makes (λ _. parts.new) result
+        (sections_at (length cursor.old.rest) 0 parts.old cursor.old.rest) }
     ensures tells { Tells result cursor.old cursor.new }
 {
     let mut last = 0;

@@ -1,7 +1,7 @@
 //! Loads, stores and growth of a memory as bytes (Core 1.0, section 4.4.4).
 //!
-//! Each access tests once that it lies within the memory. It has a place, an operand plus an offset, and
-//! so below 2^33.
+//! Each access tests once that it lies within the memory. It has a place, an operand plus an
+//! offset, and so below 2^33.
 
 ghost use Rattle.std.specs.Prelude.{◌≡◌, ◌+◌, ◌<◌, ◌≤◌, ◌^◌, ◌++◌, length, replicate, OnOk, OnErr};
 ghost use Rattle.wasm_ast.specs.Access.{store_width};
@@ -91,8 +91,8 @@ fn chunk<const N: usize>(memory: &[u8], place: usize) -> Result<[u8; N], Trap>
     bytes.first_chunk().copied().ok_or(Trap::OutOfBounds)
 }
 
-/// Writes the low bytes of a word, the least first. `OutOfBounds` where they pass the end of the memory,
-/// which then stays as it was.
+/// Writes the low bytes of a word, the least first. `OutOfBounds` where they pass the end of the
+/// memory, which then stays as it was.
 #[inline(always)]
 pub fn store_word(op: StoreOp, memory: &mut [u8], place: usize, word: u64) -> Result<(), Trap>
     requires { place < 2 ^ 62 }
@@ -131,7 +131,8 @@ pub fn write(memory: &mut [u8], place: usize, bytes: &[u8])
     memory[place..place + bytes.len()].copy_from_slice(bytes);
 }
 
-/// A memory made longer by zeros. Where there is no room it is given back as it was, with `AllocError`.
+/// A memory made longer by zeros. Where there is no room it is given back as it was, with
+/// `AllocError`.
 #[inline(never)]
 pub fn with_zeros(mut memory: Vec<u8>, count: usize) -> (Vec<u8>, Result<(), AllocError>)
     requires { count < 2 ^ 62 }

@@ -30,7 +30,8 @@ pub fn fresh_memory(alloc: Allocation, module: &Module) -> Result<Vec<u8>, Alloc
 /// The words of its globals, in order.
 pub fn fresh_globals(alloc: Allocation, module: &Module) -> Result<Vec<u64>, AllocError>
     requires { IsValid «module».now }
-    ensures { IfOk result (λ words. words.items ≡ words_of (map fresh_global «module».now.globals)) }
+    ensures { IfOk result
+        (λ words. words.items ≡ words_of (map fresh_global «module».now.globals)) }
 {
     let globals = module.globals.as_slice();
     let mut words = Vec::new(alloc);

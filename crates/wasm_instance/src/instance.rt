@@ -16,8 +16,8 @@ use std::mem;
 use wasm_ast::{LoadOp, StoreOp, Trap};
 use wasm_validate::ValidModule;
 
-/// What the code of a module may change outside its frame, its memory and its globals, and the table that
-/// its indirect calls go by.
+/// What the code of a module may change outside its frame, its memory and its globals, and the
+/// table that its indirect calls go by.
 ///
 /// A word of 32 bits stands in 64 as a number below 2^32.
 #[derive(Debug, Drop)]
@@ -35,15 +35,21 @@ impl Model for Instance {
 
     ghost Value = { State };
 
-    ghost view = { λ i. record { memory = i.memory.items; globals = i.globals.items; table = i.table.items; most_pages = i.most_pages } };
+    ghost view = { λ i.
+        record {
+          memory = i.memory.items;
+          globals = i.globals.items;
+          table = i.table.items;
+          most_pages = i.most_pages;
+        } };
 }
 
 impl Instance {
     /// The fresh instance of a module (Core 1.0, section 4.5.4).
     ///
-    /// Its memory has its least size, zeros but for the data segments; its globals have the words of
-    /// their initializers; its table has its least size, with no functions but for those of the element
-    /// segments. The memory may grow to its greatest size, and to 16 pages at most.
+    /// Its memory has its least size, zeros but for the data segments; its globals have the words
+    /// of their initializers; its table has its least size, with no functions but for those of the
+    /// element segments. The memory may grow to its greatest size, and to 16 pages at most.
     ///
     /// `AllocError` where there is no room for it.
     pub fn new(alloc: Global, valid: &ValidModule) -> Result<Instance, AllocError>
@@ -80,7 +86,8 @@ impl Instance {
     #[inline(always)]
     pub fn store(&mut self, op: StoreOp, address: u32, offset: u32, word: u64) -> Result<(), Trap>
         ensures answer { result ≡ within self.old.memory (address + offset) (store_width op) tt }
-        ensures stored { self.new ≡ record self.old { memory = after_store op self.old.memory (address + offset) word } }
+        ensures stored { self.new
+            ≡ record self.old { memory = after_store op self.old.memory (address + offset) word } }
     {
         store_word(
             op,
@@ -98,13 +105,13 @@ impl Instance {
         (self.memory.len() / PAGE % (1 << 32)) as u32
     }
 
-    /// Makes the memory longer by pages of zeros where it may have so many, and gives its old size in
-    /// pages; else gives the word -1, and nothing changes (Core 1.0, section 4.4.4).
+    /// Makes the memory longer by pages of zeros where it may have so many, and gives its old size
+    /// in pages; else gives the word -1, and nothing changes (Core 1.0, section 4.4.4).
     ///
     /// `AllocError` where there is no room for the pages: nothing changes then either.
     ///
-    /// The memory is moved out and back, and no address of it is lent: an instance that is a local of the
-    /// caller can stay in registers.
+    /// The memory is moved out and back, and no address of it is lent: an instance that is a local
+    /// of the caller can stay in registers.
     #[inline(always)]
     pub fn grow(&mut self, count: u32) -> Result<u32, AllocError>
         ensures word { IfOk result (λ word. word ≡ grow_word self.old count) }

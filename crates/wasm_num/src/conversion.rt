@@ -6,7 +6,8 @@ ghost use Rattle.wasm_num.specs.Operators.{convert, operand_type};
 
 use wasm_ast::ConvertOp;
 
-/// A word converted to the other width. Both words stand in 64 bits, one of 32 as a number below 2^32.
+/// A word converted to the other width. Both words stand in 64 bits, one of 32 as a number below
+/// 2^32.
 #[inline(always)]
 pub fn convert(op: ConvertOp, word: u64) -> u64
     requires { word < words (operand_type op) }

@@ -19,7 +19,8 @@ impl Host for Fixed {
 
     ghost records = { λ _. 0 };
 
-    ghost answers = { λ host which args memory records. record { answer = host.answer; memory = memory; records = 0 } };
+    ghost answers = { λ host which args memory records.
+        record { answer = host.answer; memory = memory; records = 0 } };
 
     ghost Context = { Unit {0} };
 

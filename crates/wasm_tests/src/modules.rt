@@ -5,8 +5,8 @@ use std::test::Fail;
 use wasm_decode::decode;
 use wasm_validate::{ValidModule, validate};
 
-/// A module that puts the value `1` under the key `a` and returns what the host answers. Its memory of one
-/// page begins with `a1`.
+/// A module that puts the value `1` under the key `a` and returns what the host answers. Its memory
+/// of one page begins with `a1`.
 pub const PUTTING: [u8; 92] = [
     0x00, 0x61, 0x73, 0x6d, 0x01, 0x00, 0x00, 0x00, // the header
     0x01, 0x0d, 0x02, 0x60, 0x04, 0x7f, 0x7f, 0x7f, 0x7f, 0x01, 0x7f, 0x60, 0x00, 0x01, 0x7f, 0x02,

@@ -3,7 +3,8 @@ use std::test::*;
 use wasm_ast::HostCall;
 use wasm_validate::{ValidModule, ValidateFault};
 
-/// Whether the module exports function 1 as `invoke`, imports `put_state` alone and has one function.
+/// Whether the module exports function 1 as `invoke`, imports `put_state` alone and has one
+/// function.
 fn puts_state(valid: &ValidModule) -> bool {
     valid.invoke() == 1
         && valid.host_calls() == [HostCall::PutState].as_slice()

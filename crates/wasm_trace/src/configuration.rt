@@ -93,7 +93,8 @@ impl<'m> Configuration<'m> {
         leaves: BlockType,
         body: &'m [Instr],
     ) -> Result<(), AllocError>
-        ensures goes { OnOk result (BlockEntered H.Records leaves (code_of body.now) self.old self.new) }
+        ensures goes { OnOk result
+            (BlockEntered H.Records leaves (code_of body.now) self.old self.new) }
         ensures kept { Within self.old self.new }
     {
         let before = mem::replace(&mut self.stack, Vec::new(self.alloc));
@@ -105,7 +106,8 @@ impl<'m> Configuration<'m> {
 
     /// Into a loop.
     pub(crate) fn enter_loop<H: Host>(&mut self, block: &'m Block) -> Result<(), AllocError>
-        ensures goes { OnOk result (LoopEntered H.Records block.now.result block.now.body self.old self.new) }
+        ensures goes { OnOk result
+            (LoopEntered H.Records block.now.result block.now.body self.old self.new) }
         ensures kept { Within self.old self.new }
     {
         let before = mem::replace(&mut self.stack, Vec::new(self.alloc));
@@ -179,7 +181,8 @@ impl<'m> Configuration<'m> {
         function_type: &'m FuncType,
         function: &'m Func,
     ) -> Result<Flow, AllocError>
-        ensures goes { IfOk result (λ r. Invoked H.Records function_type.now function.now self.old self.new r) }
+        ensures goes { IfOk result
+            (λ r. Invoked H.Records function_type.now function.now self.old self.new r) }
         ensures going { IfOk result IsGoing }
         ensures kept { Within self.old self.new }
     {
@@ -295,9 +298,11 @@ fn result_of(stack: &[Value]) -> Flow
     }
 }
 
-/// Puts these values in place of a stack, and the results from its top on them. Whether they were there.
+/// Puts these values in place of a stack, and the results from its top on them. Whether they were
+/// there.
 fn keep(stack: &mut Vec<Value>, leaves: BlockType, before: Vec<Value>) -> Result<bool, AllocError>
-    ensures { IfOk result (λ there. Kept leaves stack.old.items before.items there stack.new.items) }
+    ensures { IfOk result
+        (λ there. Kept leaves stack.old.items before.items there stack.new.items) }
 {
     match leaves {
         None => {

@@ -5,7 +5,8 @@ ghost use Rattle.std.specs.Prelude.{◌≡◌};
 use std::fmt::{self, Display, Formatter, Write};
 use wasm_ast::{BinaryOp, CompareOp, ConvertOp, Instr, LoadOp, StoreOp, UnaryOp};
 
-/// The name of an instruction, without its operands: a type with its dot, if there is one, and the rest.
+/// The name of an instruction, without its operands: a type with its dot, if there is one, and the
+/// rest.
 #[derive(Clone, Copy, Debug, Drop)]
 pub(crate) struct Mnemonic {
     pub(crate) prefix: &'static str,

@@ -46,7 +46,8 @@ pub(crate) fn unary<H: Host>(
     value_type: ValueType,
     operator: UnaryOp,
 ) -> Result<Turn<'static>, AllocError>
-    ensures { IfOk result (λ t. OnStack H.Records (op.Unary value_type operator) stack.old.items stack.new.items t) }
+    ensures { IfOk result
+        (λ t. OnStack H.Records (op.Unary value_type operator) stack.old.items stack.new.items t) }
 {
     match pop_of(stack, value_type) {
         None => Ok(Turn::Stuck),
@@ -58,7 +59,8 @@ pub(crate) fn unary<H: Host>(
 }
 
 fn unary_of(operator: UnaryOp, a: Value) -> Value
-    ensures { val_of result ≡ value (val_of a).«type» (unary (val_of a).«type» operator (val_of a).word) }
+    ensures { val_of result
+        ≡ value (val_of a).«type» (unary (val_of a).«type» operator (val_of a).word) }
 {
     match a {
         Value::I32(word) => Value::I32(word32::unary(operator, word)),
@@ -71,7 +73,8 @@ pub(crate) fn eqz<H: Host>(
     stack: &mut Vec<Value>,
     value_type: ValueType,
 ) -> Result<Turn<'static>, AllocError>
-    ensures { IfOk result (λ t. OnStack H.Records (op.Eqz value_type) stack.old.items stack.new.items t) }
+    ensures { IfOk result
+        (λ t. OnStack H.Records (op.Eqz value_type) stack.old.items stack.new.items t) }
 {
     match pop_of(stack, value_type) {
         None => Ok(Turn::Stuck),
@@ -110,7 +113,9 @@ pub(crate) fn compare<H: Host>(
     value_type: ValueType,
     operator: CompareOp,
 ) -> Result<Turn<'static>, AllocError>
-    ensures { IfOk result (λ t. OnStack H.Records (op.Compare value_type operator) stack.old.items stack.new.items t) }
+    ensures { IfOk result
+        (λ t. OnStack H.Records (op.Compare value_type operator) stack.old.items stack.new.items
+        t) }
 {
     match pop_of(stack, value_type) {
         None => Ok(Turn::Stuck),
@@ -126,7 +131,8 @@ pub(crate) fn compare<H: Host>(
 
 fn compare_of(operator: CompareOp, a: Value, b: Value) -> Value
     requires { (val_of a).«type» ≡ (val_of b).«type» }
-    ensures { val_of result ≡ value type.I32 (compare (val_of a).«type» operator (val_of a).word (val_of b).word) }
+    ensures { val_of result
+        ≡ value type.I32 (compare (val_of a).«type» operator (val_of a).word (val_of b).word) }
 {
     match a {
         Value::I32(m) => match b {
@@ -146,7 +152,8 @@ pub(crate) fn binary<H: Host>(
     value_type: ValueType,
     operator: BinaryOp,
 ) -> Result<Turn<'static>, AllocError>
-    ensures { IfOk result (λ t. OnStack H.Records (op.Binary value_type operator) stack.old.items stack.new.items t) }
+    ensures { IfOk result
+        (λ t. OnStack H.Records (op.Binary value_type operator) stack.old.items stack.new.items t) }
 {
     match pop_of(stack, value_type) {
         None => Ok(Turn::Stuck),
@@ -190,7 +197,8 @@ pub(crate) fn convert<H: Host>(
     stack: &mut Vec<Value>,
     operator: ConvertOp,
 ) -> Result<Turn<'static>, AllocError>
-    ensures { IfOk result (λ t. OnStack H.Records (op.Convert operator) stack.old.items stack.new.items t) }
+    ensures { IfOk result
+        (λ t. OnStack H.Records (op.Convert operator) stack.old.items stack.new.items t) }
 {
     match pop_of(stack, operand_type(operator)) {
         None => Ok(Turn::Stuck),
@@ -262,7 +270,9 @@ pub(crate) fn constant<H: Host>(
     stack: &mut Vec<Value>,
     value: Value,
 ) -> Result<Turn<'static>, AllocError>
-    ensures { IfOk result (λ t. OnStack H.Records (op.Const (val_of value).«type» (val_of value).word) stack.old.items stack.new.items t) }
+    ensures { IfOk result
+        (λ t. OnStack H.Records (op.Const (val_of value).«type» (val_of value).word) stack.old.items
+        stack.new.items t) }
 {
     stack.push(value)?;
     Ok(Turn::On(Front::Nothing))
@@ -285,7 +295,8 @@ pub(crate) fn branch_if<H: Host>(stack: &mut Vec<Value>, k: u32) -> Turn<'static
 
 /// A branch to the label that the word on top picks, which becomes a `br`.
 pub(crate) fn branch_table<H: Host>(stack: &mut Vec<Value>, table: &BranchTable) -> Turn<'static>
-    ensures { OnStack H.Records (op.BrTable table.now.labels table.now.default) stack.old.items stack.new.items result }
+    ensures { OnStack H.Records (op.BrTable table.now.labels table.now.default) stack.old.items
+        stack.new.items result }
 {
     match pop_i32(stack) {
         None => Turn::Stuck,

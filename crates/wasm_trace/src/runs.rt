@@ -8,11 +8,12 @@ use interp::{Host, Outcome, run};
 use std::alloc::{AllocError, Global};
 use wasm_validate::ValidModule;
 
-/// Invokes the function that a valid module exports as `invoke`, on a fresh instance, with this fuel.
+/// Invokes the function that a valid module exports as `invoke`, on a fresh instance, with this
+/// fuel.
 ///
-/// The run ends as the reduction of the standard does (Core 1.0, chapter 4), and so do the host's records.
-/// By the law `ends_once` there is one such end. It is computed by `interp`, whose run is proved to end
-/// so; `Stepper` takes the reductions one by one.
+/// The run ends as the reduction of the standard does (Core 1.0, chapter 4), and so do the host's
+/// records. By the law `ends_once` there is one such end. It is computed by `interp`, whose run is
+/// proved to end so; `Stepper` takes the reductions one by one.
 ///
 /// `AllocError` where a vector could not grow.
 pub fn run_by_reduction<H: Host>(
@@ -21,7 +22,9 @@ pub fn run_by_reduction<H: Host>(
     host: &mut H,
     fuel: u64,
 ) -> Result<Outcome, AllocError>
-    ensures ends { IfOk result (λ r. ReductionEnds valid.now (H.answers host.old) (H.records host.old) fuel r (H.records host.new)) }
+    ensures ends { IfOk result
+        (λ r. ReductionEnds valid.now (H.answers host.old) (H.records host.old) fuel r
+        (H.records host.new)) }
     ensures stays { IfOk result (λ _. H.answers host.new ≡ H.answers host.old) }
     ensures keeps { IfOk result (λ _. H.context host.new ≡ H.context host.old) }
     ensures within { IfOk result (λ r. used_of r fuel ≤ fuel) }

@@ -10,8 +10,8 @@ use interp::{Host, Outcome};
 use std::alloc::{AllocError, Global};
 use wasm_validate::ValidModule;
 
-/// A run of the function that a valid module exports as `invoke`, which goes on by one reduction of the
-/// standard at a time (Core 1.0, chapter 4).
+/// A run of the function that a valid module exports as `invoke`, which goes on by one reduction of
+/// the standard at a time (Core 1.0, chapter 4).
 ///
 /// A stepper is to be stepped with one host. After want of memory both are only to be dropped.
 #[derive(Drop)]
@@ -56,9 +56,13 @@ impl<'m> Stepper<'m> {
     ///
     /// `AllocError` where there is no room for what the reduction makes.
     pub fn step<H: Host>(&mut self, host: &mut H) -> Result<Option<Outcome>, AllocError>
-        ensures goes { IfOk result (λ o. Stepped (program_of self.old.valid.now (H.answers host.old)) (standing self.old) (H.records host.old) (standing self.new) (H.records host.new) o) }
+        ensures goes { IfOk result
+            (λ o. Stepped (program_of self.old.valid.now (H.answers host.old)) (standing self.old)
+            (H.records host.old) (standing self.new) (H.records host.new) o) }
         ensures ends { IfOk result (λ o. self.new.ended ≡ o) }
-        ensures shows { IfOk result (λ o. IsSome self.new.shown ↔ ((o ≡ None) × (self.new.configuration.fuel < self.old.configuration.fuel))) }
+        ensures shows { IfOk result
+            (λ o. IsSome self.new.shown
+            ↔ ((o ≡ None) × (self.new.configuration.fuel < self.old.configuration.fuel))) }
         ensures valid { self.new.valid.now ≡ self.old.valid.now }
         ensures given { self.new.given ≡ self.old.given }
         ensures stays { IfOk result (λ _. H.answers host.new ≡ H.answers host.old) }
@@ -76,12 +80,16 @@ impl<'m> Stepper<'m> {
         Ok(self.ended)
     }
 
-    /// What the last step executed and the fuel that it left, as `i32.const fuel=70`. None where it cost
-    /// nothing, or where there was none.
+    /// What the last step executed and the fuel that it left, as `i32.const fuel=70`. None where it
+    /// cost nothing, or where there was none.
     ///
     /// `AllocError` where there is no room for the text.
     pub fn render(&self) -> Result<Option<String>, AllocError>
-        ensures { IfOk result (λ text. option_map string_bytes text ≡ option_map (λ name. name ++ (codes " fuel=" ++ decimal self.now.configuration.fuel)) (standing self.now).shown) }
+        ensures { IfOk result
+            (λ text. option_map string_bytes text
+            ≡ option_map
+            (λ name. name ++ (codes " fuel=" ++ decimal self.now.configuration.fuel))
+            (standing self.now).shown) }
     {
         match self.shown {
             None => Ok(None),

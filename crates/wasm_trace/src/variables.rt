@@ -38,7 +38,8 @@ fn are_same(a: Value, b: Value) -> bool
 
 /// Moves the last value to a local or a global of the same type. Whether it is there.
 fn replace<H: Host>(stack: &mut Vec<Value>, slots: &mut Vec<Value>, k: u32) -> bool
-    ensures { Replaced H.Records k stack.old.items slots.old.items result stack.new.items slots.new.items }
+    ensures { Replaced H.Records k stack.old.items slots.old.items result stack.new.items
+        slots.new.items }
 {
     match stack.pop() {
         None => false,
@@ -62,7 +63,9 @@ pub(crate) fn get_local<H: Host>(
     locals: &[Value],
     k: u32,
 ) -> Result<Turn<'static>, AllocError>
-    ensures { IfOk result (λ t. OnLocals H.Records (op.LocalGet k) stack.old.items locals.now stack.new.items locals.now t) }
+    ensures { IfOk result
+        (λ t. OnLocals H.Records (op.LocalGet k) stack.old.items locals.now stack.new.items
+        locals.now t) }
 {
     match read(locals, k) {
         None => Ok(Turn::Stuck),
@@ -79,7 +82,8 @@ pub(crate) fn set_local<H: Host>(
     locals: &mut Vec<Value>,
     k: u32,
 ) -> Turn<'static>
-    ensures { OnLocals H.Records (op.LocalSet k) stack.old.items locals.old.items stack.new.items locals.new.items result }
+    ensures { OnLocals H.Records (op.LocalSet k) stack.old.items locals.old.items stack.new.items
+        locals.new.items result }
 {
     if replace::<H>(stack, locals, k) {
         return Turn::On(Front::Nothing);
@@ -93,7 +97,9 @@ pub(crate) fn get_global<H: Host>(
     globals: &[Value],
     k: u32,
 ) -> Result<Turn<'static>, AllocError>
-    ensures { IfOk result (λ t. OnGlobals H.Records (op.GlobalGet k) stack.old.items globals.now stack.new.items globals.now t) }
+    ensures { IfOk result
+        (λ t. OnGlobals H.Records (op.GlobalGet k) stack.old.items globals.now stack.new.items
+        globals.now t) }
 {
     match read(globals, k) {
         None => Ok(Turn::Stuck),
@@ -110,7 +116,8 @@ pub(crate) fn set_global<H: Host>(
     globals: &mut Vec<Value>,
     k: u32,
 ) -> Turn<'static>
-    ensures { OnGlobals H.Records (op.GlobalSet k) stack.old.items globals.old.items stack.new.items globals.new.items result }
+    ensures { OnGlobals H.Records (op.GlobalSet k) stack.old.items globals.old.items stack.new.items
+        globals.new.items result }
 {
     if replace::<H>(stack, globals, k) {
         return Turn::On(Front::Nothing);
@@ -123,7 +130,8 @@ pub(crate) fn tee_local<H: Host>(
     stack: &mut Vec<Value>,
     k: u32,
 ) -> Result<Turn<'static>, AllocError>
-    ensures { IfOk result (λ t. OnStack H.Records (op.LocalTee k) stack.old.items stack.new.items t) }
+    ensures { IfOk result
+        (λ t. OnStack H.Records (op.LocalTee k) stack.old.items stack.new.items t) }
 {
     match stack.pop() {
         None => Ok(Turn::Stuck),

@@ -31,11 +31,21 @@ pub fn check_load(
     load: LoadOp,
     argument: MemoryArgument,
 ) -> Result<(), ValidateFault>
-    ensures ok { IfOk result (λ _. step (context_of scope.now labels.now) (op.Load load argument.align argument.offset) stack.old.here ≡ Some stack.new.here) }
+    ensures ok { IfOk result
+        (λ _. step (context_of scope.now labels.now) (op.Load load argument.align argument.offset)
+        stack.old.here
+        ≡ Some stack.new.here) }
     ensures lower { IfOk result (λ _. stack.new.lower ≡ stack.old.lower) }
-    ensures refused { IfErr result (λ e. Refused e (Breaks e (context_of scope.now labels.now) (op.Load load argument.align argument.offset)) (step (context_of scope.now labels.now) (op.Load load argument.align argument.offset) stack.old.here)) }
-    ensures keeps { IfErr result (λ e. Mismatch e
-        (KeepsOwn (context_of scope.now labels.now) (op.Load load argument.align argument.offset))) }
+    ensures refused { IfErr result
+        (λ e. Refused e
+        (Breaks e (context_of scope.now labels.now)
+        (op.Load load argument.align argument.offset))
+        (step (context_of scope.now labels.now) (op.Load load argument.align argument.offset)
+        stack.old.here)) }
+    ensures keeps { IfErr result
+        (λ e. Mismatch e
+        (KeepsOwn (context_of scope.now labels.now)
+        (op.Load load argument.align argument.offset))) }
 {
     if scope.memories.is_empty() {
         return Err(ValidateFault::Index);
@@ -54,11 +64,21 @@ pub fn check_store(
     store: StoreOp,
     argument: MemoryArgument,
 ) -> Result<(), ValidateFault>
-    ensures ok { IfOk result (λ _. step (context_of scope.now labels.now) (op.Store store argument.align argument.offset) stack.old.here ≡ Some stack.new.here) }
+    ensures ok { IfOk result
+        (λ _. step (context_of scope.now labels.now) (op.Store store argument.align argument.offset)
+        stack.old.here
+        ≡ Some stack.new.here) }
     ensures lower { IfOk result (λ _. stack.new.lower ≡ stack.old.lower) }
-    ensures refused { IfErr result (λ e. Refused e (Breaks e (context_of scope.now labels.now) (op.Store store argument.align argument.offset)) (step (context_of scope.now labels.now) (op.Store store argument.align argument.offset) stack.old.here)) }
-    ensures keeps { IfErr result (λ e. Mismatch e
-        (KeepsOwn (context_of scope.now labels.now) (op.Store store argument.align argument.offset))) }
+    ensures refused { IfErr result
+        (λ e. Refused e
+        (Breaks e (context_of scope.now labels.now)
+        (op.Store store argument.align argument.offset))
+        (step (context_of scope.now labels.now) (op.Store store argument.align argument.offset)
+        stack.old.here)) }
+    ensures keeps { IfErr result
+        (λ e. Mismatch e
+        (KeepsOwn (context_of scope.now labels.now)
+        (op.Store store argument.align argument.offset))) }
 {
     if scope.memories.is_empty() {
         return Err(ValidateFault::Index);
@@ -76,9 +96,13 @@ pub fn check_memory_size(
     labels: &Labels,
     stack: &mut OperandStack,
 ) -> Result<(), ValidateFault>
-    ensures ok { IfOk result (λ _. step (context_of scope.now labels.now) (op.MemorySize) stack.old.here ≡ Some stack.new.here) }
+    ensures ok { IfOk result
+        (λ _. step (context_of scope.now labels.now) (op.MemorySize) stack.old.here
+        ≡ Some stack.new.here) }
     ensures lower { IfOk result (λ _. stack.new.lower ≡ stack.old.lower) }
-    ensures refused { IfErr result (λ e. Refused e (Breaks e (context_of scope.now labels.now) (op.MemorySize)) (step (context_of scope.now labels.now) (op.MemorySize) stack.old.here)) }
+    ensures refused { IfErr result
+        (λ e. Refused e (Breaks e (context_of scope.now labels.now) (op.MemorySize))
+        (step (context_of scope.now labels.now) (op.MemorySize) stack.old.here)) }
     ensures keeps { IfErr result (λ e. Mismatch e
         (KeepsOwn (context_of scope.now labels.now) (op.MemorySize))) }
 {
@@ -94,9 +118,13 @@ pub fn check_memory_grow(
     labels: &Labels,
     stack: &mut OperandStack,
 ) -> Result<(), ValidateFault>
-    ensures ok { IfOk result (λ _. step (context_of scope.now labels.now) (op.MemoryGrow) stack.old.here ≡ Some stack.new.here) }
+    ensures ok { IfOk result
+        (λ _. step (context_of scope.now labels.now) (op.MemoryGrow) stack.old.here
+        ≡ Some stack.new.here) }
     ensures lower { IfOk result (λ _. stack.new.lower ≡ stack.old.lower) }
-    ensures refused { IfErr result (λ e. Refused e (Breaks e (context_of scope.now labels.now) (op.MemoryGrow)) (step (context_of scope.now labels.now) (op.MemoryGrow) stack.old.here)) }
+    ensures refused { IfErr result
+        (λ e. Refused e (Breaks e (context_of scope.now labels.now) (op.MemoryGrow))
+        (step (context_of scope.now labels.now) (op.MemoryGrow) stack.old.here)) }
     ensures keeps { IfErr result (λ e. Mismatch e
         (KeepsOwn (context_of scope.now labels.now) (op.MemoryGrow))) }
 {

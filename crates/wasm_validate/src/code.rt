@@ -25,11 +25,13 @@ use std::alloc::Global;
 use wasm_ast::ValueType::{I32, I64};
 use wasm_ast::{Block, BlockType, Body, Conditional, Func, Instr, Module};
 
-/// Whether each function's body is typed. The indices are those of all functions' types, the imported ones first.
+/// Whether each function's body is typed. The indices are those of all functions' types, the
+/// imported ones first.
 pub fn check_code(alloc: Global, given: &Module, functions: &[u32]) -> Result<(), ValidateFault>
     requires indices { functions.now ≡ type_indices given.now }
     requires known { AreTypes functions.now given.now.types }
-    ensures typed { IfOk result (λ _. (k : ℕ) → (f : Func) → at given.now.functions k ≡ Some f → IsFunction given.now f) }
+    ensures typed { IfOk result
+        (λ _. (k : ℕ) → (f : Func) → at given.now.functions k ≡ Some f → IsFunction given.now f) }
     ensures broken { IfErr result (λ e. Broken e given.now) }
 {
     for function in given.functions.as_slice() {
@@ -49,7 +51,8 @@ fn check_function(
     requires known { AreTypes functions.now given.now.types }
     requires has_type { function.now.type_index < length given.now.types }
     ensures typed { IfOk result (λ _. IsFunction given.now function.now) }
-    ensures broken { IfErr result (λ e. (k : ℕ) → at given.now.functions k ≡ Some function.now → Broken e given.now) }
+    ensures broken { IfErr result
+        (λ e. (k : ℕ) → at given.now.functions k ≡ Some function.now → Broken e given.now) }
 {
     let types = given.types.as_slice();
     let function_type = &types[function.type_index as usize];
@@ -78,12 +81,18 @@ fn check_instr(
     stack: &mut OperandStack,
     instr: &Instr,
 ) -> Result<(), ValidateFault>
-    ensures ok { IfOk result (λ _. instruction (context_of scope.now labels.old) instr.now stack.old.here ≡ Some stack.new.here) }
+    ensures ok { IfOk result
+        (λ _. instruction (context_of scope.now labels.old) instr.now stack.old.here
+        ≡ Some stack.new.here) }
     ensures lower { IfOk result (λ _. stack.new.lower ≡ stack.old.lower) }
     ensures labels { IfOk result (λ _. labels.new ≡ labels.old) }
-    ensures refused { IfErr result (λ e. Refused e (BreaksInstr e (context_of scope.now labels.old) instr.now) (instruction (context_of scope.now labels.old) instr.now stack.old.here)) }
-    ensures mistyped { IfErr result (λ e. Mismatch e
-        (MistypedFirst (context_of scope.now labels.old) (then_code instr.now End) stack.old.here)) }
+    ensures refused { IfErr result
+        (λ e. Refused e (BreaksInstr e (context_of scope.now labels.old) instr.now)
+        (instruction (context_of scope.now labels.old) instr.now stack.old.here)) }
+    ensures mistyped { IfErr result
+        (λ e. Mismatch e
+        (MistypedFirst (context_of scope.now labels.old) (then_code instr.now End)
+        stack.old.here)) }
 {
     match instr {
         Instr::Unreachable => shapes::check_unreachable(stack),
@@ -129,12 +138,25 @@ fn check_block(
     carried: BlockType,
     block: &Block,
 ) -> Result<(), ValidateFault>
-    ensures ok { IfOk result (λ _. then (whole_body (under carried (context_of scope.now labels.old)) block.now.result block.now.body) (λ _. Some (push_result block.now.result stack.old.here)) ≡ Some stack.new.here) }
+    ensures ok { IfOk result
+        (λ _. then
+        (whole_body (under carried (context_of scope.now labels.old)) block.now.result
+        block.now.body)
+        (λ _. Some (push_result block.now.result stack.old.here))
+        ≡ Some stack.new.here) }
     ensures lower { IfOk result (λ _. stack.new.lower ≡ stack.old.lower) }
     ensures labels { IfOk result (λ _. labels.new ≡ labels.old) }
-    ensures refused { IfErr result (λ e. Refused e (BreaksIn e (under carried (context_of scope.now labels.old)) block.now.body) (then (whole_body (under carried (context_of scope.now labels.old)) block.now.result block.now.body) (λ _. Some (push_result block.now.result stack.old.here)))) }
-    ensures mistyped { IfErr result (λ e. Mismatch e
-        (Mistyped (under carried (context_of scope.now labels.old)) block.now.result block.now.body no_operands)) }
+    ensures refused { IfErr result
+        (λ e. Refused e
+        (BreaksIn e (under carried (context_of scope.now labels.old)) block.now.body)
+        (then
+        (whole_body (under carried (context_of scope.now labels.old)) block.now.result
+        block.now.body)
+        (λ _. Some (push_result block.now.result stack.old.here)))) }
+    ensures mistyped { IfErr result
+        (λ e. Mismatch e
+        (Mistyped (under carried (context_of scope.now labels.old)) block.now.result
+        block.now.body no_operands)) }
 {
     check_body(scope, labels, stack, carried, block.result, &block.body)?;
     stack.push_result(block.result)
@@ -148,12 +170,23 @@ fn check_if(
     stack: &mut OperandStack,
     choice: &Conditional,
 ) -> Result<(), ValidateFault>
-    ensures ok { IfOk result (λ _. conditional (context_of scope.now labels.old) choice.now.result choice.now.yes choice.now.no stack.old.here ≡ Some stack.new.here) }
+    ensures ok { IfOk result
+        (λ _. conditional (context_of scope.now labels.old) choice.now.result choice.now.yes
+        choice.now.no stack.old.here
+        ≡ Some stack.new.here) }
     ensures lower { IfOk result (λ _. stack.new.lower ≡ stack.old.lower) }
     ensures labels { IfOk result (λ _. labels.new ≡ labels.old) }
-    ensures refused { IfErr result (λ e. Refused e (BreaksIn e (under choice.now.result (context_of scope.now labels.old)) choice.now.yes ⊎ BreaksIn e (under choice.now.result (context_of scope.now labels.old)) choice.now.no) (conditional (context_of scope.now labels.old) choice.now.result choice.now.yes choice.now.no stack.old.here)) }
-    ensures mistyped { IfErr result (λ e. Mismatch e
-        (MistypedIf (context_of scope.now labels.old) choice.now.result choice.now.yes choice.now.no stack.old.here)) }
+    ensures refused { IfErr result
+        (λ e. Refused e
+        (BreaksIn e (under choice.now.result (context_of scope.now labels.old)) choice.now.yes ⊎
+        BreaksIn e (under choice.now.result (context_of scope.now labels.old))
+        choice.now.no)
+        (conditional (context_of scope.now labels.old) choice.now.result choice.now.yes
+        choice.now.no stack.old.here)) }
+    ensures mistyped { IfErr result
+        (λ e. Mismatch e
+        (MistypedIf (context_of scope.now labels.old) choice.now.result choice.now.yes
+        choice.now.no stack.old.here)) }
 {
     let left = choice.result;
     stack.pop_as(I32)?;
@@ -172,10 +205,13 @@ fn check_body(
     left: BlockType,
     body: &Body,
 ) -> Result<(), ValidateFault>
-    ensures ok { IfOk result (λ _. IsSome (whole_body (under carried (context_of scope.now labels.old)) left body.now)) }
+    ensures ok { IfOk result
+        (λ _. IsSome (whole_body (under carried (context_of scope.now labels.old)) left body.now)) }
     ensures stack { IfOk result (λ _. stack.new ≡ stack.old) }
     ensures labels { IfOk result (λ _. labels.new ≡ labels.old) }
-    ensures refused { IfErr result (λ e. Refused e (BreaksIn e (under carried (context_of scope.now labels.old)) body.now) (whole_body (under carried (context_of scope.now labels.old)) left body.now)) }
+    ensures refused { IfErr result
+        (λ e. Refused e (BreaksIn e (under carried (context_of scope.now labels.old)) body.now)
+        (whole_body (under carried (context_of scope.now labels.old)) left body.now)) }
     ensures mistyped { IfErr result (λ e. Mismatch e
         (Mistyped (under carried (context_of scope.now labels.old)) left body.now no_operands)) }
 {

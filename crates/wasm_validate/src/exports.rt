@@ -15,8 +15,12 @@ use wasm_ast::{Export, ExternalKind, FuncType, Module, ValueType};
 /// Names are compared in pairs, since a module has few exports.
 pub fn check_exports(given: &Module, functions: &[u32]) -> Result<(), ValidateFault>
     requires { functions.now ≡ type_indices given.now }
-    ensures exports { IfOk result (λ _. (k : ℕ) → (e : Export) → at given.now.exports k ≡ Some e → e.index < count_of given.now e.kind) }
-    ensures names { IfOk result (λ _. (j : ℕ) → (k : ℕ) → (d : Export) → (e : Export) → at given.now.exports j ≡ Some d → at given.now.exports k ≡ Some e → d.name ≡ e.name → j ≡ k) }
+    ensures exports { IfOk result
+        (λ _. (k : ℕ) → (e : Export) → at given.now.exports k ≡ Some e →
+        e.index < count_of given.now e.kind) }
+    ensures names { IfOk result
+        (λ _. (j : ℕ) → (k : ℕ) → (d : Export) → (e : Export) → at given.now.exports j ≡ Some d →
+        at given.now.exports k ≡ Some e → d.name ≡ e.name → j ≡ k) }
     ensures broken { IfErr result (λ e. Broken e given.now) }
 {
     let exports = given.exports.as_slice();
@@ -47,8 +51,10 @@ fn count_of(given: &Module, functions: &[u32], kind: ExternalKind) -> usize
 
 // Whether one of these exports has a name.
 fn is_named(exports: &[Export], name: &str) -> bool
-    ensures some { IsTrue result → (k : ℕ) × (e : Export) × (at exports.now k ≡ Some e) × (e.name ≡ name.now) }
-    ensures none { result ≡ false → (k : ℕ) → (e : Export) → at exports.now k ≡ Some e → e.name ≢ name.now }
+    ensures some { IsTrue result →
+        (k : ℕ) × (e : Export) × (at exports.now k ≡ Some e) × (e.name ≡ name.now) }
+    ensures none { result ≡ false → (k : ℕ) → (e : Export) → at exports.now k ≡ Some e →
+        e.name ≢ name.now }
 {
     for export in exports {
         if export.name.as_str() == name {
@@ -63,7 +69,8 @@ pub fn find_entry(given: &Module, functions: &[u32]) -> Result<u32, ValidateFaul
     requires indices { functions.now ≡ type_indices given.now }
     requires known { AreTypes functions.now given.now.types }
     ensures invoke { IfOk result (λ entry. invoke_of given.now ≡ Some entry) }
-    ensures entry_type { IfOk result (λ entry. at (function_types given.now) entry ≡ Some invoke_type) }
+    ensures entry_type { IfOk result
+        (λ entry. at (function_types given.now) entry ≡ Some invoke_type) }
     ensures broken { IfErr result (λ e. Broken e given.now) }
 {
     let Some(entry) = invoke_in(given.exports.as_slice()) else {

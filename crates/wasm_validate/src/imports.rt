@@ -17,7 +17,9 @@ use wasm_ast::{HostCall, Import, ImportKind, Module};
 /// The host call that each import is, in the order of the imports.
 pub fn check_imports(alloc: Global, given: &Module) -> Result<Vec<HostCall>, ValidateFault>
     ensures calls { IfOk result (λ calls. calls.items ≡ host_calls given.now.imports) }
-    ensures imports { IfOk result (λ _. (k : ℕ) → (i : Import) → at given.now.imports k ≡ Some i → IsImport given.now.types i) }
+    ensures imports { IfOk result
+        (λ _. (k : ℕ) → (i : Import) → at given.now.imports k ≡ Some i →
+        IsImport given.now.types i) }
     ensures broken { IfErr result (λ e. Broken e given.now) }
 {
     let mut calls = Vec::new(alloc);
@@ -31,7 +33,8 @@ pub fn check_imports(alloc: Global, given: &Module) -> Result<Vec<HostCall>, Val
 fn check_import(given: &Module, import: &Import) -> Result<HostCall, ValidateFault>
     ensures listed { IfOk result (λ _. IsImport given.now.types import.now) }
     ensures call { IfOk result (λ call. call_named import.now.name ≡ Some call) }
-    ensures broken { IfErr result (λ e. (k : ℕ) → at given.now.imports k ≡ Some import.now → Broken e given.now) }
+    ensures broken { IfErr result
+        (λ e. (k : ℕ) → at given.now.imports k ≡ Some import.now → Broken e given.now) }
 {
     let ImportKind::Function(type_index) = import.kind else {
         return Err(ValidateFault::Import);
@@ -65,7 +68,8 @@ fn call_named(name: &str) -> Option<HostCall>
 
 /// The index of the type of each function, the imported ones first.
 pub fn function_indices(alloc: Global, given: &Module) -> Result<Vec<u32>, ValidateFault>
-    requires { (k : ℕ) → (i : Import) → at given.now.imports k ≡ Some i → IsImport given.now.types i }
+    requires { (k : ℕ) → (i : Import) → at given.now.imports k ≡ Some i →
+        IsImport given.now.types i }
     ensures indices { IfOk result (λ v. v.items ≡ type_indices given.now) }
     ensures known { IfOk result (λ _. AreTypes (type_indices given.now) given.now.types) }
     ensures broken { IfErr result (λ e. Broken e given.now) }

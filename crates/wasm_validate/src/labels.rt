@@ -48,7 +48,8 @@ impl Labels {
 
     /// Goes out of the innermost block.
     pub fn exit(&mut self)
-        ensures { (l : BlockType) → (rest : List BlockType) → self.old ≡ l ∷ rest → self.new ≡ rest }
+        ensures { (l : BlockType) → (rest : List BlockType) → self.old ≡ l ∷ rest →
+            self.new ≡ rest }
     {
         let _ = self.carried.pop();
     }

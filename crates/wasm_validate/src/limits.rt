@@ -15,7 +15,8 @@ const MAX_PAGES: u32 = 65_536;
 /// Whether there is at most one table, with limits in order.
 pub fn check_tables(given: &Module) -> Result<(), ValidateFault>
     ensures one { IfOk result (λ _. length given.now.tables ≤ 1) }
-    ensures limits { IfOk result (λ _. (k : ℕ) → (l : Limits) → at given.now.tables k ≡ Some l → IsTable l) }
+    ensures limits { IfOk result
+        (λ _. (k : ℕ) → (l : Limits) → at given.now.tables k ≡ Some l → IsTable l) }
     ensures broken { IfErr result (λ e. Broken e given.now) }
 {
     if given.tables.len() > 1 {
@@ -42,7 +43,8 @@ fn are_ordered(limits: &Limits) -> bool
 /// Whether there is at most one memory, with limits in order and range.
 pub fn check_memories(given: &Module) -> Result<(), ValidateFault>
     ensures one { IfOk result (λ _. length given.now.memories ≤ 1) }
-    ensures limits { IfOk result (λ _. (k : ℕ) → (l : Limits) → at given.now.memories k ≡ Some l → IsMemory l) }
+    ensures limits { IfOk result
+        (λ _. (k : ℕ) → (l : Limits) → at given.now.memories k ≡ Some l → IsMemory l) }
     ensures broken { IfErr result (λ e. Broken e given.now) }
 {
     if given.memories.len() > 1 {

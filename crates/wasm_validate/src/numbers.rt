@@ -32,9 +32,11 @@ pub fn check_one(
     given: ValueType,
     stack: &mut OperandStack,
 ) -> Result<(), ValidateFault>
-    ensures ok { IfOk result (λ _. apply (taken ∷ []) (Some given) stack.old.here ≡ Some stack.new.here) }
+    ensures ok { IfOk result
+        (λ _. apply (taken ∷ []) (Some given) stack.old.here ≡ Some stack.new.here) }
     ensures lower { IfOk result (λ _. stack.new.lower ≡ stack.old.lower) }
-    ensures refused { IfErr result (λ e. Refused e ⊥ (apply (taken ∷ []) (Some given) stack.old.here)) }
+    ensures refused { IfErr result
+        (λ e. Refused e ⊥ (apply (taken ∷ []) (Some given) stack.old.here)) }
 {
     stack.pop_as(taken)?;
     stack.push(Some(given))
@@ -46,9 +48,11 @@ pub fn check_two(
     given: ValueType,
     stack: &mut OperandStack,
 ) -> Result<(), ValidateFault>
-    ensures ok { IfOk result (λ _. apply (taken ∷ taken ∷ []) (Some given) stack.old.here ≡ Some stack.new.here) }
+    ensures ok { IfOk result
+        (λ _. apply (taken ∷ taken ∷ []) (Some given) stack.old.here ≡ Some stack.new.here) }
     ensures lower { IfOk result (λ _. stack.new.lower ≡ stack.old.lower) }
-    ensures refused { IfErr result (λ e. Refused e ⊥ (apply (taken ∷ taken ∷ []) (Some given) stack.old.here)) }
+    ensures refused { IfErr result
+        (λ e. Refused e ⊥ (apply (taken ∷ taken ∷ []) (Some given) stack.old.here)) }
 {
     stack.pop_as(taken)?;
     check_one(taken, given, stack)
@@ -56,9 +60,13 @@ pub fn check_two(
 
 /// A conversion between the widths.
 pub fn check_convert(conversion: ConvertOp, stack: &mut OperandStack) -> Result<(), ValidateFault>
-    ensures ok { IfOk result (λ _. apply (operand_type conversion ∷ []) (Some (result_type conversion)) stack.old.here ≡ Some stack.new.here) }
+    ensures ok { IfOk result
+        (λ _. apply (operand_type conversion ∷ []) (Some (result_type conversion)) stack.old.here
+        ≡ Some stack.new.here) }
     ensures lower { IfOk result (λ _. stack.new.lower ≡ stack.old.lower) }
-    ensures refused { IfErr result (λ e. Refused e ⊥ (apply (operand_type conversion ∷ []) (Some (result_type conversion)) stack.old.here)) }
+    ensures refused { IfErr result
+        (λ e. Refused e ⊥
+        (apply (operand_type conversion ∷ []) (Some (result_type conversion)) stack.old.here)) }
 {
     match conversion {
         ConvertOp::WrapI64 => check_one(I64, I32, stack),

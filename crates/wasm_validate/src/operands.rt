@@ -34,7 +34,14 @@ impl Model for OperandStack {
 
     ghost Value = { Frames };
 
-    ghost view = { λ s. record { here = record { types = reverse (drop s.height s.types.items); unreachable = s.is_unreachable }; lower = reverse (take s.height s.types.items) } };
+    ghost view = { λ s.
+        record {
+          here = record {
+            types = reverse (drop s.height s.types.items);
+            unreachable = s.is_unreachable;
+          };
+          lower = reverse (take s.height s.types.items);
+        } };
 
     ghost invariant = { λ s. s.height ≤ length s.types.items };
 }
@@ -70,7 +77,8 @@ impl OperandStack {
     /// Ends a block: what is left of it is taken off, and the operands round it are there again.
     pub fn exit(&mut self, outer: Outer)
         requires { outer.height ≤ length self.old.lower }
-        ensures { (s : Frames) → outer ≡ mark_of s → self.old.lower ≡ s.here.types ++ s.lower → self.new ≡ s }
+        ensures { (s : Frames) → outer ≡ mark_of s → self.old.lower ≡ s.here.types ++ s.lower →
+            self.new ≡ s }
     {
         self.types.truncate(self.height);
         self.height = outer.height;
@@ -87,7 +95,8 @@ impl OperandStack {
         Ok(())
     }
 
-    /// Takes the top operand off. In code that cannot be reached there is always one, of an unknown type.
+    /// Takes the top operand off. In code that cannot be reached there is always one, of an unknown
+    /// type.
     pub fn pop(&mut self) -> Result<Option<ValueType>, ValidateFault>
         ensures ok { IfOk result (λ o. pop self.old.here ≡ Some (o, self.new.here)) }
         ensures lower { IfOk result (λ _. self.new.lower ≡ self.old.lower) }
@@ -140,9 +149,11 @@ impl OperandStack {
 
     /// Takes off the arguments of a call, of which the last is on top.
     pub fn pop_arguments(&mut self, params: &[ValueType]) -> Result<(), ValidateFault>
-        ensures ok { IfOk result (λ _. pop_all (reverse params.now) self.old.here ≡ Some self.new.here) }
+        ensures ok { IfOk result
+            (λ _. pop_all (reverse params.now) self.old.here ≡ Some self.new.here) }
         ensures lower { IfOk result (λ _. self.new.lower ≡ self.old.lower) }
-        ensures refused { IfErr result (λ e. Refused e ⊥ (pop_all (reverse params.now) self.old.here)) }
+        ensures refused { IfErr result
+            (λ e. Refused e ⊥ (pop_all (reverse params.now) self.old.here)) }
     {
         let mut left = params.len();
         while left > 0 {

@@ -29,7 +29,8 @@ impl<'a> Scope<'a> {
 
     /// The type of a function.
     pub fn type_of(&self, function: u32) -> Option<&'a FuncType>
-        ensures { let found = at (map (type_at self.now.types.now) self.now.functions.now) function in MatchOption result (found ≡ None) (λ t. found ≡ Some t.now) }
+        ensures { let found = at (map (type_at self.now.types.now) self.now.functions.now) function
+            in MatchOption result (found ≡ None) (λ t. found ≡ Some t.now) }
     {
         let type_index = *self.functions.get(function as usize)?;
         Some(&self.types[type_index as usize])

@@ -13,10 +13,13 @@ use wasm_ast::{DataSegment, ElementSegment, Module, ValueType};
 
 const PAGE_BYTES: u64 = 65_536;
 
-/// Whether each element segment names functions that there are, and lies in the least size of its table.
+/// Whether each element segment names functions that there are, and lies in the least size of its
+/// table.
 pub fn check_elements(given: &Module, functions: &[u32]) -> Result<(), ValidateFault>
     requires { functions.now ≡ type_indices given.now }
-    ensures inside { IfOk result (λ _. (k : ℕ) → (e : ElementSegment) → at given.now.elements k ≡ Some e → IsElement given.now e) }
+    ensures inside { IfOk result
+        (λ _. (k : ℕ) → (e : ElementSegment) → at given.now.elements k ≡ Some e →
+        IsElement given.now e) }
     ensures broken { IfErr result (λ e. Broken e given.now) }
 {
     for segment in given.elements.as_slice() {
@@ -33,7 +36,8 @@ fn check_element(
 ) -> Result<(), ValidateFault>
     requires { functions.now ≡ type_indices given.now }
     ensures inside { IfOk result (λ _. IsElement given.now segment.now) }
-    ensures broken { IfErr result (λ e. (k : ℕ) → at given.now.elements k ≡ Some segment.now → Broken e given.now) }
+    ensures broken { IfErr result
+        (λ e. (k : ℕ) → at given.now.elements k ≡ Some segment.now → Broken e given.now) }
 {
     let Some(limits) = given.tables.as_slice().get(segment.table as usize) else {
         return Err(ValidateFault::Index);
@@ -72,7 +76,8 @@ fn is_inside(offset: u64, count: usize, room: u64) -> bool
 
 /// Whether each data segment lies in the least size of its memory.
 pub fn check_data(given: &Module) -> Result<(), ValidateFault>
-    ensures inside { IfOk result (λ _. (k : ℕ) → (d : DataSegment) → at given.now.data k ≡ Some d → IsData given.now d) }
+    ensures inside { IfOk result
+        (λ _. (k : ℕ) → (d : DataSegment) → at given.now.data k ≡ Some d → IsData given.now d) }
     ensures broken { IfErr result (λ e. Broken e given.now) }
 {
     for segment in given.data.as_slice() {
@@ -84,7 +89,8 @@ pub fn check_data(given: &Module) -> Result<(), ValidateFault>
 // A segment of a memory that is there, from one constant on.
 fn check_data_segment(given: &Module, segment: &DataSegment) -> Result<(), ValidateFault>
     ensures inside { IfOk result (λ _. IsData given.now segment.now) }
-    ensures broken { IfErr result (λ e. (k : ℕ) → at given.now.data k ≡ Some segment.now → Broken e given.now) }
+    ensures broken { IfErr result
+        (λ e. (k : ℕ) → at given.now.data k ≡ Some segment.now → Broken e given.now) }
 {
     let Some(limits) = given.memories.as_slice().get(segment.memory as usize) else {
         return Err(ValidateFault::Index);

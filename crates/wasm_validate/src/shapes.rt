@@ -1,4 +1,5 @@
-//! The rules of instructions without a body (Core 1.0, sections 3.3.1 to 3.3.5), a function for a shape.
+//! The rules of instructions without a body (Core 1.0, sections 3.3.1 to 3.3.5), a function for a
+//! shape.
 
 ghost use Rattle.std.specs.Prelude.{◌≡◌, ◌<◌, ◌≤◌, length, IfOk, IfErr, Some};
 ghost use Rattle.wasm_ast.specs.Op as op;
@@ -28,7 +29,8 @@ pub fn check_unreachable(stack: &mut OperandStack) -> Result<(), ValidateFault>
 
 /// `drop`: takes an operand of any type off.
 pub fn check_drop(stack: &mut OperandStack) -> Result<(), ValidateFault>
-    ensures ok { IfOk result (λ _. then (pop stack.old.here) (λ p. Some p.1) ≡ Some stack.new.here) }
+    ensures ok { IfOk result
+        (λ _. then (pop stack.old.here) (λ p. Some p.1) ≡ Some stack.new.here) }
     ensures lower { IfOk result (λ _. stack.new.lower ≡ stack.old.lower) }
     ensures refused { IfErr result (λ e. Refused e ⊥ (then (pop stack.old.here) (λ p. Some p.1))) }
 {
@@ -59,9 +61,13 @@ pub fn check_br(
     stack: &mut OperandStack,
     label: u32,
 ) -> Result<(), ValidateFault>
-    ensures ok { IfOk result (λ _. step (context_of scope.now labels.now) (op.Br label) stack.old.here ≡ Some stack.new.here) }
+    ensures ok { IfOk result
+        (λ _. step (context_of scope.now labels.now) (op.Br label) stack.old.here
+        ≡ Some stack.new.here) }
     ensures lower { IfOk result (λ _. stack.new.lower ≡ stack.old.lower) }
-    ensures refused { IfErr result (λ e. Refused e (Breaks e (context_of scope.now labels.now) (op.Br label)) (step (context_of scope.now labels.now) (op.Br label) stack.old.here)) }
+    ensures refused { IfErr result
+        (λ e. Refused e (Breaks e (context_of scope.now labels.now) (op.Br label))
+        (step (context_of scope.now labels.now) (op.Br label) stack.old.here)) }
     ensures keeps { IfErr result (λ e. Mismatch e
         (KeepsOwn (context_of scope.now labels.now) (op.Br label))) }
 {
@@ -80,9 +86,13 @@ pub fn check_br_if(
     stack: &mut OperandStack,
     label: u32,
 ) -> Result<(), ValidateFault>
-    ensures ok { IfOk result (λ _. step (context_of scope.now labels.now) (op.BrIf label) stack.old.here ≡ Some stack.new.here) }
+    ensures ok { IfOk result
+        (λ _. step (context_of scope.now labels.now) (op.BrIf label) stack.old.here
+        ≡ Some stack.new.here) }
     ensures lower { IfOk result (λ _. stack.new.lower ≡ stack.old.lower) }
-    ensures refused { IfErr result (λ e. Refused e (Breaks e (context_of scope.now labels.now) (op.BrIf label)) (step (context_of scope.now labels.now) (op.BrIf label) stack.old.here)) }
+    ensures refused { IfErr result
+        (λ e. Refused e (Breaks e (context_of scope.now labels.now) (op.BrIf label))
+        (step (context_of scope.now labels.now) (op.BrIf label) stack.old.here)) }
     ensures keeps { IfErr result (λ e. Mismatch e
         (KeepsOwn (context_of scope.now labels.now) (op.BrIf label))) }
 {
@@ -101,11 +111,21 @@ pub fn check_br_table(
     stack: &mut OperandStack,
     table: &BranchTable,
 ) -> Result<(), ValidateFault>
-    ensures ok { IfOk result (λ _. step (context_of scope.now labels.now) (op.BrTable table.now.labels table.now.default) stack.old.here ≡ Some stack.new.here) }
+    ensures ok { IfOk result
+        (λ _. step (context_of scope.now labels.now) (op.BrTable table.now.labels table.now.default)
+        stack.old.here
+        ≡ Some stack.new.here) }
     ensures lower { IfOk result (λ _. stack.new.lower ≡ stack.old.lower) }
-    ensures refused { IfErr result (λ e. Refused e (Breaks e (context_of scope.now labels.now) (op.BrTable table.now.labels table.now.default)) (step (context_of scope.now labels.now) (op.BrTable table.now.labels table.now.default) stack.old.here)) }
-    ensures keeps { IfErr result (λ e. Mismatch e
-        (KeepsOwn (context_of scope.now labels.now) (op.BrTable table.now.labels table.now.default))) }
+    ensures refused { IfErr result
+        (λ e. Refused e
+        (Breaks e (context_of scope.now labels.now)
+        (op.BrTable table.now.labels table.now.default))
+        (step (context_of scope.now labels.now) (op.BrTable table.now.labels table.now.default)
+        stack.old.here)) }
+    ensures keeps { IfErr result
+        (λ e. Mismatch e
+        (KeepsOwn (context_of scope.now labels.now)
+        (op.BrTable table.now.labels table.now.default))) }
 {
     let Some(carried) = labels.get(table.default) else {
         return Err(ValidateFault::Index);
@@ -128,9 +148,13 @@ pub fn check_return(
     labels: &Labels,
     stack: &mut OperandStack,
 ) -> Result<(), ValidateFault>
-    ensures ok { IfOk result (λ _. step (context_of scope.now labels.now) (op.Return) stack.old.here ≡ Some stack.new.here) }
+    ensures ok { IfOk result
+        (λ _. step (context_of scope.now labels.now) (op.Return) stack.old.here
+        ≡ Some stack.new.here) }
     ensures lower { IfOk result (λ _. stack.new.lower ≡ stack.old.lower) }
-    ensures refused { IfErr result (λ e. Refused e (Breaks e (context_of scope.now labels.now) (op.Return)) (step (context_of scope.now labels.now) (op.Return) stack.old.here)) }
+    ensures refused { IfErr result
+        (λ e. Refused e (Breaks e (context_of scope.now labels.now) (op.Return))
+        (step (context_of scope.now labels.now) (op.Return) stack.old.here)) }
     ensures keeps { IfErr result (λ e. Mismatch e
         (KeepsOwn (context_of scope.now labels.now) (op.Return))) }
 {
@@ -146,9 +170,13 @@ pub fn check_call(
     stack: &mut OperandStack,
     function: u32,
 ) -> Result<(), ValidateFault>
-    ensures ok { IfOk result (λ _. step (context_of scope.now labels.now) (op.Call function) stack.old.here ≡ Some stack.new.here) }
+    ensures ok { IfOk result
+        (λ _. step (context_of scope.now labels.now) (op.Call function) stack.old.here
+        ≡ Some stack.new.here) }
     ensures lower { IfOk result (λ _. stack.new.lower ≡ stack.old.lower) }
-    ensures refused { IfErr result (λ e. Refused e (Breaks e (context_of scope.now labels.now) (op.Call function)) (step (context_of scope.now labels.now) (op.Call function) stack.old.here)) }
+    ensures refused { IfErr result
+        (λ e. Refused e (Breaks e (context_of scope.now labels.now) (op.Call function))
+        (step (context_of scope.now labels.now) (op.Call function) stack.old.here)) }
     ensures keeps { IfErr result (λ e. Mismatch e
         (KeepsOwn (context_of scope.now labels.now) (op.Call function))) }
 {
@@ -159,16 +187,21 @@ pub fn check_call(
     stack.push_result(function_type.result)
 }
 
-/// `call_indirect`: takes the place in the table and the arguments off, and leaves the result of a type.
+/// `call_indirect`: takes the place in the table and the arguments off, and leaves the result of a
+/// type.
 pub fn check_call_indirect(
     scope: &Scope,
     labels: &Labels,
     stack: &mut OperandStack,
     type_index: u32,
 ) -> Result<(), ValidateFault>
-    ensures ok { IfOk result (λ _. step (context_of scope.now labels.now) (op.CallIndirect type_index) stack.old.here ≡ Some stack.new.here) }
+    ensures ok { IfOk result
+        (λ _. step (context_of scope.now labels.now) (op.CallIndirect type_index) stack.old.here
+        ≡ Some stack.new.here) }
     ensures lower { IfOk result (λ _. stack.new.lower ≡ stack.old.lower) }
-    ensures refused { IfErr result (λ e. Refused e (Breaks e (context_of scope.now labels.now) (op.CallIndirect type_index)) (step (context_of scope.now labels.now) (op.CallIndirect type_index) stack.old.here)) }
+    ensures refused { IfErr result
+        (λ e. Refused e (Breaks e (context_of scope.now labels.now) (op.CallIndirect type_index))
+        (step (context_of scope.now labels.now) (op.CallIndirect type_index) stack.old.here)) }
     ensures keeps { IfErr result (λ e. Mismatch e
         (KeepsOwn (context_of scope.now labels.now) (op.CallIndirect type_index))) }
 {

@@ -48,7 +48,9 @@ impl Model for ValidModule {
 
     ghost view = { λ v. v.module };
 
-    ghost invariant = { λ v. IsValid v.module × (v.calls.items ≡ host_calls v.module.imports) × (invoke_of v.module ≡ Some v.invoke) × IfSome v.flat (λ t. Spells t (context_of v.module)) };
+    ghost invariant = { λ v. IsValid v.module × (v.calls.items ≡ host_calls v.module.imports) ×
+        (invoke_of v.module ≡ Some v.invoke) ×
+        IfSome v.flat (λ t. Spells t (context_of v.module)) };
 }
 
 impl ValidModule {
@@ -67,7 +69,8 @@ impl ValidModule {
         self.calls.as_slice()
     }
 
-    /// The index of the function that the module exports as `invoke`. It takes nothing and leaves an i32.
+    /// The index of the function that the module exports as `invoke`. It takes nothing and leaves
+    /// an i32.
     pub fn invoke(&self) -> u32
         ensures { invoke_of self.now ≡ Some result }
     {
@@ -84,14 +87,15 @@ impl ValidModule {
 
 /// Takes a module in where it is valid.
 ///
-/// Rules are tested in the order of the sections: imports, functions, tables, memories, globals, exports,
-/// elements, code, data, and in each item by item. An import's, a function's, an export's or a segment's
-/// indices are tested before its other rules, and an instruction's before its operands.
+/// Rules are tested in the order of the sections: imports, functions, tables, memories, globals,
+/// exports, elements, code, data, and in each item by item. An import's, a function's, an export's
+/// or a segment's indices are tested before its other rules, and an instruction's before its
+/// operands.
 ///
 /// # Errors
 ///
-/// The first rule that is broken, or `Memory` (nothing is then said of the module). A module that is
-/// refused is dropped.
+/// The first rule that is broken, or `Memory` (nothing is then said of the module). A module that
+/// is refused is dropped.
 pub fn validate(alloc: Global, given: Module) -> Result<ValidModule, ValidateFault>
     ensures value { IfOk result (λ v. v ≡ given) }
     ensures valid { IfOk result (λ _. IsValid given) }

@@ -20,9 +20,13 @@ pub fn check_local_get(
     stack: &mut OperandStack,
     local: u32,
 ) -> Result<(), ValidateFault>
-    ensures ok { IfOk result (λ _. step (context_of scope.now labels.now) (op.LocalGet local) stack.old.here ≡ Some stack.new.here) }
+    ensures ok { IfOk result
+        (λ _. step (context_of scope.now labels.now) (op.LocalGet local) stack.old.here
+        ≡ Some stack.new.here) }
     ensures lower { IfOk result (λ _. stack.new.lower ≡ stack.old.lower) }
-    ensures refused { IfErr result (λ e. Refused e (Breaks e (context_of scope.now labels.now) (op.LocalGet local)) (step (context_of scope.now labels.now) (op.LocalGet local) stack.old.here)) }
+    ensures refused { IfErr result
+        (λ e. Refused e (Breaks e (context_of scope.now labels.now) (op.LocalGet local))
+        (step (context_of scope.now labels.now) (op.LocalGet local) stack.old.here)) }
     ensures keeps { IfErr result (λ e. Mismatch e
         (KeepsOwn (context_of scope.now labels.now) (op.LocalGet local))) }
 {
@@ -39,9 +43,13 @@ pub fn check_local_set(
     stack: &mut OperandStack,
     local: u32,
 ) -> Result<(), ValidateFault>
-    ensures ok { IfOk result (λ _. step (context_of scope.now labels.now) (op.LocalSet local) stack.old.here ≡ Some stack.new.here) }
+    ensures ok { IfOk result
+        (λ _. step (context_of scope.now labels.now) (op.LocalSet local) stack.old.here
+        ≡ Some stack.new.here) }
     ensures lower { IfOk result (λ _. stack.new.lower ≡ stack.old.lower) }
-    ensures refused { IfErr result (λ e. Refused e (Breaks e (context_of scope.now labels.now) (op.LocalSet local)) (step (context_of scope.now labels.now) (op.LocalSet local) stack.old.here)) }
+    ensures refused { IfErr result
+        (λ e. Refused e (Breaks e (context_of scope.now labels.now) (op.LocalSet local))
+        (step (context_of scope.now labels.now) (op.LocalSet local) stack.old.here)) }
     ensures keeps { IfErr result (λ e. Mismatch e
         (KeepsOwn (context_of scope.now labels.now) (op.LocalSet local))) }
 {
@@ -58,9 +66,13 @@ pub fn check_local_tee(
     stack: &mut OperandStack,
     local: u32,
 ) -> Result<(), ValidateFault>
-    ensures ok { IfOk result (λ _. step (context_of scope.now labels.now) (op.LocalTee local) stack.old.here ≡ Some stack.new.here) }
+    ensures ok { IfOk result
+        (λ _. step (context_of scope.now labels.now) (op.LocalTee local) stack.old.here
+        ≡ Some stack.new.here) }
     ensures lower { IfOk result (λ _. stack.new.lower ≡ stack.old.lower) }
-    ensures refused { IfErr result (λ e. Refused e (Breaks e (context_of scope.now labels.now) (op.LocalTee local)) (step (context_of scope.now labels.now) (op.LocalTee local) stack.old.here)) }
+    ensures refused { IfErr result
+        (λ e. Refused e (Breaks e (context_of scope.now labels.now) (op.LocalTee local))
+        (step (context_of scope.now labels.now) (op.LocalTee local) stack.old.here)) }
     ensures keeps { IfErr result (λ e. Mismatch e
         (KeepsOwn (context_of scope.now labels.now) (op.LocalTee local))) }
 {
@@ -80,9 +92,13 @@ pub fn check_global_get(
     stack: &mut OperandStack,
     global: u32,
 ) -> Result<(), ValidateFault>
-    ensures ok { IfOk result (λ _. step (context_of scope.now labels.now) (op.GlobalGet global) stack.old.here ≡ Some stack.new.here) }
+    ensures ok { IfOk result
+        (λ _. step (context_of scope.now labels.now) (op.GlobalGet global) stack.old.here
+        ≡ Some stack.new.here) }
     ensures lower { IfOk result (λ _. stack.new.lower ≡ stack.old.lower) }
-    ensures refused { IfErr result (λ e. Refused e (Breaks e (context_of scope.now labels.now) (op.GlobalGet global)) (step (context_of scope.now labels.now) (op.GlobalGet global) stack.old.here)) }
+    ensures refused { IfErr result
+        (λ e. Refused e (Breaks e (context_of scope.now labels.now) (op.GlobalGet global))
+        (step (context_of scope.now labels.now) (op.GlobalGet global) stack.old.here)) }
     ensures keeps { IfErr result (λ e. Mismatch e
         (KeepsOwn (context_of scope.now labels.now) (op.GlobalGet global))) }
 {
@@ -99,9 +115,13 @@ pub fn check_global_set(
     stack: &mut OperandStack,
     global: u32,
 ) -> Result<(), ValidateFault>
-    ensures ok { IfOk result (λ _. step (context_of scope.now labels.now) (op.GlobalSet global) stack.old.here ≡ Some stack.new.here) }
+    ensures ok { IfOk result
+        (λ _. step (context_of scope.now labels.now) (op.GlobalSet global) stack.old.here
+        ≡ Some stack.new.here) }
     ensures lower { IfOk result (λ _. stack.new.lower ≡ stack.old.lower) }
-    ensures refused { IfErr result (λ e. Refused e (Breaks e (context_of scope.now labels.now) (op.GlobalSet global)) (step (context_of scope.now labels.now) (op.GlobalSet global) stack.old.here)) }
+    ensures refused { IfErr result
+        (λ e. Refused e (Breaks e (context_of scope.now labels.now) (op.GlobalSet global))
+        (step (context_of scope.now labels.now) (op.GlobalSet global) stack.old.here)) }
     ensures keeps { IfErr result (λ e. Mismatch e
         (KeepsOwn (context_of scope.now labels.now) (op.GlobalSet global))) }
 {

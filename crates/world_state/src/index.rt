@@ -22,14 +22,21 @@ pub fn is_indexed(ids: &IdIndex, id: &[u8; 32]) -> bool
 
 /// Adds an id.
 fn index(ids: &mut IdIndex, id: [u8; 32]) -> Result<(), AllocError>
-    ensures { OnOk result ((sought : Bytes) → is_known (keys_of ids.new.entries) sought ≡ (bytes_eq id sought || is_known (keys_of ids.old.entries) sought)) }
+    ensures { OnOk result
+        ((sought : Bytes) →
+        is_known (keys_of ids.new.entries) sought
+        ≡ (bytes_eq id sought || is_known (keys_of ids.old.entries) sought)) }
 {
     ids.put(id, ())
 }
 
 /// Adds the ids of a block's transactions.
 pub fn index_block(alloc: Global, ids: &mut IdIndex, block: &Block) -> Result<(), AllocError>
-    ensures { OnOk result ((sought : Bytes) → is_known (keys_of ids.new.entries) sought ≡ (is_known (keys_of ids.old.entries) sought || is_id_of block.now.envelopes sought)) }
+    ensures { OnOk result
+        ((sought : Bytes) →
+        is_known (keys_of ids.new.entries) sought
+        ≡ (is_known (keys_of ids.old.entries) sought || is_id_of block.now.envelopes
+        sought)) }
 {
     let envelopes = block.envelopes.as_slice();
     for envelope in envelopes {

@@ -67,7 +67,8 @@ impl Model for Snapshot {
 
     ghost view = { λ s. blocks_in s.blocks.items };
 
-    ghost invariant = { λ s. IsRight (blocks_in s.blocks.items) s.map.entries (keys_of s.ids.entries) };
+    ghost invariant = { λ s. IsRight (blocks_in s.blocks.items) s.map.entries
+        (keys_of s.ids.entries) };
 }
 
 impl Snapshot {
@@ -122,21 +123,23 @@ impl Snapshot {
         all_entries(alloc, &self.map)
     }
 
-    /// The entries of a range, in key order, as far as the caller asks for them. The bounds are as in
-    /// `range`.
+    /// The entries of a range, in key order, as far as the caller asks for them. The bounds are as
+    /// in `range`.
     pub fn entries_in(
         &self,
         alloc: Global,
         start: &Bound,
         end: &Bound,
     ) -> Result<Range<'_, Key, (Value, Version)>, AllocError>
-        ensures { IfOk result (λ r. r ≡ within start.now end.now (entries (state (history self.now)))) }
+        ensures { IfOk result
+            (λ r. r ≡ within start.now end.now (entries (state (history self.now)))) }
     {
         range_in(alloc, &self.map, start, end)
     }
 
-    /// The first `n` entries of a range, in key order: from `start` on, or from the first key where it is
-    /// empty, and below `end`, or without a bound where it is empty. Nothing else of the state is visited.
+    /// The first `n` entries of a range, in key order: from `start` on, or from the first key where
+    /// it is empty, and below `end`, or without a bound where it is empty. Nothing else of the
+    /// state is visited.
     pub fn range(
         &self,
         alloc: Global,
@@ -144,13 +147,14 @@ impl Snapshot {
         end: &Bound,
         n: usize,
     ) -> Result<Vec<(&Key, &(Value, Version))>, AllocError>
-        ensures { IfOk result (λ v. map deref_pair v.items ≡ first (state (history self.now)) start.now end.now n) }
+        ensures { IfOk result
+            (λ v. map deref_pair v.items ≡ first (state (history self.now)) start.now end.now n) }
     {
         first_entries(alloc, &self.map, start, end, n)
     }
 
-    /// The snapshot after one block more, which is the next in number. This one stays as it is, and both share
-    /// what the block does not change.
+    /// The snapshot after one block more, which is the next in number. This one stays as it is, and
+    /// both share what the block does not change.
     pub fn extended(
         &self,
         alloc: Global,
@@ -159,7 +163,8 @@ impl Snapshot {
     ) -> Result<Snapshot, AllocError>
         requires next { block.header.number ≡ length self.now + 1 }
         requires one_each { length flags.items ≡ length block.envelopes }
-        ensures { IfOk result (λ s. s ≡ self.now ++ record { block = block; flags = flags.items } ∷ []) }
+        ensures { IfOk result
+            (λ s. s ≡ self.now ++ record { block = block; flags = flags.items } ∷ []) }
     {
         let mut map = self.map.clone()?;
         let mut ids = self.ids.clone()?;

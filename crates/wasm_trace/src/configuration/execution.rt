@@ -28,8 +28,11 @@ impl<'m> Configuration<'m> {
         host: &mut H,
     ) -> Result<Flow, AllocError>
         requires { Linked valid.now self.old }
-        ensures goes { IfOk result (λ r. Reduced (program_of valid.now (H.answers host.old)) self.old self.new (H.records host.old) (H.records host.new) r) }
-        ensures rests { IfOk result (λ r. Rests self.old self.new (H.records host.old) (H.records host.new) r) }
+        ensures goes { IfOk result
+            (λ r. Reduced (program_of valid.now (H.answers host.old)) self.old self.new
+            (H.records host.old) (H.records host.new) r) }
+        ensures rests { IfOk result
+            (λ r. Rests self.old self.new (H.records host.old) (H.records host.new) r) }
         ensures kept { Within self.old self.new }
         ensures stays { IfOk result (λ _. H.answers host.new ≡ H.answers host.old) }
         ensures keeps { IfOk result (λ _. H.context host.new ≡ H.context host.old) }
@@ -53,7 +56,8 @@ impl<'m> Configuration<'m> {
 
     /// A loop that a branch came to, which costs 1 again.
     fn again<H: Host>(&mut self, block: &'m Block) -> Result<Flow, AllocError>
-        ensures goes { IfOk result (λ r. Repeated H.Records block.now.result block.now.body self.old self.new r) }
+        ensures goes { IfOk result
+            (λ r. Repeated H.Records block.now.result block.now.body self.old self.new r) }
         ensures spends { IfOk result NoEnd }
         ensures kept { Within self.old self.new }
     {
@@ -69,8 +73,11 @@ impl<'m> Configuration<'m> {
     fn next<H: Host>(&mut self, valid: &'m ValidModule, host: &mut H) -> Result<Flow, AllocError>
         requires linked { Linked valid.now self.old }
         requires nothing { self.old.front ≡ front.Nothing }
-        ensures goes { IfOk result (λ r. Reduced (program_of valid.now (H.answers host.old)) self.old self.new (H.records host.old) (H.records host.new) r) }
-        ensures rests { IfOk result (λ r. Rests self.old self.new (H.records host.old) (H.records host.new) r) }
+        ensures goes { IfOk result
+            (λ r. Reduced (program_of valid.now (H.answers host.old)) self.old self.new
+            (H.records host.old) (H.records host.new) r) }
+        ensures rests { IfOk result
+            (λ r. Rests self.old self.new (H.records host.old) (H.records host.new) r) }
         ensures kept { Within self.old self.new }
         ensures stays { IfOk result (λ _. H.answers host.new ≡ H.answers host.old) }
         ensures keeps { IfOk result (λ _. H.context host.new ≡ H.context host.old) }
@@ -97,9 +104,13 @@ impl<'m> Configuration<'m> {
         host: &mut H,
     ) -> Result<Act<'m>, AllocError>
         requires { Linked valid.now self.old }
-        ensures does { IfOk result (λ a. Does (program_of valid.now (H.answers host.old)) instr.now self.old self.new (H.records host.old) (H.records host.new) a) }
-        ensures jumps { IfOk result (λ a. Jumps self.old self.new (H.records host.old) (H.records host.new) a) }
-        ensures spent { IfOk result (λ a. a ≡ act.Become turn.Spent → H.records host.new ≡ H.records host.old) }
+        ensures does { IfOk result
+            (λ a. Does (program_of valid.now (H.answers host.old)) instr.now self.old self.new
+            (H.records host.old) (H.records host.new) a) }
+        ensures jumps { IfOk result
+            (λ a. Jumps self.old self.new (H.records host.old) (H.records host.new) a) }
+        ensures spent { IfOk result
+            (λ a. a ≡ act.Become turn.Spent → H.records host.new ≡ H.records host.old) }
         ensures stands { Stands self.old self.new }
         ensures kept { Within self.old self.new }
         ensures stays { IfOk result (λ _. H.answers host.new ≡ H.answers host.old) }
