@@ -3,6 +3,9 @@
 ghost use Rattle.std.specs.Prelude.{◌≡◌, ℕ};
 ghost use Rattle.batch_cutter.specs.Offers.{cause_number};
 
+use std::error::Error;
+use std::fmt::{self, Display, Formatter, Write};
+
 /// A message that has a size.
 pub trait Weigh {
     ghost weight: { Self → ℕ };
@@ -40,6 +43,14 @@ impl Cause {
         self as u16
     }
 }
+
+impl Display for Cause {
+    fn fmt<W: Write>(&self, f: &mut Formatter<W>) -> fmt::Result {
+        write!(f, "refused {}", self.number())
+    }
+}
+
+impl Error for Cause {}
 
 /// A message that was refused, handed back.
 #[derive(Drop)]

@@ -11,6 +11,7 @@ use crate::device::CountedWrite;
 use fab_types::{Block, Flag};
 use sha2::{Digest, Sha256};
 use std::alloc::{AllocError, AllocFailed, Global};
+use std::error::Error;
 use std::fmt::{self, Display, Formatter, Write};
 use wire::encode_block;
 
@@ -45,6 +46,8 @@ impl Display for AppendFault {
         write!(f, "{}", self.number())
     }
 }
+
+impl Error for AppendFault {}
 
 impl From<AllocError> for AppendFault {
     ghost from_gives = { λ _ e. e ≡ Memory };

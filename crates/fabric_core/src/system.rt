@@ -17,6 +17,7 @@ use seq::Seq;
 use simulator::Book;
 use std::alloc::{AllocError, Global};
 use std::collections::VecDeque;
+use std::fmt::{self, Debug, Formatter, Write};
 use std::marker::Model;
 use std::sync::Arc;
 use world_state::Snapshot;
@@ -44,6 +45,21 @@ pub struct Genesis {
     pub reorder: bool,
 }
 
+/// The tags' keys are not printed.
+impl Debug for Genesis {
+    fn fmt<W: Write>(&self, f: &mut Formatter<W>) -> fmt::Result {
+        f.debug_struct("Genesis")
+            .field("peers", &self.peers)
+            .field("seats", &self.seats)
+            .field("queue", &self.queue)
+            .field("count", &self.count)
+            .field("preferred", &self.preferred)
+            .field("absolute", &self.absolute)
+            .field("reorder", &self.reorder)
+            .finish_non_exhaustive()
+    }
+}
+
 /// Peers, the queue, and the orderer. Contracts see the book, the
 /// rules, the queue's capacity and the abstract world.
 #[derive(Drop)]
@@ -55,6 +71,17 @@ pub struct System {
     peers: Vec<Peer>,
     queue: VecDeque<Envelope>,
     orderer: Orderer,
+}
+
+/// How many peers there are, how many envelopes wait, and the height. The tags' keys are not printed.
+impl Debug for System {
+    fn fmt<W: Write>(&self, f: &mut Formatter<W>) -> fmt::Result {
+        f.debug_struct("System")
+            .field("peers", &self.peers.len())
+            .field("queued", &self.queue.len())
+            .field("blocks", &self.orderer.blocks().len())
+            .finish_non_exhaustive()
+    }
 }
 
 impl Model for System {

@@ -20,6 +20,7 @@ use fab_types::{
 };
 use interp::{Host, HostAnswer, HostCall};
 use std::alloc::{AllocError, Global};
+use std::fmt::{self, Debug, Formatter, Write};
 use std::marker::Model;
 
 /// The most keys that a run may read.
@@ -52,6 +53,19 @@ pub struct Recorder<'v, V: View> {
     ranges: Vec<RangeItem>,
     result: Value,
     writes: Vec<WriteItem>,
+}
+
+/// The view is not printed.
+impl<V: View> Debug for Recorder<'_, V> {
+    fn fmt<W: Write>(&self, f: &mut Formatter<W>) -> fmt::Result {
+        f.debug_struct("Recorder")
+            .field("argument", self.argument)
+            .field("reads", &self.reads)
+            .field("ranges", &self.ranges)
+            .field("result", &self.result)
+            .field("writes", &self.writes)
+            .finish_non_exhaustive()
+    }
 }
 
 impl<'v, V: View> Model for Recorder<'v, V> {

@@ -56,6 +56,8 @@ impl Display for OrderCause {
     }
 }
 
+impl Error for OrderCause {}
+
 impl Display for OrderRefusal {
     fn fmt<W: Write>(&self, f: &mut Formatter<W>) -> fmt::Result {
         write!(f, "{}", self.cause)

@@ -7,8 +7,7 @@
 //! as many bytes as its width needs, and its unused bits are zero or repeat the sign; longer
 //! spellings within that length are read.
 //!
-//! Nothing is copied and no memory is taken. Each reader takes time in proportion to the bytes that
-//! it passes.
+//! Nothing is copied and no memory is taken.
 #![tactic(auto)]
 
 mod cursor;

@@ -5,6 +5,8 @@ ghost use Rattle.wasm_decode.specs.declared.fault.DecodeFault.TheVariants.{Memor
 ghost use Rattle.wasm_decode.specs.FaultNumbers.{number_of, kind_of};
 
 use std::alloc::{AllocError, AllocFailed};
+use std::error::Error;
+use std::fmt::{self, Display, Formatter, Write};
 use wasm_bytes::ByteFault;
 
 /// What is wrong with the bytes.
@@ -47,6 +49,12 @@ impl FaultKind {
     }
 }
 
+impl Display for FaultKind {
+    fn fmt<W: Write>(&self, f: &mut Formatter<W>) -> fmt::Result {
+        write!(f, "{}", self.number())
+    }
+}
+
 /// Why a module was refused.
 #[derive(Clone, Copy, Debug, Drop, PartialEq, Eq)]
 pub enum DecodeFault {
@@ -56,6 +64,17 @@ pub enum DecodeFault {
     /// first byte, or of the end where the bytes end inside it.
     Malformed(FaultKind, usize),
 }
+
+impl Display for DecodeFault {
+    fn fmt<W: Write>(&self, f: &mut Formatter<W>) -> fmt::Result {
+        match self {
+            DecodeFault::Memory => write!(f, "9"),
+            DecodeFault::Malformed(kind, offset) => write!(f, "{kind} at {offset}"),
+        }
+    }
+}
+
+impl Error for DecodeFault {}
 
 impl From<AllocError> for DecodeFault {
     ghost from_gives = { λ _ e. e ≡ Memory };

@@ -5,8 +5,8 @@
 //! the bytes they spell no module of the profile; and bytes spell at most one module
 //! ([`one_module`]).
 //!
-//! Reading goes once from left to right, in time in proportion to the bytes. No byte is copied but
-//! into the module, no list is copied, and the recursion is as deep as blocks may nest.
+//! Reading goes once from left to right. No byte is copied but into the module, no list is copied,
+//! and the recursion is as deep as blocks may nest.
 //!
 //! Each opcode and type byte is a row of a table (`specs/Tables.antt`, `specs/Opcodes.antt`,
 //! `specs/Operators.antt`), so that a further one is a row there and an arm of a `match` here.

@@ -4,6 +4,7 @@ ghost use Rattle.std.specs.Prelude.{◌≡◌};
 ghost use Rattle.wasm_validate.specs.FaultNumbers.{number_of};
 
 use std::alloc::{AllocError, AllocFailed};
+use std::error::Error;
 use std::fmt::{self, Display, Formatter, Write};
 
 /// The rule that a module breaks, or the want of memory that kept it from being validated.
@@ -59,6 +60,8 @@ impl Display for ValidateFault {
         write!(f, "{}", self.number())
     }
 }
+
+impl Error for ValidateFault {}
 
 impl<T: Drop> From<AllocFailed<T>> for ValidateFault {
     ghost use Rattle.std.specs.Prelude.{◌≡◌};
