@@ -7,3 +7,4 @@ mod Items
 mod Replies
 mod Calls
 mod Firsts
+mod Behind

@@ -5,3 +5,4 @@ pub mod Executing
 pub mod Plain
 pub mod Places
 pub mod Parts
+pub mod Reach

@@ -1,12 +1,14 @@
 //! The memory of chaincode.
 
 ghost use Rattle.std.specs.Prelude.{◌≡◌, ◌≤◌, ◌<◌, ◌+◌, ◌-◌, ◌^◌, length, option_map};
+ghost use Rattle.wasm_validate.specs.HostCalls.{arity};
 ghost use Rattle.wasm_ast.specs.declared.host_call.HostAnswer.TheVariants as host_answer;
 ghost use Rattle.wasm_meaning.specs.Memory.{written};
 ghost use Rattle.host_api.specs.Recorded.{Recorded};
 ghost use Rattle.host_api.specs.HostStep.{bytes_at, replies};
+ghost use Rattle.host_api.specs.Reach.{end_at, reach};
 
-use wasm_ast::HostAnswer;
+use wasm_ast::{HostAnswer, HostCall};
 
 /// The bytes of a pointer and a length. None where they do not lie within the memory.
 pub fn bytes_at(memory: &[u8], pointer: u32, len: u32) -> Option<&[u8]>
@@ -14,6 +16,27 @@ pub fn bytes_at(memory: &[u8], pointer: u32, len: u32) -> Option<&[u8]>
 {
     let start = pointer as usize;
     memory.get(start..start + len as usize)
+}
+
+/// How far the bytes reach that a call is given.
+pub fn reach(which: HostCall, args: &[u32]) -> usize
+    requires { length args.now ≡ arity which }
+    ensures { result ≡ reach which args.now }
+{
+    let first = end_at(args, 0);
+    match which {
+        HostCall::GetState | HostCall::PutState => first.max(end_at(args, 2)),
+        HostCall::RangeState => first.max(end_at(args, 2)).max(end_at(args, 5)),
+        HostCall::DelState | HostCall::GetArg | HostCall::SetResult => first,
+    }
+}
+
+// The end of the bytes of a pointer, the argument at a place, and of the length behind it.
+fn end_at(args: &[u32], place: usize) -> usize
+    requires { place + 1 < length args.now }
+    ensures { result ≡ end_at args.now place }
+{
+    args[place] as usize + args[place + 1] as usize
 }
 
 /// The answer -k, as a word.

@@ -5,6 +5,7 @@ ghost use Rattle.std.specs.FinMap.{get};
 ghost use Rattle.std.specs.Map.Iter.{deref_pair};
 ghost use Rattle.fab_types.specs.Limits.{IsKey, IsBound, IsValue};
 ghost use Rattle.wasm_ast.specs.declared.host_call.HostCall.TheVariants as host_call;
+ghost use Rattle.wasm_validate.specs.HostCalls.{arity};
 ghost use Rattle.ledger_model.specs.Views.{values_of};
 ghost use Rattle.ledger_model.specs.Flags.{version_at};
 ghost use Rattle.host_api.specs.Recorded.{Recorded, nothing_recorded, seen_on};
@@ -12,7 +13,7 @@ ghost use Rattle.host_api.specs.HostStep.{host_step, read_key, write, ask_range}
 ghost use Rattle.host_api.specs.Recording.{read_reply, range_reply, entry_of};
 
 use crate::keyed::search;
-use crate::memory::{bytes_at, negative, reply};
+use crate::memory::{bytes_at, negative, reach, reply};
 use crate::ranges::{range_entries, range_reply};
 use crate::view::View;
 use fab_types::{
@@ -22,6 +23,7 @@ use interp::{Host, HostAnswer, HostCall};
 use std::alloc::{AllocError, Global};
 use std::fmt::{self, Debug, Formatter, Write};
 use std::marker::Model;
+use wasm_instance::Memory;
 
 /// The most keys that a run may read.
 const MOST_READS: usize = 256;
@@ -125,6 +127,31 @@ impl<'v, V: View> Recorder<'v, V> {
             ranges: Ranges::new(self.ranges).unwrap(),
             result: self.result,
             writes: WriteSet::new(self.writes).unwrap(),
+        }
+    }
+
+    /// One call, on a beginning of the memory in which its bytes lie, or on all of it.
+    fn answer(
+        &mut self,
+        which: HostCall,
+        args: &[u32],
+        memory: &mut [u8],
+    ) -> Result<HostAnswer, AllocError>
+        requires { length args.now ≡ arity which }
+        ensures answer { IfOk result
+            (λ a. host_step (values_of (V.state self.old.opened.view)) self.old.opened.argument
+            which args.now memory.old self.old.records
+            ≡ record { answer = a; memory = memory.new; records = self.new.records }) }
+        ensures opened { self.new.opened ≡ self.old.opened }
+        ensures keeps { length memory.new ≡ length memory.old }
+    {
+        match which {
+            HostCall::GetState => self.get_state(args, memory),
+            HostCall::PutState => self.put_state(args, memory),
+            HostCall::DelState => self.del_state(args, memory),
+            HostCall::RangeState => self.range_state(args, memory),
+            HostCall::GetArg => self.get_arg(args, memory),
+            HostCall::SetResult => self.set_result(args, memory),
         }
     }
 
@@ -398,15 +425,9 @@ impl<'v, V: View> Host for Recorder<'v, V> {
         &mut self,
         which: HostCall,
         args: &[u32],
-        memory: &mut [u8],
+        memory: &mut Memory,
     ) -> Result<HostAnswer, AllocError> {
-        match which {
-            HostCall::GetState => self.get_state(args, memory),
-            HostCall::PutState => self.put_state(args, memory),
-            HostCall::DelState => self.del_state(args, memory),
-            HostCall::RangeState => self.range_state(args, memory),
-            HostCall::GetArg => self.get_arg(args, memory),
-            HostCall::SetResult => self.set_result(args, memory),
-        }
+        let end = reach(which, args);
+        self.answer(which, args, memory.front(end))
     }
 }

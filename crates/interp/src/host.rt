@@ -6,6 +6,7 @@ ghost use Rattle.wasm_meaning.specs.Values.{Answering};
 
 use std::alloc::AllocError;
 use wasm_ast::{HostAnswer, HostCall};
+use wasm_instance::Memory;
 
 /// What a module imports. A host answers calls and records what they were.
 ///
@@ -31,7 +32,7 @@ pub trait Host {
         &mut self,
         which: HostCall,
         args: &[u32],
-        memory: &mut [u8],
+        memory: &mut Memory,
     ) -> Result<HostAnswer, AllocError>
         requires { length args.now ≡ arity which }
         ensures answer { IfOk result

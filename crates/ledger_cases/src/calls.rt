@@ -12,6 +12,7 @@ use host_api::{Parts, PlainMap, Recorder};
 use interp::{Host, HostAnswer, HostCall};
 use std::alloc::{AllocError, Global};
 use std::fmt::Write;
+use wasm_instance::Memory;
 
 /// What the host answers to calls, and what it recorded.
 pub fn call_host(alloc: Global, text: &str) -> Result<String, CaseFault> {
@@ -48,11 +49,13 @@ fn record_calls(
     calls: &str,
 ) -> Result<String, CaseFault> {
     let mut answer = String::new(alloc);
-    let mut changed = Vec::from_slice(alloc, memory)?;
+    let mut changed = Memory::new(alloc, memory.len())?;
+    changed.write(0, memory);
     let mut host = Recorder::new(alloc, state, argument);
     call_each(alloc, &mut answer, &mut host, &mut changed, calls)?;
-    if changed.as_slice() != memory {
-        write!(answer, ", memory {}", hex::encode(alloc, &changed)?)?;
+    let changed = changed.front(memory.len());
+    if *changed != *memory {
+        write!(answer, ", memory {}", hex::encode(alloc, changed)?)?;
     }
     write_parts(&mut answer, &host.into_parts())?;
     Ok(answer)
@@ -68,7 +71,7 @@ fn call_each(
     alloc: Global,
     answer: &mut String,
     host: &mut Recorder<'_, PlainMap>,
-    memory: &mut [u8],
+    memory: &mut Memory,
     calls: &str,
 ) -> Result<(), CaseFault> {
     for call in calls.split(" | ") {
@@ -92,7 +95,7 @@ fn write_answer(answer: &mut String, given: HostAnswer) -> Result<(), AllocError
 fn call_once(
     alloc: Global,
     host: &mut Recorder<'_, PlainMap>,
-    memory: &mut [u8],
+    memory: &mut Memory,
     call: &str,
 ) -> Result<HostAnswer, CaseFault> {
     let (name, numbers) = split_word(call);

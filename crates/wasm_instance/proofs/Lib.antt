@@ -1,1 +1,4 @@
 pub mod Starting
+pub mod Front
+pub mod Reach
+pub mod Lent

@@ -1,4 +1,6 @@
 pub mod State
 pub mod Accesses
 pub mod Segments
+pub mod Front
+pub mod LendingFront
 pub mod Lending

@@ -3,12 +3,11 @@
 //! Each access tests once that it lies within the memory. It has a place, an operand plus an
 //! offset, and so below 2^33.
 
-ghost use Rattle.std.specs.Prelude.{◌≡◌, ◌+◌, ◌<◌, ◌≤◌, ◌^◌, ◌++◌, length, replicate, OnOk, OnErr};
+ghost use Rattle.std.specs.Prelude.{◌≡◌, ◌+◌, ◌<◌, ◌≤◌, ◌^◌, length};
 ghost use Rattle.wasm_ast.specs.Access.{store_width};
 ghost use Rattle.wasm_meaning.specs.Memory.{bytes_at, number_of, written};
 ghost use Rattle.wasm_instance.specs.Accesses.{within, load_at, after_write, after_store};
 
-use std::alloc::AllocError;
 use wasm_ast::{LoadOp, StoreOp, Trap};
 
 /// How many bytes a page of memory has.
@@ -129,16 +128,4 @@ pub fn write(memory: &mut [u8], place: usize, bytes: &[u8])
     ensures { memory.new ≡ written memory.old place bytes.now }
 {
     memory[place..place + bytes.len()].copy_from_slice(bytes);
-}
-
-/// A memory made longer by zeros. Where there is no room it is given back as it was, with
-/// `AllocError`.
-#[inline(never)]
-pub fn with_zeros(mut memory: Vec<u8>, count: usize) -> (Vec<u8>, Result<(), AllocError>)
-    requires { count < 2 ^ 62 }
-    ensures grown { OnOk result.1 (result.0.items ≡ memory.items ++ replicate count 0) }
-    ensures refused { OnErr result.1 (result.0.items ≡ memory.items) }
-{
-    let done = memory.resize(memory.len() + count, 0);
-    (memory, done)
 }

@@ -6,7 +6,8 @@ ghost use Rattle.wasm_meaning.specs.Program.{initial, first_limits, with_segment
 ghost use Rattle.wasm_instance.specs.Segments.{IsConstant, AreData, AreElements};
 ghost use Rattle.wasm_instance.specs.State.{words_of};
 
-use crate::access::{PAGE, write};
+use crate::access::PAGE;
+use crate::memory::Memory;
 use std::alloc::{AllocError, Global as Allocation};
 use wasm_ast::{Body, DataSegment, ElementSegment, Global, Instr, Limits, Module};
 
@@ -14,15 +15,12 @@ use wasm_ast::{Body, DataSegment, ElementSegment, Global, Instr, Limits, Module}
 const MOST_PAGES: u32 = 16;
 
 /// The memory of a fresh instance of a valid module.
-pub fn fresh_memory(alloc: Allocation, module: &Module) -> Result<Vec<u8>, AllocError>
+pub fn fresh_memory(alloc: Allocation, module: &Module) -> Result<Memory, AllocError>
     requires { IsValid «module».now }
-    ensures { IfOk result (λ memory. memory.items ≡ fresh_memory «module».now) }
+    ensures { IfOk result (λ memory. memory ≡ fresh_memory «module».now) }
 {
-    let mut memory = Vec::new(alloc);
-    memory.resize(
-        PAGE * first_limits(module.memories.as_slice()).least as usize,
-        0,
-    )?;
+    let size = PAGE * first_limits(module.memories.as_slice()).least as usize;
+    let mut memory = Memory::new(alloc, size)?;
     write_segments(&mut memory, module.data.as_slice());
     Ok(memory)
 }
@@ -76,16 +74,12 @@ fn first_limits(limits: &[Limits]) -> Limits
 }
 
 // Writes data segments in order.
-fn write_segments(memory: &mut [u8], segments: &[DataSegment])
+fn write_segments(memory: &mut Memory, segments: &[DataSegment])
     requires { AreData segments.now (length memory.old) }
     ensures { memory.new ≡ with_segments memory.old segments.now }
 {
     for segment in segments {
-        write(
-            memory,
-            constant(&segment.offset) as usize,
-            segment.bytes.as_slice(),
-        );
+        memory.write(constant(&segment.offset) as usize, segment.bytes.as_slice());
     }
 }
 

@@ -8,11 +8,11 @@ ghost use Rattle.wasm_instance.specs.Accesses.{within, load_at, after_store, gro
 ghost use Rattle.wasm_instance.specs.State.{fresh};
 ghost use Rattle.wasm_instance.specs.Lending.{LendsMemory};
 
-use crate::access::{PAGE, load_word, store_word, with_zeros};
+use crate::access::PAGE;
 use crate::fresh::{fresh_globals, fresh_memory, fresh_table, most_pages};
+use crate::memory::Memory;
 use std::alloc::{AllocError, Global};
 use std::marker::Model;
-use std::mem;
 use wasm_ast::{LoadOp, StoreOp, Trap};
 use wasm_validate::ValidModule;
 
@@ -22,7 +22,7 @@ use wasm_validate::ValidModule;
 /// A word of 32 bits stands in 64 as a number below 2^32.
 #[derive(Debug, Drop)]
 pub struct Instance {
-    memory: Vec<u8>,
+    memory: Memory,
     globals: Vec<u64>,
     // The function of each entry that has one.
     table: Vec<Option<u32>>,
@@ -37,7 +37,7 @@ impl Model for Instance {
 
     ghost view = { λ i.
         record {
-          memory = i.memory.items;
+          memory = i.memory;
           globals = i.globals.items;
           table = i.table.items;
           most_pages = i.most_pages;
@@ -74,7 +74,7 @@ impl Instance {
     pub fn load(&self, op: LoadOp, address: u32, offset: u32) -> Result<u64, Trap>
         ensures { result ≡ load_at op self.now.memory (address + offset) }
     {
-        load_word(op, &self.memory, address as usize + offset as usize)
+        self.memory.load(op, address as usize + offset as usize)
     }
 
     /// Stores the low bytes of a word at an address plus an offset (Core 1.0, section 4.4.4).
@@ -89,12 +89,8 @@ impl Instance {
         ensures stored { self.new
             ≡ record self.old { memory = after_store op self.old.memory (address + offset) word } }
     {
-        store_word(
-            op,
-            &mut self.memory,
-            address as usize + offset as usize,
-            word,
-        )
+        self.memory
+            .store(op, address as usize + offset as usize, word)
     }
 
     /// The size of the memory in pages of 65,536 bytes, modulo 2^32 (Core 1.0, section 4.4.4).
@@ -109,9 +105,6 @@ impl Instance {
     /// in pages; else gives the word -1, and nothing changes (Core 1.0, section 4.4.4).
     ///
     /// `AllocError` where there is no room for the pages: nothing changes then either.
-    ///
-    /// The memory is moved out and back, and no address of it is lent: an instance that is a local
-    /// of the caller can stay in registers.
     #[inline(always)]
     pub fn grow(&mut self, count: u32) -> Result<u32, AllocError>
         ensures word { IfOk result (λ word. word ≡ grow_word self.old count) }
@@ -123,11 +116,7 @@ impl Instance {
             return Ok(u32::MAX);
         }
         let size = self.size();
-        let empty = Vec::new(*self.memory.allocator());
-        let old = mem::replace(&mut self.memory, empty);
-        let (memory, done) = with_zeros(old, PAGE * count as usize);
-        self.memory = memory;
-        done?;
+        self.memory.grow(PAGE * count as usize)?;
         Ok(size)
     }
 
@@ -166,20 +155,12 @@ impl Instance {
         }
     }
 
-    /// The bytes of the memory.
+    /// The memory, to be written in place.
     #[inline(always)]
-    pub fn memory(&self) -> &[u8]
-        ensures { result.now ≡ self.now.memory }
-    {
-        self.memory.as_slice()
-    }
-
-    /// The bytes of the memory, to be written in place.
-    #[inline(always)]
-    pub fn memory_mut(&mut self) -> &mut [u8]
+    pub fn memory_mut(&mut self) -> &mut Memory
         ensures* writes_back { sem 𝓛 (LendsMemory self.entry result) }
         ensures value { result.now ≡ self.old.memory }
     {
-        self.memory.as_mut_slice()
+        &mut self.memory
     }
 }

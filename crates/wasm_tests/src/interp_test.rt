@@ -5,6 +5,7 @@ use interp::{Host, HostAnswer, HostCall, Outcome, run};
 use std::alloc::{AllocError, Global};
 use std::test::Fail;
 use wasm_ast::Trap;
+use wasm_instance::Memory;
 
 /// A host that always answers the same, and records nothing.
 #[derive(Drop)]
@@ -30,7 +31,7 @@ impl Host for Fixed {
         &mut self,
         _which: HostCall,
         _args: &[u32],
-        _memory: &mut [u8],
+        _memory: &mut Memory,
     ) -> Result<HostAnswer, AllocError> {
         Ok(self.answer)
     }

@@ -20,21 +20,24 @@ fn instance(alloc: Global) -> Result<Instance, Fail> {
 }
 
 /// Whether the memory is one page that begins with `a1` and zeros.
-fn is_fresh(instance: &Instance) -> bool {
+fn is_fresh(instance: &mut Instance) -> bool {
     instance.size() == 1
-        && instance.memory().len() == 65_536
-        && instance.memory().starts_with(&[0x61, 0x31, 0, 0])
+        && instance.memory_mut().len() == 65_536
+        && instance
+            .memory_mut()
+            .front(4)
+            .starts_with(&[0x61, 0x31, 0, 0])
 }
 
 /// Whether bytes that are written through the lent memory are loaded.
 fn keeps_what_is_lent(instance: &mut Instance) -> bool {
-    instance.memory_mut().fill(7);
+    instance.memory_mut().front(65_536).fill(7);
     instance.load(LoadOp::I32, 0, 65_532) == Ok(0x0707_0707)
 }
 
 /// Whether no store that passes the end of the memory by one byte writes any of its bytes.
 fn keeps_what_it_cannot_store(instance: &mut Instance) -> bool {
-    instance.memory_mut().fill(0xff);
+    instance.memory_mut().front(65_536).fill(0xff);
     for op in STORES {
         let past = 65_537_u32.wrapping_sub(op.width());
         let trapped = instance.store(op, past, 0, 0) == Err(Trap::OutOfBounds);
@@ -48,7 +51,7 @@ fn keeps_what_it_cannot_store(instance: &mut Instance) -> bool {
 #[test]
 fn the_memory_is_shown_lent_and_kept(rt: HostRuntime) -> Result<(), Fail> {
     let mut instance = instance(rt.alloc())?;
-    assert!(rt; is_fresh(&instance));
+    assert!(rt; is_fresh(&mut instance));
     assert!(rt; keeps_what_is_lent(&mut instance));
     assert!(rt; keeps_what_it_cannot_store(&mut instance));
     Ok(())
