@@ -4,7 +4,7 @@
 //! What it does is `ledger_program`'s.
 #![tactic(auto)]
 
-use ledger_program::{Disk, program};
+use ledger_program::{Disk, Printer, program};
 use std::process::ExitCode;
 use std::{env, io};
 
@@ -19,7 +19,7 @@ fn main(rt: HostRuntime) -> io::Result<ExitCode> {
         rt.alloc(),
         &words,
         &mut Disk::new(&rt),
-        &mut io::writer(&rt),
+        &mut Printer::new(&mut io::writer(&rt)),
     );
     Ok(ExitCode::from(status))
 }

@@ -1,9 +1,13 @@
 //! The command `audit`.
 
+ghost use Rattle.std.specs.Prelude.{◌≡◌, true, false, IfOk};
+ghost use Rattle.ledger_program.specs.Told.{Tells};
+
 use crate::failure::Failure;
 use crate::files::Files;
 use crate::lines::print_audit;
 use crate::opening::genesis_in;
+use crate::printer::Printer;
 use crate::storing::replayed;
 use block_store::End;
 use fabric_core::Genesis;
@@ -19,8 +23,10 @@ pub fn audit<F: Files, W: Write>(
     files: &mut F,
     genesis: &str,
     store: &str,
-    out: &mut W,
-) -> Result<(), Failure> {
+    out: &mut Printer<'_, W>,
+) -> Result<(), Failure>
+    ensures tells { Tells out.old out.new result }
+{
     let genesis = genesis_in(alloc, files, genesis)?;
     let replayed = replayed(alloc, files, &genesis, store)?;
     let blocks = replayed.blocks;
@@ -39,8 +45,11 @@ fn print_findings<W: Write>(
     alloc: Global,
     genesis: &Genesis,
     replayed: &Replayed,
-    out: &mut W,
-) -> Result<bool, Failure> {
+    out: &mut Printer<'_, W>,
+) -> Result<bool, Failure>
+    ensures tells { Tells out.old out.new result }
+    ensures differs { IfOk result (λ good. good ≡ false → out.new.printed ≡ true) }
+{
     if let Some(number) = replayed.differs {
         writeln!(out, "flags differ {number}")?;
         return Ok(false);

@@ -1,8 +1,11 @@
 //! The command `check`.
 
+ghost use Rattle.ledger_program.specs.Told.{Tells};
+
 use crate::failure::Failure;
 use crate::files::{Files, read_at_most};
 use crate::module_file::defined_functions;
+use crate::printer::Printer;
 use std::alloc::Global;
 use std::io::Write;
 
@@ -14,8 +17,10 @@ pub fn check<F: Files, W: Write>(
     alloc: Global,
     files: &mut F,
     module: &str,
-    out: &mut W,
-) -> Result<(), Failure> {
+    out: &mut Printer<'_, W>,
+) -> Result<(), Failure>
+    ensures tells { Tells out.old out.new result }
+{
     let bytes = read_at_most(alloc, files, module, MOST_READ)?;
     let functions = defined_functions(alloc, &bytes)?;
     let length = bytes.len();

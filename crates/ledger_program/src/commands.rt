@@ -1,16 +1,20 @@
 //! The program, but for the machine that it runs on.
 
+ghost use Rattle.std.specs.Prelude.{◌≡◌, ◌<◌};
+ghost use Rattle.ledger_program.specs.Told.{IsTold, Says, Tells};
+
 use crate::auditing::audit;
 use crate::checking::check;
 use crate::failure::Failure;
 use crate::files::Files;
+use crate::printer::Printer;
 use crate::session::run;
 use crate::simulation::simulate;
 use crate::threading::threads;
 use crate::tracing::trace;
 use crate::words::{self, Task};
 use std::alloc::Global;
-use std::io::{self, Write};
+use std::io::Write;
 use std::sync::Wait;
 use std::thread::Threads;
 
@@ -32,31 +36,36 @@ const USAGE: &str = "usage: ledger check MODULE
            with the fuel that it leaves, and how the call ends";
 
 /// Does what the words ask for, the command first, and answers the exit status: 0 for done, 1 for a
-/// refusal or a difference, which are printed, and 2 where the words name no task.
+/// refusal or a difference, which are printed, and 2 where the words name no task. Where a text
+/// cannot be printed, it is 1.
 pub fn program<R: Threads + Wait + Sync + Send + Copy + 'static, F: Files, W: Write>(
     rt: &R,
     alloc: Global,
     words: &[String],
     files: &mut F,
-    out: &mut W,
-) -> u8 {
+    out: &mut Printer<'_, W>,
+) -> u8
+    ensures status { result < 3 }
+    ensures done { result ≡ 0 → out.new.failed ≡ out.old.failed }
+    ensures told { 0 < result → IsTold out.new }
+{
     let Err(failure) = carry_out(rt, alloc, words, files, out) else {
         return 0;
     };
-    let (status, told) = match failure {
-        Failure::Usage => (2, writeln!(out, "{USAGE}")),
-        failure => (1, tell(failure, out)),
-    };
-    match told {
-        Ok(()) => status,
-        Err(_) => 1,
+    match tell(failure, out) {
+        Ok(()) if failure == Failure::Usage => 2,
+        _ => 1,
     }
 }
 
 /// Prints why a task was not done, where that is not printed yet.
-fn tell<W: Write>(failure: Failure, out: &mut W) -> io::Result<()> {
+fn tell<W: Write>(failure: Failure, out: &mut Printer<'_, W>) -> Result<(), Failure>
+    requires { Says out.old failure }
+    ensures { IsTold out.new }
+{
     match failure {
         Failure::Differs | Failure::Output => Ok(()),
+        Failure::Usage => writeln!(out, "{USAGE}"),
         failure => writeln!(out, "{failure}"),
     }
 }
@@ -66,8 +75,10 @@ fn carry_out<R: Threads + Wait + Sync + Send + Copy + 'static, F: Files, W: Writ
     alloc: Global,
     words: &[String],
     files: &mut F,
-    out: &mut W,
-) -> Result<(), Failure> {
+    out: &mut Printer<'_, W>,
+) -> Result<(), Failure>
+    ensures tells { Tells out.old out.new result }
+{
     match words::parse(alloc, words)? {
         Task::Check { module } => check(alloc, files, module, out),
         Task::Simulate {

@@ -1,5 +1,7 @@
 //! Why a task was not done.
 
+ghost use Rattle.ledger_program.specs.Told.{IsSilent};
+
 use crate::files::FileFault;
 use crate::module_file::ModuleRefusal;
 use crate::words::WordsFault;
@@ -61,6 +63,8 @@ impl Display for Failure {
 }
 
 impl From<WordsFault> for Failure {
+    ghost from_gives = { λ _ r. IsSilent r };
+
     fn from(fault: WordsFault) -> Failure {
         match fault {
             WordsFault::Memory => Failure::Memory,
@@ -70,6 +74,8 @@ impl From<WordsFault> for Failure {
 }
 
 impl From<FileFault> for Failure {
+    ghost from_gives = { λ _ r. IsSilent r };
+
     fn from(fault: FileFault) -> Failure {
         match fault {
             FileFault::Memory => Failure::Memory,
@@ -79,6 +85,8 @@ impl From<FileFault> for Failure {
 }
 
 impl From<ModuleRefusal> for Failure {
+    ghost from_gives = { λ _ r. IsSilent r };
+
     fn from(refusal: ModuleRefusal) -> Failure {
         match refusal {
             ModuleRefusal::Memory => Failure::Memory,
@@ -88,6 +96,8 @@ impl From<ModuleRefusal> for Failure {
 }
 
 impl From<GenesisRefusal> for Failure {
+    ghost from_gives = { λ _ r. IsSilent r };
+
     fn from(refusal: GenesisRefusal) -> Failure {
         match refusal {
             GenesisRefusal::Memory => Failure::Memory,
@@ -97,6 +107,8 @@ impl From<GenesisRefusal> for Failure {
 }
 
 impl From<SimRefusal> for Failure {
+    ghost from_gives = { λ _ r. IsSilent r };
+
     fn from(refusal: SimRefusal) -> Failure {
         match refusal {
             SimRefusal::Memory => Failure::Memory,
@@ -106,29 +118,37 @@ impl From<SimRefusal> for Failure {
 }
 
 impl From<SeatsRefusal> for Failure {
+    ghost from_gives = { λ _ r. IsSilent r };
+
     fn from(refusal: SeatsRefusal) -> Failure {
         Failure::Seats(refusal)
     }
 }
 
 impl From<AllocError> for Failure {
+    ghost from_gives = { λ _ r. IsSilent r };
+
     fn from(_refused: AllocError) -> Failure {
         Failure::Memory
     }
 }
 
 impl<T: Drop> From<AllocFailed<T>> for Failure {
+    ghost from_gives = { λ _ r. IsSilent r };
+
     fn from(_refused: AllocFailed<T>) -> Failure {
         Failure::Memory
     }
 }
 
 impl From<io::Error> for Failure {
+    ghost from_gives = { λ _ r. IsSilent r };
+
     fn from(error: io::Error) -> Failure {
         if error.kind() == ErrorKind::OutOfMemory {
             Failure::Memory
         } else {
-            Failure::Output
+            Failure::File
         }
     }
 }

@@ -1,5 +1,7 @@
 //! The files that the program is given.
 
+ghost use Rattle.std.specs.Prelude.{◌≡◌, ℕ, List, Option, None, IfSome, IfOk, take};
+
 use std::alloc::Global;
 use std::io::{self, ErrorKind, Read, Write};
 
@@ -9,8 +11,12 @@ pub trait Files {
 
     type Writer: Write + Drop;
 
-    /// Opens a file for reading. None where it cannot be opened.
-    fn open(&mut self, name: &str) -> Option<Self::Reader>;
+    /// The bytes of the file of a name, where they are known.
+    ghost bytes: { Self → List ℕ → Option (List ℕ) } = { λ _ _. None };
+
+    /// Opens a file for reading, from its first byte on. None where it cannot be opened.
+    fn open(&mut self, name: &str) -> Option<Self::Reader>
+        ensures { IfSome result (λ r. Self.Reader.remaining r ≡ bytes self.old name.now) };
 
     /// Makes a file, or empties the one of that name, for writing. None where that cannot be done.
     fn create(&mut self, name: &str) -> Option<Self::Writer>;
@@ -38,13 +44,16 @@ impl From<io::Error> for FileFault {
     }
 }
 
-/// The bytes of a file, but no more than `most`.
+/// The first bytes of a file, `most` at most, and all where it has no more.
 pub fn read_at_most<F: Files>(
     alloc: Global,
     files: &mut F,
     name: &str,
     most: u64,
-) -> Result<Vec<u8>, FileFault> {
+) -> Result<Vec<u8>, FileFault>
+    ensures { IfOk result
+        (λ v. IfSome (F.bytes files.old name.now) (λ bytes. v.items ≡ take most bytes)) }
+{
     let Some(reader) = files.open(name) else {
         return Err(FileFault::Device);
     };

@@ -1,6 +1,10 @@
 //! What the program prints of the ledger's values.
 
+ghost use Rattle.std.specs.Prelude.{◌≡◌, true, false, IfOk};
+ghost use Rattle.ledger_program.specs.Told.{Tells};
+
 use crate::failure::Failure;
+use crate::printer::Printer;
 use fab_types::{Flag, Payload, RangeItem, ReadItem, Version, WriteItem};
 use fabric_core::Audit;
 use orderer::BatchReport;
@@ -32,8 +36,10 @@ fn version_of(alloc: Global, version: Version) -> Result<String, AllocError> {
 pub fn print_state<W: Write>(
     alloc: Global,
     snapshot: &Snapshot,
-    out: &mut W,
-) -> Result<(), Failure> {
+    out: &mut Printer<'_, W>,
+) -> Result<(), Failure>
+    ensures tells { Tells out.old out.new result }
+{
     for (key, (value, version)) in snapshot.entries(alloc)? {
         let key = hex_of(alloc, key.as_slice())?;
         let version = version_of(alloc, *version)?;
@@ -44,7 +50,10 @@ pub fn print_state<W: Write>(
 }
 
 /// Prints what an audit says, and answers whether all transactions agree with their reruns.
-pub fn print_audit<W: Write>(audit: Audit, out: &mut W) -> Result<bool, Failure> {
+pub fn print_audit<W: Write>(audit: Audit, out: &mut Printer<'_, W>) -> Result<bool, Failure>
+    ensures tells { Tells out.old out.new result }
+    ensures differs { IfOk result (λ good. good ≡ false → out.new.printed ≡ true) }
+{
     match audit {
         Audit::Agrees { .. } => {
             writeln!(out, "audit agrees")?;
@@ -59,7 +68,13 @@ pub fn print_audit<W: Write>(audit: Audit, out: &mut W) -> Result<bool, Failure>
 
 /// Prints the block of a batch, where it made one, with its count of transactions, and what was
 /// aborted.
-pub fn print_batch<W: Write>(report: &BatchReport, txs: usize, out: &mut W) -> Result<(), Failure> {
+pub fn print_batch<W: Write>(
+    report: &BatchReport,
+    txs: usize,
+    out: &mut Printer<'_, W>,
+) -> Result<(), Failure>
+    ensures tells { Tells out.old out.new result }
+{
     match report.block {
         Some(number) => writeln!(out, "block {number} txs {txs}")?,
         None => writeln!(out, "no block")?,
@@ -74,8 +89,10 @@ pub fn print_batch<W: Write>(report: &BatchReport, txs: usize, out: &mut W) -> R
 pub fn print_committed<W: Write>(
     height: usize,
     flags: &[Flag],
-    out: &mut W,
-) -> Result<(), Failure> {
+    out: &mut Printer<'_, W>,
+) -> Result<(), Failure>
+    ensures tells { Tells out.old out.new result }
+{
     write!(out, "committed {height} flags")?;
     for flag in flags {
         write!(out, " {flag}")?;
@@ -84,7 +101,13 @@ pub fn print_committed<W: Write>(
     Ok(())
 }
 
-fn print_read<W: Write>(alloc: Global, read: &ReadItem, out: &mut W) -> Result<(), Failure> {
+fn print_read<W: Write>(
+    alloc: Global,
+    read: &ReadItem,
+    out: &mut Printer<'_, W>,
+) -> Result<(), Failure>
+    ensures tells { Tells out.old out.new result }
+{
     let key = hex_of(alloc, read.key.as_slice())?;
     match read.version {
         Some(version) => {
@@ -96,7 +119,13 @@ fn print_read<W: Write>(alloc: Global, read: &ReadItem, out: &mut W) -> Result<(
     Ok(())
 }
 
-fn print_range<W: Write>(alloc: Global, range: &RangeItem, out: &mut W) -> Result<(), Failure> {
+fn print_range<W: Write>(
+    alloc: Global,
+    range: &RangeItem,
+    out: &mut Printer<'_, W>,
+) -> Result<(), Failure>
+    ensures tells { Tells out.old out.new result }
+{
     let start = hex_of(alloc, range.start().as_slice())?;
     let end = hex_of(alloc, range.end().as_slice())?;
     let (limit, entries) = (range.limit(), range.entries().len());
@@ -104,7 +133,13 @@ fn print_range<W: Write>(alloc: Global, range: &RangeItem, out: &mut W) -> Resul
     Ok(())
 }
 
-fn print_write<W: Write>(alloc: Global, write: &WriteItem, out: &mut W) -> Result<(), Failure> {
+fn print_write<W: Write>(
+    alloc: Global,
+    write: &WriteItem,
+    out: &mut Printer<'_, W>,
+) -> Result<(), Failure>
+    ensures tells { Tells out.old out.new result }
+{
     let key = hex_of(alloc, write.key.as_slice())?;
     match &write.value {
         Some(value) => {
@@ -116,21 +151,39 @@ fn print_write<W: Write>(alloc: Global, write: &WriteItem, out: &mut W) -> Resul
     Ok(())
 }
 
-fn print_reads<W: Write>(alloc: Global, reads: &[ReadItem], out: &mut W) -> Result<(), Failure> {
+fn print_reads<W: Write>(
+    alloc: Global,
+    reads: &[ReadItem],
+    out: &mut Printer<'_, W>,
+) -> Result<(), Failure>
+    ensures tells { Tells out.old out.new result }
+{
     for read in reads {
         print_read(alloc, read, out)?;
     }
     Ok(())
 }
 
-fn print_ranges<W: Write>(alloc: Global, ranges: &[RangeItem], out: &mut W) -> Result<(), Failure> {
+fn print_ranges<W: Write>(
+    alloc: Global,
+    ranges: &[RangeItem],
+    out: &mut Printer<'_, W>,
+) -> Result<(), Failure>
+    ensures tells { Tells out.old out.new result }
+{
     for range in ranges {
         print_range(alloc, range, out)?;
     }
     Ok(())
 }
 
-fn print_writes<W: Write>(alloc: Global, writes: &[WriteItem], out: &mut W) -> Result<(), Failure> {
+fn print_writes<W: Write>(
+    alloc: Global,
+    writes: &[WriteItem],
+    out: &mut Printer<'_, W>,
+) -> Result<(), Failure>
+    ensures tells { Tells out.old out.new result }
+{
     for write in writes {
         print_write(alloc, write, out)?;
     }
@@ -141,8 +194,10 @@ fn print_writes<W: Write>(alloc: Global, writes: &[WriteItem], out: &mut W) -> R
 pub fn print_payload<W: Write>(
     alloc: Global,
     payload: &Payload,
-    out: &mut W,
-) -> Result<(), Failure> {
+    out: &mut Printer<'_, W>,
+) -> Result<(), Failure>
+    ensures tells { Tells out.old out.new result }
+{
     let id = id_of(alloc, payload)?;
     let result = hex_of(alloc, payload.result.as_slice())?;
     writeln!(out, "tx {id}")?;

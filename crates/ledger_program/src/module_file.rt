@@ -8,6 +8,7 @@ ghost use Rattle.ledger_program.specs.Modules.{NoModule, IsDefinedBy};
 ghost use Rattle.ledger_program.specs.declared.module_file.ModuleRefusal.TheVariants.{Memory};
 
 use std::alloc::{AllocError, AllocFailed, Global};
+use std::error::Error;
 use std::fmt::{self, Display, Formatter, Write};
 use wasm_decode::{DecodeFault, FaultKind, decode};
 use wasm_validate::{ValidModule, ValidateFault, validate};
@@ -27,15 +28,13 @@ impl Display for ModuleRefusal {
     fn fmt<W: Write>(&self, f: &mut Formatter<W>) -> fmt::Result {
         match self {
             ModuleRefusal::Memory => write!(f, "refused 9"),
-            ModuleRefusal::Malformed(kind, offset) => write!(
-                f,
-                "refused {} at {offset}",
-                kind.number()
-            ),
-            ModuleRefusal::Invalid(fault) => write!(f, "refused {}", fault.number()),
+            ModuleRefusal::Malformed(kind, offset) => write!(f, "refused {kind} at {offset}"),
+            ModuleRefusal::Invalid(fault) => write!(f, "refused {fault}"),
         }
     }
 }
+
+impl Error for ModuleRefusal {}
 
 impl From<AllocError> for ModuleRefusal {
     ghost from_gives = { λ _ r. r ≡ Memory };

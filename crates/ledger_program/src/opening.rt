@@ -5,6 +5,7 @@ ghost use Rattle.genesis.specs.NoGenesis.{NoGenesis};
 ghost use Rattle.orderer.specs.Ordering.{AreLimits};
 ghost use Rattle.fabric_core.specs.Setting.{limits_of};
 ghost use Rattle.ledger_program.specs.Opening.{IsSpelledBy};
+ghost use Rattle.ledger_program.specs.Told.{IsSilent};
 
 use crate::failure::Failure;
 use crate::files::{Files, read_all};
@@ -15,6 +16,7 @@ use std::sync::Arc;
 
 /// What a system begins with, by the file of this name.
 pub fn genesis_in<F: Files>(alloc: Global, files: &mut F, name: &str) -> Result<Genesis, Failure>
+    ensures silent { IfErr result IsSilent }
     ensures limits { IfOk result (λ g. AreLimits (limits_of g)) }
     ensures peers { IfOk result (λ g. 0 < length g.peers.items) }
     ensures seats { IfOk result (λ g. (0 < g.seats) × (g.seats < 2 ^ 32)) }

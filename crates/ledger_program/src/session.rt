@@ -1,12 +1,15 @@
 //! The command `run`: a system, on which the lines of a file are events.
 
+ghost use Rattle.std.specs.Prelude.{◌≡◌, true, false, IfOk, IfErr};
 ghost use Rattle.orderer.specs.Ordering.{AreLimits};
 ghost use Rattle.fabric_core.specs.Setting.{limits_of};
+ghost use Rattle.ledger_program.specs.Told.{IsSilent, Tells};
 
 use crate::failure::Failure;
 use crate::files::{Files, read_all};
 use crate::lines::{id_of, print_audit, print_batch, print_committed, print_state};
 use crate::opening::genesis_in;
+use crate::printer::Printer;
 use crate::storing::write_store;
 use events::{Action, BadLine, Bindings, read_event};
 use fab_types::{Endorsement, Flag, Payload};
@@ -44,8 +47,10 @@ pub fn run<F: Files, W: Write>(
     genesis: &str,
     events: &str,
     store: Option<&str>,
-    out: &mut W,
-) -> Result<(), Failure> {
+    out: &mut Printer<'_, W>,
+) -> Result<(), Failure>
+    ensures tells { Tells out.old out.new result }
+{
     let genesis = genesis_in(alloc, files, genesis)?;
     let lines = read_all(alloc, files, events)?;
     let mut session = Session::open(alloc, genesis)?;
@@ -65,6 +70,7 @@ impl Session {
     /// The system that a genesis opens.
     fn open(alloc: Global, genesis: Genesis) -> Result<Session, Failure>
         requires { AreLimits (limits_of genesis) }
+        ensures silent { IfErr result IsSilent }
     {
         let system = System::new(alloc, &genesis)?;
         Ok(Session {
@@ -76,7 +82,9 @@ impl Session {
     }
 
     /// Does what each line stands for, in order, and prints what it comes to.
-    fn run_lines<W: Write>(&mut self, lines: &[u8], out: &mut W) -> Result<(), Failure> {
+    fn run_lines<W: Write>(&mut self, lines: &[u8], out: &mut Printer<'_, W>) -> Result<(), Failure>
+        ensures tells { Tells out.old out.new result }
+    {
         for (index, line) in BufRead::split(lines, self.alloc, b'\n').enumerate() {
             let line = line?;
             match self.step_of(&line, index.saturating_add(1))? {
@@ -91,7 +99,9 @@ impl Session {
     }
 
     /// What the line of this number stands for.
-    fn step_of(&self, line: &[u8], number: usize) -> Result<Step, Failure> {
+    fn step_of(&self, line: &[u8], number: usize) -> Result<Step, Failure>
+        ensures silent { IfErr result IsSilent }
+    {
         let Ok(line) = std::str::from_utf8(line) else {
             return Err(Failure::BadLine(number));
         };
@@ -137,7 +147,9 @@ impl Session {
     }
 
     /// The submit of the envelope that these bytes spell.
-    fn submitted(&self, bytes: &[u8]) -> Result<Step, Failure> {
+    fn submitted(&self, bytes: &[u8]) -> Result<Step, Failure>
+        ensures silent { IfErr result IsSilent }
+    {
         match decode_envelope(self.alloc, bytes) {
             Ok(envelope) => Ok(Step::Do(Event::Submit(envelope), None)),
             Err(WireFault::Memory) => Err(Failure::Memory),
@@ -150,8 +162,10 @@ impl Session {
         &mut self,
         event: Event,
         name: Option<String>,
-        out: &mut W,
-    ) -> Result<(), Failure> {
+        out: &mut Printer<'_, W>,
+    ) -> Result<(), Failure>
+        ensures tells { Tells out.old out.new result }
+    {
         let place = place_of(&event);
         let reply = self.system.step(event)?;
         match reply {
@@ -184,8 +198,10 @@ impl Session {
         name: Option<String>,
         payload: Payload,
         endorsement: Endorsement,
-        out: &mut W,
-    ) -> Result<(), Failure> {
+        out: &mut Printer<'_, W>,
+    ) -> Result<(), Failure>
+        ensures tells { Tells out.old out.new result }
+    {
         let Some(name) = name else {
             return Ok(());
         };
@@ -196,7 +212,13 @@ impl Session {
     }
 
     /// Prints the batches that a taken envelope ended.
-    fn print_batches<W: Write>(&self, reports: &[BatchReport], out: &mut W) -> Result<(), Failure> {
+    fn print_batches<W: Write>(
+        &self,
+        reports: &[BatchReport],
+        out: &mut Printer<'_, W>,
+    ) -> Result<(), Failure>
+        ensures tells { Tells out.old out.new result }
+    {
         for report in reports {
             self.print_report(report, out)?;
         }
@@ -204,7 +226,13 @@ impl Session {
     }
 
     /// Prints a batch.
-    fn print_report<W: Write>(&self, report: &BatchReport, out: &mut W) -> Result<(), Failure> {
+    fn print_report<W: Write>(
+        &self,
+        report: &BatchReport,
+        out: &mut Printer<'_, W>,
+    ) -> Result<(), Failure>
+        ensures tells { Tells out.old out.new result }
+    {
         print_batch(report, self.txs_of(report), out)
     }
 
@@ -225,8 +253,10 @@ impl Session {
         &self,
         place: Place,
         flags: &[Flag],
-        out: &mut W,
-    ) -> Result<(), Failure> {
+        out: &mut Printer<'_, W>,
+    ) -> Result<(), Failure>
+        ensures tells { Tells out.old out.new result }
+    {
         match self.system.snapshot(place.peer) {
             Some(snapshot) => print_committed(snapshot.height(), flags, out),
             None => Ok(()),
@@ -235,7 +265,10 @@ impl Session {
 
     /// Prints the state of the first peer and what the audit of its chain says, and answers whether
     /// all transactions agree with their reruns.
-    fn print_end<W: Write>(&self, out: &mut W) -> Result<bool, Failure> {
+    fn print_end<W: Write>(&self, out: &mut Printer<'_, W>) -> Result<bool, Failure>
+        ensures tells { Tells out.old out.new result }
+        ensures differs { IfOk result (λ good. good ≡ false → out.new.printed ≡ true) }
+    {
         let Some(snapshot) = self.system.snapshot(0) else {
             return Ok(true);
         };
@@ -266,7 +299,13 @@ fn place_of(event: &Event) -> Place {
 }
 
 /// Prints where a proposal was begun, and on what height.
-fn print_begun<W: Write>(place: Place, height: usize, out: &mut W) -> Result<(), Failure> {
+fn print_begun<W: Write>(
+    place: Place,
+    height: usize,
+    out: &mut Printer<'_, W>,
+) -> Result<(), Failure>
+    ensures tells { Tells out.old out.new result }
+{
     let Place { peer, seat } = place;
     writeln!(out, "begun {peer}.{seat} at {height}")?;
     Ok(())

@@ -1,9 +1,13 @@
 //! The command `sim`.
 
+ghost use Rattle.std.specs.Prelude.{IfErr};
+ghost use Rattle.ledger_program.specs.Told.{IsSilent, Tells};
+
 use crate::failure::Failure;
 use crate::files::Files;
 use crate::lines::print_payload;
 use crate::opening::genesis_in;
+use crate::printer::Printer;
 use crate::storing::replayed;
 use block_store::End;
 use fab_types::Proposal;
@@ -19,8 +23,10 @@ pub fn simulate<F: Files, W: Write>(
     genesis: &str,
     proposal: &Proposal,
     store: Option<&str>,
-    out: &mut W,
-) -> Result<(), Failure> {
+    out: &mut Printer<'_, W>,
+) -> Result<(), Failure>
+    ensures tells { Tells out.old out.new result }
+{
     let genesis = genesis_in(alloc, files, genesis)?;
     let snapshot = match store {
         None => Snapshot::empty(alloc),
@@ -37,7 +43,9 @@ fn whole_store<F: Files>(
     files: &mut F,
     genesis: &Genesis,
     name: &str,
-) -> Result<Snapshot, Failure> {
+) -> Result<Snapshot, Failure>
+    ensures silent { IfErr result IsSilent }
+{
     let replayed = replayed(alloc, files, genesis, name)?;
     if let Some(refusal) = replayed.refused {
         return Err(Failure::Commit(refusal));

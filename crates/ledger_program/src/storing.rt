@@ -1,5 +1,8 @@
 //! Stores that the program reads and writes.
 
+ghost use Rattle.std.specs.Prelude.{IfErr};
+ghost use Rattle.ledger_program.specs.Told.{IsSilent};
+
 use crate::failure::Failure;
 use crate::files::Files;
 use block_store::{AppendFault, append};
@@ -18,7 +21,9 @@ pub fn replayed<F: Files>(
     files: &mut F,
     genesis: &Genesis,
     name: &str,
-) -> Result<Replayed, Failure> {
+) -> Result<Replayed, Failure>
+    ensures silent { IfErr result IsSilent }
+{
     let Some(reader) = files.open(name) else {
         return Err(Failure::File);
     };
@@ -33,7 +38,9 @@ pub fn write_store<F: Files>(
     files: &mut F,
     name: &str,
     snapshot: &Snapshot,
-) -> Result<(), Failure> {
+) -> Result<(), Failure>
+    ensures silent { IfErr result IsSilent }
+{
     let part = format!(in alloc; "{name}.part")?;
     let Some(mut writer) = files.create(&part) else {
         return Err(Failure::File);
@@ -56,7 +63,9 @@ fn write_blocks<W: Write + Drop>(
     alloc: Global,
     device: &mut Counted<W>,
     blocks: &[Arc<CommittedBlock>],
-) -> Result<(), Failure> {
+) -> Result<(), Failure>
+    ensures silent { IfErr result IsSilent }
+{
     for committed in blocks {
         match append(alloc, device, committed.block(), committed.flags()) {
             Ok(()) => {}

@@ -1,9 +1,12 @@
 //! The command `threads`.
 
+ghost use Rattle.ledger_program.specs.Told.{Tells};
+
 use crate::failure::Failure;
 use crate::files::Files;
 use crate::lines::print_audit;
 use crate::opening::genesis_in;
+use crate::printer::Printer;
 use fab_types::Name;
 use seat_threads::run_seats;
 use std::alloc::Global;
@@ -21,8 +24,10 @@ pub fn threads<R: Threads + Wait + Sync + Send + Copy + 'static, F: Files, W: Wr
     genesis: &str,
     chaincode: &Name,
     rounds: u32,
-    out: &mut W,
-) -> Result<(), Failure> {
+    out: &mut Printer<'_, W>,
+) -> Result<(), Failure>
+    ensures tells { Tells out.old out.new result }
+{
     let genesis = genesis_in(alloc, files, genesis)?;
     let report = run_seats(rt, alloc, &genesis, chaincode, rounds)?;
     writeln!(out, "endorsed {}", report.endorsed)?;

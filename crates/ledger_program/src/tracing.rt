@@ -1,8 +1,11 @@
 //! The command `trace`.
 
+ghost use Rattle.ledger_program.specs.Told.{Tells};
+
 use crate::failure::Failure;
 use crate::files::Files;
 use crate::opening::genesis_in;
+use crate::printer::Printer;
 use fab_types::Proposal;
 use host_api::{PlainMap, Recorder};
 use interp::{Host, Outcome};
@@ -19,8 +22,10 @@ pub fn trace<F: Files, W: Write>(
     genesis: &str,
     proposal: &Proposal,
     most: u32,
-    out: &mut W,
-) -> Result<(), Failure> {
+    out: &mut Printer<'_, W>,
+) -> Result<(), Failure>
+    ensures tells { Tells out.old out.new result }
+{
     let genesis = genesis_in(alloc, files, genesis)?;
     let Some(chaincode) = genesis.book.get(&proposal.chaincode) else {
         return Err(Failure::Simulation(SimRefusal::UnknownChaincode));
@@ -38,8 +43,10 @@ fn print_steps<H: Host, W: Write>(
     chaincode: &Chaincode,
     host: &mut H,
     most: u32,
-    out: &mut W,
-) -> Result<Outcome, Failure> {
+    out: &mut Printer<'_, W>,
+) -> Result<Outcome, Failure>
+    ensures tells { Tells out.old out.new result }
+{
     let mut stepper = Stepper::new(alloc, &chaincode.module, chaincode.fuel)?;
     let mut printed = 0;
     for _ in 0..u64::MAX {
@@ -54,7 +61,13 @@ fn print_steps<H: Host, W: Write>(
 }
 
 /// Prints the last step by its number, if it cost fuel. Whether it did.
-fn print_step<W: Write>(stepper: &Stepper<'_>, number: u32, out: &mut W) -> Result<bool, Failure> {
+fn print_step<W: Write>(
+    stepper: &Stepper<'_>,
+    number: u32,
+    out: &mut Printer<'_, W>,
+) -> Result<bool, Failure>
+    ensures tells { Tells out.old out.new result }
+{
     match stepper.render()? {
         None => Ok(false),
         Some(step) => {
@@ -64,7 +77,9 @@ fn print_step<W: Write>(stepper: &Stepper<'_>, number: u32, out: &mut W) -> Resu
     }
 }
 
-fn print_outcome<W: Write>(outcome: Outcome, out: &mut W) -> Result<(), Failure> {
+fn print_outcome<W: Write>(outcome: Outcome, out: &mut Printer<'_, W>) -> Result<(), Failure>
+    ensures tells { Tells out.old out.new result }
+{
     match outcome {
         Outcome::Returned { status, used } => writeln!(out, "returned {status} used {used}")?,
         Outcome::Trapped { kind, used } => {

@@ -5,7 +5,7 @@
 //! The files that the words name lie in `data`, in which the cases are run.
 #![tactic(auto)]
 
-use ledger_program::{Disk, program};
+use ledger_program::{Disk, Printer, program};
 use std::alloc::{AllocError, Global};
 use std::io::{self, BufRead, BufReader};
 
@@ -34,7 +34,7 @@ fn main(rt: HostRuntime) -> io::Result<()> {
             alloc,
             &words,
             &mut Disk::new(&rt),
-            &mut io::writer(&rt),
+            &mut Printer::new(&mut io::writer(&rt)),
         );
         println!(rt; "status {status}")?;
     }
