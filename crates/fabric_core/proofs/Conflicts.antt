@@ -10,7 +10,7 @@ use Rattle.fab_types.specs.declared.payload.Proposal.{Proposal}
 use Rattle.batch_cutter.specs.Division.{Limits, Mark, message, timeout}
 use Rattle.ledger_model.specs.Chain.{Bytes, Envelope, Committed, Chain, Placed, placed, history}
 use Rattle.ledger_model.specs.State.{state}
-use Rattle.ledger_model.specs.Judged.{Rule, by_table, judged, judged_onto, judged_chain}
+use Rattle.ledger_model.specs.Judged.{FlagRule, by_table, judged, judged_onto, judged_chain}
 use Rattle.ledger_model.specs.Legal.{DiffersBefore}
 use Rattle.ledger_model.proofs.Kept.{block_legal}
 use Rattle.orderer.specs.Arranged.{plans_of}
@@ -121,7 +121,7 @@ older_if : (id : Proposal → Bytes) (endorsed : Envelope → Bool) (r : Rules) 
 older_if id endorsed r w None chain rule are is = absurd (cc)
 older_if id endorsed r w (Some q) chain rule are is =
     subst ConflictsAreOlder (same_Some _ _ is)
-    (subst (λ (u : Rule). ConflictsAreOlder (chain_of_first u w.orderer.chain q.height)) (sym rule)
+    (subst (λ (u : FlagRule). ConflictsAreOlder (chain_of_first u w.orderer.chain q.height)) (sym rule)
     (onto_older id endorsed [] (take q.height w.orderer.chain) (take_legal q.height w.orderer.chain are) none_older))
 
 -- so it is with each chain of a run

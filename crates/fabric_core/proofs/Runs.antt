@@ -10,7 +10,7 @@ use Rattle.ledger_model.specs.State.{state}
 use Rattle.ledger_model.specs.Flags.{reads_current, ranges_current}
 use Rattle.ledger_model.specs.Execution.{Unknown, Trapped, Spent, Status, Done, Exec, ReadsAlone, payload_of, range_item}
 use Rattle.ledger_model.specs.Serial.{IsPrefix, IsHandedOut, AllHandedOut}
-use Rattle.ledger_model.specs.Judged.{Rule, HasFlagsBy, IsCurrent, AllCurrent, AllEndorsed, judged_chain}
+use Rattle.ledger_model.specs.Judged.{FlagRule, HasFlagsBy, IsCurrent, AllCurrent, AllEndorsed, judged_chain}
 use Rattle.fab_types.specs.declared.block.Block.{Block}
 use Rattle.fab_types.specs.declared.envelope.Endorsement.{Endorsement}
 use Rattle.wire.specs.Ids.{id_of}
@@ -49,13 +49,13 @@ both_begin {X} (x ∷ a) (y ∷ b) r s e =
       | inr g ↦ inr (g.0, λ i. sym h i ∷ g.1 i)
     ]
 
-chain_grows : (rule : Rule) (front whole : List Block) → Begins front whole → IsPrefix (judged_chain rule front) (judged_chain rule whole)
+chain_grows : (rule : FlagRule) (front whole : List Block) → Begins front whole → IsPrefix (judged_chain rule front) (judged_chain rule whole)
 chain_grows rule front whole h =
     let more = judged_grows rule (judged_chain rule front) h.0 in
     (more.0, more.1 ∙ sym (judged_onto-append rule [] front h.0) ∙ ap (judged_chain rule) h.1)
 
 -- two chains of beginnings of the same blocks
-chains_joined : (rule : Rule) (a b whole : List Block) → Begins a whole → Begins b whole → IsPrefix (judged_chain rule a) (judged_chain rule b) ⊎ IsPrefix (judged_chain rule b) (judged_chain rule a)
+chains_joined : (rule : FlagRule) (a b whole : List Block) → Begins a whole → Begins b whole → IsPrefix (judged_chain rule a) (judged_chain rule b) ⊎ IsPrefix (judged_chain rule b) (judged_chain rule a)
 chains_joined rule a b whole f g =
     elim (both_begin a b f.0 g.0 (f.1 ∙ sym g.1)) [ inl h ↦ inl (chain_grows rule a b h) | inr h ↦ inr (chain_grows rule b a h) ]
 

@@ -11,7 +11,7 @@ use Rattle.ledger_model.specs.Execution.{Exec}
 use Rattle.fab_types.specs.declared.block.Block.{Block}
 use Rattle.fab_types.specs.declared.envelope.Endorsement.{Endorsement}
 use Rattle.endorsement_policy.specs.Endorsed.{Listed}
-use Rattle.ledger_model.specs.Judged.{Rule, judged}
+use Rattle.ledger_model.specs.Judged.{FlagRule, judged}
 use Rattle.std.specs.Option.{option_to_list}
 use Rattle.batch_cutter.specs.Division.{Mark, timeout}
 use Rattle.orderer.specs.Ordering.{Ordering, Takes}
@@ -95,7 +95,7 @@ either_way X P Q (Err e) f g h k = g k
 -- peers stay right as blocks are appended
 pub blocks_more : (listed : Listed) (peers : List Peer) (blocks more : List Block) → IsRight listed peers blocks → IsRight listed peers (blocks ++ more)
 blocks_more listed peers blocks more right =
-    let rule : Rule = table_of listed in
+    let rule : FlagRule = table_of listed in
     let old = chain_of_first rule blocks in
     let new = chain_of_first rule (blocks ++ more) in
     let first : (c : Chain) → IsFirst old c → IsFirst new c = λ c h. stays rule blocks more c h in
@@ -114,7 +114,7 @@ pub timed_right : (listed : Listed) (peers : List Peer) (old : Ordering) (report
 timed_right listed peers old report new right takes = mark_right listed peers old timeout (option_to_list report) new right takes
 
 -- a peer with the next block
-pub committed : (rule : Rule) (blocks : List Block) (old new : Peer) (b : Block) (reply : Reply) → IsPeerRight (chain_of_first rule blocks) old → slice_get blocks (length old.snapshot.value) ≡ Some b → reply ≡ IsCommitted (judged rule (history old.snapshot.value) (length old.snapshot.value + 1) 0 b.envelopes) → new.snapshot.value ≡ old.snapshot.value ++ record { block = b; flags = judged rule (history old.snapshot.value) (length old.snapshot.value + 1) 0 b.envelopes } ∷ [] → new.seats.items ≡ old.seats.items → new.org ≡ old.org → (commit (chain_of_first rule blocks) (peer_of old) ≡ (reply, peer_of new)) × IsPeerRight (chain_of_first rule blocks) new
+pub committed : (rule : FlagRule) (blocks : List Block) (old new : Peer) (b : Block) (reply : Reply) → IsPeerRight (chain_of_first rule blocks) old → slice_get blocks (length old.snapshot.value) ≡ Some b → reply ≡ IsCommitted (judged rule (history old.snapshot.value) (length old.snapshot.value + 1) 0 b.envelopes) → new.snapshot.value ≡ old.snapshot.value ++ record { block = b; flags = judged rule (history old.snapshot.value) (length old.snapshot.value + 1) 0 b.envelopes } ∷ [] → new.seats.items ≡ old.seats.items → new.org ≡ old.org → (commit (chain_of_first rule blocks) (peer_of old) ≡ (reply, peer_of new)) × IsPeerRight (chain_of_first rule blocks) new
 committed rule blocks old new b reply right there told made seats org =
     let c = old.snapshot.value in
     let next : Committed = record { block = b; flags = judged rule (history c) (length c + 1) 0 b.envelopes } in
@@ -129,7 +129,7 @@ committed rule blocks old new b reply right there told made seats org =
     )
 
 -- with nothing left to commit
-pub committed_none : (rule : Rule) (blocks : List Block) (p : PeerState) → length blocks ≤ p.height → commit (chain_of_first rule blocks) p ≡ (Nothing, p)
+pub committed_none : (rule : FlagRule) (blocks : List Block) (p : PeerState) → length blocks ≤ p.height → commit (chain_of_first rule blocks) p ≡ (Nothing, p)
 committed_none rule blocks p short = ap (commit_next p) (past_end rule blocks p.height short)
 
 pub free_seats : (n : ℕ) → seats_of (replicate n None) ≡ replicate n None
@@ -141,7 +141,7 @@ free_right chain zero = tt
 free_right chain (suc n) = (tt, free_right chain n)
 
 -- what committing at a peer leaves, whether memory was refused or not
-pub commit_all : {E : Type 0} (rule : Rule) (blocks : List Block) (old new : Peer) (b : Block) (r : Result Reply E) → IsPeerRight (chain_of_first rule blocks) old → slice_get blocks (length old.snapshot.value) ≡ Some b → IfOk r (λ reply. reply ≡ IsCommitted (judged rule (history old.snapshot.value) (length old.snapshot.value + 1) 0 b.envelopes)) → IfOk r (λ reply. new.snapshot.value ≡ old.snapshot.value ++ record { block = b; flags = judged rule (history old.snapshot.value) (length old.snapshot.value + 1) 0 b.envelopes } ∷ []) → new.seats.items ≡ old.seats.items → new.org ≡ old.org → OnErr r (new ≡ old) → IfOk r (λ reply. commit (chain_of_first rule blocks) (peer_of old) ≡ (reply, peer_of new)) × IsPeerRight (chain_of_first rule blocks) new
+pub commit_all : {E : Type 0} (rule : FlagRule) (blocks : List Block) (old new : Peer) (b : Block) (r : Result Reply E) → IsPeerRight (chain_of_first rule blocks) old → slice_get blocks (length old.snapshot.value) ≡ Some b → IfOk r (λ reply. reply ≡ IsCommitted (judged rule (history old.snapshot.value) (length old.snapshot.value + 1) 0 b.envelopes)) → IfOk r (λ reply. new.snapshot.value ≡ old.snapshot.value ++ record { block = b; flags = judged rule (history old.snapshot.value) (length old.snapshot.value + 1) 0 b.envelopes } ∷ []) → new.seats.items ≡ old.seats.items → new.org ≡ old.org → OnErr r (new ≡ old) → IfOk r (λ reply. commit (chain_of_first rule blocks) (peer_of old) ≡ (reply, peer_of new)) × IsPeerRight (chain_of_first rule blocks) new
 commit_all rule blocks old new b (Ok reply) right there told made seats org same = committed rule blocks old new b reply right there told made seats org
 commit_all rule blocks old new b (Err x) right there told made seats org same = (tt, subst (IsPeerRight (chain_of_first rule blocks)) (sym same) right)
 

@@ -5,10 +5,10 @@ use Rattle.fab_types.specs.declared.envelope.Endorsement.{Endorsement}
 use Rattle.wire.specs.Ids.{id_of}
 use Rattle.endorsement_policy.specs.Endorsed.{Listed, is_endorsed, sealed, key_of}
 use Rattle.ledger_model.specs.Chain.{Bytes}
-use Rattle.ledger_model.specs.Judged.{Rule, by_table}
+use Rattle.ledger_model.specs.Judged.{FlagRule, by_table}
 
 -- the table, where the genesis lists the organisations and policies
-abbrev pub table_of : Listed → Rule
+abbrev pub table_of : Listed → FlagRule
 table_of listed = by_table id_of (is_endorsed listed)
 
 -- the tag of an organisation under its key

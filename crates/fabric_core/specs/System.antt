@@ -14,7 +14,7 @@ use Rattle.ledger_model.specs.Views.{Versioned}
 use Rattle.ledger_model.specs.State.{state}
 use Rattle.mvcc_validate.specs.Current.{is_current}
 use Rattle.ledger_model.specs.Execution.{Exec}
-use Rattle.ledger_model.specs.Judged.{Rule, judged_chain}
+use Rattle.ledger_model.specs.Judged.{FlagRule, judged_chain}
 pub use Rattle.fabric_core.specs.declared.event.Event.{Event}
 pub use Rattle.fabric_core.specs.declared.event.Event.TheVariants.{Begin, Finish, Submit, Take, Tick, Commit}
 pub use Rattle.fabric_core.specs.declared.event.Reply.{Reply}
@@ -26,7 +26,7 @@ use Rattle.simulator.specs.Answers.{payload_or_refusal}
 -- what the genesis fixes
 pub record Rules : Type 0 where
   pub exec : Exec
-  pub rule : Rule
+  pub rule : FlagRule
   -- what a peer of an organisation puts on a payload
   pub seal : Bytes → Payload → Endorsement
   -- how many envelopes the queue holds
@@ -63,7 +63,7 @@ opening orgs seats limits reorder =
     record { peers = map (fresh seats) orgs; queue = []; orderer = unused limits reorder }
 
 -- the first n of these blocks, with their flags
-abbrev pub chain_of_first : Rule → List Block → ℕ → Chain
+abbrev pub chain_of_first : FlagRule → List Block → ℕ → Chain
 chain_of_first rule blocks n = judged_chain rule (take n blocks)
 
 -- all peers' chains are first blocks of the one orderer's

@@ -21,7 +21,7 @@ use Rattle.ledger_model.specs.Views.{Plain, first}
 use Rattle.ledger_model.specs.Execution as ledger
 use Rattle.ledger_model.proofs.Keys.{tie_same}
 use Rattle.host_api.specs.Recorded.{Asked, Recorded, nothing_recorded, key_seen, range_seen, seen_on}
-use Rattle.host_api.specs.HostStep.{with_key, with_write, says, given, bytes_at, is_key, is_bound, is_value, is_limit, value_reply, read_key, write, ask_range, replies, range_bytes, refuses, get_state, put_state, del_state, range_state, set_result, nth, host_step}
+use Rattle.host_api.specs.HostStep.{with_key, with_write, says, given, span_bytes, is_key, is_bound, is_value, is_limit, value_reply, read_key, write, ask_range, replies, reply_range_bytes, refuses, get_state, put_state, del_state, range_state, set_result, nth, host_step}
 use Rattle.host_api.specs.Executing.{ended, ending_of, outcome_of, execution, outcome, ReadsAlone}
 
 abbrev SameKey : Plain → Plain → Bytes → Type 0
@@ -87,7 +87,7 @@ module _ (m n : Plain) where
   range_good asked target capacity memory s =
       let after : Recorded = record s { ranges = s.ranges ++ asked ∷ [] } in
       cond_good s (nat_le (length (s.ranges ++ asked ∷ [])) 16) _ _ _ _ (λ a.
-      (record { reads = a.reads; ranges = all_front (SameRange m n) s.ranges asked a.ranges }, ap (λ es. replies (range_bytes es) target capacity memory after) (all_last (SameRange m n) s.ranges asked a.ranges))) (λ a. (a, refl))
+      (record { reads = a.reads; ranges = all_front (SameRange m n) s.ranges asked a.ranges }, ap (λ es. replies (reply_range_bytes es) target capacity memory after) (all_last (SameRange m n) s.ranges asked a.ranges))) (λ a. (a, refl))
 
   write_good : (w : WriteItem) (memory : List ℕ) (s : Recorded) → Good m n s (write w memory s) (write w memory s)
   write_good w memory s =
@@ -125,17 +125,17 @@ module _ (m n : Plain) where
 
   pub host_follows : (argument : Bytes) → Follows (host_step m argument) (host_step n argument) (Agree m n)
   host_follows argument call.GetState args memory s =
-      given_good (bytes_at (nth args 0) (nth args 1) memory) memory s _ _ (λ key. given_good (bytes_at (nth args 2) (nth args 3) memory) memory s _ _ (λ room. get_good key (nth args 2) (nth args 3) memory s))
+      given_good (span_bytes (nth args 0) (nth args 1) memory) memory s _ _ (λ key. given_good (span_bytes (nth args 2) (nth args 3) memory) memory s _ _ (λ room. get_good key (nth args 2) (nth args 3) memory s))
   host_follows argument call.PutState args memory s =
-      given_good (bytes_at (nth args 0) (nth args 1) memory) memory s _ _ (λ key. given_good (bytes_at (nth args 2) (nth args 3) memory) memory s _ _ (λ bytes. put_good key bytes memory s))
+      given_good (span_bytes (nth args 0) (nth args 1) memory) memory s _ _ (λ key. given_good (span_bytes (nth args 2) (nth args 3) memory) memory s _ _ (λ bytes. put_good key bytes memory s))
   host_follows argument call.DelState args memory s =
-      given_good (bytes_at (nth args 0) (nth args 1) memory) memory s _ _ (λ key. del_good key memory s)
+      given_good (span_bytes (nth args 0) (nth args 1) memory) memory s _ _ (λ key. del_good key memory s)
   host_follows argument call.RangeState args memory s =
-      given_good (bytes_at (nth args 0) (nth args 1) memory) memory s _ _ (λ start. given_good (bytes_at (nth args 2) (nth args 3) memory) memory s _ _ (λ end. given_good (bytes_at (nth args 5) (nth args 6) memory) memory s _ _ (λ room. asked_good (record { start = start; end = end; limit = nth args 4 }) (nth args 5) (nth args 6) memory s)))
+      given_good (span_bytes (nth args 0) (nth args 1) memory) memory s _ _ (λ start. given_good (span_bytes (nth args 2) (nth args 3) memory) memory s _ _ (λ end. given_good (span_bytes (nth args 5) (nth args 6) memory) memory s _ _ (λ room. asked_good (record { start = start; end = end; limit = nth args 4 }) (nth args 5) (nth args 6) memory s)))
   host_follows argument call.GetArg args memory s =
-      given_good (bytes_at (nth args 0) (nth args 1) memory) memory s _ _ (λ room. still s (replies argument (nth args 0) (nth args 1) memory s) refl)
+      given_good (span_bytes (nth args 0) (nth args 1) memory) memory s _ _ (λ room. still s (replies argument (nth args 0) (nth args 1) memory s) refl)
   host_follows argument call.SetResult args memory s =
-      given_good (bytes_at (nth args 0) (nth args 1) memory) memory s _ _ (λ bytes. result_good bytes memory s)
+      given_good (span_bytes (nth args 0) (nth args 1) memory) memory s _ _ (λ bytes. result_good bytes memory s)
 
   -- the answers that one state gave are the other's: the two agree
   reads_agree : (keys : List Bytes) → AllByRecursion (λ r. get n r.key ≡ r.value) (map (key_seen m) keys) → AllByRecursion (SameKey m n) keys

@@ -15,7 +15,7 @@ use Rattle.ledger_model.specs.Chain.{Bytes}
 use Rattle.ledger_model.specs.Views.{Plain, first}
 use Rattle.std.specs.FinMap.{get}
 use Rattle.host_api.specs.Recorded.{Asked, Recorded}
-use Rattle.host_api.specs.HostStep.{nth, with_key, with_write, says, refuses, bytes_at, given, is_key, is_value, is_bound, is_limit, replies, value_reply, read_key, write, range_bytes, ask_range, get_state, put_state, del_state, range_state, set_result, host_step}
+use Rattle.host_api.specs.HostStep.{nth, with_key, with_write, says, refuses, span_bytes, given, is_key, is_value, is_bound, is_limit, replies, value_reply, read_key, write, reply_range_bytes, ask_range, get_state, put_state, del_state, range_state, set_result, host_step}
 use Rattle.host_api.specs.Reach.{reach}
 
 -- a reply with more bytes behind its memory
@@ -24,7 +24,7 @@ behind rest r = record { answer = r.answer; memory = r.memory ++ rest; records =
 
 module _ (front rest : List ℕ) where
   -- bytes that lie at the beginning
-  lies : (p l : ℕ) (m : List ℕ) → p + l ≤ length m → bytes_at p l m ≡ Some (take l (drop p m))
+  lies : (p l : ℕ) (m : List ℕ) → p + l ≤ length m → span_bytes p l m ≡ Some (take l (drop p m))
   lies p l m h = ap (λ b. cond b (Some (take l (drop p m))) None) (le-leb (p + l) (length m) h)
 
   same_bytes : (p l : ℕ) → p + l ≤ length front → take l (drop p (front ++ rest)) ≡ take l (drop p front)
@@ -32,9 +32,9 @@ module _ (front rest : List ℕ) where
       ap (λ bs. take l bs) (drop-append-le p front rest (omega (arith, h)))
       ∙ take-append-le l (drop p front) rest (omega (arith, h, length-drop p front))
 
-  given_behind : (p l : ℕ) (s : Recorded) (F G : Bytes → Reply Recorded) → p + l ≤ length front → ((b : Bytes) → F b ≡ behind rest (G b)) → given (bytes_at p l (front ++ rest)) (front ++ rest) s F ≡ behind rest (given (bytes_at p l front) front s G)
+  given_behind : (p l : ℕ) (s : Recorded) (F G : Bytes → Reply Recorded) → p + l ≤ length front → ((b : Bytes) → F b ≡ behind rest (G b)) → given (span_bytes p l (front ++ rest)) (front ++ rest) s F ≡ behind rest (given (span_bytes p l front) front s G)
   given_behind p l s F G h same =
-      let whole : bytes_at p l (front ++ rest) ≡ Some (take l (drop p front)) =
+      let whole : span_bytes p l (front ++ rest) ≡ Some (take l (drop p front)) =
       lies p l (front ++ rest) (omega (arith, h, length-append front rest)) ∙ ap Some (same_bytes p l h) in
       ap (λ b. given b (front ++ rest) s F) whole ∙ same (take l (drop p front))
       ∙ sym (ap (λ b. behind rest (given b front s G)) (lies p l front h))
@@ -81,7 +81,7 @@ module _ (front rest : List ℕ) where
   ask_behind : (m : Plain) (a : Asked) (target capacity : ℕ) (s : Recorded) → target + capacity ≤ length front → ask_range m a target capacity (front ++ rest) s ≡ behind rest (ask_range m a target capacity front s)
   ask_behind m a target capacity s h =
       let t : Recorded = record s { ranges = s.ranges ++ a ∷ [] } in
-      let bytes : Bytes = range_bytes (first m a.start a.end a.limit) in
+      let bytes : Bytes = reply_range_bytes (first m a.start a.end a.limit) in
       cond_behind (nat_le (length (s.ranges ++ a ∷ [])) 16) (replies bytes target capacity (front ++ rest) t) (refuses 3 (front ++ rest) s) (replies bytes target capacity front t) (refuses 3 front s) (replies_behind bytes target capacity t h) refl
 
   range_behind : (m : Plain) (a : Asked) (target capacity : ℕ) (s : Recorded) → target + capacity ≤ length front → range_state m a target capacity (front ++ rest) s ≡ behind rest (range_state m a target capacity front s)

@@ -12,8 +12,8 @@ use Rattle.ledger_model.specs.Views.{Plain, Versioned, first, values_of}
 use Rattle.ledger_model.proofs.Views.{first-values_of}
 use Rattle.ledger_model.specs.Execution.{read_item, range_item}
 use Rattle.host_api.specs.Recorded.{Asked, Recorded, key_seen, range_seen}
-use Rattle.host_api.specs.HostStep.{with_item, with_key, with_write, says, refuses, value_reply, read_key, write, ask_range, replies, range_bytes}
-use Rattle.host_api.specs.Recording.{read_of, range_of, asked_of, recorded_of, entry_of, AreItems}
+use Rattle.host_api.specs.HostStep.{with_item, with_key, with_write, says, refuses, value_reply, read_key, write, ask_range, replies, reply_range_bytes}
+use Rattle.host_api.specs.Recording.{read_of, range_of, asked_of, recorded_of, key_and_value, AreItems}
 use Rattle.host_api.proofs.Places.{IsFound, IsGap, is_gap, grown, map-with_item, ascend_item}
 
 fits : (n most : ℕ) → n ≤ most → nat_le n most ≡ true
@@ -115,11 +115,11 @@ module _ (m : Versioned) (reads : List ReadItem) (ranges : List Range) (writes :
   }
 
 module _ (m : Versioned) (reads : List ReadItem) (ranges : List Range) (result : Bytes) (writes : List WriteItem) (are : AreItems m reads ranges writes) where
-  pub ask_new : (a : Asked) (new : List Range) → new ≡ ranges ++ range_of m a ∷ [] → length ranges ≢ 16 → (es : List (Bytes × (Bytes × Version))) → es ≡ first m a.start a.end a.limit → (target capacity : ℕ) (memory : List ℕ) → ask_range (values_of m) a target capacity memory (recorded_of reads ranges result writes) ≡ replies (range_bytes (map entry_of es)) target capacity memory (recorded_of reads new result writes)
+  pub ask_new : (a : Asked) (new : List Range) → new ≡ ranges ++ range_of m a ∷ [] → length ranges ≢ 16 → (es : List (Bytes × (Bytes × Version))) → es ≡ first m a.start a.end a.limit → (target capacity : ℕ) (memory : List ℕ) → ask_range (values_of m) a target capacity memory (recorded_of reads ranges result writes) ≡ replies (reply_range_bytes (map key_and_value es)) target capacity memory (recorded_of reads new result writes)
   ask_new a new e ne es is target capacity memory =
       let s = recorded_of reads ranges result writes in
       let asked : map asked_of new ≡ map asked_of ranges ++ a ∷ [] = ap (map asked_of) e ∙ map-more asked_of ranges (range_of m a) in
       let count : length (map asked_of ranges ++ a ∷ []) ≤ 16 = omega (arith, ap length asked, length-asked new, one_more 16 (length ranges) are.range_count ne (ap length e ∙ length-more ranges (range_of m a))) in
-      ap (λ b. cond b (replies (range_bytes (first (values_of m) a.start a.end a.limit)) target capacity memory (record s { ranges = map asked_of ranges ++ a ∷ [] })) (refuses 3 memory s)) (fits _ 16 count)
-      ∙ ap (λ (qs : List Asked). replies (range_bytes (first (values_of m) a.start a.end a.limit)) target capacity memory (record s { ranges = qs })) (sym asked)
-      ∙ ap (λ (fs : List (Bytes × Bytes)). replies (range_bytes fs) target capacity memory (recorded_of reads new result writes)) (first-values_of m a.start a.end a.limit ∙ ap (map entry_of) (sym is))
+      ap (λ b. cond b (replies (reply_range_bytes (first (values_of m) a.start a.end a.limit)) target capacity memory (record s { ranges = map asked_of ranges ++ a ∷ [] })) (refuses 3 memory s)) (fits _ 16 count)
+      ∙ ap (λ (qs : List Asked). replies (reply_range_bytes (first (values_of m) a.start a.end a.limit)) target capacity memory (record s { ranges = qs })) (sym asked)
+      ∙ ap (λ (fs : List (Bytes × Bytes)). replies (reply_range_bytes fs) target capacity memory (recorded_of reads new result writes)) (first-values_of m a.start a.end a.limit ∙ ap (map key_and_value) (sym is))

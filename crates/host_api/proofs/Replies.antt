@@ -6,8 +6,8 @@ use Rattle.std.proofs.lemmas.Grind.{common_steps}
 use Rattle.fab_types.specs.declared.items.RangeEntry.{RangeEntry}
 use Rattle.wasm_meaning.specs.Memory.{written}
 use Rattle.ledger_model.specs.Chain.{Bytes, Version}
-use Rattle.host_api.specs.HostStep.{entry_bytes, range_bytes}
-use Rattle.host_api.specs.Recording.{entry_of, version_entry}
+use Rattle.host_api.specs.HostStep.{reply_entry_bytes, reply_range_bytes}
+use Rattle.host_api.specs.Recording.{key_and_value, version_entry}
 use Rattle.host_api.proofs.Bytes.{written-append, length-written}
 
 -- a reference to an entry
@@ -15,11 +15,11 @@ abbrev pub Lent : Type 0
 Lent = Bor Bytes × Bor (Bytes × Version)
 
 abbrev pub shown : List Lent → List (Bytes × Bytes)
-shown es = map entry_of (map deref_pair es)
+shown es = map key_and_value (map deref_pair es)
 
 -- the bytes of entries
 abbrev pub bytes_of : List Lent → Bytes
-bytes_of es = flat_map entry_bytes (shown es)
+bytes_of es = flat_map reply_entry_bytes (shown es)
 
 abbrev pub keys_of : List Lent → List RangeEntry
 keys_of es = map version_entry (map deref_pair es)
@@ -49,14 +49,14 @@ pub length-shown : (es : List Lent) → length (shown es) ≡ length es
 length-shown [] = refl
 length-shown (e ∷ es) = ap suc (length-shown es)
 
-pub length-entry : (key bytes : Bytes) → length (entry_bytes (key, bytes)) ≡ 3 + length key + length bytes
+pub length-entry : (key bytes : Bytes) → length (reply_entry_bytes (key, bytes)) ≡ 3 + length key + length bytes
 length-entry key bytes = grind (arith, common_steps)
 
 pub length-both : (xs ys : List ℕ) → length (xs ++ ys) ≡ length xs + length ys
 length-both xs ys = grind (arith, common_steps)
 
 module _ (es : List Lent) (i : ℕ) (e : Lent) (lt : i < length es) (is : e ≡ get_or es i e) where
-  pub bytes_next : bytes_of (drop i es) ≡ entry_bytes (e.0.now, e.1.now.0) ++ bytes_of (drop (i + 1) es)
+  pub bytes_next : bytes_of (drop i es) ≡ reply_entry_bytes (e.0.now, e.1.now.0) ++ bytes_of (drop (i + 1) es)
   bytes_next = ap bytes_of (drop_next es i e lt is)
 
   pub keys_next : keys_of (drop i es) ≡ record { key = e.0.now; version = e.1.now.1 } ∷ keys_of (drop (i + 1) es)
@@ -64,9 +64,9 @@ module _ (es : List Lent) (i : ℕ) (e : Lent) (lt : i < length es) (is : e ≡ 
 
   pub length_next : length (bytes_of (drop i es)) ≡ 3 + length e.0.now + length e.1.now.0 + length (bytes_of (drop (i + 1) es))
   length_next =
-      ap length bytes_next ∙ length-both (entry_bytes (e.0.now, e.1.now.0)) (bytes_of (drop (i + 1) es)) ∙ ap (λ n. n + length (bytes_of (drop (i + 1) es))) (length-entry e.0.now e.1.now.0)
+      ap length bytes_next ∙ length-both (reply_entry_bytes (e.0.now, e.1.now.0)) (bytes_of (drop (i + 1) es)) ∙ ap (λ n. n + length (bytes_of (drop (i + 1) es))) (length-entry e.0.now e.1.now.0)
 
   -- the bytes from the i-th entry on, once that entry is written
-  pub written_entry : (m : List ℕ) (p : ℕ) → written (written m p (entry_bytes (e.0.now, e.1.now.0))) (p + length (entry_bytes (e.0.now, e.1.now.0))) (bytes_of (drop (i + 1) es)) ≡ written m p (bytes_of (drop i es))
+  pub written_entry : (m : List ℕ) (p : ℕ) → written (written m p (reply_entry_bytes (e.0.now, e.1.now.0))) (p + length (reply_entry_bytes (e.0.now, e.1.now.0))) (bytes_of (drop (i + 1) es)) ≡ written m p (bytes_of (drop i es))
   written_entry m p =
-      written-append m (entry_bytes (e.0.now, e.1.now.0)) (bytes_of (drop (i + 1) es)) p ∙ ap (written m p) (sym bytes_next)
+      written-append m (reply_entry_bytes (e.0.now, e.1.now.0)) (bytes_of (drop (i + 1) es)) p ∙ ap (written m p) (sym bytes_next)

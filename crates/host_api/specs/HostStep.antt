@@ -37,8 +37,8 @@ abbrev pub traps : (memory : List ℕ) → Recorded → Reply Recorded
 traps memory s = record { answer = answer.OutOfBounds; memory = memory; records = s }
 
 -- the bytes of a pointer and a length, where these lie within the memory; a length of 0 must lie there too
-abbrev pub bytes_at : (pointer len : ℕ) → (memory : List ℕ) → Option Bytes
-bytes_at pointer len memory =
+abbrev pub span_bytes : (pointer len : ℕ) → (memory : List ℕ) → Option Bytes
+span_bytes pointer len memory =
     cond (nat_le (pointer + len) (length memory)) (Some (take len (drop pointer memory))) None
 
 -- a call traps where bytes that it is given do not lie within the memory
@@ -85,18 +85,18 @@ write w memory s =
     cond (nat_le (length writes) 64) (says 0 memory (record s { writes = writes })) (refuses 3 memory s)
 
 -- the key's length and its bytes, the value's length in two bytes, the least first, and its bytes
-abbrev pub entry_bytes : Bytes × Bytes → Bytes
-entry_bytes e = length e.0 ∷ e.0 ++ (length e.1 % 256 ∷ length e.1 / 256 ∷ e.1)
+abbrev pub reply_entry_bytes : Bytes × Bytes → Bytes
+reply_entry_bytes e = length e.0 ∷ e.0 ++ (length e.1 % 256 ∷ length e.1 / 256 ∷ e.1)
 
 -- the number of entries, and the entries
-abbrev pub range_bytes : List (Bytes × Bytes) → Bytes
-range_bytes es = length es ∷ flat_map entry_bytes es
+abbrev pub reply_range_bytes : List (Bytes × Bytes) → Bytes
+reply_range_bytes es = length es ∷ flat_map reply_entry_bytes es
 
 -- -3 answers the 17th range; range entries make no reads
 abbrev pub ask_range : Plain → Asked → (target capacity : ℕ) → (memory : List ℕ) → Recorded → Reply Recorded
 ask_range m a target capacity memory s =
     let ranges = s.ranges ++ a ∷ [] in
-    cond (nat_le (length ranges) 16) (replies (range_bytes (first m a.start a.end a.limit)) target capacity memory (record s { ranges = ranges })) (refuses 3 memory s)
+    cond (nat_le (length ranges) 16) (replies (reply_range_bytes (first m a.start a.end a.limit)) target capacity memory (record s { ranges = ranges })) (refuses 3 memory s)
 
 abbrev pub get_state : Plain → (key : Bytes) → (target capacity : ℕ) → (memory : List ℕ) → Recorded → Reply Recorded
 get_state m key target capacity memory s =
@@ -125,14 +125,14 @@ nth args i = get_or args i 0
 -- pointer and a length is tested first, that of a target and its capacity too.
 abbrev pub host_step : Plain → (argument : Bytes) → Answering Recorded
 host_step m argument call.GetState args memory s =
-    given (bytes_at (nth args 0) (nth args 1) memory) memory s (λ key. given (bytes_at (nth args 2) (nth args 3) memory) memory s (λ room. get_state m key (nth args 2) (nth args 3) memory s))
+    given (span_bytes (nth args 0) (nth args 1) memory) memory s (λ key. given (span_bytes (nth args 2) (nth args 3) memory) memory s (λ room. get_state m key (nth args 2) (nth args 3) memory s))
 host_step m argument call.PutState args memory s =
-    given (bytes_at (nth args 0) (nth args 1) memory) memory s (λ key. given (bytes_at (nth args 2) (nth args 3) memory) memory s (λ bytes. put_state key bytes memory s))
+    given (span_bytes (nth args 0) (nth args 1) memory) memory s (λ key. given (span_bytes (nth args 2) (nth args 3) memory) memory s (λ bytes. put_state key bytes memory s))
 host_step m argument call.DelState args memory s =
-    given (bytes_at (nth args 0) (nth args 1) memory) memory s (λ key. del_state key memory s)
+    given (span_bytes (nth args 0) (nth args 1) memory) memory s (λ key. del_state key memory s)
 host_step m argument call.RangeState args memory s =
-    given (bytes_at (nth args 0) (nth args 1) memory) memory s (λ start. given (bytes_at (nth args 2) (nth args 3) memory) memory s (λ end. given (bytes_at (nth args 5) (nth args 6) memory) memory s (λ room. range_state m (record { start = start; end = end; limit = nth args 4 }) (nth args 5) (nth args 6) memory s)))
+    given (span_bytes (nth args 0) (nth args 1) memory) memory s (λ start. given (span_bytes (nth args 2) (nth args 3) memory) memory s (λ end. given (span_bytes (nth args 5) (nth args 6) memory) memory s (λ room. range_state m (record { start = start; end = end; limit = nth args 4 }) (nth args 5) (nth args 6) memory s)))
 host_step m argument call.GetArg args memory s =
-    given (bytes_at (nth args 0) (nth args 1) memory) memory s (λ room. replies argument (nth args 0) (nth args 1) memory s)
+    given (span_bytes (nth args 0) (nth args 1) memory) memory s (λ room. replies argument (nth args 0) (nth args 1) memory s)
 host_step m argument call.SetResult args memory s =
-    given (bytes_at (nth args 0) (nth args 1) memory) memory s (λ bytes. set_result bytes memory s)
+    given (span_bytes (nth args 0) (nth args 1) memory) memory s (λ bytes. set_result bytes memory s)

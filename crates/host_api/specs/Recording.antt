@@ -9,7 +9,7 @@ use Rattle.ledger_model.specs.Chain.{Bytes, Version}
 use Rattle.ledger_model.specs.Views.{Versioned}
 use Rattle.ledger_model.specs.Flags.{version_at, entries_at}
 use Rattle.host_api.specs.Recorded.{Asked, Recorded}
-use Rattle.host_api.specs.HostStep.{refuses, value_reply, replies, range_bytes}
+use Rattle.host_api.specs.HostStep.{refuses, value_reply, replies, reply_range_bytes}
 
 -- what a recorder was opened with
 pub record Opened (V : Type 0) : Type 0 where
@@ -52,11 +52,11 @@ read_reply (Some value) target capacity memory s = value_reply value target capa
 -- the same of a range and its entries
 abbrev pub range_reply : Option (List (Bytes × Bytes)) → (target capacity : ℕ) → (memory : List ℕ) → Recorded → Reply Recorded
 range_reply None target capacity memory s = refuses 3 memory s
-range_reply (Some es) target capacity memory s = replies (range_bytes es) target capacity memory s
+range_reply (Some es) target capacity memory s = replies (reply_range_bytes es) target capacity memory s
 
 -- an entry without its version
-abbrev pub entry_of : Bytes × (Bytes × Version) → Bytes × Bytes
-entry_of e = (e.0, e.1.0)
+abbrev pub key_and_value : Bytes × (Bytes × Version) → Bytes × Bytes
+key_and_value e = (e.0, e.1.0)
 
 -- an entry's key and version
 abbrev pub version_entry : Bytes × (Bytes × Version) → RangeEntry

@@ -5,14 +5,14 @@ ghost use Rattle.wasm_validate.specs.HostCalls.{arity};
 ghost use Rattle.wasm_ast.specs.declared.host_call.HostAnswer.TheVariants as host_answer;
 ghost use Rattle.wasm_meaning.specs.Memory.{written};
 ghost use Rattle.host_api.specs.Recorded.{Recorded};
-ghost use Rattle.host_api.specs.HostStep.{bytes_at, replies};
+ghost use Rattle.host_api.specs.HostStep.{span_bytes, replies};
 ghost use Rattle.host_api.specs.Reach.{end_at, reach};
 
 use wasm_ast::{HostAnswer, HostCall};
 
 /// The bytes of a pointer and a length. None where they do not lie within the memory.
-pub fn bytes_at(memory: &[u8], pointer: u32, len: u32) -> Option<&[u8]>
-    ensures { option_map (λ b. b.now) result ≡ bytes_at pointer len memory.now }
+pub fn span_bytes(memory: &[u8], pointer: u32, len: u32) -> Option<&[u8]>
+    ensures { option_map (λ b. b.now) result ≡ span_bytes pointer len memory.now }
 {
     let start = pointer as usize;
     memory.get(start..start + len as usize)

@@ -4,8 +4,8 @@ ghost use Rattle.std.specs.Prelude.{◌≡◌, ◌≤◌, ◌<◌, ◌+◌, ◌*
 ghost use Rattle.std.specs.Map.Iter.{deref_pair};
 ghost use Rattle.wasm_meaning.specs.Memory.{written};
 ghost use Rattle.host_api.specs.Recorded.{Recorded};
-ghost use Rattle.host_api.specs.HostStep.{replies, range_bytes, entry_bytes};
-ghost use Rattle.host_api.specs.Recording.{entry_of, version_entry};
+ghost use Rattle.host_api.specs.HostStep.{replies, reply_range_bytes, reply_entry_bytes};
+ghost use Rattle.host_api.specs.Recording.{key_and_value, version_entry};
 
 use crate::memory::write_bytes;
 use fab_types::{Key, RangeEntry, Value, Version};
@@ -39,7 +39,7 @@ pub fn range_reply(
     requires count { length entries.now ≤ 64 }
     requires room { target + capacity ≤ length memory.old }
     ensures { (s : Recorded) →
-        replies (range_bytes (map entry_of (map deref_pair entries.now))) target capacity memory.old
+        replies (reply_range_bytes (map key_and_value (map deref_pair entries.now))) target capacity memory.old
         s
         ≡ record { answer = result; memory = memory.new; records = s } }
 {
@@ -53,7 +53,7 @@ pub fn range_reply(
 // The length of the reply.
 fn reply_len(entries: &[(&Key, &(Value, Version))]) -> u32
     requires { length entries.now ≤ 64 }
-    ensures { result ≡ length (range_bytes (map entry_of (map deref_pair entries.now))) }
+    ensures { result ≡ length (reply_range_bytes (map key_and_value (map deref_pair entries.now))) }
 {
     let mut len = 1;
     for (key, entry) in entries {
@@ -65,10 +65,10 @@ fn reply_len(entries: &[(&Key, &(Value, Version))]) -> u32
 // Writes the reply from a place on.
 fn write_entries(entries: &[(&Key, &(Value, Version))], at: usize, memory: &mut [u8])
     requires count { length entries.now ≤ 64 }
-    requires room { at + length (range_bytes (map entry_of (map deref_pair entries.now)))
+    requires room { at + length (reply_range_bytes (map key_and_value (map deref_pair entries.now)))
         ≤ length memory.old }
     ensures { memory.new
-        ≡ written memory.old at (range_bytes (map entry_of (map deref_pair entries.now))) }
+        ≡ written memory.old at (reply_range_bytes (map key_and_value (map deref_pair entries.now))) }
 {
     memory[at] = entries.len() as u8;
     let mut next = at + 1;
@@ -81,9 +81,9 @@ fn write_entries(entries: &[(&Key, &(Value, Version))], at: usize, memory: &mut 
 fn write_entry(key: &[u8], value: &[u8], at: usize, memory: &mut [u8]) -> usize
     requires key { length key.now ≤ 64 }
     requires value { length value.now ≤ 4096 }
-    requires room { at + length (entry_bytes (key.now, value.now)) ≤ length memory.old }
-    ensures written { memory.new ≡ written memory.old at (entry_bytes (key.now, value.now)) }
-    ensures next { result ≡ at + length (entry_bytes (key.now, value.now)) }
+    requires room { at + length (reply_entry_bytes (key.now, value.now)) ≤ length memory.old }
+    ensures written { memory.new ≡ written memory.old at (reply_entry_bytes (key.now, value.now)) }
+    ensures next { result ≡ at + length (reply_entry_bytes (key.now, value.now)) }
 {
     memory[at] = key.len() as u8;
     write_bytes(memory, at + 1, key);

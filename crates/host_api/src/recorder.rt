@@ -10,7 +10,7 @@ ghost use Rattle.ledger_model.specs.Views.{values_of};
 ghost use Rattle.ledger_model.specs.Flags.{version_at};
 ghost use Rattle.host_api.specs.Recorded.{Recorded, nothing_recorded, seen_on};
 ghost use Rattle.host_api.specs.HostStep.{host_step, read_key, write, ask_range};
-ghost use Rattle.host_api.specs.Recording.{read_reply, range_reply, entry_of};
+ghost use Rattle.host_api.specs.Recording.{read_reply, range_reply, key_and_value};
 
 use crate::keyed::search;
 use crate::memory::{bytes_at, negative, reach, reply};
@@ -315,7 +315,7 @@ impl<'v, V: View> Recorder<'v, V> {
             ask_range (values_of (V.state self.old.opened.view))
             (record { start = start.now; end = end.now; limit = limit }) target capacity
             memory self.old.records
-            ≡ range_reply (option_map (λ v. map entry_of (map deref_pair v.items)) found)
+            ≡ range_reply (option_map (λ v. map key_and_value (map deref_pair v.items)) found)
             target capacity memory self.new.records) }
         ensures count { IfOk result (λ found. IfSome found (λ v. length v.items ≤ 64)) }
         ensures opened { self.new.opened ≡ self.old.opened }

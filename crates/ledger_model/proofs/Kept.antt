@@ -12,11 +12,11 @@ use Rattle.fab_types.specs.declared.items.WriteItem.{WriteItem}
 use Rattle.fab_types.specs.declared.payload.Proposal.{Proposal}
 use Rattle.fab_types.specs.declared.payload.Payload.{Payload}
 use Rattle.ledger_model.specs.Chain.{Bytes, Version, Envelope, Flag, Valid, EndorsementPolicyFailure, MvccReadConflict, PhantomReadConflict, DuplicateTxid, Placed, placed, is_valid}
-use Rattle.ledger_model.specs.Views.{key_cmp, is_within, Versioned, within, first}
+use Rattle.ledger_model.specs.Views.{key_cmp, is_within, Versioned, entries_within, first}
 use Rattle.ledger_model.specs.State.{write_to, write_of, last_write, kept, state_at, state}
 use Rattle.ledger_model.specs.Flags as flags
 use Rattle.ledger_model.specs.Flags.{version_at, same_version, entry_of, entries_at, reads_current, ranges_current, stands_in, flag_at}
-use Rattle.ledger_model.specs.Judged.{Rule, by_table, judged}
+use Rattle.ledger_model.specs.Judged.{FlagRule, by_table, judged}
 use Rattle.ledger_model.proofs.Keys.{keys_total, keys_exact, by_key, tie_self}
 use Rattle.ledger_model.proofs.Sorted.{sorted_filter, find_keys}
 use Rattle.ledger_model.proofs.State.{get-state, last_write-append}
@@ -86,7 +86,7 @@ cond_at false x y f = refl
 
 range_at : (m n : Versioned) (start end : Bytes) (limit : ℕ) → ((q : Bytes) → is_within start end q ≡ true → get m q ≡ get n q) → first m start end limit ≡ first n start end limit
 range_at m n start end limit h =
-    ap (take limit) (same_entries key_cmp keys_total keys_exact (within start end (entries m)) (within start end (entries n))
+    ap (take limit) (same_entries key_cmp keys_total keys_exact (entries_within start end (entries m)) (entries_within start end (entries n))
     (sorted_filter (λ e. is_within start end e.0) (entries m) (entries_sorted m))
     (sorted_filter (λ e. is_within start end e.0) (entries n) (entries_sorted n)) (λ q.
     find_keys (is_within start end) q (entries m)

@@ -29,7 +29,7 @@ ghost use Rattle.ledger_model.specs.Flags.{version_at, entries_at, reads_current
 ghost use Rattle.ledger_model.specs.Execution.{Exec, ReadsAlone};
 ghost use Rattle.ledger_model.specs.Serial.{AllHandedOut, AllAgree, AllSame, serial};
 ghost use Rattle.ledger_model.specs.Legal.{sees_write_of, IsLegal, DiffersBefore};
-ghost use Rattle.ledger_model.specs.Judged.{Rule, AllCurrent, AllEndorsed, HasFlagsBy, by_table, judged, judged_chain};
+ghost use Rattle.ledger_model.specs.Judged.{FlagRule, AllCurrent, AllEndorsed, HasFlagsBy, by_table, judged, judged_chain};
 
 /// The state as a map has at each key what its last writer left there.
 pub fn state_is_by_the_last_writer()
@@ -57,7 +57,7 @@ pub fn versions_name_the_entries_of_a_range()
 /// to it (`next`), and so any blocks have them that are flagged one after another from the empty
 /// chain on (`all`).
 pub fn computed_flags_are_right()
-    ensures next { (rule : Rule) (chain : Chain) (b : Block) → HasFlagsBy rule [] (history chain) →
+    ensures next { (rule : FlagRule) (chain : Chain) (b : Block) → HasFlagsBy rule [] (history chain) →
         HasFlagsBy rule []
         (history
         (chain ++
@@ -66,7 +66,7 @@ pub fn computed_flags_are_right()
           flags = judged rule (history chain) (length chain + 1) 0 b.envelopes;
         } ∷
         [])) }
-    ensures all { (rule : Rule) (blocks : List Block) →
+    ensures all { (rule : FlagRule) (blocks : List Block) →
         HasFlagsBy rule [] (history (judged_chain rule blocks)) }
 {}
 

@@ -1,4 +1,4 @@
--- Loads and stores within what is laid out of a memory, and past it.
+-- Loads and stores in_bounds what is laid out of a memory, and past it.
 use Rattle.std.proofs.Common.{◌≡◌, ◌≤◌, ◌<◌, ◌+◌, ◌-◌, ℕ, zero, suc, ◌/◌, Bool, true, false, List, length, take, drop, min, inl, inr, refl, sym, ap, ◌∙◌, arith, length-take, length-drop}
 use Rattle.std.specs.Prelude.{Ok, Err, cond, nat_lt}
 use Rattle.std.proofs.lemmas.Bool.{cases_lt}
@@ -12,7 +12,7 @@ use Rattle.wasm_ast.specs.declared.trap.Trap.{Trap}
 use Rattle.wasm_ast.specs.declared.trap.Trap.TheVariants.{OutOfBounds}
 use Rattle.wasm_ast.specs.Access.{load_width, store_width}
 use Rattle.wasm_meaning.specs.Memory.{bytes_of, loaded, number_of, word_loaded, written}
-use Rattle.wasm_instance.specs.Accesses.{within, load_at, after_store}
+use Rattle.wasm_instance.specs.Accesses.{in_bounds, load_at, after_store}
 use Rattle.wasm_instance.specs.Front.{padded}
 use Rattle.wasm_instance.proofs.Front.{length-padded, padded_whole, bytes_laid, length-written, written_laid, window}
 
@@ -54,30 +54,30 @@ store_width-le store.I64To8 = omega arith
 store_width-le store.I64To16 = omega arith
 store_width-le store.I64To32 = omega arith
 
--- what an access within the memory gives, and one past its end
-pub is_within : {A : Type 0} (m : List ℕ) (p w : ℕ) (x : A) → p + w ≤ length m → within m p w x ≡ Ok x
+-- what an access in_bounds the memory gives, and one past its end
+pub is_within : {A : Type 0} (m : List ℕ) (p w : ℕ) (x : A) → p + w ≤ length m → in_bounds m p w x ≡ Ok x
 is_within m p w x h =
     let e : nat_lt (length m) (p + w) ≡ false = grind (arith, nat_tests) in ap (λ b. cond b (Err OutOfBounds) (Ok x)) e
 
-pub is_past : {A : Type 0} (m : List ℕ) (p w : ℕ) (x : A) → length m < p + w → within m p w x ≡ Err OutOfBounds
+pub is_past : {A : Type 0} (m : List ℕ) (p w : ℕ) (x : A) → length m < p + w → in_bounds m p w x ≡ Err OutOfBounds
 is_past m p w x h =
     let e : nat_lt (length m) (p + w) ≡ true = grind (arith, nat_tests) in ap (λ b. cond b (Err OutOfBounds) (Ok x)) e
 
-pub within_from_ok : {A : Type 0} (m : List ℕ) (p w : ℕ) (x y : A) → within m p w x ≡ Ok y → p + w ≤ length m
+pub within_from_ok : {A : Type 0} (m : List ℕ) (p w : ℕ) (x y : A) → in_bounds m p w x ≡ Ok y → p + w ≤ length m
 within_from_ok m p w x y e =
     elim (cases_lt (length m) (p + w)) as (λ _. p + w ≤ length m) [
       | inl past ↦ let c : Err OutOfBounds ≡ Ok y = sym (is_past m p w x past) ∙ e in absurd cc
       | inr le ↦ le
     ]
 
-pub past_from_err : {A : Type 0} (m : List ℕ) (p w : ℕ) (x : A) (t : Trap) → within m p w x ≡ Err t → length m < p + w
+pub past_from_err : {A : Type 0} (m : List ℕ) (p w : ℕ) (x : A) (t : Trap) → in_bounds m p w x ≡ Err t → length m < p + w
 past_from_err m p w x t e =
     elim (cases_lt (length m) (p + w)) as (λ _. length m < p + w) [
       | inl past ↦ past
       | inr le ↦ let c : Ok x ≡ Err t = sym (is_within m p w x le) ∙ e in absurd cc
     ]
 
--- a load that stays within what is laid out
+-- a load that stays in_bounds what is laid out
 pub load_laid : (o : LoadOp) (n p word : ℕ) (xs : List ℕ) → length xs ≤ n → load_at o xs p ≡ Ok word → load_at o (padded n xs) p ≡ Ok word
 load_laid o n p word xs h e =
     let le : p + load_width o ≤ length xs = within_from_ok xs p (load_width o) (loaded o xs p) word e in
@@ -123,7 +123,7 @@ stored o m p word h =
 
 -- a store to what is laid out is a store to the memory
 pub record Stores (o : StoreOp) (n p word : ℕ) (xs : List ℕ) : Type 0 where
-  pub answer : within {A = Unit {0}} (padded n xs) p (store_width o) tt ≡ within {A = Unit {0}} xs p (store_width o) tt
+  pub answer : in_bounds {A = Unit {0}} (padded n xs) p (store_width o) tt ≡ in_bounds {A = Unit {0}} xs p (store_width o) tt
   pub memory : after_store o (padded n xs) p word ≡ padded n (after_store o xs p word)
 
 pub store_laid : (o : StoreOp) (n p word : ℕ) (xs : List ℕ) → length xs ≤ n → p + store_width o ≤ length xs → Stores o n p word xs
@@ -145,7 +145,7 @@ store_reached o n p word xs h reach =
           let all : length xs ≡ n = omega (arith, h, reach, past, store_width-le o) in
           let whole : padded n xs ≡ xs = padded_whole n xs all in
           record {
-            answer = ap (λ m. within {A = Unit {0}} m p (store_width o) tt) whole;
+            answer = ap (λ m. in_bounds {A = Unit {0}} m p (store_width o) tt) whole;
             memory =
                 ap (λ m. after_store o m p word) whole
                 ∙ sym (padded_whole n (after_store o xs p word) (length-after_store o xs p word ∙ all));

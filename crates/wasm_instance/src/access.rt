@@ -1,12 +1,12 @@
 //! Loads, stores and growth of a memory as bytes (Core 1.0, section 4.4.4).
 //!
-//! Each access tests once that it lies within the memory. It has a place, an operand plus an
+//! Each access tests once that it lies in_bounds the memory. It has a place, an operand plus an
 //! offset, and so below 2^33.
 
 ghost use Rattle.std.specs.Prelude.{◌≡◌, ◌+◌, ◌<◌, ◌≤◌, ◌^◌, length};
 ghost use Rattle.wasm_ast.specs.Access.{store_width};
 ghost use Rattle.wasm_meaning.specs.Memory.{bytes_at, number_of, written};
-ghost use Rattle.wasm_instance.specs.Accesses.{within, load_at, after_write, after_store};
+ghost use Rattle.wasm_instance.specs.Accesses.{in_bounds, load_at, after_write, after_store};
 
 use wasm_ast::{LoadOp, StoreOp, Trap};
 
@@ -51,7 +51,7 @@ pub fn load_word(op: LoadOp, memory: &[u8], place: usize) -> Result<u64, Trap>
 #[inline(always)]
 fn number_8(memory: &[u8], place: usize) -> Result<u8, Trap>
     requires { place < 2 ^ 62 }
-    ensures { result ≡ within memory.now place 1 (number_of (bytes_at memory.now place 1)) }
+    ensures { result ≡ in_bounds memory.now place 1 (number_of (bytes_at memory.now place 1)) }
 {
     Ok(u8::from_le_bytes(chunk(memory, place)?))
 }
@@ -59,7 +59,7 @@ fn number_8(memory: &[u8], place: usize) -> Result<u8, Trap>
 #[inline(always)]
 fn number_16(memory: &[u8], place: usize) -> Result<u16, Trap>
     requires { place < 2 ^ 62 }
-    ensures { result ≡ within memory.now place 2 (number_of (bytes_at memory.now place 2)) }
+    ensures { result ≡ in_bounds memory.now place 2 (number_of (bytes_at memory.now place 2)) }
 {
     Ok(u16::from_le_bytes(chunk(memory, place)?))
 }
@@ -67,7 +67,7 @@ fn number_16(memory: &[u8], place: usize) -> Result<u16, Trap>
 #[inline(always)]
 fn number_32(memory: &[u8], place: usize) -> Result<u32, Trap>
     requires { place < 2 ^ 62 }
-    ensures { result ≡ within memory.now place 4 (number_of (bytes_at memory.now place 4)) }
+    ensures { result ≡ in_bounds memory.now place 4 (number_of (bytes_at memory.now place 4)) }
 {
     Ok(u32::from_le_bytes(chunk(memory, place)?))
 }
@@ -75,7 +75,7 @@ fn number_32(memory: &[u8], place: usize) -> Result<u32, Trap>
 #[inline(always)]
 fn number_64(memory: &[u8], place: usize) -> Result<u64, Trap>
     requires { place < 2 ^ 62 }
-    ensures { result ≡ within memory.now place 8 (number_of (bytes_at memory.now place 8)) }
+    ensures { result ≡ in_bounds memory.now place 8 (number_of (bytes_at memory.now place 8)) }
 {
     Ok(u64::from_le_bytes(chunk(memory, place)?))
 }
@@ -84,7 +84,7 @@ fn number_64(memory: &[u8], place: usize) -> Result<u64, Trap>
 #[inline(always)]
 fn chunk<const N: usize>(memory: &[u8], place: usize) -> Result<[u8; N], Trap>
     requires { place + N < 2 ^ 63 }
-    ensures { result ≡ within memory.now place N (bytes_at memory.now place N) }
+    ensures { result ≡ in_bounds memory.now place N (bytes_at memory.now place N) }
 {
     let bytes = memory.get(place..place + N).ok_or(Trap::OutOfBounds)?;
     bytes.first_chunk().copied().ok_or(Trap::OutOfBounds)
@@ -95,7 +95,7 @@ fn chunk<const N: usize>(memory: &[u8], place: usize) -> Result<[u8; N], Trap>
 #[inline(always)]
 pub fn store_word(op: StoreOp, memory: &mut [u8], place: usize, word: u64) -> Result<(), Trap>
     requires { place < 2 ^ 62 }
-    ensures answer { result ≡ within memory.old place (store_width op) tt }
+    ensures answer { result ≡ in_bounds memory.old place (store_width op) tt }
     ensures stored { memory.new ≡ after_store op memory.old place word }
 {
     let bytes = word.to_le_bytes();
@@ -107,11 +107,11 @@ pub fn store_word(op: StoreOp, memory: &mut [u8], place: usize, word: u64) -> Re
     }
 }
 
-// Writes bytes from a place on, where they all lie within the memory.
+// Writes bytes from a place on, where they all lie in_bounds the memory.
 #[inline(always)]
 fn put(memory: &mut [u8], place: usize, bytes: &[u8]) -> Result<(), Trap>
     requires { place < 2 ^ 62 }
-    ensures answer { result ≡ within memory.old place (length bytes.now) tt }
+    ensures answer { result ≡ in_bounds memory.old place (length bytes.now) tt }
     ensures written { memory.new ≡ after_write memory.old place bytes.now }
 {
     if memory.len() < place + bytes.len() {

@@ -4,7 +4,7 @@ ghost use Rattle.std.specs.Prelude.{◌≡◌, ◌<◌, ◌+◌, length, slice_g
 ghost use Rattle.std.specs.Borrow.{sem};
 ghost use Rattle.wasm_ast.specs.Access.{store_width};
 ghost use Rattle.wasm_meaning.specs.Memory.{size_word};
-ghost use Rattle.wasm_instance.specs.Accesses.{within, load_at, after_store, grow_word, after_grow, function_at};
+ghost use Rattle.wasm_instance.specs.Accesses.{in_bounds, load_at, after_store, grow_word, after_grow, function_at};
 ghost use Rattle.wasm_instance.specs.State.{fresh};
 ghost use Rattle.wasm_instance.specs.Lending.{LendsMemory};
 
@@ -68,7 +68,7 @@ impl Instance {
     ///
     /// # Errors
     ///
-    /// `OutOfBounds` where the bytes that it reads do not all lie within the memory. The sum is
+    /// `OutOfBounds` where the bytes that it reads do not all lie in_bounds the memory. The sum is
     /// unbounded: it does not wrap at 2^32.
     #[inline(always)]
     pub fn load(&self, op: LoadOp, address: u32, offset: u32) -> Result<u64, Trap>
@@ -81,11 +81,11 @@ impl Instance {
     ///
     /// # Errors
     ///
-    /// `OutOfBounds` where the bytes that it writes would not all lie within the memory, which then
+    /// `OutOfBounds` where the bytes that it writes would not all lie in_bounds the memory, which then
     /// stays as it was. The sum is unbounded: it does not wrap at 2^32.
     #[inline(always)]
     pub fn store(&mut self, op: StoreOp, address: u32, offset: u32, word: u64) -> Result<(), Trap>
-        ensures answer { result ≡ within self.old.memory (address + offset) (store_width op) tt }
+        ensures answer { result ≡ in_bounds self.old.memory (address + offset) (store_width op) tt }
         ensures stored { self.new
             ≡ record self.old { memory = after_store op self.old.memory (address + offset) word } }
     {

@@ -4,7 +4,7 @@ ghost use Rattle.std.specs.Prelude.{◌≡◌, ◌≤◌, ◌<◌, ◌+◌, ◌-
 ghost use Rattle.std.specs.Borrow.{sem};
 ghost use Rattle.wasm_ast.specs.Access.{store_width};
 ghost use Rattle.wasm_meaning.specs.Memory.{written};
-ghost use Rattle.wasm_instance.specs.Accesses.{within, load_at, after_store};
+ghost use Rattle.wasm_instance.specs.Accesses.{in_bounds, load_at, after_store};
 ghost use Rattle.wasm_instance.specs.Front.{padded};
 
 use crate::access::{load_word, store_word, write};
@@ -89,7 +89,7 @@ impl Memory {
     #[inline(always)]
     pub fn store(&mut self, op: StoreOp, place: usize, word: u64) -> Result<(), Trap>
         requires { place < 2 ^ 62 }
-        ensures answer { result ≡ within self.old place (store_width op) tt }
+        ensures answer { result ≡ in_bounds self.old place (store_width op) tt }
         ensures stored { self.new ≡ after_store op self.old place word }
     {
         match store_word(op, &mut self.front, place, word) {
@@ -147,7 +147,7 @@ impl Memory {
 fn lay_out(front: &mut Vec<u8>, size: usize, end: usize)
     requires { (length front.old.items ≤ size) × (size ≤ vec_capacity front.old) }
     ensures memory { padded size front.new.items ≡ padded size front.old.items }
-    ensures within { length front.new.items ≤ size }
+    ensures in_bounds { length front.new.items ≤ size }
     ensures room { size ≤ vec_capacity front.new }
     ensures reaches { min end size ≤ length front.new.items }
 {
@@ -162,7 +162,7 @@ fn lay_out(front: &mut Vec<u8>, size: usize, end: usize)
 fn laid_out(mut front: Vec<u8>, size: usize, end: usize) -> Vec<u8>
     requires { (length front.items ≤ size) × (size ≤ vec_capacity front) }
     ensures memory { padded size result.items ≡ padded size front.items }
-    ensures within { length result.items ≤ size }
+    ensures in_bounds { length result.items ≤ size }
     ensures room { size ≤ vec_capacity result }
     ensures reaches { min end size ≤ length result.items }
 {

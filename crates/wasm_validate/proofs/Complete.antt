@@ -10,7 +10,7 @@ use Rattle.wasm_ast.specs.Conversions.{operand_type, result_type}
 use Rattle.wasm_ast.specs.Types.{words}
 use Rattle.wasm_ast.specs.Op.{Op, Unreachable, Nop, Drop, Select, Return, Br, BrIf, BrTable, Call, CallIndirect, LocalGet, LocalSet, LocalTee, GlobalGet, GlobalSet, MemorySize, MemoryGrow, Load, Store, Const, Eqz, Unary, Compare, Binary, Convert}
 use Rattle.wasm_ast.specs.Code.{BlockType, Code, End, Do, Block, Loop, If}
-use Rattle.wasm_validate.specs.Typing.{Context, at, results, under, arguments, EachLabel, Rule, Types}
+use Rattle.wasm_validate.specs.Typing.{Context, at, results, under, arguments, EachLabel, TypingRule, Types}
 use Rattle.wasm_validate.specs.Operands.{Operands, then, matches, if_true, push, pop_from, pop, pop_as, pop_all, push_result, pop_result, apply, shared, no_operands, from_here, is_none, finish, label_is, named_is}
 use Rattle.wasm_validate.specs.Algorithm.{each_label, select, access, step, check, whole_body}
 use Rattle.wasm_validate.proofs.Stands.{Stands, StandsFor, For}
@@ -122,7 +122,7 @@ access_ahead : (c : Context) (s : Operands) (align width : ℕ) (m : Limits) (in
 access_ahead c s align width m ins ins' outs lower l e le p q f =
     on_some (at c.memories 0) m _ _ e (then_is (nat_le (2 ^ align) width) s _ _ (le_is (2 ^ align) width le) (apply_rule s ins ins' outs lower l p q f))
 
-step_ahead : (c : Context) (o : Op) (s : Operands) (ins outs lower : List ValueType) → Rule c o ins outs → For s (ins ++ lower) → Yields (step c o s) (λ s'. For s' (outs ++ lower))
+step_ahead : (c : Context) (o : Op) (s : Operands) (ins outs lower : List ValueType) → TypingRule c o ins outs → For s (ins ++ lower) → Yields (step c o s) (λ s'. For s' (outs ++ lower))
 step_ahead c Unreachable s ins outs lower r f = tt
 step_ahead c Nop s ins outs lower r f = by_rule s ins [] outs [] lower (step c Nop s) r.0 r.1 f (λ f. f)
 step_ahead c Drop s ins outs lower r f =

@@ -15,7 +15,7 @@ use Rattle.wasm_ast.specs.Code.{Code, End, Do}
 use Rattle.wasm_validate.specs.declared.fault.ValidateFault.{ValidateFault}
 use Rattle.wasm_validate.specs.declared.fault.ValidateFault.TheVariants as fault
 use Rattle.wasm_validate.specs.Typing.{at, results}
-use Rattle.wasm_validate.specs.ModuleRules.{imported, type_indices, type_at, function_context, IsImport, IsValid}
+use Rattle.wasm_validate.specs.ModuleRules.{imported, type_indices, type_at, function_context, IsValidImport, IsValid}
 use Rattle.wasm_validate.specs.Indices.{AreTypes}
 use Rattle.wasm_validate.specs.HostCalls.{call_type, call_named, then_call, host_calls}
 use Rattle.wasm_validate.specs.Broken.{Broken, BrokenBody, MissingIndex, ImportType, FunctionType, Exported, ElementTable, ElementFunction, InBody, DataMemory, BadLimits, NotConstant, PassesEnd}
@@ -36,7 +36,7 @@ same_word : (c : Code) (n o : ℕ) → c ≡ Do (Const I32 n) End → c ≡ Do (
 same_word c n o e h = cc
 
 -- an import has the type of the call that its name is
-pub import_type : (types : List FuncType) (i : Import) (t : ℕ) (call : HostCall) (f : FuncType) → i.kind ≡ kind.Function t → at types t ≡ Some f → call_named i.name ≡ Some call → IsImport types i → f ≡ call_type call
+pub import_type : (types : List FuncType) (i : Import) (t : ℕ) (call : HostCall) (f : FuncType) → i.kind ≡ kind.Function t → at types t ≡ Some f → call_named i.name ≡ Some call → IsValidImport types i → f ≡ call_type call
 import_type types i t call f d e n v =
     let same : t ≡ v.type_index = same_type_index i.kind t v.type_index d v.function in
     some_same (at types t) f (call_type v.call) e (ap (at types) same ∙ v.type) ∙ ap call_type (some_same (call_named i.name) v.call call v.name n)
@@ -64,7 +64,7 @@ imported_has (i ∷ is) k t e =
     elim i.kind as (λ d. i.kind ≡ d → at (elim d [ kind.Function t ↦ t ∷ imported is | _ ↦ imported is ]) k ≡ Some t → HasImport (i ∷ is) t) [ kind.Function u ↦ λ d h. first_or_later i is k t u d h (λ k h. imported_has is k t h) | _ ↦ λ d h. later i is t (imported_has is k t h) ] refl e
 
 -- where imports are host calls and functions have types, each function has a type
-pub known_types : (m : Module) → ((k : ℕ) → (i : Import) → at m.imports k ≡ Some i → IsImport m.types i) → ((k : ℕ) → (f : Func) → at m.functions k ≡ Some f → f.type_index < length m.types) → AreTypes (type_indices m) m.types
+pub known_types : (m : Module) → ((k : ℕ) → (i : Import) → at m.imports k ≡ Some i → IsValidImport m.types i) → ((k : ℕ) → (f : Func) → at m.functions k ≡ Some f → f.type_index < length m.types) → AreTypes (type_indices m) m.types
 known_types m imports functions k t e =
     elim (at_either (imported m.imports) (map (λ (f : Func). f.type_index) m.functions) k t e) [ inl h ↦ of_import h | inr h ↦ of_function h.0 h.1 ]
   where

@@ -10,14 +10,14 @@ use Rattle.wasm_ast.specs.Conversions.{operand_type, result_type}
 use Rattle.wasm_ast.specs.Types.{words}
 use Rattle.wasm_ast.specs.Op.{Op, Unreachable, Nop, Drop, Select, Return, Br, BrIf, BrTable, Call, CallIndirect, LocalGet, LocalSet, LocalTee, GlobalGet, GlobalSet, MemorySize, MemoryGrow, Load, Store, Const, Eqz, Unary, Compare, Binary, Convert}
 use Rattle.wasm_ast.specs.Code.{BlockType, Code, End, Do, Block, Loop, If}
-use Rattle.wasm_validate.specs.Typing.{Context, at, results, under, arguments, Rule, Types}
+use Rattle.wasm_validate.specs.Typing.{Context, at, results, under, arguments, TypingRule, Types}
 use Rattle.wasm_validate.specs.Operands.{Operands, then, if_true, pop, pop_as, apply, shared, push_result, pop_result, no_operands, from_here, finish}
 use Rattle.wasm_validate.specs.Algorithm.{select, with_memory, access, step, check, whole_body}
 use Rattle.wasm_validate.proofs.Stands.{Holds, bind, weaker, Stands, For, pop_sound, pop_as_sound, pop_result_sound, apply_sound, shared_sound, push_sound, push_known, push_result_sound, finish_sound, some_stack, at_sound, each_label_sound}
 
 -- the instruction takes the first stack to the second
 abbrev pub Fits : Context → Op → List ValueType → List ValueType → Type 0
-Fits c o from to = (ins : List ValueType) × (outs : List ValueType) × (lower : List ValueType) × Rule c o ins outs × (from ≡ ins ++ lower) × (outs ++ lower ≡ to)
+Fits c o from to = (ins : List ValueType) × (outs : List ValueType) × (lower : List ValueType) × TypingRule c o ins outs × (from ≡ ins ++ lower) × (outs ++ lower ≡ to)
 
 -- from some stack that the operands stand for
 abbrev pub From : Context → Op → Operands → List ValueType → Type 0
@@ -54,7 +54,7 @@ module _ (c : Context) (s : Operands) where
       if_holds (nat_lt n (words t)) _ _ (λ e. let lt : n < words t = grind (arith, nat_tests) in push_known t s (From c (Const t n) s) (λ ts f. (ts, f, ([], t ∷ [], ts, (lt, refl, refl), refl, refl))))
 
   -- what takes operands of known types and leaves a result
-  apply_back : (o : Op) (ins : List ValueType) (l : BlockType) → Rule c o ins (results l) → Holds (apply ins l s) (Back c o s)
+  apply_back : (o : Op) (ins : List ValueType) (l : BlockType) → TypingRule c o ins (results l) → Holds (apply ins l s) (Back c o s)
   apply_back o ins l r =
       apply_sound ins l s (From c o s) (λ ts f. (ins ++ ts, f, (ins, results l, ts, r, refl, refl)))
 
@@ -65,7 +65,7 @@ module _ (c : Context) (s : Operands) where
       let stands = both t e in
       (I32 ∷ t ∷ t ∷ ts, h1 (t ∷ t ∷ ts) (hp t (t ∷ ts) stands.0 (hq t ts stands.1 f)), (I32 ∷ t ∷ t ∷ [], t ∷ [], ts, (t, refl, refl), refl, refl)))))))
 
-  local_back : (x : ℕ) (o : Op) (ins : ValueType → List ValueType) (l : ValueType → BlockType) → ((t : ValueType) → at c.locals x ≡ Some t → Rule c o (ins t) (results (l t))) → Holds (then (at c.locals x) (λ t. apply (ins t) (l t) s)) (Back c o s)
+  local_back : (x : ℕ) (o : Op) (ins : ValueType → List ValueType) (l : ValueType → BlockType) → ((t : ValueType) → at c.locals x ≡ Some t → TypingRule c o (ins t) (results (l t))) → Holds (then (at c.locals x) (λ t. apply (ins t) (l t) s)) (Back c o s)
   local_back x o ins l r =
       bind (at c.locals x) _ _ _ (at_sound c.locals x) (λ t e. apply_back o (ins t) (l t) (r t e))
 
@@ -77,15 +77,15 @@ module _ (c : Context) (s : Operands) where
   global_set_back x =
       bind (at c.globals x) _ _ _ (at_sound c.globals x) (λ g e. then_if g.is_variable s _ _ (λ variable. apply_back (GlobalSet x) (g.value_type ∷ []) None (g, e, variable, refl, refl)))
 
-  memory_back : (o : Op) (ins : List ValueType) (l : BlockType) → ((m : Limits) → at c.memories 0 ≡ Some m → Rule c o ins (results l)) → Holds (with_memory c ins l s) (Back c o s)
+  memory_back : (o : Op) (ins : List ValueType) (l : BlockType) → ((m : Limits) → at c.memories 0 ≡ Some m → TypingRule c o ins (results l)) → Holds (with_memory c ins l s) (Back c o s)
   memory_back o ins l r = bind (at c.memories 0) _ _ _ (at_sound c.memories 0) (λ m e. apply_back o ins l (r m e))
 
-  access_back : (o : Op) (align width : ℕ) (ins : List ValueType) (l : BlockType) → ((m : Limits) → at c.memories 0 ≡ Some m → 2 ^ align ≤ width → Rule c o ins (results l)) → Holds (access c align width ins l s) (Back c o s)
+  access_back : (o : Op) (align width : ℕ) (ins : List ValueType) (l : BlockType) → ((m : Limits) → at c.memories 0 ≡ Some m → 2 ^ align ≤ width → TypingRule c o ins (results l)) → Holds (access c align width ins l s) (Back c o s)
   access_back o align width ins l r =
       bind (at c.memories 0) _ _ _ (at_sound c.memories 0) (λ m e. then_if (nat_le (2 ^ align) width) s _ _ (λ le. apply_back o ins l (r m e (le_of (2 ^ align) width le))))
 
   -- what never goes on, above any stack that it takes
-  never : (o : Op) (below : List ValueType) (ins : List ValueType) → For s (ins ++ below) → ((outs : List ValueType) → Rule c o (ins ++ below) outs) → Back c o s from_here
+  never : (o : Op) (below : List ValueType) (ins : List ValueType) → For s (ins ++ below) → ((outs : List ValueType) → TypingRule c o (ins ++ below) outs) → Back c o s from_here
   never o below ins f r = λ to g. (ins ++ below, f, (ins ++ below, to, [], r to, sym (append-nil (ins ++ below)), append-nil to))
 
   br_back : (n : ℕ) → Holds (step c (Br n) s) (Back c (Br n) s)

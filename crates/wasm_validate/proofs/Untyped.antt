@@ -7,7 +7,7 @@ use Rattle.wasm_ast.specs.Op.{Op, Br, BrIf, BrTable, Call, CallIndirect, LocalGe
 use Rattle.wasm_ast.specs.Code.{BlockType, Code, End, Do, Block, Loop, If}
 use Rattle.wasm_validate.specs.declared.fault.ValidateFault.{ValidateFault}
 use Rattle.wasm_validate.specs.declared.fault.ValidateFault.TheVariants as fault
-use Rattle.wasm_validate.specs.Typing.{Context, at, under, results, EachLabel, Rule, Types}
+use Rattle.wasm_validate.specs.Typing.{Context, at, under, results, EachLabel, TypingRule, Types}
 use Rattle.wasm_validate.specs.Breaks.{AnyMissing, NamesMissing, SetsConstant, OverAligned, Breaks, BreaksIn}
 
 some_same : {A : Type 0} (o : Option A) (a b : A) → o ≡ Some a → o ≡ Some b → a ≡ b
@@ -21,7 +21,7 @@ any_each c [] l m h = m
 any_each c (n ∷ ns) l (inl e) h = none_some (at c.labels n) l e h.0
 any_each c (n ∷ ns) l (inr m) h = any_each c ns l m h.1
 
-names_no_rule : (c : Context) (o : Op) (ins outs : List ValueType) → NamesMissing c o → ¬ Rule c o ins outs
+names_no_rule : (c : Context) (o : Op) (ins outs : List ValueType) → NamesMissing c o → ¬ TypingRule c o ins outs
 names_no_rule c (Br n) ins outs m r = none_some (at c.labels n) r.0 m r.1
 names_no_rule c (BrIf n) ins outs m r = none_some (at c.labels n) r.0 m r.1
 names_no_rule c (BrTable ns n) ins outs (inl m) r = none_some (at c.labels n) r.0 m r.1
@@ -45,16 +45,16 @@ constant_variable : (o : Option GlobalType) (g h : GlobalType) → o ≡ Some g 
 constant_variable o g h e e' f t =
     let same : g ≡ h = some_same o g h e e' in true≢false (sym t ∙ sym (ap (λ (g : GlobalType). g.is_variable) same) ∙ f)
 
-sets_no_rule : (c : Context) (o : Op) (ins outs : List ValueType) → SetsConstant c o → ¬ Rule c o ins outs
+sets_no_rule : (c : Context) (o : Op) (ins outs : List ValueType) → SetsConstant c o → ¬ TypingRule c o ins outs
 sets_no_rule c (GlobalSet x) ins outs m r = constant_variable (at c.globals x) m.0 r.0 m.1 r.1 m.2 r.2
 sets_no_rule c _ ins outs m r = m
 
-aligned_no_rule : (c : Context) (o : Op) (ins outs : List ValueType) → OverAligned c o → ¬ Rule c o ins outs
+aligned_no_rule : (c : Context) (o : Op) (ins outs : List ValueType) → OverAligned c o → ¬ TypingRule c o ins outs
 aligned_no_rule c (Load o align offset) ins outs m r = omega (arith, m, r.2)
 aligned_no_rule c (Store o align offset) ins outs m r = omega (arith, m, r.2)
 aligned_no_rule c _ ins outs m r = m
 
-breaks_no_rule : (e : ValidateFault) (c : Context) (o : Op) (ins outs : List ValueType) → Breaks e c o → ¬ Rule c o ins outs
+breaks_no_rule : (e : ValidateFault) (c : Context) (o : Op) (ins outs : List ValueType) → Breaks e c o → ¬ TypingRule c o ins outs
 breaks_no_rule fault.Index c o ins outs m r = names_no_rule c o ins outs m r
 breaks_no_rule fault.ImmutableGlobal c o ins outs m r = sets_no_rule c o ins outs m r
 breaks_no_rule fault.Alignment c o ins outs m r = aligned_no_rule c o ins outs m r

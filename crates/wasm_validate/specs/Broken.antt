@@ -15,7 +15,7 @@ use Rattle.wasm_ast.specs.Code.{Code, End, Do}
 use Rattle.wasm_validate.specs.declared.fault.ValidateFault.{ValidateFault}
 use Rattle.wasm_validate.specs.declared.fault.ValidateFault.TheVariants as fault
 use Rattle.wasm_validate.specs.Typing.{Types, at, results}
-use Rattle.wasm_validate.specs.ModuleRules.{IsImport, IsTable, IsMemory, type_at, type_indices, function_types, function_context, count_of, invoke_of, invoke_type}
+use Rattle.wasm_validate.specs.ModuleRules.{IsValidImport, IsTable, IsMemory, type_at, type_indices, function_types, function_context, count_of, invoke_of, invoke_type}
 use Rattle.wasm_validate.specs.Breaks.{BreaksIn, BreaksNone}
 use Rattle.wasm_validate.specs.Front.{IsFront}
 
@@ -54,7 +54,7 @@ pub record MistypedBody (m : Module) : Type 0 where
   pub keeps : BreaksNone (function_context m function) front
 
 abbrev pub UnlistedImport : Module → Type 0
-UnlistedImport m = (k : ℕ) × (i : Import) × (at m.imports k ≡ Some i) × ¬ IsImport m.types i
+UnlistedImport m = (k : ℕ) × (i : Import) × (at m.imports k ≡ Some i) × ¬ IsValidImport m.types i
 
 -- two exports have one name
 abbrev pub SameName : Module → Type 0

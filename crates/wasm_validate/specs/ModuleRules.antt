@@ -39,7 +39,7 @@ abbrev pub global_types : Module → List GlobalType
 global_types m = map (λ (g : Global). g.global_type) m.globals
 
 -- an import is a host call, by its name and with its type
-pub record IsImport (types : List FuncType) (i : Import) : Type 0 where
+pub record IsValidImport (types : List FuncType) (i : Import) : Type 0 where
   pub call : HostCall
   pub type_index : ℕ
   pub function : i.kind ≡ kind.Function type_index
@@ -90,7 +90,7 @@ abbrev pub invoke_type : FuncType
 invoke_type = record { params = []; result = Some I32 }
 
 -- a global starts as one constant of its type (sections 3.4.4 and 3.3.7)
-pub record IsGlobal (g : Global) : Type 0 where
+pub record IsValidGlobal (g : Global) : Type 0 where
   pub word : ℕ
   pub constant : g.initializer ≡ Do (Const g.global_type.value_type word) End
   pub bound : word < words g.global_type.value_type
@@ -113,13 +113,13 @@ pub record IsData (m : Module) (d : DataSegment) : Type 0 where
   pub within : offset + length d.bytes ≤ 65536 * memory.least
 
 pub record IsValid (m : Module) : Type 0 where
-  pub imports : (k : ℕ) (i : Import) → at m.imports k ≡ Some i → IsImport m.types i
+  pub imports : (k : ℕ) (i : Import) → at m.imports k ≡ Some i → IsValidImport m.types i
   pub functions : (k : ℕ) (f : Func) → at m.functions k ≡ Some f → IsFunction m f
   pub one_table : length m.tables ≤ 1
   pub tables : (k : ℕ) (l : Limits) → at m.tables k ≡ Some l → IsTable l
   pub one_memory : length m.memories ≤ 1
   pub memories : (k : ℕ) (l : Limits) → at m.memories k ≡ Some l → IsMemory l
-  pub globals : (k : ℕ) (g : Global) → at m.globals k ≡ Some g → IsGlobal g
+  pub globals : (k : ℕ) (g : Global) → at m.globals k ≡ Some g → IsValidGlobal g
   pub exports : (k : ℕ) (e : Export) → at m.exports k ≡ Some e → e.index < count_of m e.kind
   pub names : (j k : ℕ) (d e : Export) → at m.exports j ≡ Some d → at m.exports k ≡ Some e → d.name ≡ e.name → j ≡ k
   pub entry : ℕ

@@ -49,34 +49,34 @@ EachLabel c [] l = Unit {0}
 EachLabel c (n ∷ ns) l = (at c.labels n ≡ Some l) × EachLabel c ns l
 
 -- C ⊢ op : ins → outs (sections 3.3.1 to 3.3.5). After an unconditional branch anything may stand, so `outs` is free there.
-abbrev pub Rule : Context → Op → (ins outs : List ValueType) → Type 0
-Rule c Unreachable ins outs = Unit {0}
-Rule c Nop ins outs = (ins ≡ []) × (outs ≡ [])
-Rule c Drop ins outs = (t : ValueType) × (ins ≡ t ∷ []) × (outs ≡ [])
-Rule c Select ins outs = (t : ValueType) × (ins ≡ I32 ∷ t ∷ t ∷ []) × (outs ≡ t ∷ [])
-Rule c (Const t n) ins outs = (n < words t) × (ins ≡ []) × (outs ≡ t ∷ [])
-Rule c (Eqz t) ins outs = (ins ≡ t ∷ []) × (outs ≡ I32 ∷ [])
-Rule c (Unary t o) ins outs = (ins ≡ t ∷ []) × (outs ≡ t ∷ [])
-Rule c (Compare t o) ins outs = (ins ≡ t ∷ t ∷ []) × (outs ≡ I32 ∷ [])
-Rule c (Binary t o) ins outs = (ins ≡ t ∷ t ∷ []) × (outs ≡ t ∷ [])
-Rule c (Convert o) ins outs = (ins ≡ operand_type o ∷ []) × (outs ≡ result_type o ∷ [])
-Rule c (LocalGet x) ins outs = (t : ValueType) × (at c.locals x ≡ Some t) × (ins ≡ []) × (outs ≡ t ∷ [])
-Rule c (LocalSet x) ins outs = (t : ValueType) × (at c.locals x ≡ Some t) × (ins ≡ t ∷ []) × (outs ≡ [])
-Rule c (LocalTee x) ins outs = (t : ValueType) × (at c.locals x ≡ Some t) × (ins ≡ t ∷ []) × (outs ≡ t ∷ [])
-Rule c (GlobalGet x) ins outs = (g : GlobalType) × (at c.globals x ≡ Some g) × (ins ≡ []) × (outs ≡ g.value_type ∷ [])
-Rule c (GlobalSet x) ins outs = (g : GlobalType) × (at c.globals x ≡ Some g) × (g.is_variable ≡ true) × (ins ≡ g.value_type ∷ []) × (outs ≡ [])
-Rule c (Load o align offset) ins outs =
+abbrev pub TypingRule : Context → Op → (ins outs : List ValueType) → Type 0
+TypingRule c Unreachable ins outs = Unit {0}
+TypingRule c Nop ins outs = (ins ≡ []) × (outs ≡ [])
+TypingRule c Drop ins outs = (t : ValueType) × (ins ≡ t ∷ []) × (outs ≡ [])
+TypingRule c Select ins outs = (t : ValueType) × (ins ≡ I32 ∷ t ∷ t ∷ []) × (outs ≡ t ∷ [])
+TypingRule c (Const t n) ins outs = (n < words t) × (ins ≡ []) × (outs ≡ t ∷ [])
+TypingRule c (Eqz t) ins outs = (ins ≡ t ∷ []) × (outs ≡ I32 ∷ [])
+TypingRule c (Unary t o) ins outs = (ins ≡ t ∷ []) × (outs ≡ t ∷ [])
+TypingRule c (Compare t o) ins outs = (ins ≡ t ∷ t ∷ []) × (outs ≡ I32 ∷ [])
+TypingRule c (Binary t o) ins outs = (ins ≡ t ∷ t ∷ []) × (outs ≡ t ∷ [])
+TypingRule c (Convert o) ins outs = (ins ≡ operand_type o ∷ []) × (outs ≡ result_type o ∷ [])
+TypingRule c (LocalGet x) ins outs = (t : ValueType) × (at c.locals x ≡ Some t) × (ins ≡ []) × (outs ≡ t ∷ [])
+TypingRule c (LocalSet x) ins outs = (t : ValueType) × (at c.locals x ≡ Some t) × (ins ≡ t ∷ []) × (outs ≡ [])
+TypingRule c (LocalTee x) ins outs = (t : ValueType) × (at c.locals x ≡ Some t) × (ins ≡ t ∷ []) × (outs ≡ t ∷ [])
+TypingRule c (GlobalGet x) ins outs = (g : GlobalType) × (at c.globals x ≡ Some g) × (ins ≡ []) × (outs ≡ g.value_type ∷ [])
+TypingRule c (GlobalSet x) ins outs = (g : GlobalType) × (at c.globals x ≡ Some g) × (g.is_variable ≡ true) × (ins ≡ g.value_type ∷ []) × (outs ≡ [])
+TypingRule c (Load o align offset) ins outs =
     (l : Limits) × (at c.memories 0 ≡ Some l) × (2 ^ align ≤ load_width o) × (ins ≡ I32 ∷ []) × (outs ≡ load_type o ∷ [])
-Rule c (Store o align offset) ins outs =
+TypingRule c (Store o align offset) ins outs =
     (l : Limits) × (at c.memories 0 ≡ Some l) × (2 ^ align ≤ store_width o) × (ins ≡ store_type o ∷ I32 ∷ []) × (outs ≡ [])
-Rule c MemorySize ins outs = (l : Limits) × (at c.memories 0 ≡ Some l) × (ins ≡ []) × (outs ≡ I32 ∷ [])
-Rule c MemoryGrow ins outs = (l : Limits) × (at c.memories 0 ≡ Some l) × (ins ≡ I32 ∷ []) × (outs ≡ I32 ∷ [])
-Rule c (Br n) ins outs = (l : BlockType) × (at c.labels n ≡ Some l) × (below : List ValueType) × (ins ≡ results l ++ below)
-Rule c (BrIf n) ins outs = (l : BlockType) × (at c.labels n ≡ Some l) × (ins ≡ I32 ∷ results l) × (outs ≡ results l)
-Rule c (BrTable ns n) ins outs = (l : BlockType) × (at c.labels n ≡ Some l) × EachLabel c ns l × (below : List ValueType) × (ins ≡ I32 ∷ results l ++ below)
-Rule c Return ins outs = (below : List ValueType) × (ins ≡ results c.result ++ below)
-Rule c (Call f) ins outs = (t : FuncType) × (at c.functions f ≡ Some t) × (ins ≡ arguments t) × (outs ≡ results t.result)
-Rule c (CallIndirect x) ins outs =
+TypingRule c MemorySize ins outs = (l : Limits) × (at c.memories 0 ≡ Some l) × (ins ≡ []) × (outs ≡ I32 ∷ [])
+TypingRule c MemoryGrow ins outs = (l : Limits) × (at c.memories 0 ≡ Some l) × (ins ≡ I32 ∷ []) × (outs ≡ I32 ∷ [])
+TypingRule c (Br n) ins outs = (l : BlockType) × (at c.labels n ≡ Some l) × (below : List ValueType) × (ins ≡ results l ++ below)
+TypingRule c (BrIf n) ins outs = (l : BlockType) × (at c.labels n ≡ Some l) × (ins ≡ I32 ∷ results l) × (outs ≡ results l)
+TypingRule c (BrTable ns n) ins outs = (l : BlockType) × (at c.labels n ≡ Some l) × EachLabel c ns l × (below : List ValueType) × (ins ≡ I32 ∷ results l ++ below)
+TypingRule c Return ins outs = (below : List ValueType) × (ins ≡ results c.result ++ below)
+TypingRule c (Call f) ins outs = (t : FuncType) × (at c.functions f ≡ Some t) × (ins ≡ arguments t) × (outs ≡ results t.result)
+TypingRule c (CallIndirect x) ins outs =
     (l : Limits) × (at c.tables 0 ≡ Some l) × (t : FuncType) × (at c.types x ≡ Some t) × (ins ≡ I32 ∷ arguments t) × (outs ≡ results t.result)
 
 -- C ⊢ code : from → to (section 3.3.6), each instruction above a lower stack that it leaves alone.
@@ -84,7 +84,7 @@ Rule c (CallIndirect x) ins outs =
 abbrev pub Types : Context → Code → (from to : List ValueType) → Type 0
 Types c End from to = from ≡ to
 Types c (Do o rest) from to =
-    (ins : List ValueType) × (outs : List ValueType) × (lower : List ValueType) × Rule c o ins outs × (from ≡ ins ++ lower) × Types c rest (outs ++ lower) to
+    (ins : List ValueType) × (outs : List ValueType) × (lower : List ValueType) × TypingRule c o ins outs × (from ≡ ins ++ lower) × Types c rest (outs ++ lower) to
 Types c (Block t b rest) from to = Types (under t c) b [] (results t) × Types c rest (results t ++ from) to
 Types c (Loop t b rest) from to = Types (under None c) b [] (results t) × Types c rest (results t ++ from) to
 Types c (If t a b rest) from to =

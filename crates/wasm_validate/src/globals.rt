@@ -7,7 +7,7 @@ ghost use Rattle.wasm_ast.specs.Types.{words};
 ghost use Rattle.wasm_ast.specs.Op.{Const};
 ghost use Rattle.wasm_ast.specs.Code.{Do, End};
 ghost use Rattle.wasm_validate.specs.Typing.{at};
-ghost use Rattle.wasm_validate.specs.ModuleRules.{IsGlobal};
+ghost use Rattle.wasm_validate.specs.ModuleRules.{IsValidGlobal};
 ghost use Rattle.wasm_validate.specs.Broken.{Broken};
 
 use crate::fault::ValidateFault;
@@ -16,7 +16,7 @@ use wasm_ast::{Body, Global, Instr, Module, ValueType};
 /// Whether each global starts as one constant of its type.
 pub fn check_globals(given: &Module) -> Result<(), ValidateFault>
     ensures constant { IfOk result
-        (λ _. (k : ℕ) → (g : Global) → at given.now.globals k ≡ Some g → IsGlobal g) }
+        (λ _. (k : ℕ) → (g : Global) → at given.now.globals k ≡ Some g → IsValidGlobal g) }
     ensures broken { IfErr result (λ e. Broken e given.now) }
 {
     for global in given.globals.as_slice() {
@@ -27,7 +27,7 @@ pub fn check_globals(given: &Module) -> Result<(), ValidateFault>
 
 // A global that starts as one constant of its type.
 fn check_global(given: &Module, global: &Global) -> Result<(), ValidateFault>
-    ensures constant { IfOk result (λ _. IsGlobal global.now) }
+    ensures constant { IfOk result (λ _. IsValidGlobal global.now) }
     ensures broken { IfErr result
         (λ e. (k : ℕ) → at given.now.globals k ≡ Some global.now → Broken e given.now) }
 {

@@ -5,7 +5,7 @@ ghost use Rattle.wasm_ast.specs.declared.module.Import.{Import};
 ghost use Rattle.wasm_ast.specs.declared.module.Func.{Func};
 ghost use Rattle.wasm_validate.specs.Typing.{at};
 ghost use Rattle.wasm_validate.specs.HostCalls.{call_named, host_calls};
-ghost use Rattle.wasm_validate.specs.ModuleRules.{IsImport, imported, type_indices};
+ghost use Rattle.wasm_validate.specs.ModuleRules.{IsValidImport, imported, type_indices};
 ghost use Rattle.wasm_validate.specs.Indices.{AreTypes};
 ghost use Rattle.wasm_validate.specs.Broken.{Broken};
 
@@ -19,7 +19,7 @@ pub fn check_imports(alloc: Global, given: &Module) -> Result<Vec<HostCall>, Val
     ensures calls { IfOk result (λ calls. calls.items ≡ host_calls given.now.imports) }
     ensures imports { IfOk result
         (λ _. (k : ℕ) → (i : Import) → at given.now.imports k ≡ Some i →
-        IsImport given.now.types i) }
+        IsValidImport given.now.types i) }
     ensures broken { IfErr result (λ e. Broken e given.now) }
 {
     let mut calls = Vec::new(alloc);
@@ -31,7 +31,7 @@ pub fn check_imports(alloc: Global, given: &Module) -> Result<Vec<HostCall>, Val
 
 // The host call that an import is.
 fn check_import(given: &Module, import: &Import) -> Result<HostCall, ValidateFault>
-    ensures listed { IfOk result (λ _. IsImport given.now.types import.now) }
+    ensures listed { IfOk result (λ _. IsValidImport given.now.types import.now) }
     ensures call { IfOk result (λ call. call_named import.now.name ≡ Some call) }
     ensures broken { IfErr result
         (λ e. (k : ℕ) → at given.now.imports k ≡ Some import.now → Broken e given.now) }
@@ -69,7 +69,7 @@ fn call_named(name: &str) -> Option<HostCall>
 /// The index of the type of each function, the imported ones first.
 pub fn function_indices(alloc: Global, given: &Module) -> Result<Vec<u32>, ValidateFault>
     requires { (k : ℕ) → (i : Import) → at given.now.imports k ≡ Some i →
-        IsImport given.now.types i }
+        IsValidImport given.now.types i }
     ensures indices { IfOk result (λ v. v.items ≡ type_indices given.now) }
     ensures known { IfOk result (λ _. AreTypes (type_indices given.now) given.now.types) }
     ensures broken { IfErr result (λ e. Broken e given.now) }

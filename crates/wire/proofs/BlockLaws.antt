@@ -29,7 +29,7 @@ use Rattle.fab_types.specs.declared.block.Header.{Header}
 use Rattle.fab_types.specs.declared.block.Block.{Block}
 use Rattle.wire.specs.Spelling.{short_bytes, long_bytes, version_bytes, optional_bytes, few_bytes, many_bytes, read_bytes, entry_bytes, range_bytes, write_bytes, proposal_bytes, payload_bytes, endorsement_bytes, envelope_bytes, header_bytes, sized_bytes, data_bytes, block_bytes}
 use Rattle.wire.specs.Within.{IsProposal, IsPayload, IsEndorsement, IsEnvelope, IsHeader, IsBlock}
-use Rattle.wire.specs.Reading.{checked_at, pair_at, bytes_at, number_at, between_at, list_at, envelope_at, header_at, sized_at, is_data, data_at, block_at}
+use Rattle.wire.specs.Reading.{checked_at, pair_at, front_and_rest, number_at, between_at, list_at, envelope_at, header_at, sized_at, is_data, data_at, block_at}
 use Rattle.wire.proofs.Codec.{Codec, reads_of, respelled, checked, pair, made, whole_known, whole_read, Spelled}
 use Rattle.wire.proofs.Measured.{both, and_both, fixed, number32}
 use Rattle.wire.proofs.SetLaws.{many}
@@ -180,9 +180,9 @@ header =
     let spelling = λ (p : ℕ × (List ℕ × List ℕ)). to_be_bytes w32 p.0 ++ (p.1.0 ++ p.1.1) in
     respelled (λ h. Known (header_parts h)) IsHeader (λ h. spelling (header_parts h)) header_bytes header_at
     (λ h k. record { number = k.0; previous_hash = k.1.0; data_hash = k.1.1 }) (λ h k. (k.number, (k.previous_hash, k.data_hash))) (λ h. simp append_assoc)
-    (made (λ p. let made : Header = record { number = p.0; previous_hash = p.1.0; data_hash = p.1.1 } in made) header_parts Known spelling (pair_at (between_at 1 65535 (number_at w32)) (λ _. pair_at (bytes_at 32) (λ _. bytes_at 32))) (λ p. refl) (λ h. refl)
-    (pair Number (to_be_bytes w32) (between_at 1 65535 (number_at w32)) (λ _ p. Hash p.0 × Hash p.1) (λ p. p.0 ++ p.1) (λ _. pair_at (bytes_at 32) (λ _. bytes_at 32)) number
-    (λ _. pair Hash (λ t. t) (bytes_at 32) (λ _. Hash) (λ t. t) (λ _. bytes_at 32) (fixed 32) (λ _. fixed 32))))
+    (made (λ p. let made : Header = record { number = p.0; previous_hash = p.1.0; data_hash = p.1.1 } in made) header_parts Known spelling (pair_at (between_at 1 65535 (number_at w32)) (λ _. pair_at (front_and_rest 32) (λ _. front_and_rest 32))) (λ p. refl) (λ h. refl)
+    (pair Number (to_be_bytes w32) (between_at 1 65535 (number_at w32)) (λ _ p. Hash p.0 × Hash p.1) (λ p. p.0 ++ p.1) (λ _. pair_at (front_and_rest 32) (λ _. front_and_rest 32)) number
+    (λ _. pair Hash (λ t. t) (front_and_rest 32) (λ _. Hash) (λ t. t) (λ _. front_and_rest 32) (fixed 32) (λ _. fixed 32))))
 
 -- a value behind the length of its spelling
 measured : {A : Type 0} (Known : A → Type 0) (spelling : A → List ℕ) (read : List ℕ → Option (A × List ℕ)) → Codec Known spelling read

@@ -6,7 +6,7 @@ ghost use Rattle.std.specs.List.Sorted.{IsStrictlySortedBy};
 ghost use Rattle.std.specs.Map.{keys_of};
 ghost use Rattle.std.specs.Map.Iter.{deref_pair};
 ghost use Rattle.ledger_model.specs.Chain.{history};
-ghost use Rattle.ledger_model.specs.Views.{key_cmp, first, within};
+ghost use Rattle.ledger_model.specs.Views.{key_cmp, first, entries_within};
 ghost use Rattle.ledger_model.specs.State.{state, state_at};
 ghost use Rattle.wire.specs.Ids.{id_of};
 ghost use Rattle.ledger_model.specs.Flags.{stands_in};
@@ -132,7 +132,7 @@ impl Snapshot {
         end: &Bound,
     ) -> Result<Range<'_, Key, (Value, Version)>, AllocError>
         ensures { IfOk result
-            (λ r. r ≡ within start.now end.now (entries (state (history self.now)))) }
+            (λ r. r ≡ entries_within start.now end.now (entries (state (history self.now)))) }
     {
         range_in(alloc, &self.map, start, end)
     }

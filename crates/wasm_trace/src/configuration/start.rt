@@ -1,7 +1,7 @@
 //! How a configuration begins (Core 1.0, section 4.5.5).
 
 ghost use Rattle.std.specs.Prelude.{◌≡◌, map, IfOk};
-ghost use Rattle.wasm_validate.specs.ModuleRules.{IsValid, IsGlobal};
+ghost use Rattle.wasm_validate.specs.ModuleRules.{IsValid, IsValidGlobal};
 ghost use Rattle.wasm_meaning.specs.Program.{fresh_global};
 ghost use Rattle.wasm_trace.specs.View.{val_of, vals, Starts};
 
@@ -55,7 +55,7 @@ fn fresh_globals(alloc: Allocation, module: &Module) -> Result<Vec<Value>, Alloc
 }
 
 fn fresh_global(global: &Global) -> Value
-    requires { IsGlobal global.now }
+    requires { IsValidGlobal global.now }
     ensures { val_of result ≡ fresh_global global.now }
 {
     match global.initializer.items().first() {

@@ -4,8 +4,8 @@ use Rattle.fab_types.specs.Sets.{Range, IsRange}
 use Rattle.ledger_model.specs.Views.{values_of}
 use Rattle.ledger_model.specs.Flags.{entries_at}
 use Rattle.host_api.specs.Recorded.{Asked}
-use Rattle.host_api.specs.HostStep.{ask_range, replies, range_bytes}
-use Rattle.host_api.specs.Recording.{Recording, version_entry, entry_of, recorded_of, range_of}
+use Rattle.host_api.specs.HostStep.{ask_range, replies, reply_range_bytes}
+use Rattle.host_api.specs.Recording.{Recording, version_entry, key_and_value, recorded_of, range_of}
 use Rattle.host_api.proofs.Firsts.{is_range}
 use Rattle.host_api.proofs.Items.{told, ask_new, items_asked}
 use Rattle.host_api.proofs.recorder.Recorder.ask.Goals as goal
@@ -34,6 +34,6 @@ returns-clause-answer g c =
     let made : c.unwrap-range.result ≡ range_of m asked = told c.new.ensures.value c.unwrap-range.ensures ∙ ap (λ es. record { start = c.in_ok-start.start; end = c.in_ok-end.end; limit = c.args.limit; entries = es }) items in
     let new = c.in_ok-push.ensures.items ∙ ap (λ (r : Range). c.self.inside.ranges.items ++ r ∷ []) made in
     let after = recorded_of c.self.inside.reads.items c.push.new.self.items c.self.inside.result c.self.inside.writes.items in
-    subst (λ (a : Asked). (target capacity : ℕ) (memory : List ℕ) → ask_range (values_of (g.V.View.state c.args.self.now.opened.view)) a target capacity memory c.args.self.now.records ≡ replies (range_bytes (map entry_of (map deref_pair c.in_ok-entries.entries.items))) target capacity memory after) alike
-    (subst (λ (r : Recording _). (target capacity : ℕ) (memory : List ℕ) → ask_range (values_of (g.V.View.state r.opened.view)) asked target capacity memory r.records ≡ replies (range_bytes (map entry_of (map deref_pair c.in_ok-entries.entries.items))) target capacity memory after) c.self.view_is
+    subst (λ (a : Asked). (target capacity : ℕ) (memory : List ℕ) → ask_range (values_of (g.V.View.state c.args.self.now.opened.view)) a target capacity memory c.args.self.now.records ≡ replies (reply_range_bytes (map key_and_value (map deref_pair c.in_ok-entries.entries.items))) target capacity memory after) alike
+    (subst (λ (r : Recording _). (target capacity : ℕ) (memory : List ℕ) → ask_range (values_of (g.V.View.state r.opened.view)) asked target capacity memory r.records ≡ replies (reply_range_bytes (map key_and_value (map deref_pair c.in_ok-entries.entries.items))) target capacity memory after) c.self.view_is
     (ask_new m c.self.inside.reads.items c.self.inside.ranges.items c.self.inside.result c.self.inside.writes.items c.self.invariant asked _ new (λ e. c.if-len-eq-MOST_RANGES.false (omega (arith, e, c.len.ensures))) (map deref_pair c.in_ok-entries.entries.items) c.in_ok-entries.ensures))
