@@ -4,7 +4,7 @@ use Rattle.std.specs.List.{sum_by}
 use Rattle.std.proofs.lemmas.List.{append-nil, append_assoc, map-append}
 use Rattle.std.proofs.lemmas.Bool.{cases_lt}
 use Rattle.std.proofs.lemmas.List.Sums.{sum_by-cons, sum_by-append}
-use Rattle.batch_cutter.specs.Division.{Limits, Mark, message, timeout, from_message, IsStopped, IsEnd, IsBatch, IsPending, IsDivision, IsDivided, messages, joined}
+use Rattle.batch_cutter.specs.Division.{Limits, Mark, message, timeout, from_message, IsStopped, IsEnd, IsBatch, IsPending, IsDivision, IsDivided, messages, concatenate}
 
 from_message-append : {M : Type 0} (xs ys : List (Mark M)) → from_message (xs ++ ys) ≡ from_message (from_message xs ++ ys)
 from_message-append [] ys = refl
@@ -266,11 +266,11 @@ messages-map : {M : Type 0} (xs : List M) → messages (map message xs) ≡ xs
 messages-map [] = refl
 messages-map (x ∷ xs) = ap (λ (a : List _). x ∷ a) (messages-map xs)
 
-pub IsDivision-messages : {M : Type 0} (weight : M → ℕ) (limits : Limits) (marks : List (Mark M)) (batches : List (List M)) (pending : List M) → IsDivision weight limits marks batches pending → messages marks ≡ joined batches ++ pending
+pub IsDivision-messages : {M : Type 0} (weight : M → ℕ) (limits : Limits) (marks : List (Mark M)) (batches : List (List M)) (pending : List M) → IsDivision weight limits marks batches pending → messages marks ≡ concatenate batches ++ pending
 IsDivision-messages {M} weight limits marks [] pending d =
     messages_from marks ∙ ap (λ (a : List (Mark M)). messages a) d.0 ∙ messages-map pending
 IsDivision-messages {M} weight limits marks (b ∷ bs) pending d =
-    messages_from marks ∙ ap (λ (a : List (Mark M)). messages a) d.1 ∙ messages-append b d.0 ∙ ap (λ (a : List M). b ++ a) (IsDivision-messages weight limits d.0 bs pending d.3) ∙ sym (append_assoc b (joined bs) pending)
+    messages_from marks ∙ ap (λ (a : List (Mark M)). messages a) d.1 ∙ messages-append b d.0 ∙ ap (λ (a : List M). b ++ a) (IsDivision-messages weight limits d.0 bs pending d.3) ∙ sym (append_assoc b (concatenate bs) pending)
 
 -- no batch could have ended before its last message, and none could end among those that wait
 pub no_end_inside : {M : Type 0} (weight : M → ℕ) (limits : Limits) (front : List M) (m : M) (back : List M) (after : List (Mark M)) → length (front ++ m ∷ back) ≤ limits.count → sum_by weight (front ++ m ∷ back) ≤ limits.preferred → IsEnd weight limits front (message m ∷ after) → ⊥

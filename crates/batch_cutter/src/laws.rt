@@ -1,7 +1,7 @@
 //! What holds of every division.
 
 ghost use Rattle.std.specs.Prelude.{◌≡◌, ℕ, ◌<◌, ◌≤◌, List, ◌∷◌, ◌++◌, map};
-ghost use Rattle.batch_cutter.specs.Division.{Limits, Mark, message, IsEnd, IsOrdinary, IsPending, IsDivision, IsDivided, messages, joined};
+ghost use Rattle.batch_cutter.specs.Division.{Limits, Mark, message, IsEnd, IsOrdinary, IsPending, IsDivision, IsDivided, messages, concatenate};
 
 use crate::cut::Weigh;
 
@@ -23,7 +23,7 @@ pub fn division_laws<M: Weigh>()
     ensures all { (limits : Limits) (marks : List (Mark M)) (batches : List (List M))
         (pending : List M) →
         IsDivision M.weight limits marks batches pending →
-        messages marks ≡ joined batches ++ pending }
+        messages marks ≡ concatenate batches ++ pending }
     ensures first { (limits : Limits) (front : List M) (m : M) (back : List M)
         (after : List (Mark M)) →
         IsOrdinary M.weight limits (front ++ m ∷ back) after →

@@ -10,7 +10,7 @@ use Rattle.fab_types.specs.Committed.{Committed}
 use Rattle.fab_types.specs.FlagNumber.{flag_number}
 use Rattle.wire.specs.Spelling.{block_bytes}
 use Rattle.wire.proofs.BlockLaws.{block_length}
-use Rattle.block_store.specs.Record.{framed, digested, record_bytes, IsRecord}
+use Rattle.block_store.specs.Record.{framed_bytes, digest_input, record_bytes, IsRecord}
 use Rattle.block_store.specs.Store.{AreRecords, Loads, IsBeginning}
 use Rattle.block_store.specs.declared.end.End.TheVariants.{Torn}
 use Rattle.block_store.proofs.OneAnswer.{four}
@@ -33,7 +33,7 @@ module _ (n : ℕ) (c : Committed) (k : ℕ) (is : IsRecord n c) (short : k < le
   marks = map flag_number c.flags
 
   abbrev digest : List ℕ
-  digest = sha256 (digested c)
+  digest = sha256 (digest_input c)
 
   in_block : 4 ≤ k → k - 4 < length (block_bytes c.block) → IsBeginning n (take k (record_bytes c))
   in_block some few =
@@ -49,17 +49,17 @@ module _ (n : ℕ) (c : Committed) (k : ℕ) (is : IsRecord n c) (short : k < le
   behind_block : 4 ≤ k → length (block_bytes c.block) ≤ k - 4 → IsBeginning n (take k (record_bytes c))
   behind_block some many =
       let tail = marks ++ digest in
-      let front = framed c.block in
+      let front = framed_bytes c.block in
       let front_len = length-append len (block_bytes c.block) in
       let marks_len = length-map c.flags flag_number in
       let one_each = is.flags in
-      let digest_len = length-sha256 (digested c) in
+      let digest_len = length-sha256 (digest_input c) in
       inr (inr (record {
         block = c.block;
         part = take (k - length front) tail;
         is_block = is.block;
         bytes_are = ap (take k) (append_assoc front marks digest) ∙ take_behind front tail k (omega (arith, some, many, front_len));
-        short = omega (arith, some, many, short, front_len, marks_len, one_each, digest_len, length-take (k - length front) tail, length-append (digested c) digest, length-append front marks);
+        short = omega (arith, some, many, short, front_len, marks_len, one_each, digest_len, length-take (k - length front) tail, length-append (digest_input c) digest, length-append front marks);
       }))
 
   cut_record : IsBeginning n (take k (record_bytes c))

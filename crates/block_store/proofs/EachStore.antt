@@ -15,7 +15,7 @@ use Rattle.wire.specs.Reading.{block_at}
 use Rattle.wire.proofs.BlockLaws.{block}
 use Rattle.wire.proofs.Codec.{whole_known, whole_read}
 use Rattle.wire.proofs.Whole.{is_one}
-use Rattle.block_store.specs.Record.{framed, digested, record_bytes, IsBlockAt, IsRecord}
+use Rattle.block_store.specs.Record.{framed_bytes, digest_input, record_bytes, IsBlockAt, IsRecord}
 use Rattle.block_store.specs.Store.{Loads, AreFlags, IsLength, IsBeginning, IsDamaged}
 use Rattle.block_store.specs.declared.end.End.{End}
 use Rattle.block_store.specs.declared.end.End.TheVariants.{Clean, Torn, Damaged}
@@ -89,7 +89,7 @@ record HasRecord (n : ℕ) (bytes : List ℕ) : Type 0 where
 abbrev Front : ℕ → List ℕ → Type 0
 Front n bytes = IsBeginning n bytes ⊎ (IsDamaged n bytes ⊎ HasRecord n bytes)
 
-module _ (n : ℕ) (b : Block) (bytes rest : List ℕ) (is : IsBlockAt n b) (are : bytes ≡ framed b ++ rest) (enough : length b.envelopes + 32 ≤ length rest) where
+module _ (n : ℕ) (b : Block) (bytes rest : List ℕ) (is : IsBlockAt n b) (are : bytes ≡ framed_bytes b ++ rest) (enough : length b.envelopes + 32 ≤ length rest) where
   abbrev marks : List ℕ
   marks = take (length b.envelopes) rest
 
@@ -108,19 +108,19 @@ module _ (n : ℕ) (b : Block) (bytes rest : List ℕ) (is : IsBlockAt n b) (are
   digest_fits : length digest ≡ 32
   digest_fits = digest_len n b bytes rest b.envelopes is are refl enough marks after digest left refl refl refl refl
 
-  parts : bytes ≡ framed b ++ marks ++ digest ++ left
-  parts = split n b bytes rest b.envelopes is are refl enough marks after digest left refl refl refl refl ∙ sym (append_assoc (framed b ++ marks) digest left)
+  parts : bytes ≡ framed_bytes b ++ marks ++ digest ++ left
+  parts = split n b bytes rest b.envelopes is are refl enough marks after digest left refl refl refl refl ∙ sym (append_assoc (framed_bytes b ++ marks) digest left)
 
-  bad : ((¬ AreFlags marks) ⊎ (digest ≢ sha256 (framed b ++ marks))) → IsDamaged n bytes
+  bad : ((¬ AreFlags marks) ⊎ (digest ≢ sha256 (framed_bytes b ++ marks))) → IsDamaged n bytes
   bad h = inr (inr (record { block = b; marks = marks; digest = digest; rest = left; is_block = is; one_each = one_each; digest_len = digest_fits; bad = h; bytes_are = parts }))
 
   abbrev committed_of : Committed
   committed_of = record { block = b; flags = map flag_of marks }
 
-  good : map flag_number (map flag_of marks) ≡ marks → digest ≡ sha256 (framed b ++ marks) → HasRecord n bytes
+  good : map flag_number (map flag_of marks) ≡ marks → digest ≡ sha256 (framed_bytes b ++ marks) → HasRecord n bytes
   good flags same =
-      let before : digested committed_of ≡ framed b ++ marks = ap (λ (l : List ℕ). framed b ++ l) flags in
-      let all : record_bytes committed_of ≡ framed b ++ marks ++ digest = ap₂ (λ (x y : List ℕ). x ++ y) before (ap sha256 before ∙ sym same) in
+      let before : digest_input committed_of ≡ framed_bytes b ++ marks = ap (λ (l : List ℕ). framed_bytes b ++ l) flags in
+      let all : record_bytes committed_of ≡ framed_bytes b ++ marks ++ digest = ap₂ (λ (x y : List ℕ). x ++ y) before (ap sha256 before ∙ sym same) in
       record {
         committed = committed_of;
         rest = left;
@@ -132,10 +132,10 @@ module _ (n : ℕ) (b : Block) (bytes rest : List ℕ) (is : IsBlockAt n b) (are
   sealed_front =
       elim (flags_or_not marks) [
         | inr none ↦ inr (inl (bad (inl none)))
-        | inl flags ↦ elim (same_or_not digest (sha256 (framed b ++ marks))) [ inl same ↦ inr (inr (good flags same)) | inr other ↦ inr (inl (bad (inr other))) ]
+        | inl flags ↦ elim (same_or_not digest (sha256 (framed_bytes b ++ marks))) [ inl same ↦ inr (inr (good flags same)) | inr other ↦ inr (inl (bad (inr other))) ]
       ]
 
-behind_front : (n : ℕ) (b : Block) (bytes rest : List ℕ) → IsBlockAt n b → bytes ≡ framed b ++ rest → Front n bytes
+behind_front : (n : ℕ) (b : Block) (bytes rest : List ℕ) → IsBlockAt n b → bytes ≡ framed_bytes b ++ rest → Front n bytes
 behind_front n b bytes rest is are =
     elim (less_or_not (length rest) (length b.envelopes + 32)) [
       | inl short ↦ inl (inr (inr (record { block = b; part = rest; is_block = is; bytes_are = are; short = short })))
@@ -200,7 +200,7 @@ beginning_answer n (b ∷ bytes) h = ([], Torn, ((λ e. absurd (cc e)), h))
 shorter : (c : Committed) (bytes rest : List ℕ) (most : ℕ) → bytes ≡ record_bytes c ++ rest → length bytes ≤ suc most → length rest ≤ most
 shorter c bytes rest most e h =
     let all = ap length e in
-    omega (arith, all, h, length-append (record_bytes c) rest, length-append (digested c) (sha256 (digested c)), length-sha256 (digested c))
+    omega (arith, all, h, length-append (record_bytes c) rest, length-append (digest_input c) (sha256 (digest_input c)), length-sha256 (digest_input c))
 
 answer_of : (most n : ℕ) (bytes : List ℕ) → length bytes ≤ most → AreBytes bytes → HasAnswer n bytes
 answer_of zero n bytes h all = beginning_answer n bytes (inl (omega (arith, h)))

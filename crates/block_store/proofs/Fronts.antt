@@ -7,7 +7,7 @@ use Rattle.sha2.specs.Sha256.{sha256}
 use Rattle.fab_types.specs.Committed.{Committed}
 use Rattle.fab_types.specs.declared.block.Block.{Block}
 use Rattle.fab_types.specs.declared.envelope.Envelope.{Envelope}
-use Rattle.block_store.specs.Record.{framed, digested, record_bytes, IsBlockAt}
+use Rattle.block_store.specs.Record.{framed_bytes, digest_input, record_bytes, IsBlockAt}
 use Rattle.block_store.specs.Store.{AreFlags, IsDamaged, HasBadEnd}
 use Rattle.block_store.specs.Front.{Seals, IsWhole}
 
@@ -29,10 +29,10 @@ length_split bytes front rest n a b all fits e =
 four : (a b c d : List ℕ) → a ++ (b ++ (c ++ d)) ≡ (a ++ b) ++ (c ++ d)
 four a b c d = simp append_assoc
 
-module _ (n : ℕ) (b : Block) (bytes rest : List ℕ) (envelopes : List Envelope) (is_block : IsBlockAt n b) (bytes_are : bytes ≡ framed b ++ rest) (same : envelopes ≡ b.envelopes) (enough : length envelopes + 32 ≤ length rest)
+module _ (n : ℕ) (b : Block) (bytes rest : List ℕ) (envelopes : List Envelope) (is_block : IsBlockAt n b) (bytes_are : bytes ≡ framed_bytes b ++ rest) (same : envelopes ≡ b.envelopes) (enough : length envelopes + 32 ≤ length rest)
     (marks after digest left : List ℕ) (m : marks ≡ take (length envelopes) rest) (a : after ≡ drop (length envelopes) rest) (d : digest ≡ take 32 after) (l : left ≡ drop 32 after) where
   front : List ℕ
-  front = framed b ++ marks
+  front = framed_bytes b ++ marks
 
   pub marks_len : length marks ≡ length b.envelopes
   marks_len = ap length m ∙ omega (arith, length-take (length envelopes) rest, enough) ∙ ap length same
@@ -43,36 +43,36 @@ module _ (n : ℕ) (b : Block) (bytes rest : List ℕ) (envelopes : List Envelop
   pub digest_len : length digest ≡ 32
   digest_len = let h = after_len in ap length d ∙ omega (arith, length-take 32 after, h)
 
-  pub split : bytes ≡ (framed b ++ marks) ++ (digest ++ left)
+  pub split : bytes ≡ (framed_bytes b ++ marks) ++ (digest ++ left)
   split =
       let tail : after ≡ digest ++ left = sym (take-append-drop 32 after) ∙ ap₂ (λ (x y : List ℕ). x ++ y) (sym d) (sym l) in
       let rest_is : rest ≡ marks ++ (digest ++ left) = sym (take-append-drop (length envelopes) rest) ∙ ap₂ (λ (x y : List ℕ). x ++ y) (sym m) (sym a ∙ tail) in
-      bytes_are ∙ ap (λ (r : List ℕ). framed b ++ r) rest_is ∙ four (framed b) marks digest left
+      bytes_are ∙ ap (λ (r : List ℕ). framed_bytes b ++ r) rest_is ∙ four (framed_bytes b) marks digest left
 
-  taken_is : length bytes - length left ≡ length (framed b ++ marks) + 32
+  taken_is : length bytes - length left ≡ length (framed_bytes b ++ marks) + 32
   taken_is =
       let all = ap length split in
       let h = digest_len in
-      omega (arith, all, h, length-append (framed b ++ marks) (digest ++ left), length-append digest left)
+      omega (arith, all, h, length-append (framed_bytes b ++ marks) (digest ++ left), length-append digest left)
 
-  before_is : take ((length bytes - length left) - 32) bytes ≡ framed b ++ marks
+  before_is : take ((length bytes - length left) - 32) bytes ≡ framed_bytes b ++ marks
   before_is =
       let t = taken_is in
-      let k : (length bytes - length left) - 32 ≡ length (framed b ++ marks) = omega (arith, t) in
-      ap (λ (x : ℕ). take x bytes) k ∙ ap (λ (x : List ℕ). take (length (framed b ++ marks)) x) split ∙ take_at (framed b ++ marks) (digest ++ left) (length (framed b ++ marks)) refl
+      let k : (length bytes - length left) - 32 ≡ length (framed_bytes b ++ marks) = omega (arith, t) in
+      ap (λ (x : ℕ). take x bytes) k ∙ ap (λ (x : List ℕ). take (length (framed_bytes b ++ marks)) x) split ∙ take_at (framed_bytes b ++ marks) (digest ++ left) (length (framed_bytes b ++ marks)) refl
 
   dropped : drop (length bytes - length left) bytes ≡ left
   dropped =
-      let f = framed b ++ marks in
+      let f = framed_bytes b ++ marks in
       let h = digest_len in
       let len : length (f ++ digest) ≡ length bytes - length left = omega (arith, length-append f digest, h) ∙ sym taken_is in
       ap (λ (x : List ℕ). drop (length bytes - length left) x) (split ∙ sym (append_assoc f digest left)) ∙ drop_at (f ++ digest) left (length bytes - length left) len
 
   whole_of : (c : Committed) → Seals b (take ((length bytes - length left) - 32) bytes) marks digest (Some c) → IsWhole n bytes c (length bytes - length left)
   whole_of c h =
-      let f = framed b ++ marks in
-      let digested_is : digested c ≡ f = ap₂ (λ (x : Block) (y : List ℕ). framed x ++ y) h.0 h.1 in
-      let digest_is : digest ≡ sha256 (digested c) = h.2 ∙ ap sha256 (before_is ∙ sym digested_is) in
+      let f = framed_bytes b ++ marks in
+      let digested_is : digest_input c ≡ f = ap₂ (λ (x : Block) (y : List ℕ). framed_bytes x ++ y) h.0 h.1 in
+      let digest_is : digest ≡ sha256 (digest_input c) = h.2 ∙ ap sha256 (before_is ∙ sym digested_is) in
       let record_is : record_bytes c ≡ f ++ digest = ap₂ (λ (x y : List ℕ). x ++ y) digested_is (sym digest_is) in
       let t = taken_is in
       let all = ap length split in
@@ -98,7 +98,7 @@ module _ (n : ℕ) (b : Block) (bytes rest : List ℕ) (envelopes : List Envelop
         one_each = marks_len;
         digest_len = digest_len;
         bad = subst (λ (x : List ℕ). (¬ AreFlags marks) ⊎ (digest ≢ sha256 x)) before_is h;
-        bytes_are = split ∙ sym (append_assoc (framed b ++ marks) digest left);
+        bytes_are = split ∙ sym (append_assoc (framed_bytes b ++ marks) digest left);
       }
 
   pub bad_front : (o : Option Committed) → o ≡ None → Seals b (take ((length bytes - length left) - 32) bytes) marks digest o → IsDamaged n bytes

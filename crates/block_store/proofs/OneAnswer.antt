@@ -18,7 +18,7 @@ use Rattle.wire.specs.Reading.{block_at, number_at}
 use Rattle.wire.proofs.BlockLaws.{block, block_length}
 use Rattle.wire.proofs.Measured.{number32}
 use Rattle.wire.proofs.Whole.{is_one}
-use Rattle.block_store.specs.Record.{framed, digested, record_bytes, IsBlockAt, IsRecord}
+use Rattle.block_store.specs.Record.{framed_bytes, digest_input, record_bytes, IsBlockAt, IsRecord}
 use Rattle.block_store.specs.Store.{Loads, Ends, AreFlags, IsLength, IsBeginning, IsDamaged, EndsInLength, EndsInBlock, HasNoLength, HasNoBlock}
 use Rattle.block_store.specs.declared.end.End.{End}
 use Rattle.block_store.specs.declared.end.End.TheVariants.{Clean, Torn, Damaged, DeviceFailed}
@@ -39,7 +39,7 @@ length_small n h = let most = h.1 in omega (arith, most)
 
 -- ---- bytes with a block in front
 
-module _ (n : ℕ) (bytes : List ℕ) (b : Block) (tail : List ℕ) (is : IsBlockAt n b) (are : bytes ≡ framed b ++ tail) where
+module _ (n : ℕ) (bytes : List ℕ) (b : Block) (tail : List ℕ) (is : IsBlockAt n b) (are : bytes ≡ framed_bytes b ++ tail) where
   abbrev text : List ℕ
   text = block_bytes b
 
@@ -53,7 +53,7 @@ module _ (n : ℕ) (bytes : List ℕ) (b : Block) (tail : List ℕ) (is : IsBloc
   has_length : EndsInLength bytes → ⊥
   has_length h =
       let all = ap length are in
-      absurd (omega (arith, h, all, length-append (framed b) tail, length-append (to_be_bytes w32 (length text)) text))
+      absurd (omega (arith, h, all, length-append (framed_bytes b) tail, length-append (to_be_bytes w32 (length text)) text))
 
   has_right_length : HasNoLength bytes → ⊥
   has_right_length h = h.no_length (subst IsLength (sym (front h.len h.rest h.fits h.bytes_are).0) text_length)
@@ -71,7 +71,7 @@ module _ (n : ℕ) (bytes : List ℕ) (b : Block) (tail : List ℕ) (is : IsBloc
       let same = front (length h.text) (h.text ++ h.rest) (length_small (length h.text) h.is_length) (h.bytes_are ∙ append_assoc (to_be_bytes w32 (length h.text)) h.text h.rest) in
       h.no_block b is (sym (same_front h.text text h.rest tail same.0 same.1).0)
 
-  same_block : (d : Block) (left : List ℕ) → IsBlockAt n d → bytes ≡ framed d ++ left → (b ≡ d) × (tail ≡ left)
+  same_block : (d : Block) (left : List ℕ) → IsBlockAt n d → bytes ≡ framed_bytes d ++ left → (b ≡ d) × (tail ≡ left)
   same_block d left k e =
       let same = front (length (block_bytes d)) (block_bytes d ++ left) (length_small (length (block_bytes d)) (block_length d k.block)) (e ∙ append_assoc (to_be_bytes w32 (length (block_bytes d))) (block_bytes d) left) in
       let parts = same_front (block_bytes d) text left tail same.0 same.1 in
@@ -84,7 +84,7 @@ too_short part marks digest rest count e m d short =
     let all = ap length e in
     absurd (omega (arith, all, m, d, short, length-append marks (digest ++ rest), length-append digest rest))
 
-sealed_is_whole : (n : ℕ) (bytes : List ℕ) (b : Block) (marks digest rest : List ℕ) → IsBlockAt n b → bytes ≡ framed b ++ (marks ++ (digest ++ rest)) → length marks ≡ length b.envelopes → length digest ≡ 32 → IsBeginning n bytes → ⊥
+sealed_is_whole : (n : ℕ) (bytes : List ℕ) (b : Block) (marks digest rest : List ℕ) → IsBlockAt n b → bytes ≡ framed_bytes b ++ (marks ++ (digest ++ rest)) → length marks ≡ length b.envelopes → length digest ≡ 32 → IsBeginning n bytes → ⊥
 sealed_is_whole n bytes b marks digest rest is are m d (inl h) = has_length n bytes b (marks ++ (digest ++ rest)) is are h
 sealed_is_whole n bytes b marks digest rest is are m d (inr (inl h)) = is_whole n bytes b (marks ++ (digest ++ rest)) is are h
 sealed_is_whole n bytes b marks digest rest is are m d (inr (inr h)) =
@@ -97,7 +97,7 @@ four a b c d = simp append_assoc
 -- ---- a record
 
 abbrev sealing : Committed → List ℕ
-sealing c = sha256 (digested c)
+sealing c = sha256 (digest_input c)
 
 module _ (n : ℕ) (bytes : List ℕ) (c : Committed) (rest : List ℕ) (is : IsRecord n c) (are : bytes ≡ record_bytes c ++ rest) where
   abbrev marks : List ℕ
@@ -106,21 +106,21 @@ module _ (n : ℕ) (bytes : List ℕ) (c : Committed) (rest : List ℕ) (is : Is
   abbrev behind : List ℕ
   behind = marks ++ (sealing c ++ rest)
 
-  split : bytes ≡ framed c.block ++ behind
-  split = are ∙ four (framed c.block) marks (sealing c) rest
+  split : bytes ≡ framed_bytes c.block ++ behind
+  split = are ∙ four (framed_bytes c.block) marks (sealing c) rest
 
   one_each : length marks ≡ length c.block.envelopes
   one_each = length-map c.flags flag_number ∙ is.flags
 
   not_beginning : IsBeginning n bytes → ⊥
-  not_beginning = sealed_is_whole n bytes c.block marks (sealing c) rest is.block split one_each (length-sha256 (digested c))
+  not_beginning = sealed_is_whole n bytes c.block marks (sealing c) rest is.block split one_each (length-sha256 (digest_input c))
 
-  same_parts : (b : Block) (others digest left : List ℕ) → IsBlockAt n b → length others ≡ length b.envelopes → length digest ≡ 32 → bytes ≡ framed b ++ (others ++ (digest ++ left))
+  same_parts : (b : Block) (others digest left : List ℕ) → IsBlockAt n b → length others ≡ length b.envelopes → length digest ≡ 32 → bytes ≡ framed_bytes b ++ (others ++ (digest ++ left))
       → (c.block ≡ b) × (marks ≡ others) × (sealing c ≡ digest) × (rest ≡ left)
   same_parts b others digest left k len d e =
       let same = same_block n bytes c.block behind is.block split b (others ++ (digest ++ left)) k e in
       let flags = same_front marks others (sealing c ++ rest) (digest ++ left) (one_each ∙ ap (λ (x : Block). length x.envelopes) same.0 ∙ sym len) same.1 in
-      let ends = same_front (sealing c) digest rest left (length-sha256 (digested c) ∙ sym d) flags.1 in
+      let ends = same_front (sealing c) digest rest left (length-sha256 (digest_input c) ∙ sym d) flags.1 in
       (same.0, flags.0, ends.0, ends.1)
 
 flag_small : (f : Flag) → flag_number f ≤ 4
@@ -137,10 +137,10 @@ not_damaged : (n : ℕ) (bytes : List ℕ) (c : Committed) (rest : List ℕ) →
 not_damaged n bytes c rest is are (inl h) = has_right_length n bytes c.block (behind n bytes c rest is are) is.block (split n bytes c rest is are) h
 not_damaged n bytes c rest is are (inr (inl h)) = is_spelled n bytes c.block (behind n bytes c rest is are) is.block (split n bytes c rest is are) h
 not_damaged n bytes c rest is are (inr (inr h)) =
-    let same = same_parts n bytes c rest is are h.block h.marks h.digest h.rest h.is_block h.one_each h.digest_len (h.bytes_are ∙ four (framed h.block) h.marks h.digest h.rest) in
+    let same = same_parts n bytes c rest is are h.block h.marks h.digest h.rest h.is_block h.one_each h.digest_len (h.bytes_are ∙ four (framed_bytes h.block) h.marks h.digest h.rest) in
     elim h.bad [
       | inl wrong ↦ wrong (subst AreFlags same.1 (are_flags c.flags))
-      | inr other ↦ other (sym same.2 ∙ ap₂ (λ (x : Block) (y : List ℕ). sha256 (framed x ++ y)) same.0 same.1)
+      | inr other ↦ other (sym same.2 ∙ ap₂ (λ (x : Block) (y : List ℕ). sha256 (framed_bytes x ++ y)) same.0 same.1)
     ]
 
 abbrev pub flag_of : ℕ → Flag
@@ -163,7 +163,7 @@ flags_back (f ∷ fs) = ap₂ (λ (x : Flag) (xs : List Flag). x ∷ xs) (flag_b
 
 same_record : (n : ℕ) (bytes : List ℕ) (c d : Committed) (rest left : List ℕ) → IsRecord n c → IsRecord n d → bytes ≡ record_bytes c ++ rest → bytes ≡ record_bytes d ++ left → (c ≡ d) × (rest ≡ left)
 same_record n bytes c d rest left is other are same =
-    let parts = same_parts n bytes c rest is are d.block (map flag_number d.flags) (sealing d) left other.block (one_each n bytes d left other same) (length-sha256 (digested d)) (split n bytes d left other same) in
+    let parts = same_parts n bytes c rest is are d.block (map flag_number d.flags) (sealing d) left other.block (one_each n bytes d left other same) (length-sha256 (digest_input d)) (split n bytes d left other same) in
     let flags : c.flags ≡ d.flags = sym (flags_back c.flags) ∙ ap (map flag_of) parts.1 ∙ flags_back d.flags in
     (ap₂ (λ (b : Block) (fs : List Flag). let made : Committed = record { block = b; flags = fs } in made) parts.0 flags, parts.3)
 
@@ -185,7 +185,7 @@ begins_or_damaged n bytes (inr (inl h)) (inr (inl k)) =
     absurd (omega (arith, len, all, short, length-append k.text k.rest))
 begins_or_damaged n bytes (inr (inr h)) (inl k) = has_right_length n bytes h.block h.part h.is_block h.bytes_are k
 begins_or_damaged n bytes (inr (inr h)) (inr (inl k)) = is_spelled n bytes h.block h.part h.is_block h.bytes_are k
-begins_or_damaged n bytes h (inr (inr k)) = sealed_is_whole n bytes k.block k.marks k.digest k.rest k.is_block (k.bytes_are ∙ four (framed k.block) k.marks k.digest k.rest) k.one_each k.digest_len h
+begins_or_damaged n bytes h (inr (inr k)) = sealed_is_whole n bytes k.block k.marks k.digest k.rest k.is_block (k.bytes_are ∙ four (framed_bytes k.block) k.marks k.digest k.rest) k.one_each k.digest_len h
 
 nothing_begins : (n : ℕ) → IsBeginning n []
 nothing_begins n = inl (omega arith)

@@ -6,7 +6,7 @@ use Rattle.std.proofs.lemmas.List.{append-nil, length-append}
 use Rattle.fab_types.specs.Committed.{Committed}
 use Rattle.wire.specs.Spelling.{block_bytes}
 use Rattle.wire.proofs.BlockLaws.{block_length}
-use Rattle.block_store.specs.Record.{framed, record_bytes}
+use Rattle.block_store.specs.Record.{framed_bytes, record_bytes}
 use Rattle.block_store.specs.Store.{AreRecords, Loads, Awaits, IsBeginning, IsDamaged, EndsInBlock, EndsBehindBlock}
 use Rattle.block_store.specs.Progress.{Progress, IsReading, RestsBy, Reads, FeedsBy, Feeds, FeedsAll, end_by, end_of, at_start}
 use Rattle.block_store.specs.Loading.{Gives, IsLoaded}
@@ -36,7 +36,7 @@ behind_small n bytes h =
     let most = (block_length h.block known).1 in
     let count = known.envelopes.greatest in
     let short = h.short in
-    behind_sum (length bytes) (length (block_bytes h.block)) (length h.part) (length h.block.envelopes) (all ∙ length-append (framed h.block) h.part) (length-append (to_be_bytes w32 (length (block_bytes h.block))) (block_bytes h.block)) most count short
+    behind_sum (length bytes) (length (block_bytes h.block)) (length h.part) (length h.block.envelopes) (all ∙ length-append (framed_bytes h.block) h.part) (length-append (to_be_bytes w32 (length (block_bytes h.block))) (block_bytes h.block)) most count short
 
 pub beginning_small : (n : ℕ) (bytes : List ℕ) → IsBeginning n bytes → length bytes < 526954
 beginning_small n bytes (inl h) = omega (arith, h)
@@ -58,15 +58,15 @@ in_block_awaits n bytes h more short =
       short = omega (arith, all, short, length-append bytes more, length-append (to_be_bytes w32 h.len) h.part, length-append h.part more);
     }))
 
-pub behind_block_awaits : (n : ℕ) (bytes : List ℕ) (h : EndsBehindBlock n bytes) → Awaits n bytes (length (framed h.block) + (length h.block.envelopes + 32))
+pub behind_block_awaits : (n : ℕ) (bytes : List ℕ) (h : EndsBehindBlock n bytes) → Awaits n bytes (length (framed_bytes h.block) + (length h.block.envelopes + 32))
 behind_block_awaits n bytes h more short =
     let all = ap length h.bytes_are in
     inr (inr (record {
       block = h.block;
       part = h.part ++ more;
       is_block = h.is_block;
-      bytes_are = ap (λ (t : List ℕ). t ++ more) h.bytes_are ∙ append_assoc (framed h.block) h.part more;
-      short = omega (arith, all, short, length-append bytes more, length-append (framed h.block) h.part, length-append h.part more);
+      bytes_are = ap (λ (t : List ℕ). t ++ more) h.bytes_are ∙ append_assoc (framed_bytes h.block) h.part more;
+      short = omega (arith, all, short, length-append bytes more, length-append (framed_bytes h.block) h.part, length-append h.part more);
     }))
 
 -- with more bytes, still too few
@@ -198,7 +198,7 @@ damaged_longer n bytes more (inl h) =
 damaged_longer n bytes more (inr (inl h)) =
     inr (inl (record { text = h.text; rest = h.rest ++ more; is_length = h.is_length; no_block = h.no_block; bytes_are = ap (λ (t : List ℕ). t ++ more) h.bytes_are ∙ append_assoc (to_be_bytes w32 (length h.text) ++ h.text) h.rest more }))
 damaged_longer n bytes more (inr (inr h)) =
-    inr (inr (record { block = h.block; marks = h.marks; digest = h.digest; rest = h.rest ++ more; is_block = h.is_block; one_each = h.one_each; digest_len = h.digest_len; bad = h.bad; bytes_are = ap (λ (t : List ℕ). t ++ more) h.bytes_are ∙ append_assoc (framed h.block ++ h.marks ++ h.digest) h.rest more }))
+    inr (inr (record { block = h.block; marks = h.marks; digest = h.digest; rest = h.rest ++ more; is_block = h.is_block; one_each = h.one_each; digest_len = h.digest_len; bad = h.bad; bytes_are = ap (λ (t : List ℕ). t ++ more) h.bytes_are ∙ append_assoc (framed_bytes h.block ++ h.marks ++ h.digest) h.rest more }))
 
 stays_damaged : (n : ℕ) (bytes more : List ℕ) (cs : List Committed) (p : Progress) → p.is_damaged ≡ true → Reads n bytes cs p → Reads n (bytes ++ more) cs p
 stays_damaged n bytes more [] p bad h =

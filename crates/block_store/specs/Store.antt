@@ -6,7 +6,7 @@ use Rattle.sha2.specs.Sha256.{sha256}
 use Rattle.fab_types.specs.Committed.{Committed}
 use Rattle.fab_types.specs.declared.block.Block.{Block}
 use Rattle.wire.specs.Spelling.{block_bytes}
-use Rattle.block_store.specs.Record.{framed, record_bytes, IsBlockAt, IsRecord}
+use Rattle.block_store.specs.Record.{framed_bytes, record_bytes, IsBlockAt, IsRecord}
 use Rattle.block_store.specs.declared.end.End.{End}
 use Rattle.block_store.specs.declared.end.End.TheVariants.{Clean, Torn, Damaged, DeviceFailed}
 
@@ -33,7 +33,7 @@ pub record EndsBehindBlock (n : ℕ) (bytes : List ℕ) : Type 0 where
   pub block : Block
   pub part : List ℕ
   pub is_block : IsBlockAt n block
-  pub bytes_are : bytes ≡ framed block ++ part
+  pub bytes_are : bytes ≡ framed_bytes block ++ part
   pub short : length part < length block.envelopes + 32
 
 abbrev pub IsBeginning : ℕ → List ℕ → Type 0
@@ -73,8 +73,8 @@ pub record HasBadEnd (n : ℕ) (bytes : List ℕ) : Type 0 where
   pub is_block : IsBlockAt n block
   pub one_each : length marks ≡ length block.envelopes
   pub digest_len : length digest ≡ 32
-  pub bad : (¬ AreFlags marks) ⊎ (digest ≢ sha256 (framed block ++ marks))
-  pub bytes_are : bytes ≡ framed block ++ marks ++ digest ++ rest
+  pub bad : (¬ AreFlags marks) ⊎ (digest ≢ sha256 (framed_bytes block ++ marks))
+  pub bytes_are : bytes ≡ framed_bytes block ++ marks ++ digest ++ rest
 
 abbrev pub IsDamaged : ℕ → List ℕ → Type 0
 IsDamaged n bytes = HasNoLength bytes ⊎ (HasNoBlock n bytes ⊎ HasBadEnd n bytes)

@@ -3,7 +3,7 @@
 ghost use Rattle.std.specs.Prelude.{◌≡◌, ◌++◌, OnOk, IfOk, length, map};
 ghost use Rattle.fab_types.specs.FlagNumber.{flag_number};
 ghost use Rattle.wire.specs.Within.{IsBlock};
-ghost use Rattle.block_store.specs.Record.{framed, record_bytes};
+ghost use Rattle.block_store.specs.Record.{framed_bytes, record_bytes};
 ghost use Rattle.block_store.specs.Appending.{Appended, fault_number};
 ghost use Rattle.block_store.specs.declared.appending.AppendFault.TheVariants.{Memory};
 

@@ -2,7 +2,7 @@
 
 ghost use Rattle.std.specs.Prelude.{◌≡◌, ◌<◌, ◌++◌, ◌↔◌, IsTrue, IfOk, IfSome, IfNone, length};
 ghost use Rattle.std.specs.Int.{w32, to_be_bytes};
-ghost use Rattle.block_store.specs.Record.{framed, IsBlockAt};
+ghost use Rattle.block_store.specs.Record.{framed_bytes, IsBlockAt};
 ghost use Rattle.block_store.specs.Front.{IsFront, Seals, Spells};
 
 use crate::mark::flags_of;
@@ -90,7 +90,7 @@ fn behind(
     rest: &[u8],
 ) -> Result<Front, AllocError>
     requires is_block { IsBlockAt number block }
-    requires bytes_are { bytes.now ≡ framed block ++ rest.now }
+    requires bytes_are { bytes.now ≡ framed_bytes block ++ rest.now }
     ensures { IfOk result (IsFront number bytes.now) }
 {
     let count = block.envelopes.as_slice().len();

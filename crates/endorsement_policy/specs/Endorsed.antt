@@ -30,8 +30,8 @@ abbrev pub do_need_someone : List ChaincodePolicy → Bool
 do_need_someone ps = list_all (λ p. needs_someone p.policy) ps
 
 -- what an organisation with this key puts on a payload
-abbrev pub sealed : Name → List ℕ → Payload → Endorsement
-sealed org key p = record { org = org; tag = tag key (payload_bytes p) }
+abbrev pub endorsement_by : Name → List ℕ → Payload → Endorsement
+endorsement_by org key p = record { org = org; tag = tag key (payload_bytes p) }
 
 abbrev pub key_in : Option Organisation → List ℕ
 key_in None = []

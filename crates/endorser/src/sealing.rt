@@ -1,7 +1,7 @@
 //! Tags that peers put on payloads.
 
 ghost use Rattle.std.specs.Prelude.{◌≡◌, IfOk};
-ghost use Rattle.endorsement_policy.specs.Endorsed.{sealed};
+ghost use Rattle.endorsement_policy.specs.Endorsed.{endorsement_by};
 
 use fab_types::{Endorsement, OrgName, Payload};
 use std::alloc::{AllocError, Global};
@@ -15,7 +15,7 @@ pub fn seal(
     key: &[u8],
     payload: &Payload,
 ) -> Result<Endorsement, AllocError>
-    ensures { IfOk result (λ e. e ≡ sealed org.now key.now payload.now) }
+    ensures { IfOk result (λ e. e ≡ endorsement_by org.now key.now payload.now) }
 {
     let bytes = encode_payload(alloc, payload)?;
     Ok(Endorsement {

@@ -28,6 +28,6 @@ envelope_of payload endorsements =
     if nat_le (length endorsements) 32 then Some (record { payload = payload; endorsements = endorsements }) else None
 
 -- the envelope that the names stand for together
-abbrev pub resolved : (List ℕ → Option Endorsed) → List (List ℕ) → Option Envelope
-resolved bound names =
+abbrev pub envelope_named : (List ℕ → Option Endorsed) → List (List ℕ) → Option Envelope
+envelope_named bound names =
     option_and_then (λ payload. option_and_then (λ endorsements. envelope_of payload endorsements) (endorsements_of bound names)) (payload_of bound names)

@@ -2,7 +2,7 @@
 
 ghost use Rattle.std.specs.Prelude.{◌≡◌, ℕ, List, Some, None, map, option_map, if◌then◌else◌, string_bytes, IfOk, OnOk, OnErr};
 ghost use Rattle.std.specs.Str.{bytes_eq};
-ghost use Rattle.events.specs.Bound.{bound_as, endorsements_of, payload_of, resolved};
+ghost use Rattle.events.specs.Bound.{bound_as, endorsements_of, payload_of, envelope_named};
 
 use fab_types::{Endorsement, Endorsements, Envelope, Payload};
 use std::alloc::{AllocError, Global};
@@ -65,7 +65,7 @@ impl Bindings {
     /// None where there is no name, where one stands for nothing, and where there are more than 32.
     pub fn resolve(&self, names: &[String]) -> Result<Option<Envelope>, AllocError>
         ensures { IfOk result
-            (λ found. found ≡ resolved (bound_as self.now) (map string_bytes names.now)) }
+            (λ found. found ≡ envelope_named (bound_as self.now) (map string_bytes names.now)) }
     {
         let Some(payload) = self.payload(names) else {
             return Ok(None);

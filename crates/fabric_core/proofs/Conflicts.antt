@@ -8,9 +8,9 @@ use Rattle.fab_types.specs.Touched.{IsLegal}
 use Rattle.fab_types.specs.declared.block.Block.{Block}
 use Rattle.fab_types.specs.declared.payload.Proposal.{Proposal}
 use Rattle.batch_cutter.specs.Division.{Limits, Mark, message, timeout}
-use Rattle.ledger_model.specs.Chain.{Bytes, Envelope, Committed, Chain, Placed, placed, history}
+use Rattle.ledger_model.specs.Chain.{Bytes, Envelope, Committed, Chain, Placed, transactions_from, history}
 use Rattle.ledger_model.specs.State.{state}
-use Rattle.ledger_model.specs.Judged.{FlagRule, by_table, judged, judged_onto, judged_chain}
+use Rattle.ledger_model.specs.Judged.{FlagRule, by_table, judge, judge_onto, judged_chain}
 use Rattle.ledger_model.specs.Legal.{DiffersBefore}
 use Rattle.ledger_model.proofs.Kept.{block_legal}
 use Rattle.orderer.specs.Arranged.{plans_of}
@@ -18,7 +18,7 @@ use Rattle.orderer.specs.Blocks.{AddsEach, AreLegal}
 use Rattle.orderer.specs.Ordering.{Ordering, Takes}
 use Rattle.orderer.specs.declared.report.BatchReport.{BatchReport}
 use Rattle.orderer.proofs.Arranging.{takes_legal}
-use Rattle.fabric_core.specs.System.{Rules, PeerState, World, Event, Begin, Finish, Submit, Take, Tick, Commit, Reply, unused, opening, Queued, QueueFull, Nothing, Ordered, Cut, TooLarge, NoBlockLeft, chain_at, chain_of_first, begin, finish, commit, at_peer, submit, IsTakenIn, TakesFront, IsTicked, IsStep, AreSteps, chain_of}
+use Rattle.fabric_core.specs.System.{Rules, PeerState, World, Event, Begin, Finish, Submit, Take, Tick, Commit, Reply, fresh_orderer, opening, Queued, QueueFull, Nothing, Ordered, Cut, TooLarge, NoBlockLeft, chain_at, chain_of_first, begin, finish, commit, at_peer, submit, IsTakenIn, TakesFront, IsTicked, IsStep, AreSteps, chain_of}
 use Rattle.fabric_core.specs.Headline.{IsRun, ConflictsAreOlder}
 use Rattle.fabric_core.proofs.Runs.{at_peer_orderer, submit_orderer}
 
@@ -86,7 +86,7 @@ get_last (x ∷ xs) y (suc i) c h e = let rest = get_last xs y i c (omega arith)
 
 -- the conflicts of one block are with the chain before it
 abbrev IsOlderAt : Chain → ℕ → Committed → Type 0
-IsOlderAt before number c = AllByRecursion (DiffersBefore (state (history before))) (placed number 0 c.block.envelopes c.flags)
+IsOlderAt before number c = AllByRecursion (DiffersBefore (state (history before))) (transactions_from number 0 c.block.envelopes c.flags)
 
 older_more : (before : Chain) (next : Committed) → ConflictsAreOlder before → IsOlderAt before (length before + 1) next → ConflictsAreOlder (before ++ next ∷ [])
 older_more before next old here k c there =
@@ -102,10 +102,10 @@ older_more before next old here k c there =
           (subst (λ (d : Committed). IsOlderAt before (k + 1) d) last.1 (subst (λ (n : ℕ). IsOlderAt before (n + 1) next) (sym last.0) here))
     ]
 
-onto_older : (id : Proposal → Bytes) (endorsed : Envelope → Bool) (before : Chain) (blocks : List Block) → AreLegal blocks → ConflictsAreOlder before → ConflictsAreOlder (judged_onto (by_table id endorsed) before blocks)
+onto_older : (id : Proposal → Bytes) (endorsed : Envelope → Bool) (before : Chain) (blocks : List Block) → AreLegal blocks → ConflictsAreOlder before → ConflictsAreOlder (judge_onto (by_table id endorsed) before blocks)
 onto_older id endorsed before [] are old = old
 onto_older id endorsed before (b ∷ blocks) are old =
-    let next : Committed = record { block = b; flags = judged (by_table id endorsed) (history before) (length before + 1) 0 b.envelopes } in
+    let next : Committed = record { block = b; flags = judge (by_table id endorsed) (history before) (length before + 1) 0 b.envelopes } in
     onto_older id endorsed (before ++ next ∷ []) blocks are.1 (older_more before next old (block_legal id endorsed (history before) (length before + 1) b.envelopes are.0))
 
 no_block : {A : Type 0} (k : ℕ) (c : Committed) → slice_get [] k ≡ Some c → A

@@ -24,7 +24,7 @@ use Rattle.orderer.specs.Ordering.{Ordering, IsOrdered, Takes}
 use Rattle.orderer.specs.declared.report.BatchReport.{BatchReport}
 use Rattle.orderer.proofs.Refusing.{takes_begins}
 use Rattle.simulator.specs.declared.refusal.SimRefusal.TheVariants as refusal
-use Rattle.fabric_core.specs.System.{Rules, Noted, PeerState, World, Event, Begin, Finish, Submit, Take, Tick, Commit, Reply, unused, opening, Refused, Endorsed, Queued, QueueFull, Nothing, Ordered, Cut, TooLarge, NoBlockLeft, chain_at, begin_seat, begin, finished, finish_seat, finish, commit_next, commit, at_peer, submit, IsTakenIn, TakesFront, IsTicked, IsStep, AreSteps, chain_of}
+use Rattle.fabric_core.specs.System.{Rules, Noted, PeerState, World, Event, Begin, Finish, Submit, Take, Tick, Commit, Reply, fresh_orderer, opening, Refused, Endorsed, Queued, QueueFull, Nothing, Ordered, Cut, TooLarge, NoBlockLeft, chain_at, begin_seat, begin, finish_reply, finish_seat, finish, commit_next, commit, at_peer, submit, IsTakenIn, TakesFront, IsTicked, IsStep, AreSteps, chain_of}
 use Rattle.fabric_core.specs.Inside.{rules_of}
 use Rattle.fabric_core.specs.Headline.{IsRun, queue_after, marks_in, marks_of, IsHonest, IsHandedOutBy, IsGenuine, IsUnforged}
 use Rattle.fabric_core.proofs.Lists.{take_next}
@@ -125,12 +125,12 @@ current_endorsed true p q x y e = e
 current_endorsed false p q x y e = absurd (cc)
 
 -- what is answered with a payload was made on that chain
-answered : (exec : Exec) (seal : Payload → Endorsement) (proposal : Proposal) (now : Versioned) (chain : Chain) (p : Payload) (x : Endorsement) → finished now seal (payload_or_refusal exec proposal chain) ≡ Endorsed p x → IsMade exec chain p
+answered : (exec : Exec) (seal : Payload → Endorsement) (proposal : Proposal) (now : Versioned) (chain : Chain) (p : Payload) (x : Endorsement) → finish_reply now seal (payload_or_refusal exec proposal chain) ≡ Endorsed p x → IsMade exec chain p
 answered exec seal proposal now chain p x e =
     let m = state (history chain) in
     let o = exec proposal (values_of m) in
     let made = payload_of proposal m o.seen in
-    elim o.ending as (λ y. o.ending ≡ y → finished now seal (done_or_refusal y made) ≡ Endorsed p x → IsMade exec chain p) [
+    elim o.ending as (λ y. o.ending ≡ y → finish_reply now seal (done_or_refusal y made) ≡ Endorsed p x → IsMade exec chain p) [
       | Done ↦ λ d f. subst (IsMade exec chain) (same_endorsed made p (seal made) x (current_endorsed (is_current now made) made p (seal made) x f)) (record { done = d; payload = refl })
       | Unknown ↦ λ d f. absurd (cc)
       | Trapped k u ↦ λ d f. absurd (cc)
@@ -382,7 +382,7 @@ drop_left zero (x ∷ xs) h e = absurd (cc)
 drop_left (suc i) (x ∷ xs) h e = drop_left i xs (omega arith) e
 
 -- a run of all events
-pub run_all : (r : Rules) (orgs : List Bytes) (seats : ℕ) (limits : Limits) (reorder : Bool) (events : List Event) (replies : List Reply) (w : World) (refused : Bool) (i : ℕ) → StepLaw → IsOrdered [] (unused limits reorder) → AreSteps r (opening orgs seats limits reorder) (take i events) replies w → refused ≡ false → length events ≤ i → IsRun r orgs seats limits reorder events replies w refused
+pub run_all : (r : Rules) (orgs : List Bytes) (seats : ℕ) (limits : Limits) (reorder : Bool) (events : List Event) (replies : List Reply) (w : World) (refused : Bool) (i : ℕ) → StepLaw → IsOrdered [] (fresh_orderer limits reorder) → AreSteps r (opening orgs seats limits reorder) (take i events) replies w → refused ≡ false → length events ≤ i → IsRun r orgs seats limits reorder events replies w refused
 run_all r orgs seats limits reorder events replies w refused i law start steps fine end =
     record { done = take i events; rest = drop i events; order = take-append-drop i events; steps = steps; whole = (λ h. drop_end i events end, λ h. fine); ordered = run_ordered law r [] (opening orgs seats limits reorder) (take i events) replies w start steps }
 
@@ -390,7 +390,7 @@ true_false : true ≡ false → ⊥
 true_false e = cc
 
 -- a run that ended where memory was refused
-pub run_part : (r : Rules) (orgs : List Bytes) (seats : ℕ) (limits : Limits) (reorder : Bool) (events : List Event) (replies : List Reply) (w : World) (refused : Bool) (i : ℕ) → StepLaw → IsOrdered [] (unused limits reorder) → AreSteps r (opening orgs seats limits reorder) (take i events) replies w → refused ≡ true → i < length events → IsRun r orgs seats limits reorder events replies w refused
+pub run_part : (r : Rules) (orgs : List Bytes) (seats : ℕ) (limits : Limits) (reorder : Bool) (events : List Event) (replies : List Reply) (w : World) (refused : Bool) (i : ℕ) → StepLaw → IsOrdered [] (fresh_orderer limits reorder) → AreSteps r (opening orgs seats limits reorder) (take i events) replies w → refused ≡ true → i < length events → IsRun r orgs seats limits reorder events replies w refused
 run_part r orgs seats limits reorder events replies w refused i law start steps bad more =
     record { done = take i events; rest = drop i events; order = take-append-drop i events; steps = steps; whole = (λ h. absurd (true_false (sym bad ∙ h)), λ h. drop_left i events more h); ordered = run_ordered law r [] (opening orgs seats limits reorder) (take i events) replies w start steps }
 

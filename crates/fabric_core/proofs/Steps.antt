@@ -11,7 +11,7 @@ use Rattle.ledger_model.specs.Execution.{Exec}
 use Rattle.fab_types.specs.declared.block.Block.{Block}
 use Rattle.fab_types.specs.declared.envelope.Endorsement.{Endorsement}
 use Rattle.endorsement_policy.specs.Endorsed.{Listed}
-use Rattle.ledger_model.specs.Judged.{FlagRule, judged}
+use Rattle.ledger_model.specs.Judged.{FlagRule, judge}
 use Rattle.std.specs.Option.{option_to_list}
 use Rattle.batch_cutter.specs.Division.{Mark, timeout}
 use Rattle.orderer.specs.Ordering.{Ordering, Takes}
@@ -20,7 +20,7 @@ use Rattle.orderer.proofs.Refusing.{takes_begins}
 use Rattle.fabric_core.specs.Rule.{table_of, seal_of}
 use Rattle.simulator.specs.declared.refusal.SimRefusal.{SimRefusal}
 use Rattle.simulator.specs.Answers.{payload_or_refusal}
-use Rattle.fabric_core.specs.System.{PeerState, World, Reply, Begun as IsBegun, Nothing, IsCommitted, fresh, chain_of_first, begin_seat, begin, finished, finish_seat, finish, commit_next, commit, at_peer}
+use Rattle.fabric_core.specs.System.{PeerState, World, Reply, Begun as IsBegun, Nothing, IsCommitted, fresh, chain_of_first, begin_seat, begin, finish_reply, finish_seat, finish, commit_next, commit, at_peer}
 use Rattle.fabric_core.specs.Inside.{State, noted, seats_of, peer_of, world_of, IsFirst, IsSeatRight, IsPeerRight, IsRight}
 use Rattle.simulator.specs.declared.book.Chaincode.{Chaincode}
 use Rattle.fabric_core.specs.declared.peer.Begun.{Begun}
@@ -45,12 +45,12 @@ begin_free p s b height free same tall =
     ap (begin_seat (peer_of p) s b.proposal) (shown_at p.seats.items s None free)
     ∙ (λ i. (IsBegun (q i), record { org = p.org; height = length p.snapshot.value; seats = r i }))
 
-pub finish_held : (exec : Exec) (seal : Bytes → Payload → Endorsement) (chain : ℕ → Chain) (p : Peer) (s : ℕ) (b : Begun) (answer : Result Payload SimRefusal) (reply : Reply) → IsPeerRight chain p → slice_get p.seats.items s ≡ Some (Some b) → payload_or_refusal exec b.proposal b.snapshot.value ≡ answer → finished (state (history p.snapshot.value)) (seal p.org) answer ≡ reply → finish exec seal chain (peer_of p) s ≡ (reply, record { org = p.org; height = length p.snapshot.value; seats = seats_of (slice_set p.seats.items s None) })
+pub finish_held : (exec : Exec) (seal : Bytes → Payload → Endorsement) (chain : ℕ → Chain) (p : Peer) (s : ℕ) (b : Begun) (answer : Result Payload SimRefusal) (reply : Reply) → IsPeerRight chain p → slice_get p.seats.items s ≡ Some (Some b) → payload_or_refusal exec b.proposal b.snapshot.value ≡ answer → finish_reply (state (history p.snapshot.value)) (seal p.org) answer ≡ reply → finish exec seal chain (peer_of p) s ≡ (reply, record { org = p.org; height = length p.snapshot.value; seats = seats_of (slice_set p.seats.items s None) })
 finish_held exec seal chain p s b answer reply right held told is =
     let of : IsFirst chain b.snapshot.value = all_get (IsSeatRight chain) p.seats.items s (Some b) right.seats held in
     let now = state (history p.snapshot.value) in
-    let q : finished (state (history (chain (length p.snapshot.value)))) (seal p.org) (payload_or_refusal exec b.proposal (chain (length b.snapshot.value))) ≡ reply =
-    (λ i. finished (state (history (sym right.kept i))) (seal p.org) (payload_or_refusal exec b.proposal (sym of i))) ∙ ap (finished now (seal p.org)) told ∙ is
+    let q : finish_reply (state (history (chain (length p.snapshot.value)))) (seal p.org) (payload_or_refusal exec b.proposal (chain (length b.snapshot.value))) ≡ reply =
+    (λ i. finish_reply (state (history (sym right.kept i))) (seal p.org) (payload_or_refusal exec b.proposal (sym of i))) ∙ ap (finish_reply now (seal p.org)) told ∙ is
     in
     let r : slice_set (seats_of p.seats.items) s None ≡ seats_of (slice_set p.seats.items s None) = sym (slice_set_map (option_map noted) p.seats.items s None) in
     ap (finish_seat exec seal chain (peer_of p) s) (shown_at p.seats.items s (Some b) held)
@@ -114,10 +114,10 @@ pub timed_right : (listed : Listed) (peers : List Peer) (old : Ordering) (report
 timed_right listed peers old report new right takes = mark_right listed peers old timeout (option_to_list report) new right takes
 
 -- a peer with the next block
-pub committed : (rule : FlagRule) (blocks : List Block) (old new : Peer) (b : Block) (reply : Reply) → IsPeerRight (chain_of_first rule blocks) old → slice_get blocks (length old.snapshot.value) ≡ Some b → reply ≡ IsCommitted (judged rule (history old.snapshot.value) (length old.snapshot.value + 1) 0 b.envelopes) → new.snapshot.value ≡ old.snapshot.value ++ record { block = b; flags = judged rule (history old.snapshot.value) (length old.snapshot.value + 1) 0 b.envelopes } ∷ [] → new.seats.items ≡ old.seats.items → new.org ≡ old.org → (commit (chain_of_first rule blocks) (peer_of old) ≡ (reply, peer_of new)) × IsPeerRight (chain_of_first rule blocks) new
+pub committed : (rule : FlagRule) (blocks : List Block) (old new : Peer) (b : Block) (reply : Reply) → IsPeerRight (chain_of_first rule blocks) old → slice_get blocks (length old.snapshot.value) ≡ Some b → reply ≡ IsCommitted (judge rule (history old.snapshot.value) (length old.snapshot.value + 1) 0 b.envelopes) → new.snapshot.value ≡ old.snapshot.value ++ record { block = b; flags = judge rule (history old.snapshot.value) (length old.snapshot.value + 1) 0 b.envelopes } ∷ [] → new.seats.items ≡ old.seats.items → new.org ≡ old.org → (commit (chain_of_first rule blocks) (peer_of old) ≡ (reply, peer_of new)) × IsPeerRight (chain_of_first rule blocks) new
 committed rule blocks old new b reply right there told made seats org =
     let c = old.snapshot.value in
-    let next : Committed = record { block = b; flags = judged rule (history c) (length c + 1) 0 b.envelopes } in
+    let next : Committed = record { block = b; flags = judge rule (history c) (length c + 1) 0 b.envelopes } in
     let chain : chain_of_first rule blocks (length c + 1) ≡ c ++ next ∷ [] = next_chain rule blocks c b right.kept there in
     let got : slice_get (chain_of_first rule blocks (length c + 1)) (length c) ≡ Some next = ap (λ d. slice_get d (length c)) chain ∙ last_of c next in
     let tall : length new.snapshot.value ≡ length c + 1 = ap (λ d. length d) made ∙ length-append c (next ∷ []) in (
@@ -141,7 +141,7 @@ free_right chain zero = tt
 free_right chain (suc n) = (tt, free_right chain n)
 
 -- what committing at a peer leaves, whether memory was refused or not
-pub commit_all : {E : Type 0} (rule : FlagRule) (blocks : List Block) (old new : Peer) (b : Block) (r : Result Reply E) → IsPeerRight (chain_of_first rule blocks) old → slice_get blocks (length old.snapshot.value) ≡ Some b → IfOk r (λ reply. reply ≡ IsCommitted (judged rule (history old.snapshot.value) (length old.snapshot.value + 1) 0 b.envelopes)) → IfOk r (λ reply. new.snapshot.value ≡ old.snapshot.value ++ record { block = b; flags = judged rule (history old.snapshot.value) (length old.snapshot.value + 1) 0 b.envelopes } ∷ []) → new.seats.items ≡ old.seats.items → new.org ≡ old.org → OnErr r (new ≡ old) → IfOk r (λ reply. commit (chain_of_first rule blocks) (peer_of old) ≡ (reply, peer_of new)) × IsPeerRight (chain_of_first rule blocks) new
+pub commit_all : {E : Type 0} (rule : FlagRule) (blocks : List Block) (old new : Peer) (b : Block) (r : Result Reply E) → IsPeerRight (chain_of_first rule blocks) old → slice_get blocks (length old.snapshot.value) ≡ Some b → IfOk r (λ reply. reply ≡ IsCommitted (judge rule (history old.snapshot.value) (length old.snapshot.value + 1) 0 b.envelopes)) → IfOk r (λ reply. new.snapshot.value ≡ old.snapshot.value ++ record { block = b; flags = judge rule (history old.snapshot.value) (length old.snapshot.value + 1) 0 b.envelopes } ∷ []) → new.seats.items ≡ old.seats.items → new.org ≡ old.org → OnErr r (new ≡ old) → IfOk r (λ reply. commit (chain_of_first rule blocks) (peer_of old) ≡ (reply, peer_of new)) × IsPeerRight (chain_of_first rule blocks) new
 commit_all rule blocks old new b (Ok reply) right there told made seats org same = committed rule blocks old new b reply right there told made seats org
 commit_all rule blocks old new b (Err x) right there told made seats org same = (tt, subst (IsPeerRight (chain_of_first rule blocks)) (sym same) right)
 

@@ -5,7 +5,7 @@ use Rattle.fab_types.specs.declared.payload.Payload.{Payload}
 use Rattle.fab_types.specs.declared.envelope.Endorsement.{Endorsement}
 use Rattle.std.specs.List.{AllByRecursion}
 use Rattle.ledger_model.specs.Legal.{DiffersBefore}
-use Rattle.ledger_model.specs.Chain.{Bytes, Envelope, Valid, Committed, Chain, Placed, placed, history}
+use Rattle.ledger_model.specs.Chain.{Bytes, Envelope, Valid, Committed, Chain, Placed, transactions_from, history}
 use Rattle.ledger_model.specs.Views.{values_of}
 use Rattle.ledger_model.specs.State.{state}
 use Rattle.ledger_model.specs.Execution.{Exec}
@@ -97,4 +97,4 @@ pub record IsHonest (exec : Exec) (rule : FlagRule) (is_right : Payload → Endo
 -- block.
 abbrev pub ConflictsAreOlder : Chain → Type 0
 ConflictsAreOlder chain =
-    (place : ℕ) (c : Committed) → slice_get chain place ≡ Some c → AllByRecursion (DiffersBefore (state (history (take place chain)))) (placed (place + 1) 0 c.block.envelopes c.flags)
+    (place : ℕ) (c : Committed) → slice_get chain place ≡ Some c → AllByRecursion (DiffersBefore (state (history (take place chain)))) (transactions_from (place + 1) 0 c.block.envelopes c.flags)

@@ -3,7 +3,7 @@ use Rattle.std.specs.Prelude.{List}
 use Rattle.fab_types.specs.declared.payload.Payload.{Payload}
 use Rattle.fab_types.specs.declared.envelope.Endorsement.{Endorsement}
 use Rattle.wire.specs.Ids.{id_of}
-use Rattle.endorsement_policy.specs.Endorsed.{Listed, is_endorsed, sealed, key_of}
+use Rattle.endorsement_policy.specs.Endorsed.{Listed, is_endorsed, endorsement_by, key_of}
 use Rattle.ledger_model.specs.Chain.{Bytes}
 use Rattle.ledger_model.specs.Judged.{FlagRule, by_table}
 
@@ -13,4 +13,4 @@ table_of listed = by_table id_of (is_endorsed listed)
 
 -- the tag of an organisation under its key
 abbrev pub seal_of : Listed → Bytes → Payload → Endorsement
-seal_of listed org p = sealed org (key_of listed.orgs org) p
+seal_of listed org p = endorsement_by org (key_of listed.orgs org) p

@@ -54,13 +54,13 @@ abbrev pub fresh : ℕ → Bytes → PeerState
 fresh seats org = record { org = org; height = 0; seats = replicate seats None }
 
 -- an orderer that was given nothing
-abbrev pub unused : Limits → Bool → Ordering
-unused limits reorder = record { reorder = reorder; limits = limits; pending = []; chain = [] }
+abbrev pub fresh_orderer : Limits → Bool → Ordering
+fresh_orderer limits reorder = record { reorder = reorder; limits = limits; pending = []; chain = [] }
 
 -- a peer of each of these organisations; nothing was begun, sent, taken or committed
 abbrev pub opening : List Bytes → ℕ → Limits → Bool → World
 opening orgs seats limits reorder =
-    record { peers = map (fresh seats) orgs; queue = []; orderer = unused limits reorder }
+    record { peers = map (fresh seats) orgs; queue = []; orderer = fresh_orderer limits reorder }
 
 -- the first n of these blocks, with their flags
 abbrev pub chain_of_first : FlagRule → List Block → ℕ → Chain
@@ -80,9 +80,9 @@ begin_seat peer seat p (Some None) =
 abbrev pub begin : PeerState → ℕ → Proposal → Reply × PeerState
 begin peer seat p = begin_seat peer seat p (slice_get peer.seats seat)
 
-abbrev pub finished : Versioned → (Payload → Endorsement) → Result Payload SimRefusal → Reply
-finished now seal (Ok p) = if is_current now p then Endorsed p (seal p) else Refused refusal.Stale
-finished now seal (Err r) = Refused r
+abbrev pub finish_reply : Versioned → (Payload → Endorsement) → Result Payload SimRefusal → Reply
+finish_reply now seal (Ok p) = if is_current now p then Endorsed p (seal p) else Refused refusal.Stale
+finish_reply now seal (Err r) = Refused r
 
 -- Finish, at a peer: the seat becomes free, whatever is replied. A payload is made on the state at the noted height. Where
 -- all that it read is still so in the peer's newest state, it comes with the organisation's tag
@@ -90,7 +90,7 @@ abbrev pub finish_seat : Exec → (Bytes → Payload → Endorsement) → (ℕ �
 finish_seat exec seal chain peer seat None = (NoSuchSeat, peer)
 finish_seat exec seal chain peer seat (Some None) = (NothingBegun, peer)
 finish_seat exec seal chain peer seat (Some (Some noted)) =
-    (finished (state (history (chain peer.height))) (seal peer.org) (payload_or_refusal exec noted.proposal (chain noted.height)), record peer { seats = slice_set peer.seats seat None })
+    (finish_reply (state (history (chain peer.height))) (seal peer.org) (payload_or_refusal exec noted.proposal (chain noted.height)), record peer { seats = slice_set peer.seats seat None })
 
 abbrev pub finish : Exec → (Bytes → Payload → Endorsement) → (ℕ → Chain) → PeerState → ℕ → Reply × PeerState
 finish exec seal chain peer seat = finish_seat exec seal chain peer seat (slice_get peer.seats seat)

@@ -2,7 +2,7 @@
 
 ghost use Rattle.std.specs.Prelude.{◌≡◌, [], ◌∷◌, ◌++◌, ◌+◌, length, IfOk, OnOk, IfErr};
 ghost use Rattle.ledger_model.specs.Chain.{history};
-ghost use Rattle.ledger_model.specs.Judged.{judged};
+ghost use Rattle.ledger_model.specs.Judged.{judge};
 ghost use Rattle.committer.specs.Fits.{Fits, IsRefused, blocks_of};
 ghost use Rattle.fabric_core.specs.Rule.{table_of};
 
@@ -29,7 +29,7 @@ pub fn commit_checked(
         ≡ snapshot.now ++
         record {
           block = block;
-          flags = judged (table_of rules.now) (history snapshot.now)
+          flags = judge (table_of rules.now) (history snapshot.now)
               (length snapshot.now + 1) 0 block.envelopes;
         } ∷
         []) }

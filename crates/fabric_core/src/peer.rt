@@ -4,11 +4,11 @@ ghost use Rattle.std.specs.Prelude.{◌≡◌, ℕ, List, [], ◌∷◌, ◌++�
 ghost use Rattle.ledger_model.specs.Chain.{Chain, Committed, history};
 ghost use Rattle.ledger_model.specs.State.{state};
 ghost use Rattle.committer.specs.Fits.{Fits, blocks_of};
-ghost use Rattle.ledger_model.specs.Judged.{judged};
+ghost use Rattle.ledger_model.specs.Judged.{judge};
 ghost use Rattle.fabric_core.specs.Rule.{table_of, seal_of};
 ghost use Rattle.simulator.specs.Answers.{payload_or_refusal};
 ghost use Rattle.simulator.specs.Execution.{exec_of};
-ghost use Rattle.fabric_core.specs.System.{IsCommitted, fresh, begin, finished, finish};
+ghost use Rattle.fabric_core.specs.System.{IsCommitted, fresh, begin, finish_reply, finish};
 ghost use Rattle.fabric_core.specs.Inside.{peer_of, IsPeerRight};
 
 use crate::committing::commit_checked;
@@ -51,7 +51,7 @@ fn extended(
         ≡ snapshot.now ++
         record {
           block = block;
-          flags = judged (table_of rules.now) (history snapshot.now)
+          flags = judge (table_of rules.now) (history snapshot.now)
               (length snapshot.now + 1) 0 block.envelopes;
         } ∷
         []) }
@@ -103,7 +103,7 @@ fn endorsed(
 ) -> Result<Reply, AllocError>
     ensures { IfOk result
         (λ reply. reply
-        ≡ finished (state (history newest.now)) (seal_of rules.now org.now) (Ok payload)) }
+        ≡ finish_reply (state (history newest.now)) (seal_of rules.now org.now) (Ok payload)) }
 {
     match recheck(alloc, &payload, newest) {
         Ok(()) => {}
@@ -197,14 +197,14 @@ impl Peer {
         ensures reply { IfOk result
             (λ reply. reply
             ≡ IsCommitted
-            (judged (table_of rules.now) (history self.old.snapshot.value)
+            (judge (table_of rules.now) (history self.old.snapshot.value)
             (length self.old.snapshot.value + 1) 0 block.envelopes)) }
         ensures chain { IfOk result
             (λ _. self.new.snapshot.value
             ≡ self.old.snapshot.value ++
             record {
               block = block;
-              flags = judged (table_of rules.now) (history self.old.snapshot.value)
+              flags = judge (table_of rules.now) (history self.old.snapshot.value)
                   (length self.old.snapshot.value + 1) 0 block.envelopes;
             } ∷
             []) }

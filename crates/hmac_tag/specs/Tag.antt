@@ -4,18 +4,18 @@ use Rattle.std.specs.Int.Bits.{bit_xor}
 use Rattle.sha2.specs.Sha256.{sha256}
 
 -- a key that is longer than the hash's block of 64 bytes is hashed first
-abbrev pub shortened : List ℕ → List ℕ
-shortened key = if nat_le (length key) 64 then key else sha256 key
+abbrev pub shorten : List ℕ → List ℕ
+shorten key = if nat_le (length key) 64 then key else sha256 key
 
 -- followed by zeros to the length of a block
 abbrev pub padded_key : List ℕ → List ℕ
-padded_key key = let k = shortened key in k ++ replicate (64 - length k) 0
+padded_key key = let k = shorten key in k ++ replicate (64 - length k) 0
 
-abbrev pub masked : ℕ → List ℕ → List ℕ
-masked pad key = map (λ byte. bit_xor byte pad) key
+abbrev pub mask : ℕ → List ℕ → List ℕ
+mask pad key = map (λ byte. bit_xor byte pad) key
 
 -- the outer pad is 5c, the inner 36
 abbrev pub tag : List ℕ → List ℕ → List ℕ
 tag key bytes =
     let k = padded_key key in
-    sha256 (masked 92 k ++ sha256 (masked 54 k ++ bytes))
+    sha256 (mask 92 k ++ sha256 (mask 54 k ++ bytes))

@@ -2,7 +2,7 @@
 #![tactic(auto)]
 
 ghost use Rattle.std.specs.Prelude.{◌≡◌, ◌↔◌, true};
-ghost use Rattle.hmac_tag.specs.Tag.{padded_key, masked, tag};
+ghost use Rattle.hmac_tag.specs.Tag.{padded_key, mask, tag};
 
 use sha2::{Digest, Sha256};
 
@@ -47,7 +47,7 @@ fn padded_key(key: &[u8]) -> [u8; 64]
 
 /// Each byte of the key against the pad, by exclusive or.
 fn masked(key: &[u8; 64], pad: u8) -> [u8; 64]
-    ensures { result ≡ masked pad key.now }
+    ensures { result ≡ mask pad key.now }
 {
     let mut block = *key;
     for place in 0..64 {

@@ -21,8 +21,8 @@ use Rattle.ledger_model.specs.Views.{Plain, first}
 use Rattle.ledger_model.specs.Execution as ledger
 use Rattle.ledger_model.proofs.Keys.{tie_same}
 use Rattle.host_api.specs.Recorded.{Asked, Recorded, nothing_recorded, key_seen, range_seen, seen_on}
-use Rattle.host_api.specs.HostStep.{with_key, with_write, says, given, span_bytes, is_key, is_bound, is_value, is_limit, value_reply, read_key, write, ask_range, replies, reply_range_bytes, refuses, get_state, put_state, del_state, range_state, set_result, nth, host_step}
-use Rattle.host_api.specs.Executing.{ended, ending_of, outcome_of, execution, outcome, ReadsAlone}
+use Rattle.host_api.specs.HostStep.{with_key, with_write, says, or_trap, span_bytes, is_key, is_bound, is_value, is_limit, value_reply, read_key, write, ask_range, replies, reply_range_bytes, refuses, get_state, put_state, del_state, range_state, set_result, nth, host_step}
+use Rattle.host_api.specs.Executing.{outcome_with, ending_of, outcome_of, execution, outcome, ReadsAlone}
 
 abbrev SameKey : Plain → Plain → Bytes → Type 0
 SameKey m n key = get m key ≡ get n key
@@ -67,7 +67,7 @@ module _ (m n : Plain) where
   cond_good s true r q r' q' h k = h
   cond_good s false r q r' q' h k = k
 
-  given_good : (bytes : Option Bytes) (memory : List ℕ) (s : Recorded) (r q : Bytes → Reply Recorded) → ((b : Bytes) → Good m n s (r b) (q b)) → Good m n s (given bytes memory s r) (given bytes memory s q)
+  given_good : (bytes : Option Bytes) (memory : List ℕ) (s : Recorded) (r q : Bytes → Reply Recorded) → ((b : Bytes) → Good m n s (r b) (q b)) → Good m n s (or_trap bytes memory s r) (or_trap bytes memory s q)
   given_good None memory s r q h = λ a. (a, refl)
   given_good (Some b) memory s r q h = h b
 

@@ -7,7 +7,7 @@ use Rattle.wasm_ast.specs.declared.host_call.HostCall.{HostCall}
 use Rattle.wasm_ast.specs.declared.host_call.HostCall.TheVariants as call
 use Rattle.wasm_ast.specs.declared.host_call.HostAnswer.{HostAnswer}
 use Rattle.wasm_meaning.specs.Values.{Reply}
-use Rattle.wasm_meaning.specs.Memory.{written}
+use Rattle.wasm_meaning.specs.Memory.{with_bytes}
 use Rattle.wasm_instance.specs.LendingFront.{in_place}
 use Rattle.wasm_instance.proofs.Front.{written-append}
 use Rattle.fab_types.specs.declared.items.WriteItem.{WriteItem}
@@ -15,7 +15,7 @@ use Rattle.ledger_model.specs.Chain.{Bytes}
 use Rattle.ledger_model.specs.Views.{Plain, first}
 use Rattle.std.specs.FinMap.{get}
 use Rattle.host_api.specs.Recorded.{Asked, Recorded}
-use Rattle.host_api.specs.HostStep.{nth, with_key, with_write, says, refuses, span_bytes, given, is_key, is_value, is_bound, is_limit, replies, value_reply, read_key, write, reply_range_bytes, ask_range, get_state, put_state, del_state, range_state, set_result, host_step}
+use Rattle.host_api.specs.HostStep.{nth, with_key, with_write, says, refuses, span_bytes, or_trap, is_key, is_value, is_bound, is_limit, replies, value_reply, read_key, write, reply_range_bytes, ask_range, get_state, put_state, del_state, range_state, set_result, host_step}
 use Rattle.host_api.specs.Reach.{reach}
 
 -- a reply with more bytes behind its memory
@@ -32,12 +32,12 @@ module _ (front rest : List ℕ) where
       ap (λ bs. take l bs) (drop-append-le p front rest (omega (arith, h)))
       ∙ take-append-le l (drop p front) rest (omega (arith, h, length-drop p front))
 
-  given_behind : (p l : ℕ) (s : Recorded) (F G : Bytes → Reply Recorded) → p + l ≤ length front → ((b : Bytes) → F b ≡ behind rest (G b)) → given (span_bytes p l (front ++ rest)) (front ++ rest) s F ≡ behind rest (given (span_bytes p l front) front s G)
+  given_behind : (p l : ℕ) (s : Recorded) (F G : Bytes → Reply Recorded) → p + l ≤ length front → ((b : Bytes) → F b ≡ behind rest (G b)) → or_trap (span_bytes p l (front ++ rest)) (front ++ rest) s F ≡ behind rest (or_trap (span_bytes p l front) front s G)
   given_behind p l s F G h same =
       let whole : span_bytes p l (front ++ rest) ≡ Some (take l (drop p front)) =
       lies p l (front ++ rest) (omega (arith, h, length-append front rest)) ∙ ap Some (same_bytes p l h) in
-      ap (λ b. given b (front ++ rest) s F) whole ∙ same (take l (drop p front))
-      ∙ sym (ap (λ b. behind rest (given b front s G)) (lies p l front h))
+      ap (λ b. or_trap b (front ++ rest) s F) whole ∙ same (take l (drop p front))
+      ∙ sym (ap (λ b. behind rest (or_trap b front s G)) (lies p l front h))
 
   cond_behind : (b : Bool) (x y x' y' : Reply Recorded) → x ≡ behind rest x' → y ≡ behind rest y' → cond b x y ≡ behind rest (cond b x' y')
   cond_behind true x y x' y' ex ey = ex
@@ -47,7 +47,7 @@ module _ (front rest : List ℕ) where
   replies_behind bytes target capacity s h =
       ap (λ m. says (length bytes) m s) (go (nat_le (length bytes) capacity) refl)
     where
-      go : (b : Bool) → nat_le (length bytes) capacity ≡ b → cond b (written (front ++ rest) target bytes) (front ++ rest) ≡ cond b (written front target bytes) front ++ rest
+      go : (b : Bool) → nat_le (length bytes) capacity ≡ b → cond b (with_bytes (front ++ rest) target bytes) (front ++ rest) ≡ cond b (with_bytes front target bytes) front ++ rest
       go true e = written-append front rest bytes target (omega (arith, h, leb-true (length bytes) capacity e))
       go false e = refl
 

@@ -4,17 +4,17 @@ use Rattle.std.specs.Prelude.{nat_le, ◌&&◌}
 use Rattle.std.proofs.lemmas.Bool.Decides.{nat_tests}
 use Rattle.wasm_meaning.specs.Values.{Reply}
 use Rattle.host_api.specs.Recorded.{Recorded}
-use Rattle.host_api.specs.HostStep.{given, is_key, is_bound, is_limit}
+use Rattle.host_api.specs.HostStep.{or_trap, is_key, is_bound, is_limit}
 
 module _ (memory : List ℕ) (s : Recorded) where
   -- bytes that lie in the memory
-  pub here : (p : Option (List ℕ)) (b : List ℕ) → Some b ≡ p → (r : List ℕ → Reply Recorded) → given p memory s r ≡ r b
-  here p b e r = ap (λ (q : Option (List ℕ)). given q memory s r) (sym e)
+  pub here : (p : Option (List ℕ)) (b : List ℕ) → Some b ≡ p → (r : List ℕ → Reply Recorded) → or_trap p memory s r ≡ r b
+  here p b e r = ap (λ (q : Option (List ℕ)). or_trap q memory s r) (sym e)
 
   -- a target that lies there
-  pub room : (o : Option (Bor (List ℕ))) (p : Option (List ℕ)) → option_map (λ b. b.now) o ≡ p → is_some o ≡ true → (r : Reply Recorded) → given p memory s (λ _. r) ≡ r
+  pub room : (o : Option (Bor (List ℕ))) (p : Option (List ℕ)) → option_map (λ b. b.now) o ≡ p → is_some o ≡ true → (r : Reply Recorded) → or_trap p memory s (λ _. r) ≡ r
   room None p e h r = cc
-  room (Some b) p e h r = ap (λ (q : Option (List ℕ)). given q memory s (λ _. r)) (sym e)
+  room (Some b) p e h r = ap (λ (q : Option (List ℕ)). or_trap q memory s (λ _. r)) (sym e)
 
 pub key_ok : (key : List ℕ) → 1 ≤ length key → length key ≤ 64 → is_key key ≡ true
 key_ok key lo hi = grind (arith, nat_tests, lo, hi)

@@ -4,7 +4,7 @@ use Rattle.std.specs.List.{flat_map}
 use Rattle.std.specs.Map.Iter.{deref_pair}
 use Rattle.std.proofs.lemmas.Grind.{common_steps}
 use Rattle.fab_types.specs.declared.items.RangeEntry.{RangeEntry}
-use Rattle.wasm_meaning.specs.Memory.{written}
+use Rattle.wasm_meaning.specs.Memory.{with_bytes}
 use Rattle.ledger_model.specs.Chain.{Bytes, Version}
 use Rattle.host_api.specs.HostStep.{reply_entry_bytes, reply_range_bytes}
 use Rattle.host_api.specs.Recording.{key_and_value, version_entry}
@@ -67,6 +67,6 @@ module _ (es : List Lent) (i : ℕ) (e : Lent) (lt : i < length es) (is : e ≡ 
       ap length bytes_next ∙ length-both (reply_entry_bytes (e.0.now, e.1.now.0)) (bytes_of (drop (i + 1) es)) ∙ ap (λ n. n + length (bytes_of (drop (i + 1) es))) (length-entry e.0.now e.1.now.0)
 
   -- the bytes from the i-th entry on, once that entry is written
-  pub written_entry : (m : List ℕ) (p : ℕ) → written (written m p (reply_entry_bytes (e.0.now, e.1.now.0))) (p + length (reply_entry_bytes (e.0.now, e.1.now.0))) (bytes_of (drop (i + 1) es)) ≡ written m p (bytes_of (drop i es))
+  pub written_entry : (m : List ℕ) (p : ℕ) → with_bytes (with_bytes m p (reply_entry_bytes (e.0.now, e.1.now.0))) (p + length (reply_entry_bytes (e.0.now, e.1.now.0))) (bytes_of (drop (i + 1) es)) ≡ with_bytes m p (bytes_of (drop i es))
   written_entry m p =
-      written-append m (reply_entry_bytes (e.0.now, e.1.now.0)) (bytes_of (drop (i + 1) es)) p ∙ ap (written m p) (sym bytes_next)
+      written-append m (reply_entry_bytes (e.0.now, e.1.now.0)) (bytes_of (drop (i + 1) es)) p ∙ ap (with_bytes m p) (sym bytes_next)

@@ -10,8 +10,8 @@ use Rattle.ledger_model.specs.Execution as ledger
 use Rattle.host_api.specs.Recorded.{Recorded, nothing_recorded, seen_on}
 use Rattle.host_api.specs.HostStep.{host_step}
 
-abbrev pub ended : ledger.Ending → Plain → Recorded → ledger.Outcome
-ended ending m s = record { ending = ending; seen = seen_on m s }
+abbrev pub outcome_with : ledger.Ending → Plain → Recorded → ledger.Outcome
+outcome_with ending m s = record { ending = ending; seen = seen_on m s }
 
 -- status 0 is success
 abbrev pub ending_of : (status : ℕ) → ledger.Ending
@@ -20,14 +20,14 @@ ending_of status = cond (status == 0) ledger.Done (ledger.Status status)
 -- How an execution that was given this fuel ended on a plain state, and what it saw there. That of a valid module ends with one
 -- word, a trap or its fuel spent; the other cases stand for nothing.
 abbrev pub outcome_of : (fuel : ℕ) → Plain → Answer Recorded → ledger.Outcome
-outcome_of fuel m (Next left (v ∷ []) l w) = ended (ending_of v.word) m w.records
-outcome_of fuel m (Trapped why left w) = ended (ledger.Trapped (trap_number why) (fuel - left)) m w.records
-outcome_of fuel m (Spent w) = ended ledger.Spent m w.records
-outcome_of fuel m (Next left [] l w) = ended ledger.Unknown m nothing_recorded
-outcome_of fuel m (Next left (v ∷ u ∷ s) l w) = ended ledger.Unknown m nothing_recorded
-outcome_of fuel m (Branch k left s l w) = ended ledger.Unknown m nothing_recorded
-outcome_of fuel m (Returns left s l w) = ended ledger.Unknown m nothing_recorded
-outcome_of fuel m Stuck = ended ledger.Unknown m nothing_recorded
+outcome_of fuel m (Next left (v ∷ []) l w) = outcome_with (ending_of v.word) m w.records
+outcome_of fuel m (Trapped why left w) = outcome_with (ledger.Trapped (trap_number why) (fuel - left)) m w.records
+outcome_of fuel m (Spent w) = outcome_with ledger.Spent m w.records
+outcome_of fuel m (Next left [] l w) = outcome_with ledger.Unknown m nothing_recorded
+outcome_of fuel m (Next left (v ∷ u ∷ s) l w) = outcome_with ledger.Unknown m nothing_recorded
+outcome_of fuel m (Branch k left s l w) = outcome_with ledger.Unknown m nothing_recorded
+outcome_of fuel m (Returns left s l w) = outcome_with ledger.Unknown m nothing_recorded
+outcome_of fuel m Stuck = outcome_with ledger.Unknown m nothing_recorded
 
 -- `invoke` on a fresh instance, with a host that has recorded nothing
 abbrev pub execution : Module → (fuel : ℕ) → (argument : Bytes) → Plain → Answer Recorded

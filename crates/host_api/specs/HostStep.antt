@@ -8,7 +8,7 @@ use Rattle.fab_types.specs.declared.items.WriteItem.{WriteItem}
 use Rattle.wasm_ast.specs.declared.host_call.HostCall.TheVariants as call
 use Rattle.wasm_ast.specs.declared.host_call.HostAnswer.TheVariants as answer
 use Rattle.wasm_meaning.specs.Values.{Reply, Answering}
-use Rattle.wasm_meaning.specs.Memory.{written}
+use Rattle.wasm_meaning.specs.Memory.{with_bytes}
 use Rattle.ledger_model.specs.Chain.{Bytes}
 use Rattle.ledger_model.specs.Views.{Plain, first}
 use Rattle.host_api.specs.Recorded.{Asked, Recorded}
@@ -42,9 +42,9 @@ span_bytes pointer len memory =
     cond (nat_le (pointer + len) (length memory)) (Some (take len (drop pointer memory))) None
 
 -- a call traps where bytes that it is given do not lie within the memory
-abbrev pub given : Option Bytes → (memory : List ℕ) → Recorded → (Bytes → Reply Recorded) → Reply Recorded
-given None memory s reply = traps memory s
-given (Some bytes) memory s reply = reply bytes
+abbrev pub or_trap : Option Bytes → (memory : List ℕ) → Recorded → (Bytes → Reply Recorded) → Reply Recorded
+or_trap None memory s reply = traps memory s
+or_trap (Some bytes) memory s reply = reply bytes
 
 -- a key has 1 to 64 bytes
 abbrev pub is_key : Bytes → Bool
@@ -65,7 +65,7 @@ is_limit n = nat_le 1 n && nat_le n 64
 -- a reply is written at the target only if it fits the capacity whole; its length is answered either way
 abbrev pub replies : Bytes → (target capacity : ℕ) → (memory : List ℕ) → Recorded → Reply Recorded
 replies bytes target capacity memory s =
-    says (length bytes) (cond (nat_le (length bytes) capacity) (written memory target bytes) memory) s
+    says (length bytes) (cond (nat_le (length bytes) capacity) (with_bytes memory target bytes) memory) s
 
 -- -1 answers a key that is absent
 abbrev pub value_reply : Option Bytes → (target capacity : ℕ) → (memory : List ℕ) → Recorded → Reply Recorded
@@ -125,14 +125,14 @@ nth args i = get_or args i 0
 -- pointer and a length is tested first, that of a target and its capacity too.
 abbrev pub host_step : Plain → (argument : Bytes) → Answering Recorded
 host_step m argument call.GetState args memory s =
-    given (span_bytes (nth args 0) (nth args 1) memory) memory s (λ key. given (span_bytes (nth args 2) (nth args 3) memory) memory s (λ room. get_state m key (nth args 2) (nth args 3) memory s))
+    or_trap (span_bytes (nth args 0) (nth args 1) memory) memory s (λ key. or_trap (span_bytes (nth args 2) (nth args 3) memory) memory s (λ room. get_state m key (nth args 2) (nth args 3) memory s))
 host_step m argument call.PutState args memory s =
-    given (span_bytes (nth args 0) (nth args 1) memory) memory s (λ key. given (span_bytes (nth args 2) (nth args 3) memory) memory s (λ bytes. put_state key bytes memory s))
+    or_trap (span_bytes (nth args 0) (nth args 1) memory) memory s (λ key. or_trap (span_bytes (nth args 2) (nth args 3) memory) memory s (λ bytes. put_state key bytes memory s))
 host_step m argument call.DelState args memory s =
-    given (span_bytes (nth args 0) (nth args 1) memory) memory s (λ key. del_state key memory s)
+    or_trap (span_bytes (nth args 0) (nth args 1) memory) memory s (λ key. del_state key memory s)
 host_step m argument call.RangeState args memory s =
-    given (span_bytes (nth args 0) (nth args 1) memory) memory s (λ start. given (span_bytes (nth args 2) (nth args 3) memory) memory s (λ end. given (span_bytes (nth args 5) (nth args 6) memory) memory s (λ room. range_state m (record { start = start; end = end; limit = nth args 4 }) (nth args 5) (nth args 6) memory s)))
+    or_trap (span_bytes (nth args 0) (nth args 1) memory) memory s (λ start. or_trap (span_bytes (nth args 2) (nth args 3) memory) memory s (λ end. or_trap (span_bytes (nth args 5) (nth args 6) memory) memory s (λ room. range_state m (record { start = start; end = end; limit = nth args 4 }) (nth args 5) (nth args 6) memory s)))
 host_step m argument call.GetArg args memory s =
-    given (span_bytes (nth args 0) (nth args 1) memory) memory s (λ room. replies argument (nth args 0) (nth args 1) memory s)
+    or_trap (span_bytes (nth args 0) (nth args 1) memory) memory s (λ room. replies argument (nth args 0) (nth args 1) memory s)
 host_step m argument call.SetResult args memory s =
-    given (span_bytes (nth args 0) (nth args 1) memory) memory s (λ bytes. set_result bytes memory s)
+    or_trap (span_bytes (nth args 0) (nth args 1) memory) memory s (λ bytes. set_result bytes memory s)

@@ -3,7 +3,7 @@
 ghost use Rattle.std.specs.Prelude.{◌≡◌, ◌≤◌, ◌<◌, ◌+◌, ◌-◌, ◌^◌, length, option_map};
 ghost use Rattle.wasm_validate.specs.HostCalls.{arity};
 ghost use Rattle.wasm_ast.specs.declared.host_call.HostAnswer.TheVariants as host_answer;
-ghost use Rattle.wasm_meaning.specs.Memory.{written};
+ghost use Rattle.wasm_meaning.specs.Memory.{with_bytes};
 ghost use Rattle.host_api.specs.Recorded.{Recorded};
 ghost use Rattle.host_api.specs.HostStep.{span_bytes, replies};
 ghost use Rattle.host_api.specs.Reach.{end_at, reach};
@@ -64,7 +64,7 @@ pub fn reply(bytes: &[u8], target: u32, capacity: u32, memory: &mut [u8]) -> Hos
 /// Writes bytes from a place on.
 pub fn write_bytes(memory: &mut [u8], at: usize, bytes: &[u8])
     requires { at + length bytes.now ≤ length memory.old }
-    ensures { memory.new ≡ written memory.old at bytes.now }
+    ensures { memory.new ≡ with_bytes memory.old at bytes.now }
 {
     memory[at..at + bytes.len()].copy_from_slice(bytes);
 }

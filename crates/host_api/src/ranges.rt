@@ -2,7 +2,7 @@
 
 ghost use Rattle.std.specs.Prelude.{◌≡◌, ◌≤◌, ◌<◌, ◌+◌, ◌*◌, ◌^◌, ◌%◌, ◌/◌, ◌∷◌, ◌++◌, map, length, IfOk};
 ghost use Rattle.std.specs.Map.Iter.{deref_pair};
-ghost use Rattle.wasm_meaning.specs.Memory.{written};
+ghost use Rattle.wasm_meaning.specs.Memory.{with_bytes};
 ghost use Rattle.host_api.specs.Recorded.{Recorded};
 ghost use Rattle.host_api.specs.HostStep.{replies, reply_range_bytes, reply_entry_bytes};
 ghost use Rattle.host_api.specs.Recording.{key_and_value, version_entry};
@@ -68,7 +68,7 @@ fn write_entries(entries: &[(&Key, &(Value, Version))], at: usize, memory: &mut 
     requires room { at + length (reply_range_bytes (map key_and_value (map deref_pair entries.now)))
         ≤ length memory.old }
     ensures { memory.new
-        ≡ written memory.old at (reply_range_bytes (map key_and_value (map deref_pair entries.now))) }
+        ≡ with_bytes memory.old at (reply_range_bytes (map key_and_value (map deref_pair entries.now))) }
 {
     memory[at] = entries.len() as u8;
     let mut next = at + 1;
@@ -82,7 +82,7 @@ fn write_entry(key: &[u8], value: &[u8], at: usize, memory: &mut [u8]) -> usize
     requires key { length key.now ≤ 64 }
     requires value { length value.now ≤ 4096 }
     requires room { at + length (reply_entry_bytes (key.now, value.now)) ≤ length memory.old }
-    ensures written { memory.new ≡ written memory.old at (reply_entry_bytes (key.now, value.now)) }
+    ensures written { memory.new ≡ with_bytes memory.old at (reply_entry_bytes (key.now, value.now)) }
     ensures next { result ≡ at + length (reply_entry_bytes (key.now, value.now)) }
 {
     memory[at] = key.len() as u8;

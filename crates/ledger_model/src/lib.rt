@@ -22,14 +22,14 @@ ghost use Rattle.std.specs.FinMap.{get, empty};
 ghost use Rattle.fab_types.specs.declared.block.Block.{Block};
 ghost use Rattle.fab_types.specs.declared.payload.Proposal.{Proposal};
 ghost use Rattle.fab_types.specs.declared.payload.Payload.{Payload};
-ghost use Rattle.ledger_model.specs.Chain.{Bytes, Envelope, Chain, Placed, placed, history, Begins};
+ghost use Rattle.ledger_model.specs.Chain.{Bytes, Envelope, Chain, Placed, transactions_from, history, Begins};
 ghost use Rattle.ledger_model.specs.Views.{first, values_of};
 ghost use Rattle.ledger_model.specs.State.{state, state_at};
 ghost use Rattle.ledger_model.specs.Flags.{version_at, entries_at, reads_current, ranges_current, flags_told};
 ghost use Rattle.ledger_model.specs.Execution.{Exec, ReadsAlone};
 ghost use Rattle.ledger_model.specs.Serial.{AllHandedOut, AllAgree, AllSame, serial};
 ghost use Rattle.ledger_model.specs.Legal.{sees_write_of, IsLegal, DiffersBefore};
-ghost use Rattle.ledger_model.specs.Judged.{FlagRule, AllCurrent, AllEndorsed, HasFlagsBy, by_table, judged, judged_chain};
+ghost use Rattle.ledger_model.specs.Judged.{FlagRule, AllCurrent, AllEndorsed, HasFlagsBy, by_table, judge, judged_chain};
 
 /// The state as a map has at each key what its last writer left there.
 pub fn state_is_by_the_last_writer()
@@ -63,7 +63,7 @@ pub fn computed_flags_are_right()
         (chain ++
         record {
           block = b;
-          flags = judged rule (history chain) (length chain + 1) 0 b.envelopes;
+          flags = judge rule (history chain) (length chain + 1) 0 b.envelopes;
         } ∷
         [])) }
     ensures all { (rule : FlagRule) (blocks : List Block) →
@@ -98,7 +98,7 @@ pub fn the_table_judges()
     ensures told { (id : Proposal → Bytes) (endorsed : Envelope → Bool) (earlier : List Placed)
         (block : ℕ) (place : ℕ) (es : List Envelope) →
         flags_told id earlier block place es (map endorsed es)
-        ≡ judged (by_table id endorsed) earlier block place es }
+        ≡ judge (by_table id endorsed) earlier block place es }
     ensures current { (id : Proposal → Bytes) (endorsed : Envelope → Bool) (chain : Chain) →
         HasFlagsBy (by_table id endorsed) [] (history chain) → AllCurrent [] (history chain) }
     ensures endorsed { (id : Proposal → Bytes) (endorsed : Envelope → Bool) (chain : Chain) →
@@ -134,5 +134,5 @@ pub fn legal_blocks_conflict_only_with_what_was_before()
         (number : ℕ) (es : List Envelope) →
         IsLegal [] es →
         AllByRecursion (DiffersBefore (state before))
-        (placed number 0 es (judged (by_table id endorsed) before number 0 es)) }
+        (transactions_from number 0 es (judge (by_table id endorsed) before number 0 es)) }
 {}

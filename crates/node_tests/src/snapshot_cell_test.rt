@@ -2,7 +2,7 @@
 
 ghost use Rattle.std.specs.Prelude.{◌≡◌, [], IfOk};
 ghost use Rattle.snapshot_cell.specs.Lists.{OneMore};
-ghost use Rattle.snapshot_cell.specs.Seats.{published, cell_of_reader, cell_of_writer, cell_of_told};
+ghost use Rattle.snapshot_cell.specs.Seats.{published_list, cell_of_reader, cell_of_writer, cell_of_told};
 
 use crate::transactions::transaction;
 use endorsement_policy::Rules;
@@ -49,7 +49,7 @@ fn height_elsewhere<R: Threads + Wait + Sync>(
     next: Snapshot,
 ) -> usize
     requires cell { cell_of_writer writer.old ≡ cell_of_reader seat }
-    requires next { OneMore (published writer.old) next }
+    requires next { OneMore (published_list writer.old) next }
 {
     let Ok(told) = writer.publish(rt, next) else {
         return 0;

@@ -18,7 +18,7 @@ use Rattle.reorder.proofs.Plans.{planned_one, planned_once, planned_legal, part_
 use Rattle.orderer.specs.declared.plan.AbortCause.{AbortCause}
 use Rattle.orderer.specs.declared.plan.AbortCause.TheVariants.{Outdated, Conflict}
 use Rattle.orderer.specs.declared.report.BatchReport.{BatchReport}
-use Rattle.orderer.specs.Plans.{picked, ArePlaces}
+use Rattle.orderer.specs.Plans.{envelopes_at, ArePlaces}
 use Rattle.orderer.specs.Arranged.{is_among, abort_at, aborts, IsArranged, plans_of}
 use Rattle.orderer.proofs.Picking.{range_more}
 use Rattle.orderer.specs.Blocks.{AddsEach, AreLegal, next_block, with_batch}
@@ -106,12 +106,12 @@ none_same i j js none =
       | false ↦ λ is. (refl, omega (arith, none, split))
     ] refl
 
-later_unseen : (batch : List Envelope) (i : ℕ) (e : Envelope) (js : List ℕ) → slice_get batch i ≡ Some e → count_by (λ x. eqb x i) js ≡ 0 → AllAfter (edge_of batch) i js → IsUnseen e (picked batch js)
+later_unseen : (batch : List Envelope) (i : ℕ) (e : Envelope) (js : List ℕ) → slice_get batch i ≡ Some e → count_by (λ x. eqb x i) js ≡ 0 → AllAfter (edge_of batch) i js → IsUnseen e (envelopes_at batch js)
 later_unseen batch i e [] at none after = tt
 later_unseen batch i e (j ∷ js) at none after =
     let apart = none_same i j js none in
     let rest = later_unseen batch i e js at apart.1 after.1 in
-    elim (slice_get batch j) as (λ o. slice_get batch j ≡ o → IsUnseen e (option_to_list o ++ picked batch js)) [
+    elim (slice_get batch j) as (λ o. slice_get batch j ≡ o → IsUnseen e (option_to_list o ++ envelopes_at batch js)) [
       | None ↦ λ is. rest
       | Some d ↦ λ is. (no_edge batch j i d e is at apart.0 after.0, rest)
     ] refl
@@ -124,11 +124,11 @@ none_again i is once =
 once_less : (i : ℕ) (is : List ℕ) → ((place : ℕ) → count_by (λ x. eqb x place) (i ∷ is) ≤ 1) → (place : ℕ) → count_by (λ x. eqb x place) is ≤ 1
 once_less i is once place = omega (arith, once place, sum_by-cons (λ y. cond {A = ℕ} (eqb y place) 1 0) i is)
 
-picked_unseen : (batch : List Envelope) (order : List ℕ) → ((place : ℕ) → count_by (λ x. eqb x place) order ≤ 1) → plan.IsLegal (edge_of batch) order → EachUnseen (picked batch order)
+picked_unseen : (batch : List Envelope) (order : List ℕ) → ((place : ℕ) → count_by (λ x. eqb x place) order ≤ 1) → plan.IsLegal (edge_of batch) order → EachUnseen (envelopes_at batch order)
 picked_unseen batch [] once legal = tt
 picked_unseen batch (i ∷ is) once legal =
     let rest = picked_unseen batch is (once_less i is once) legal.1 in
-    elim (slice_get batch i) as (λ o. slice_get batch i ≡ o → EachUnseen (option_to_list o ++ picked batch is)) [
+    elim (slice_get batch i) as (λ o. slice_get batch i ≡ o → EachUnseen (option_to_list o ++ envelopes_at batch is)) [
       | None ↦ λ at. rest
       | Some e ↦ λ at. (later_unseen batch i e is at (none_again i is once) legal.0, rest)
     ] refl
@@ -138,13 +138,13 @@ at_most_one true count most = most
 at_most_one false count most = omega (arith, most)
 
 -- the survivors of an arranged batch stand in a legal order
-pub arranged_legal : (batch : List Envelope) (order : List ℕ) (aborted : List (ℕ × AbortCause)) → IsArranged batch order aborted → IsLegal [] (picked batch order)
+pub arranged_legal : (batch : List Envelope) (order : List ℕ) (aborted : List (ℕ × AbortCause)) → IsArranged batch order aborted → IsLegal [] (envelopes_at batch order)
 arranged_legal batch order aborted a =
     let n = length batch in
     let left = all_but (stale batch) n in
     let places = planned_places n (edge_of batch) (stale batch) order a.dropped a.planned in
     let once = λ (place : ℕ). at_most_one (ltb place n) (count_by (λ x. eqb x place) order) (places place) in
-    legal_of [] (picked batch order) tt (picked_unseen batch order once (planned_legal n (edge_of batch) left order a.dropped a.planned))
+    legal_of [] (envelopes_at batch order) tt (picked_unseen batch order once (planned_legal n (edge_of batch) left order a.dropped a.planned))
 
 with_batch_legal : (old : List Block) (es : List Envelope) → AreLegal old → IsLegal [] es → AreLegal (with_batch old es)
 with_batch_legal old [] are legal = are
@@ -155,7 +155,7 @@ pub takes_legal : (old : List Block) (batches : List (List Envelope)) (reports :
 takes_legal old [] reports new adds are = subst AreLegal (sym adds.1) are
 takes_legal old (batch ∷ batches) reports new adds are =
     let a = adds.4 in
-    let next : AreLegal adds.2 = subst AreLegal (sym a.chain) (with_batch_legal old (picked batch a.order) are (arranged_legal batch a.order adds.0.aborted a.planned)) in
+    let next : AreLegal adds.2 = subst AreLegal (sym a.chain) (with_batch_legal old (envelopes_at batch a.order) are (arranged_legal batch a.order adds.0.aborted a.planned)) in
     takes_legal adds.2 batches adds.1 new adds.5 next
 
 -- ---- why each is aborted

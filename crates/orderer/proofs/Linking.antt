@@ -3,7 +3,7 @@ use Rattle.std.proofs.Common.{◌≡◌, ℕ, zero, suc, ◌++◌, List, [], ◌
 use Rattle.std.proofs.lemmas.List.{append-nil, length-append}
 use Rattle.fab_types.specs.declared.envelope.Envelope.{Envelope}
 use Rattle.fab_types.specs.declared.block.Block.{Block}
-use Rattle.orderer.specs.Plans.{picked}
+use Rattle.orderer.specs.Plans.{envelopes_at}
 use Rattle.orderer.specs.Blocks.{Adds, AddsEach, AreNumbered, AreLinked, next_block, next_header, with_batch}
 use Rattle.orderer.specs.declared.plan.AbortCause.{AbortCause}
 use Rattle.orderer.specs.declared.report.BatchReport.{BatchReport}
@@ -18,7 +18,7 @@ with_batch_linked old [] are = are
 with_batch_linked old (e ∷ es) are = linked_more [] old (e ∷ es) are
 
 pub adds_linked : (plans : List Envelope → List ℕ → List (ℕ × AbortCause) → Type 0) (old : List Block) (batch : List Envelope) (report : BatchReport) (new : List Block) → Adds plans old batch report new → AreLinked [] old → AreLinked [] new
-adds_linked plans old batch report new adds are = subst (AreLinked []) (sym adds.chain) (with_batch_linked old (picked batch adds.order) are)
+adds_linked plans old batch report new adds are = subst (AreLinked []) (sym adds.chain) (with_batch_linked old (envelopes_at batch adds.order) are)
 
 pub each_linked : (plans : List Envelope → List ℕ → List (ℕ × AbortCause) → Type 0) (old : List Block) (batches : List (List Envelope)) (reports : List BatchReport) (new : List Block) → AddsEach plans old batches reports new → AreLinked [] old → AreLinked [] new
 each_linked plans old [] reports new adds are = subst (AreLinked []) (sym adds.1) are

@@ -11,7 +11,7 @@ use Rattle.std.proofs.lemmas.Bool.{eqb-true, eqb-false, ltb-true, ltb-false, lt-
 use Rattle.fab_types.specs.Data.{IsBlockData}
 use Rattle.fab_types.specs.Size.{envelope_size}
 use Rattle.fab_types.specs.declared.envelope.Envelope.{Envelope}
-use Rattle.orderer.specs.Plans.{picked, ArePlaces}
+use Rattle.orderer.specs.Plans.{envelopes_at, ArePlaces}
 
 shift : {A : Type 0} (f : ℕ → List A) (k n : ℕ) → flat_map f (range_with_len (suc k) n) ≡ flat_map (λ i. f (suc i)) (range_with_len k n)
 shift f k zero = refl
@@ -20,7 +20,7 @@ shift f k (suc n) =
     ap (λ rest. f (suc k) ++ rest) (ap (λ m. flat_map f (range_with_len m n)) same ∙ shift f (k + 1) n)
 
 -- all places of a batch give the batch
-pub all_picked : (batch : List Envelope) → picked batch (range_with_len 0 (length batch)) ≡ batch
+pub all_picked : (batch : List Envelope) → envelopes_at batch (range_with_len 0 (length batch)) ≡ batch
 all_picked [] = refl
 all_picked (e ∷ es) =
     ap (λ rest. e ∷ rest) (shift (λ place. option_to_list (slice_get (e ∷ es) place)) 0 (length es) ∙ all_picked es)
@@ -134,7 +134,7 @@ at_most_one : (test : Bool) (count : ℕ) → count ≤ (if test then 1 else 0) 
 at_most_one true count most = most
 at_most_one false count most = omega (arith, most)
 
-pub sum_picked : (w : Envelope → ℕ) (batch : List Envelope) (order : List ℕ) → ArePlaces (length batch) order → sum_by w (picked batch order) ≤ sum_by w batch
+pub sum_picked : (w : Envelope → ℕ) (batch : List Envelope) (order : List ℕ) → ArePlaces (length batch) order → sum_by w (envelopes_at batch order) ≤ sum_by w batch
 sum_picked w batch order places =
     let f = λ (place : ℕ). option_to_list (slice_get batch place) in
     let v = λ (place : ℕ). sum_by w (f place) in
@@ -172,18 +172,18 @@ counted [] = refl
 counted (x ∷ xs) = omega (arith, sum_by-cons (λ x. 1) x xs, counted xs)
 
 -- survivors of a batch of a block's data are a block's data, unless there are none
-pub survivors_are_data : (batch : List Envelope) (order : List ℕ) → ArePlaces (length batch) order → IsBlockData batch → 1 ≤ length (picked batch order) → IsBlockData (picked batch order)
+pub survivors_are_data : (batch : List Envelope) (order : List ℕ) → ArePlaces (length batch) order → IsBlockData batch → 1 ≤ length (envelopes_at batch order) → IsBlockData (envelopes_at batch order)
 survivors_are_data batch order places fits some =
     let size = sum_picked envelope_size batch order places in
     let count = sum_picked (λ e. 1) batch order places in
     record {
       least = some;
-      greatest = omega (arith, count, counted (picked batch order), counted batch, fits.greatest);
+      greatest = omega (arith, count, counted (envelopes_at batch order), counted batch, fits.greatest);
       size = omega (arith, size, fits.size);
     }
 
 -- one place more
-pub picked_more : (batch : List Envelope) (order : List ℕ) (i d : ℕ) → i < length order → picked batch (take (i + 1) order) ≡ picked batch (take i order) ++ option_to_list (slice_get batch (get_or order i d))
+pub picked_more : (batch : List Envelope) (order : List ℕ) (i d : ℕ) → i < length order → envelopes_at batch (take (i + 1) order) ≡ envelopes_at batch (take i order) ++ option_to_list (slice_get batch (get_or order i d))
 picked_more batch order i d below =
     let next : i + 1 ≡ suc i = omega arith in
-    ap (λ m. picked batch (take m order)) next ∙ ap (picked batch) (take-suc order i d below) ∙ flat_map-append (λ place. option_to_list (slice_get batch place)) (take i order) (get_or order i d ∷ []) ∙ ap (λ es. picked batch (take i order) ++ es) (append-nil (option_to_list (slice_get batch (get_or order i d))))
+    ap (λ m. envelopes_at batch (take m order)) next ∙ ap (envelopes_at batch) (take-suc order i d below) ∙ flat_map-append (λ place. option_to_list (slice_get batch place)) (take i order) (get_or order i d ∷ []) ∙ ap (λ es. envelopes_at batch (take i order) ++ es) (append-nil (option_to_list (slice_get batch (get_or order i d))))

@@ -3,7 +3,7 @@ use Rattle.std.proofs.Common.{◌≡◌, ℕ, ◌≤◌, ◌++◌, List, [], ◌
 use Rattle.std.proofs.lemmas.List.{length-append}
 use Rattle.fab_types.specs.declared.envelope.Envelope.{Envelope}
 use Rattle.fab_types.specs.declared.block.Block.{Block}
-use Rattle.orderer.specs.Plans.{picked}
+use Rattle.orderer.specs.Plans.{envelopes_at}
 use Rattle.orderer.specs.Adding.{IsBatchRefused}
 use Rattle.orderer.specs.declared.plan.AbortCause.{AbortCause}
 use Rattle.orderer.specs.declared.report.BatchReport.{BatchReport}
@@ -19,9 +19,9 @@ something chain (e ∷ es) some = (refl, refl)
 
 -- a batch that needs a block after the last number
 pub needs_one : (plans : List Envelope → List ℕ → List (ℕ × AbortCause) → Type 0) (old : List Block) (batch : List Envelope) (order : List ℕ) (aborted : List (ℕ × AbortCause))
-    → plans batch order aborted → 1 ≤ length (picked batch order) → length old ≡ 65535 → IsBatchRefused plans NoNumber old batch
+    → plans batch order aborted → 1 ≤ length (envelopes_at batch order) → length old ≡ 65535 → IsBatchRefused plans NoNumber old batch
 needs_one plans old batch order aborted planned some full =
-    let es = picked batch order in
+    let es = envelopes_at batch order in
     let report : BatchReport = record { block = number_of old es; aborted = aborted } in
     let block = something old es some in
     (report, with_batch old es, (record { order = order; planned = planned; chain = refl; number = refl }), omega (arith, full, ap length block.0, length-append old (next_block old es ∷ [])))

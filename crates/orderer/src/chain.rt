@@ -4,7 +4,7 @@ ghost use Rattle.std.specs.Prelude.{◌≡◌, suc, ◌≤◌, [], ◌∷◌, �
 ghost use Rattle.std.specs.List.{AllByRecursion};
 ghost use Rattle.fab_types.specs.Data.{IsBlockData};
 ghost use Rattle.batch_cutter.specs.Offers.{batches};
-ghost use Rattle.orderer.specs.Plans.{picked};
+ghost use Rattle.orderer.specs.Plans.{envelopes_at};
 ghost use Rattle.orderer.specs.Arranged.{plans_of};
 ghost use Rattle.orderer.specs.Blocks.{Adds, AddsEach, next_block, next_link, next_number};
 ghost use Rattle.orderer.specs.Adding.{BeginsWith, IsBatchRefused, IsCutRefused};
@@ -30,7 +30,7 @@ fn next_link(blocks: &[Block]) -> [u8; 32]
 
 /// The envelopes at these places of a batch, in the order of the places.
 fn picked(alloc: Global, batch: &[Envelope], order: &[usize]) -> Result<Vec<Envelope>, AllocError>
-    ensures { IfOk result (λ v. v.items ≡ picked batch.now order.now) }
+    ensures { IfOk result (λ v. v.items ≡ envelopes_at batch.now order.now) }
 {
     let mut envelopes = Vec::with_capacity(alloc, order.len())?;
     for place in order {

@@ -23,8 +23,8 @@ use Rattle.peer_node.specs.declared.refusal.FinishRefusal.{FinishRefusal}
 use Rattle.peer_node.specs.declared.refusal.FinishRefusal.TheVariants.{Simulation, NoEntry}
 
 -- the whole blocks that a seat has seen or was told of
-abbrev pub seen : Seat → Chain
-seen s = cell.seen s.reader
+abbrev pub seen_chain : Seat → Chain
+seen_chain s = cell.seen_list s.reader
 
 -- which peer it is of
 abbrev pub peer_of : Seat → Book
@@ -36,32 +36,32 @@ Serves book listed org e = (arc_value e.book ≡ book) × (arc_value e.rules ≡
 
 -- a seat of this peer that has seen these whole blocks
 abbrev pub IsSeatBehind : List Chaincode → Listed → Bytes → Book → Chain → Seat → Type 0
-IsSeatBehind book listed org peer chain s = (peer_of s ≡ peer) × (seen s ≡ chain) × Serves book listed org s.endorser
+IsSeatBehind book listed org peer chain s = (peer_of s ≡ peer) × (seen_chain s ≡ chain) × Serves book listed org s.endorser
 
 -- a seat of this peer that has seen nothing
 abbrev pub IsSeat : List Chaincode → Listed → Bytes → Book → Seat → Type 0
 IsSeat book listed org peer s = IsSeatBehind book listed org peer [] s
 
 -- what a simulation on the state after a chain comes to
-abbrev pub simulated : Endorser → Proposal → Chain → Result Payload SimRefusal
-simulated e p chain = payload_or_refusal (exec_of (arc_value e.book)) p chain
+abbrev pub simulate_on : Endorser → Proposal → Chain → Result Payload SimRefusal
+simulate_on e p chain = payload_or_refusal (exec_of (arc_value e.book)) p chain
 
 -- What a refusal says of what was begun on the list `first`: the simulation came to it; or it gave a payload of which something that was read is
 -- not as it was after a second list, which begins with all that was seen before and is what is seen afterwards
 abbrev pub IsFinishRefused : Endorser → Proposal → (first before after : Chain) → SimRefusal → Type 0
 IsFinishRefused e p first before after Stale =
-    (payload : Payload) × (simulated e p first ≡ Ok payload) × IsPrefix before after × (is_current (state (history after)) payload ≡ false)
+    (payload : Payload) × (simulate_on e p first ≡ Ok payload) × IsPrefix before after × (is_current (state (history after)) payload ≡ false)
 IsFinishRefused e p first before after Memory = IsPrefix before after
-IsFinishRefused e p first before after UnknownChaincode = (simulated e p first ≡ Err UnknownChaincode) × (after ≡ before)
-IsFinishRefused e p first before after (Trapped kind used) = (simulated e p first ≡ Err (Trapped kind used)) × (after ≡ before)
-IsFinishRefused e p first before after Spent = (simulated e p first ≡ Err Spent) × (after ≡ before)
-IsFinishRefused e p first before after (Status n) = (simulated e p first ≡ Err (Status n)) × (after ≡ before)
+IsFinishRefused e p first before after UnknownChaincode = (simulate_on e p first ≡ Err UnknownChaincode) × (after ≡ before)
+IsFinishRefused e p first before after (Trapped kind used) = (simulate_on e p first ≡ Err (Trapped kind used)) × (after ≡ before)
+IsFinishRefused e p first before after Spent = (simulate_on e p first ≡ Err Spent) × (after ≡ before)
+IsFinishRefused e p first before after (Status n) = (simulate_on e p first ≡ Err (Status n)) × (after ≡ before)
 
 -- What was begun on the list `first` is endorsed where the simulation gave a payload, and all that it read is as it was after a second list, which
 -- begins with all that was seen before and is what is seen afterwards
 abbrev pub FinishesBy : Endorser → Proposal → (first before after : Chain) → Result (Payload × Endorsement) FinishRefusal → Type 0
 FinishesBy e p first before after (Ok answer) =
-    (simulated e p first ≡ Ok answer.0) × IsPrefix before after × (is_current (state (history after)) answer.0 ≡ true) × (answer.1 ≡ seal_of (arc_value e.rules) e.org answer.0)
+    (simulate_on e p first ≡ Ok answer.0) × IsPrefix before after × (is_current (state (history after)) answer.0 ≡ true) × (answer.1 ≡ seal_of (arc_value e.rules) e.org answer.0)
 FinishesBy e p first before after (Err (Simulation r)) = IsFinishRefused e p first before after r
 FinishesBy e p first before after (Err NoEntry) = IsPrefix before after
 

@@ -3,15 +3,15 @@ use Rattle.std.specs.Prelude.{◌+◌, length}
 use Rattle.logbook.specs.Pages.{Book}
 use Rattle.fab_types.specs.declared.block.Block.{Block}
 use Rattle.ledger_model.specs.Chain.{Chain, Committed, history}
-use Rattle.ledger_model.specs.Judged.{judged}
+use Rattle.ledger_model.specs.Judged.{judge}
 use Rattle.endorsement_policy.specs.Endorsed.{Listed}
 use Rattle.fabric_core.specs.Rule.{table_of}
 use Rattle.snapshot_cell.specs.Seats as cell
 use Rattle.peer_node.specs.declared.writer.PeerWriter.{PeerWriter}
 
 -- the whole blocks that the writer committed
-abbrev pub published : PeerWriter → Chain
-published w = cell.published w.cell
+abbrev pub published_chain : PeerWriter → Chain
+published_chain w = cell.published_list w.cell
 
 -- which peer it is of
 abbrev pub peer_of_writer : PeerWriter → Book
@@ -19,4 +19,4 @@ peer_of_writer w = cell.cell_of_writer w.cell
 
 -- the block that comes next in a chain, its transactions marked by the table
 abbrev pub next_by : Listed → Chain → Block → Committed
-next_by listed chain b = record { block = b; flags = judged (table_of listed) (history chain) (length chain + 1) 0 b.envelopes }
+next_by listed chain b = record { block = b; flags = judge (table_of listed) (history chain) (length chain + 1) 0 b.envelopes }

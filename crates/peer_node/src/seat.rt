@@ -43,7 +43,7 @@ impl Seat {
     ghost use Rattle.std.specs.Arc.{arc_value};
     ghost use mathlib.Core.List.{IsPrefix};
     ghost use Rattle.snapshot_cell.specs.Seats.{cell_of_told, told_list};
-    ghost use Rattle.peer_node.specs.Seats.{seen, peer_of, FinishesBy, Endorses};
+    ghost use Rattle.peer_node.specs.Seats.{seen_chain, peer_of, FinishesBy, Endorses};
 
     /// Takes the snapshot on which a proposal is simulated: its blocks begin with all that this
     /// seat has seen or was told of, and are what it has seen afterwards.
@@ -52,9 +52,9 @@ impl Seat {
     /// memory (9).
     pub fn begin(&mut self, proposal: &Proposal) -> Result<Begun, TakeRefusal>
         ensures begun { IfOk result
-            (λ b. (b.proposal ≡ proposal.now) × IsPrefix (seen self.old) (arc_value b.snapshot) ×
-            (seen self.new ≡ arc_value b.snapshot)) }
-        ensures refused { IfErr result (λ _. seen self.new ≡ seen self.old) }
+            (λ b. (b.proposal ≡ proposal.now) × IsPrefix (seen_chain self.old) (arc_value b.snapshot) ×
+            (seen_chain self.new ≡ arc_value b.snapshot)) }
+        ensures refused { IfErr result (λ _. seen_chain self.new ≡ seen_chain self.old) }
         ensures same { (self.new.endorser ≡ self.old.endorser) ×
             (peer_of self.new ≡ peer_of self.old) }
     {
@@ -71,7 +71,7 @@ impl Seat {
     /// where the cell gave no entry (432), and for want of memory (9).
     pub fn finish(&mut self, begun: Begun) -> Result<(Payload, Endorsement), FinishRefusal>
         ensures finished { FinishesBy self.old.endorser begun.proposal (arc_value begun.snapshot)
-            (seen self.old) (seen self.new) result }
+            (seen_chain self.old) (seen_chain self.new) result }
         ensures same { (self.new.endorser ≡ self.old.endorser) ×
             (peer_of self.new ≡ peer_of self.old) }
     {
@@ -90,7 +90,7 @@ impl Seat {
 
     /// Begins and finishes a proposal. Refused as these are.
     pub fn endorse(&mut self, proposal: &Proposal) -> Result<(Payload, Endorsement), FinishRefusal>
-        ensures endorsed { Endorses self.old.endorser proposal.now (seen self.old) (seen self.new)
+        ensures endorsed { Endorses self.old.endorser proposal.now (seen_chain self.old) (seen_chain self.new)
             result }
         ensures same { (self.new.endorser ≡ self.old.endorser) ×
             (peer_of self.new ≡ peer_of self.old) }
@@ -105,9 +105,9 @@ impl Seat {
     /// Refused where the cell gave no entry (432), and for want of memory (9).
     pub fn read(&mut self, key: &Key) -> Result<Option<(Value, Version)>, TakeRefusal>
         ensures answer { IfOk result
-            (λ entry. IsPrefix (seen self.old) (seen self.new) ×
-            (entry ≡ state_at (history (seen self.new)) key.now)) }
-        ensures refused { IfErr result (λ _. IsPrefix (seen self.old) (seen self.new)) }
+            (λ entry. IsPrefix (seen_chain self.old) (seen_chain self.new) ×
+            (entry ≡ state_at (history (seen_chain self.new)) key.now)) }
+        ensures refused { IfErr result (λ _. IsPrefix (seen_chain self.old) (seen_chain self.new)) }
         ensures same { (self.new.endorser ≡ self.old.endorser) ×
             (peer_of self.new ≡ peer_of self.old) }
     {
@@ -119,9 +119,9 @@ impl Seat {
     /// seat has then seen the longer one.
     pub fn learn(&mut self, told: &Told)
         requires { cell_of_told told.now ≡ peer_of self.old }
-        ensures longer { (IsPrefix (seen self.old) (told_list told.now) ×
-            (seen self.new ≡ told_list told.now)) ⊎
-            (IsPrefix (told_list told.now) (seen self.old) × (seen self.new ≡ seen self.old)) }
+        ensures longer { (IsPrefix (seen_chain self.old) (told_list told.now) ×
+            (seen_chain self.new ≡ told_list told.now)) ⊎
+            (IsPrefix (told_list told.now) (seen_chain self.old) × (seen_chain self.new ≡ seen_chain self.old)) }
         ensures same { (self.new.endorser ≡ self.old.endorser) ×
             (peer_of self.new ≡ peer_of self.old) }
     {

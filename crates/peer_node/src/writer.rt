@@ -9,7 +9,7 @@ ghost use Rattle.store_replay.specs.Lawful.{AreLawful};
 ghost use Rattle.snapshot_cell.specs.Seats.{EachBegins};
 ghost use Rattle.peer_node.specs.Refusals.{IsReopenRefused};
 ghost use Rattle.peer_node.specs.Seats.{IsSeat, IsSeatBehind, Serves};
-ghost use Rattle.peer_node.specs.Writers.{published, peer_of_writer};
+ghost use Rattle.peer_node.specs.Writers.{published_chain, peer_of_writer};
 
 use crate::refusal::ReopenRefusal;
 use crate::seat::{Endorser, Seat};
@@ -64,7 +64,7 @@ impl Peer {
     ) -> Result<(PeerWriter, Vec<Seat>), OpenRefusal>
         requires seats { (0 < seats) × (seats < 2 ^ 32) }
         ensures writer { IfOk result
-            (λ t. (published t.0 ≡ []) × (arc_value t.0.rules ≡ arc_value genesis.now.rules)) }
+            (λ t. (published_chain t.0 ≡ []) × (arc_value t.0.rules ≡ arc_value genesis.now.rules)) }
         ensures length { IfOk result (λ t. length t.1.items ≡ seats) }
         ensures seats { IfOk result
             (λ t. All
@@ -91,7 +91,7 @@ impl Peer {
     ) -> Result<(PeerWriter, Vec<Seat>), ReopenRefusal>
         requires seats { (0 < seats) × (seats < 2 ^ 32) }
         ensures writer { IfOk result
-            (λ t. (published t.0 ≡ loaded.blocks.items) ×
+            (λ t. (published_chain t.0 ≡ loaded.blocks.items) ×
             (arc_value t.0.rules ≡ arc_value genesis.now.rules)) }
         ensures lawful { IfOk result
             (λ _. AreLawful (table_of (arc_value genesis.now.rules)) [] loaded.blocks.items) }
@@ -122,7 +122,7 @@ fn open_with<R: Wait>(
 ) -> Result<(PeerWriter, Vec<Seat>), OpenRefusal>
     requires seats { (0 < seats) × (seats < 2 ^ 32) }
     ensures writer { IfOk result
-        (λ t. (published t.0 ≡ first) × (arc_value t.0.rules ≡ arc_value genesis.now.rules)) }
+        (λ t. (published_chain t.0 ≡ first) × (arc_value t.0.rules ≡ arc_value genesis.now.rules)) }
     ensures length { IfOk result (λ t. length t.1.items ≡ seats) }
     ensures seats { IfOk result
         (λ t. All
@@ -149,7 +149,7 @@ impl PeerWriter {
 
     /// The snapshot after the writer's list.
     pub fn newest(&self) -> &Snapshot
-        ensures { result.now ≡ published self.now }
+        ensures { result.now ≡ published_chain self.now }
     {
         self.cell.newest()
     }
@@ -166,15 +166,15 @@ impl PeerWriter {
         block: Block,
     ) -> Result<Told, CommitRefusal>
         ensures committed { IfOk result
-            (λ _. published self.new
-            ≡ published self.old ++
-            next_by (arc_value self.old.rules) (published self.old) block ∷ []) }
+            (λ _. published_chain self.new
+            ≡ published_chain self.old ++
+            next_by (arc_value self.old.rules) (published_chain self.old) block ∷ []) }
         ensures told { IfOk result
-            (λ t. (cell_of_told t ≡ peer_of_writer self.old) × (told_list t ≡ published self.new)) }
-        ensures fits { OnOk result (Fits (blocks_of (published self.old)) block) }
+            (λ t. (cell_of_told t ≡ peer_of_writer self.old) × (told_list t ≡ published_chain self.new)) }
+        ensures fits { OnOk result (Fits (blocks_of (published_chain self.old)) block) }
         ensures refused { IfErr result
-            (λ refusal. IsRefused refusal (blocks_of (published self.old)) block) }
-        ensures unchanged { OnErr result (published self.new ≡ published self.old) }
+            (λ refusal. IsRefused refusal (blocks_of (published_chain self.old)) block) }
+        ensures unchanged { OnErr result (published_chain self.new ≡ published_chain self.old) }
         ensures same { (peer_of_writer self.new ≡ peer_of_writer self.old) ×
             (self.new.rules ≡ self.old.rules) }
     {

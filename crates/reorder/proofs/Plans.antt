@@ -7,7 +7,7 @@ use Rattle.std.proofs.lemmas.Bool.{cases_lt, eqb-true, eq-eqb}
 use Rattle.std.proofs.Common.{get_or-set_other}
 use Rattle.reorder.specs.declared.pick.Pick.{Pick}
 use Rattle.reorder.specs.declared.pick.Pick.TheVariants.{Place, Abort}
-use Rattle.reorder.specs.Plan.{waits, IsFree, IsPick, IsPlan, index, degree, placed, aborted, AllAfter, IsLegal, IsIn, IsPlanned, times_picked, without, all_but}
+use Rattle.reorder.specs.Plan.{waits, IsFree, IsPick, IsPlan, index, degree, order_of, aborts_of, AllAfter, IsLegal, IsIn, IsPlanned, times_picked, without, all_but}
 
 -- what was picked does not wait
 pub picked : (left : List Bool) (i : ℕ) → waits (set left i false) i ≡ false
@@ -30,7 +30,7 @@ unpicked_of n edge left (Place i) p = p.unpicked
 unpicked_of n edge left (Abort i) p = p.1.unpicked
 
 -- what is placed later has no edge into what is free now
-placed_after : (n : ℕ) (edge : ℕ → ℕ → Bool) (left rest : List Bool) (i : ℕ) (picks : List Pick) → IsFree edge left i → ((k : ℕ) → waits rest k ≡ true → waits left k ≡ true) → IsPlan n edge rest picks → AllAfter edge i (placed picks)
+placed_after : (n : ℕ) (edge : ℕ → ℕ → Bool) (left rest : List Bool) (i : ℕ) (picks : List Pick) → IsFree edge left i → ((k : ℕ) → waits rest k ≡ true → waits left k ≡ true) → IsPlan n edge rest picks → AllAfter edge i (order_of picks)
 placed_after n edge left rest i [] free inside p = tt
 placed_after n edge left rest i (Place j ∷ picks) free inside p =
     (free j (inside j p.0.unpicked), placed_after n edge left (set rest j false) i picks free (λ k h. inside k (others_wait rest j k h)) p.1)
@@ -38,7 +38,7 @@ placed_after n edge left rest i (Abort j ∷ picks) free inside p =
     placed_after n edge left (set rest j false) i picks free (λ k h. inside k (others_wait rest j k h)) p.1
 
 -- the placed ones stand in a legal order
-pub placed_legal : (n : ℕ) (edge : ℕ → ℕ → Bool) (left : List Bool) (picks : List Pick) → IsPlan n edge left picks → IsLegal edge (placed picks)
+pub placed_legal : (n : ℕ) (edge : ℕ → ℕ → Bool) (left : List Bool) (picks : List Pick) → IsPlan n edge left picks → IsLegal edge (order_of picks)
 placed_legal n edge left [] p = tt
 placed_legal n edge left (Place i ∷ picks) p =
     (placed_after n edge left (set left i false) i picks p.0.free (λ k h. others_wait left i k h) p.1, placed_legal n edge (set left i false) picks p.1)
@@ -71,7 +71,7 @@ some_free edge left (x ∷ xs) j loops legal covers w =
     ]
 
 -- nothing is aborted where all have a legal order
-pub none_aborted : (n : ℕ) (edge : ℕ → ℕ → Bool) (left : List Bool) (picks : List Pick) (order : List ℕ) → ((k : ℕ) → edge k k ≡ false) → IsLegal edge order → ((k : ℕ) → waits left k ≡ true → IsIn k order) → IsPlan n edge left picks → aborted picks ≡ []
+pub none_aborted : (n : ℕ) (edge : ℕ → ℕ → Bool) (left : List Bool) (picks : List Pick) (order : List ℕ) → ((k : ℕ) → edge k k ≡ false) → IsLegal edge order → ((k : ℕ) → waits left k ≡ true → IsIn k order) → IsPlan n edge left picks → aborts_of picks ≡ []
 none_aborted n edge left [] order loops legal covers p = refl
 none_aborted n edge left (Place i ∷ picks) order loops legal covers p =
     none_aborted n edge (set left i false) picks order loops legal (λ k h. covers k (others_wait left i k h)) p.1
@@ -137,44 +137,44 @@ pub whole_waits_only : (n k : ℕ) → waits (replicate n true) k ≡ true → k
 whole_waits_only n k w =
     elim (cases_lt k n) as (λ _. k < n) [ inl lt ↦ lt | inr ge ↦ absurd (true≢false (waits (replicate n true) k) w (past n k ge)) ]
 
-placed-append : (xs ys : List Pick) → placed (xs ++ ys) ≡ placed xs ++ placed ys
+placed-append : (xs ys : List Pick) → order_of (xs ++ ys) ≡ order_of xs ++ order_of ys
 placed-append [] ys = refl
 placed-append (Place i ∷ xs) ys = ap (λ (a : List ℕ). i ∷ a) (placed-append xs ys)
 placed-append (Abort i ∷ xs) ys = placed-append xs ys
 
-aborted-append : (xs ys : List Pick) → aborted (xs ++ ys) ≡ aborted xs ++ aborted ys
+aborted-append : (xs ys : List Pick) → aborts_of (xs ++ ys) ≡ aborts_of xs ++ aborts_of ys
 aborted-append [] ys = refl
 aborted-append (Place i ∷ xs) ys = aborted-append xs ys
 aborted-append (Abort i ∷ xs) ys = ap (λ (a : List ℕ). i ∷ a) (aborted-append xs ys)
 
-pub placed_more : (xs : List Pick) (i : ℕ) (d : Pick) → i < length xs → placed (take (i + 1) xs) ≡ placed (take i xs) ++ placed (get_or xs i d ∷ [])
+pub placed_more : (xs : List Pick) (i : ℕ) (d : Pick) → i < length xs → order_of (take (i + 1) xs) ≡ order_of (take i xs) ++ order_of (get_or xs i d ∷ [])
 placed_more xs i d h =
-    ap placed (take_more xs i d h) ∙ placed-append (take i xs) (get_or xs i d ∷ [])
+    ap order_of (take_more xs i d h) ∙ placed-append (take i xs) (get_or xs i d ∷ [])
 
-pub aborted_more : (xs : List Pick) (i : ℕ) (d : Pick) → i < length xs → aborted (take (i + 1) xs) ≡ aborted (take i xs) ++ aborted (get_or xs i d ∷ [])
+pub aborted_more : (xs : List Pick) (i : ℕ) (d : Pick) → i < length xs → aborts_of (take (i + 1) xs) ≡ aborts_of (take i xs) ++ aborts_of (get_or xs i d ∷ [])
 aborted_more xs i d h =
-    ap aborted (take_more xs i d h) ∙ aborted-append (take i xs) (get_or xs i d ∷ [])
+    ap aborts_of (take_more xs i d h) ∙ aborted-append (take i xs) (get_or xs i d ∷ [])
 
 count-append : (k : ℕ) (xs ys : List ℕ) → count_by (λ x. eqb x k) (xs ++ ys) ≡ count_by (λ x. eqb x k) xs + count_by (λ x. eqb x k) ys
 count-append k xs ys = sum_by-append (λ y. cond (eqb y k) 1 0) xs ys
 
 -- what is placed or aborted is what is picked
-count_picks : (k : ℕ) (picks : List Pick) → count_by (λ x. eqb x k) (placed picks) + count_by (λ x. eqb x k) (aborted picks) ≡ times_picked k picks
+count_picks : (k : ℕ) (picks : List Pick) → count_by (λ x. eqb x k) (order_of picks) + count_by (λ x. eqb x k) (aborts_of picks) ≡ times_picked k picks
 count_picks k [] = refl
 count_picks k (Place i ∷ picks) =
     let rest = count_picks k picks in
-    let more = sum_by-cons (λ y. cond {A = ℕ} (eqb y k) 1 0) i (placed picks) in
+    let more = sum_by-cons (λ y. cond {A = ℕ} (eqb y k) 1 0) i (order_of picks) in
     omega arith
 count_picks k (Abort i ∷ picks) =
     let rest = count_picks k picks in
-    let more = sum_by-cons (λ y. cond {A = ℕ} (eqb y k) 1 0) i (aborted picks) in
+    let more = sum_by-cons (λ y. cond {A = ℕ} (eqb y k) 1 0) i (aborts_of picks) in
     omega arith
 
 pub planned_once : (n : ℕ) (edge : ℕ → ℕ → Bool) (left : List Bool) (order dropped : List ℕ) → IsPlanned n edge left order dropped → (k : ℕ) → count_by (λ x. eqb x k) (order ++ dropped) ≡ cond (waits left k) 1 0
 planned_once n edge left order dropped p k =
     count-append k order dropped
     ∙ ap (λ (xs : List ℕ). count_by (λ x. eqb x k) xs + count_by (λ x. eqb x k) dropped) p.order_is
-    ∙ ap (λ (xs : List ℕ). count_by (λ x. eqb x k) (placed p.picks) + count_by (λ x. eqb x k) xs) p.dropped_is
+    ∙ ap (λ (xs : List ℕ). count_by (λ x. eqb x k) (order_of p.picks) + count_by (λ x. eqb x k) xs) p.dropped_is
     ∙ count_picks k p.picks
     ∙ picked_once n edge left p.picks k p.plan
 
@@ -190,7 +190,7 @@ planned_whole n edge left order dropped loops p whole legal covers =
 pub planned_one : (n : ℕ) (edge : ℕ → ℕ → Bool) (left : List Bool) (order others dropped rest : List ℕ) → IsPlanned n edge left order dropped → IsPlanned n edge left others rest → (order ≡ others) × (dropped ≡ rest)
 planned_one n edge left order others dropped rest p q =
     let same = plan_one n edge left p.picks q.picks p.plan q.plan in
-    (p.order_is ∙ ap placed same ∙ sym q.order_is, p.dropped_is ∙ ap aborted same ∙ sym q.dropped_is)
+    (p.order_is ∙ ap order_of same ∙ sym q.order_is, p.dropped_is ∙ ap aborts_of same ∙ sym q.dropped_is)
 
 -- one more that takes no part
 pub without_more : (gone : List ℕ) (left : List Bool) (i : ℕ) → without (gone ++ i ∷ []) left ≡ set (without gone left) i false

@@ -2,7 +2,7 @@
 
 ghost use Rattle.std.specs.Prelude.{◌≡◌, ℕ, ◌<◌, ◌^◌, ◌==◌, true, if◌then◌else◌, length, IfOk, OnOk, ◌++◌, List, ◌∷◌, []};
 ghost use Rattle.std.specs.List.{count_by, AllByRecursion};
-ghost use Rattle.reorder.specs.Plan.{IsPlanned, IsLegal, IsIn, waits, all_but, placed, aborted};
+ghost use Rattle.reorder.specs.Plan.{IsPlanned, IsLegal, IsIn, waits, all_but, order_of, aborts_of};
 ghost use Rattle.reorder.specs.Edges.{edge_of};
 
 use crate::edges::edges_between;
@@ -35,9 +35,9 @@ impl Plan {
     /// Adds the pick that comes next.
     fn add(&mut self, pick: Pick) -> Result<(), AllocError>
         ensures order { OnOk result
-            (self.new.order.items ≡ self.old.order.items ++ placed (pick ∷ [])) }
+            (self.new.order.items ≡ self.old.order.items ++ order_of (pick ∷ [])) }
         ensures aborted { OnOk result
-            (self.new.aborted.items ≡ self.old.aborted.items ++ aborted (pick ∷ [])) }
+            (self.new.aborted.items ≡ self.old.aborted.items ++ aborts_of (pick ∷ [])) }
     {
         match pick {
             Pick::Place(i) => self.order.push(i)?,

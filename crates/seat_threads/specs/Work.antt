@@ -4,7 +4,7 @@ use Rattle.std.specs.declared.thread.PromisedHandle.{PromisedHandle}
 use Rattle.std.specs.Arc.{arc_value}
 use Rattle.atomic_table.specs.Seated.{TableId}
 use Rattle.intake.specs.Seats.{intake_of_sender, intake_of_receiver, put}
-use Rattle.peer_node.specs.Writers.{published}
+use Rattle.peer_node.specs.Writers.{published_chain}
 use Rattle.seat_threads.specs.declared.worker.Worker.{Worker}
 use Rattle.seat_threads.specs.declared.crew.Rounds.{Rounds}
 use Rattle.seat_threads.specs.declared.desk.Desk.{Desk}
@@ -35,11 +35,11 @@ AllPromise intake rounds threads = All (λ t. Promises intake rounds t.promise) 
 
 -- the peer has the first of the orderer's blocks
 abbrev pub HasFirst : Desk → Type 0
-HasFirst d = IsFirstOf (arc_value d.writer.rules) d.orderer.chain (published d.writer)
+HasFirst d = IsFirstOf (arc_value d.writer.rules) d.orderer.chain (published_chain d.writer)
 
 -- and all of them, unless memory was refused
 abbrev pub HasAll : Desk → Type 0
-HasAll d = d.starved ≡ false → length (published d.writer) ≡ length d.orderer.chain
+HasAll d = d.starved ≡ false → length (published_chain d.writer) ≡ length d.orderer.chain
 
 abbrev pub IsAtWork : Desk → Type 0
 IsAtWork d = HasFirst d × HasAll d

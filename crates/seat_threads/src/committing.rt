@@ -4,7 +4,7 @@ ghost use Rattle.std.specs.Prelude.{◌≡◌, ◌≤◌, [], ◌∷◌, ◌++�
 ghost use Rattle.std.specs.Arc.{arc_value};
 ghost use Rattle.wire.specs.Links.{AreLinked};
 ghost use Rattle.committer.specs.Fits.{Fits, blocks_of};
-ghost use Rattle.peer_node.specs.Writers.{published, next_by};
+ghost use Rattle.peer_node.specs.Writers.{published_chain, next_by};
 ghost use Rattle.seat_threads.specs.Chains.{IsFirstOf};
 
 use committer::CommitRefusal;
@@ -22,10 +22,10 @@ pub fn commit_rest<R: Threads + Wait + Sync>(
 ) -> Result<(), AllocError>
     requires linked { AreLinked [] blocks.now }
     requires count { length blocks.now ≤ 65535 }
-    requires first { IsFirstOf (arc_value writer.old.rules) blocks.now (published writer.old) }
+    requires first { IsFirstOf (arc_value writer.old.rules) blocks.now (published_chain writer.old) }
     ensures rules { writer.new.rules ≡ writer.old.rules }
-    ensures first { IsFirstOf (arc_value writer.old.rules) blocks.now (published writer.new) }
-    ensures all { OnOk result (length (published writer.new) ≡ length blocks.now) }
+    ensures first { IsFirstOf (arc_value writer.old.rules) blocks.now (published_chain writer.new) }
+    ensures all { OnOk result (length (published_chain writer.new) ≡ length blocks.now) }
 {
     for index in writer.newest().height()..blocks.len() {
         commit(rt, writer, &blocks[index])?;
@@ -39,13 +39,13 @@ fn commit<R: Threads + Wait + Sync>(
     writer: &mut PeerWriter,
     block: &Block,
 ) -> Result<(), AllocError>
-    requires { Fits (blocks_of (published writer.old)) block.now }
+    requires { Fits (blocks_of (published_chain writer.old)) block.now }
     ensures rules { writer.new.rules ≡ writer.old.rules }
     ensures committed { OnOk result
-        (published writer.new
-        ≡ published writer.old ++
-        next_by (arc_value writer.old.rules) (published writer.old) block.now ∷ []) }
-    ensures unchanged { OnErr result (published writer.new ≡ published writer.old) }
+        (published_chain writer.new
+        ≡ published_chain writer.old ++
+        next_by (arc_value writer.old.rules) (published_chain writer.old) block.now ∷ []) }
+    ensures unchanged { OnErr result (published_chain writer.new ≡ published_chain writer.old) }
 {
     match writer.commit(rt, block.clone()?) {
         Ok(_) => Ok(()),

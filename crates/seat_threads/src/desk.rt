@@ -2,7 +2,7 @@
 
 ghost use Rattle.std.specs.Prelude.{◌≡◌, []};
 ghost use Rattle.intake.specs.Seats.{intake_of_sender, intake_of_receiver};
-ghost use Rattle.peer_node.specs.Writers.{published};
+ghost use Rattle.peer_node.specs.Writers.{published_chain};
 ghost use Rattle.seat_threads.specs.Work.{HasFirst, IsAtWork, IsSameDesk};
 
 use crate::committing::commit_rest;
@@ -27,7 +27,7 @@ impl Desk {
     /// The desk of a peer without blocks, and of an orderer without blocks.
     pub fn new(receiver: ReceiverSeat, orderer: Orderer, writer: PeerWriter) -> Desk
         requires chain { orderer.chain ≡ [] }
-        requires published { published writer ≡ [] }
+        requires published { published_chain writer ≡ [] }
         ensures work { IsAtWork result }
         ensures same { (result.receiver ≡ receiver) × (result.writer ≡ writer) }
     {

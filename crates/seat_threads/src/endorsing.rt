@@ -2,7 +2,7 @@
 
 ghost use Rattle.std.specs.Prelude.{◌≡◌, ◌++◌, ◌∷◌, [], Ok, IfOk};
 ghost use Rattle.std.specs.Int.{w64, to_be_bytes};
-ghost use Rattle.peer_node.specs.Seats.{seen, peer_of, Endorses};
+ghost use Rattle.peer_node.specs.Seats.{seen_chain, peer_of, Endorses};
 ghost use Rattle.seat_threads.specs.Rounds.{proposal_of};
 
 use fab_types::{Endorsement, Endorsements, Envelope, Name, Proposal, Value};
@@ -45,7 +45,7 @@ pub fn envelope(
 ) -> Result<Envelope, FinishRefusal>
     ensures endorsed { IfOk result
         (λ e. (tag : Endorsement) ×
-        Endorses seat.old.endorser proposal.now (seen seat.old) (seen seat.new)
+        Endorses seat.old.endorser proposal.now (seen_chain seat.old) (seen_chain seat.new)
         (Ok (e.payload, tag)) ×
         (e.endorsements ≡ tag ∷ [])) }
     ensures same { (seat.new.endorser ≡ seat.old.endorser) × (peer_of seat.new ≡ peer_of seat.old) }

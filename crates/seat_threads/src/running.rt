@@ -6,7 +6,7 @@ ghost use Rattle.atomic_table.specs.Seated.{TableId};
 ghost use Rattle.orderer.specs.Ordering.{AreLimits};
 ghost use Rattle.intake.specs.Seats.{intake_of_sender, intake_of_receiver, put};
 ghost use Rattle.fabric_core.specs.Setting.{limits_of};
-ghost use Rattle.peer_node.specs.Writers.{published};
+ghost use Rattle.peer_node.specs.Writers.{published_chain};
 ghost use Rattle.seat_threads.specs.Rounds.{rounds_in};
 ghost use Rattle.seat_threads.specs.Work.{IsWorkerOf, IsAtWork};
 ghost use Rattle.seat_threads.specs.Reports.{TellsOfChain};

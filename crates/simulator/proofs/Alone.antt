@@ -11,7 +11,7 @@ use Rattle.wasm_validate.specs.ModuleRules.{IsValid}
 use Rattle.host_api.specs.Executing as host
 use Rattle.simulator.specs.declared.book.Chaincode.{Chaincode}
 use Rattle.simulator.specs.Books.{AreValid, chaincode_at}
-use Rattle.simulator.specs.Execution.{executed, exec_of}
+use Rattle.simulator.specs.Execution.{execute, exec_of}
 
 all_found : {X : Type 0} (P : X → Type 0) (test : X → Bool) (xs : List X) → AllByRecursion P xs → IfSome (find test xs) P
 all_found P test [] h = tt
@@ -20,11 +20,11 @@ all_found {X} P test (x ∷ xs) h =
 
 -- what is known of each valid module
 module _ (alone : (wasm : Module) (fuel : ℕ) (argument : Bytes) → IsValid wasm → host.ReadsAlone wasm fuel argument) where
-  executed_truthful : (found : Option Chaincode) (argument : Bytes) (m : Plain) → IfSome found (λ c. IsValid c.module) → ledger.Answers m (executed found argument m).seen
+  executed_truthful : (found : Option Chaincode) (argument : Bytes) (m : Plain) → IfSome found (λ c. IsValid c.module) → ledger.Answers m (execute found argument m).seen
   executed_truthful None argument m h = record { reads = tt; ranges = tt }
   executed_truthful (Some c) argument m h = (alone c.module c.fuel argument h).truthful m
 
-  executed_only : (found : Option Chaincode) (argument : Bytes) (m n : Plain) → IfSome found (λ c. IsValid c.module) → ledger.Answers n (executed found argument m).seen → executed found argument n ≡ executed found argument m
+  executed_only : (found : Option Chaincode) (argument : Bytes) (m n : Plain) → IfSome found (λ c. IsValid c.module) → ledger.Answers n (execute found argument m).seen → execute found argument n ≡ execute found argument m
   executed_only None argument m n h seen = refl
   executed_only (Some c) argument m n h seen = (alone c.module c.fuel argument h).only m n seen
 

@@ -14,13 +14,13 @@ use Rattle.wasm_meaning.specs.Values.{Answer, Next, Trapped, Spent}
 use Rattle.wasm_meaning.specs.Program.{invocation}
 use Rattle.host_api.specs.Recorded.{Recorded, nothing_recorded, seen_on}
 use Rattle.host_api.specs.HostStep.{host_step}
-use Rattle.host_api.specs.Executing.{ended, ending_of, outcome_of}
+use Rattle.host_api.specs.Executing.{outcome_with, ending_of, outcome_of}
 use Rattle.host_api.specs.Recording.{Opened, Recording}
 use Rattle.host_api.specs.Parts.{parts_of}
 use Rattle.host_api.specs.declared.recorder.Parts.{Parts}
 use Rattle.simulator.specs.declared.book.Chaincode.{Chaincode}
 use Rattle.simulator.specs.Books.{chaincode_at}
-use Rattle.simulator.specs.Execution.{executed, exec_of}
+use Rattle.simulator.specs.Execution.{execute, exec_of}
 use Rattle.simulator.specs.Answers.{trap_of, done_or_refusal, Answers}
 use Rattle.simulator.specs.Success.{success_of}
 use Rattle.simulator.specs.declared.refusal.SimRefusal.{SimRefusal}
@@ -32,7 +32,7 @@ ending_in (outcome.Returned status used) = ending_of status
 ending_in (outcome.Trapped kind used) = ledger.Trapped (trap_number kind) used
 ending_in outcome.Spent = ledger.Spent
 
-outcome_is : (fuel : ℕ) (m : Plain) (a : Answer Recorded) (o : Outcome) (s : Recorded) → Ended a fuel o s → outcome_of fuel m a ≡ ended (ending_in o) m s
+outcome_is : (fuel : ℕ) (m : Plain) (a : Answer Recorded) (o : Outcome) (s : Recorded) → Ended a fuel o s → outcome_of fuel m a ≡ outcome_with (ending_in o) m s
 outcome_is fuel m (Next left (v ∷ []) l w) (outcome.Returned status used) s h = rw (← h.0, ← h.2) refl
 outcome_is fuel m (Trapped why left w) (outcome.Trapped kind used) s h =
     let e : fuel - left ≡ used = omega (arith, h.1) in rw (e, ← h.0, ← h.2) refl
@@ -73,11 +73,11 @@ module _ {V : Type 0} (state_of : V → Versioned) (book : List Chaincode) (p : 
     pub keeps : after.opened ≡ before.opened
 
   module _ (run : IsRun) where
-    execution_is : exec_of book p (values_of (state_of v)) ≡ ended (ending_in o) (values_of (state_of v)) after.records
+    execution_is : exec_of book p (values_of (state_of v)) ≡ outcome_with (ending_in o) (values_of (state_of v)) after.records
     unfolding exec_of
     execution_is =
         let ends : Ended (invocation c.module (host_step (values_of (state_of v)) p.argument) nothing_recorded c.fuel) c.fuel o after.records = subst (λ (b : Recording V). Ended (invocation c.module (host_step (values_of (state_of b.opened.view)) b.opened.argument) b.records c.fuel) c.fuel o after.records) run.start run.ends in
-        ap (λ found. executed found p.argument (values_of (state_of v))) (sym run.found) ∙ outcome_is c.fuel (values_of (state_of v)) _ o after.records ends
+        ap (λ found. execute found p.argument (values_of (state_of v))) (sym run.found) ∙ outcome_is c.fuel (values_of (state_of v)) _ o after.records ends
 
     pub answer_is : (r : Result (Unit {0}) SimRefusal) → r ≡ success_of o → let e = exec_of book p (values_of (state_of v)) in done_or_refusal e.ending (parts_of (state_of v) e.seen) ≡ with_value (parts_of (state_of v) (seen_on (values_of (state_of v)) after.records)) r
     answer_is r is =
@@ -104,4 +104,4 @@ answers wanted (Err refusal.Stale) e = e
 pub unknown_is : {X : Type 0} (of : ledger.Outcome → X) (book : List Chaincode) (p : Proposal) (m : Plain) → None ≡ chaincode_at book p.chaincode → let e = exec_of book p m in done_or_refusal e.ending (of e) ≡ Err refusal.UnknownChaincode
 unfolding exec_of
 unknown_is {X} of book p m h =
-    ap (λ found. let e = executed found p.argument m in done_or_refusal e.ending (of e)) (sym h)
+    ap (λ found. let e = execute found p.argument m in done_or_refusal e.ending (of e)) (sym h)

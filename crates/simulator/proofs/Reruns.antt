@@ -18,7 +18,7 @@ use Rattle.host_api.specs.declared.recorder.Parts.{Parts}
 use Rattle.simulator.specs.declared.book.Chaincode.{Chaincode}
 use Rattle.simulator.specs.declared.refusal.SimRefusal.TheVariants as refusal
 use Rattle.simulator.specs.Books.{chaincode_at}
-use Rattle.simulator.specs.Execution.{executed, exec_of}
+use Rattle.simulator.specs.Execution.{execute, exec_of}
 use Rattle.simulator.specs.Answers.{SimRefusal, Answers, done_or_refusal, Rerun, rerun_of, rerun_or_refusal, told_by, told_in}
 
 -- ---- what an execution saw is what a state says of some questions
@@ -36,7 +36,7 @@ outcome_asks fuel m (Trapped why left w) = (w.records, refl)
 outcome_asks fuel m (Spent w) = (w.records, refl)
 outcome_asks fuel m Stuck = (nothing_recorded, refl)
 
-executed_asks : (found : Option Chaincode) (argument : Bytes) (m : Plain) → Asks m (executed found argument m).seen
+executed_asks : (found : Option Chaincode) (argument : Bytes) (m : Plain) → Asks m (execute found argument m).seen
 executed_asks None argument m = (nothing_recorded, refl)
 executed_asks (Some c) argument m = outcome_asks c.fuel m (execution c.module c.fuel argument m)
 

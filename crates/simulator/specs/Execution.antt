@@ -9,10 +9,10 @@ use Rattle.simulator.specs.declared.book.Chaincode.{Chaincode}
 use Rattle.simulator.specs.Books.{chaincode_at}
 
 -- where there is a chaincode, `invoke` of its module with its fuel, and with a proposal's argument
-abbrev pub executed : Option Chaincode → (argument : Bytes) → Plain → Outcome
-executed None argument m = record { ending = Unknown; seen = seen_on m nothing_recorded }
-executed (Some c) argument m = outcome c.module c.fuel argument m
+abbrev pub execute : Option Chaincode → (argument : Bytes) → Plain → Outcome
+execute None argument m = record { ending = Unknown; seen = seen_on m nothing_recorded }
+execute (Some c) argument m = outcome c.module c.fuel argument m
 
 -- of the chaincode that the proposal names
 unfoldable pub exec_of : List Chaincode → Exec
-exec_of book p m = executed (chaincode_at book p.chaincode) p.argument m
+exec_of book p m = execute (chaincode_at book p.chaincode) p.argument m

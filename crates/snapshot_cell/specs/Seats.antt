@@ -7,12 +7,12 @@ use Rattle.snapshot_cell.specs.declared.writer.Writer.{Writer}
 use Rattle.snapshot_cell.specs.declared.writer.Told.{Told}
 
 -- the whole blocks that a seat has seen or was told of
-abbrev pub seen : Reader → Chain
-seen r = r.front.seen.log
+abbrev pub seen_list : Reader → Chain
+seen_list r = r.front.seen.log
 
 -- the whole blocks that the writer published
-abbrev pub published : Writer → Chain
-published w = w.front.seen.log
+abbrev pub published_list : Writer → Chain
+published_list w = w.front.seen.log
 
 -- the whole blocks that the writer told of
 abbrev pub told_list : Told → Chain
@@ -30,4 +30,4 @@ cell_of_told t = t.front.seen.book
 
 -- each of the seats is of this cell and has seen these blocks
 abbrev pub EachBegins : Book → Chain → List Reader → Type 0
-EachBegins cell blocks readers = All (λ r. (cell_of_reader r ≡ cell) × (seen r ≡ blocks)) readers
+EachBegins cell blocks readers = All (λ r. (cell_of_reader r ≡ cell) × (seen_list r ≡ blocks)) readers

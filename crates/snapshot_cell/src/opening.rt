@@ -5,7 +5,7 @@ ghost use Rattle.std.specs.Arc.{arc_value};
 ghost use Rattle.left_right.specs.Sides.{view};
 ghost use Rattle.world_state.specs.Shared.{blocks_in};
 ghost use Rattle.snapshot_cell.specs.Marks.{mark_of};
-ghost use Rattle.snapshot_cell.specs.Seats.{seen, published, cell_of_reader, cell_of_writer, EachBegins};
+ghost use Rattle.snapshot_cell.specs.Seats.{seen_list, published_list, cell_of_reader, cell_of_writer, EachBegins};
 
 use crate::history::{Front, History};
 use crate::kept::{Kept, Learns, Next, Sees, Tells, Tie};
@@ -29,7 +29,7 @@ pub fn open<R: Wait>(
     seats: usize,
 ) -> Result<(Writer, Vec<Reader>), OpenRefusal>
     requires { (0 < seats) × (seats < 2 ^ 32) }
-    ensures writer { IfOk result (λ t. published t.0 ≡ first) }
+    ensures writer { IfOk result (λ t. published_list t.0 ≡ first) }
     ensures seats { IfOk result
         (λ t. (length t.1.items ≡ seats) × EachBegins (cell_of_writer t.0) first t.1.items) }
 {
@@ -139,7 +139,7 @@ fn seat(
 ) -> Result<Reader, AllocError>
     requires { view inner.old.desk.place ≡ mark_of front.now.seen.book }
     ensures seat { IfOk result
-        (λ r. (cell_of_reader r ≡ front.now.seen.book) × (seen r ≡ front.now.seen.log)) }
+        (λ r. (cell_of_reader r ≡ front.now.seen.book) × (seen_list r ≡ front.now.seen.log)) }
     ensures knows { view inner.new.desk.place ≡ view inner.old.desk.place }
     ensures shown { inner.new.desk.shown.value ≡ inner.old.desk.shown.value }
 {

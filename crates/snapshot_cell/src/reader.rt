@@ -26,7 +26,7 @@ pub struct Reader {
 
 impl Reader {
     ghost use Rattle.std.specs.Prelude.{◌⊎◌};
-    ghost use Rattle.snapshot_cell.specs.Seats.{seen, told_list, cell_of_reader, cell_of_told};
+    ghost use Rattle.snapshot_cell.specs.Seats.{seen_list, told_list, cell_of_reader, cell_of_told};
 
     /// The newest snapshot. Its blocks begin with all that this seat has seen or was told of, and
     /// are what it has seen afterwards. A refusal leaves what it has seen as it was.
@@ -35,8 +35,8 @@ impl Reader {
     /// owner of the snapshot was refused (9).
     pub fn take(&mut self) -> Result<Arc<Snapshot>, TakeRefusal>
         ensures taken { IfOk result
-            (λ s. IsPrefix (seen self.old) (arc_value s) × (seen self.new ≡ arc_value s)) }
-        ensures refused { IfErr result (λ _. seen self.new ≡ seen self.old) }
+            (λ s. IsPrefix (seen_list self.old) (arc_value s) × (seen_list self.new ≡ arc_value s)) }
+        ensures refused { IfErr result (λ _. seen_list self.new ≡ seen_list self.old) }
         ensures same { cell_of_reader self.new ≡ cell_of_reader self.old }
     {
         let Some(reader) = self.inner.take() else {
@@ -59,9 +59,9 @@ impl Reader {
     /// then seen the longer one. It takes no memory.
     pub fn learn(&mut self, told: &Told)
         requires { cell_of_told told.now ≡ cell_of_reader self.old }
-        ensures longer { (IsPrefix (seen self.old) (told_list told.now) ×
-            (seen self.new ≡ told_list told.now)) ⊎
-            (IsPrefix (told_list told.now) (seen self.old) × (seen self.new ≡ seen self.old)) }
+        ensures longer { (IsPrefix (seen_list self.old) (told_list told.now) ×
+            (seen_list self.new ≡ told_list told.now)) ⊎
+            (IsPrefix (told_list told.now) (seen_list self.old) × (seen_list self.new ≡ seen_list self.old)) }
         ensures same { cell_of_reader self.new ≡ cell_of_reader self.old }
     {
         if self.front.begins(&told.front) {

@@ -33,11 +33,11 @@ pub struct Told {
 impl Writer {
     ghost use Rattle.std.specs.Prelude.{IfOk, OnErr};
     ghost use Rattle.snapshot_cell.specs.Lists.{OneMore};
-    ghost use Rattle.snapshot_cell.specs.Seats.{published, told_list, cell_of_writer, cell_of_told};
+    ghost use Rattle.snapshot_cell.specs.Seats.{published_list, told_list, cell_of_writer, cell_of_told};
 
     /// The published snapshot. It takes no memory.
     pub fn newest(&self) -> &Snapshot
-        ensures { result.now ≡ published self.now }
+        ensures { result.now ≡ published_list self.now }
     {
         &*self.inner.published().snapshot
     }
@@ -45,11 +45,11 @@ impl Writer {
     /// Shows the seats the next snapshot, which has one block more, in one step. What is told names
     /// its blocks. The only error is want of memory (9): what is published is then as it was.
     pub fn publish<R: Wait>(&mut self, rt: &R, next: Snapshot) -> Result<Told, AllocError>
-        requires { OneMore (published self.old) next }
-        ensures published { IfOk result (λ _. published self.new ≡ next) }
+        requires { OneMore (published_list self.old) next }
+        ensures published { IfOk result (λ _. published_list self.new ≡ next) }
         ensures told { IfOk result
             (λ t. (cell_of_told t ≡ cell_of_writer self.old) × (told_list t ≡ next)) }
-        ensures refused { OnErr result (published self.new ≡ published self.old) }
+        ensures refused { OnErr result (published_list self.new ≡ published_list self.old) }
         ensures same { cell_of_writer self.new ≡ cell_of_writer self.old }
     {
         let operation = self.operation(next)?;
@@ -65,7 +65,7 @@ impl Writer {
 
     /// The operation that puts this snapshot into a copy.
     fn operation(&self, next: Snapshot) -> Result<Next, AllocError>
-        requires { OneMore (published self.now) next }
+        requires { OneMore (published_list self.now) next }
         ensures { IfOk result
             (λ o. (arc_value o.snapshot ≡ next) × (o.parent.seen.book ≡ cell_of_writer self.now)) }
     {

@@ -2,7 +2,7 @@
 use Rattle.std.specs.Prelude.{◌≡◌, ◌≢◌, ℕ, Bool, true, false, ◌⊎◌, Option, Some, None, List, [], ◌∷◌, ◌++◌, ◌+◌, length}
 use Rattle.fab_types.specs.Committed.{Committed}
 use Rattle.ledger_model.specs.Chain.{Chain, history}
-use Rattle.ledger_model.specs.Judged.{FlagRule, judged}
+use Rattle.ledger_model.specs.Judged.{FlagRule, judge}
 use Rattle.committer.specs.Fits.{Fits, IsRefused, blocks_of}
 use Rattle.committer.specs.declared.refusal.CommitRefusal.{CommitRefusal}
 use Rattle.committer.specs.declared.refusal.CommitRefusal.TheVariants.{OutOfMemory}
@@ -14,7 +14,7 @@ use Rattle.store_replay.specs.declared.replaying.Replayed.{Replayed}
 -- the block of a record behind a chain, with the flags of the rule
 abbrev pub judged_behind : FlagRule → Chain → Committed → Committed
 judged_behind rule chain c =
-    record { block = c.block; flags = judged rule (history chain) (length chain + 1) 0 c.block.envelopes }
+    record { block = c.block; flags = judge rule (history chain) (length chain + 1) 0 c.block.envelopes }
 
 -- a block does not fit, for this cause
 abbrev pub IsUnfit : Chain → Committed → CommitRefusal → Type 0

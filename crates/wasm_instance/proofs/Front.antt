@@ -3,7 +3,7 @@ use Rattle.std.proofs.Common.{◌≡◌, ◌≤◌, ◌<◌, ◌+◌, ◌-◌, �
 use Rattle.std.specs.Prelude.{slice_set}
 use Rattle.std.proofs.lemmas.List.{append-nil, take_all, drop_all, take_at, drop_at, drop-drop, take-append-drop, take-append-le, drop-append-le, length-replicate, drop-replicate, replicate-append-replicate, set-append_left, length-set}
 use Rattle.std.proofs.lemmas.Bool.{cases_lt}
-use Rattle.wasm_meaning.specs.Memory.{bytes_at, written}
+use Rattle.wasm_meaning.specs.Memory.{bytes_at, with_bytes}
 use Rattle.wasm_meaning.proofs.Writing.{written-is}
 use Rattle.wasm_instance.specs.Front.{padded}
 
@@ -89,29 +89,29 @@ bytes_laid n p w xs h =
     ap (λ ys. take w ys) (drop-append-le p xs (replicate (n - length xs) 0) (omega (arith, h)))
     ∙ take-append-le w (drop p xs) (replicate (n - length xs) 0) (omega (arith, h, length-drop p xs))
 
-pub length-written : (m bytes : List ℕ) (p : ℕ) → length (written m p bytes) ≡ length m
+pub length-written : (m bytes : List ℕ) (p : ℕ) → length (with_bytes m p bytes) ≡ length m
 length-written m [] p = refl
 length-written m (b ∷ bytes) p = length-written (slice_set m p b) bytes (p + 1) ∙ length-set m p b
 
 -- bytes that are written within the first of two lists
-pub written-append : (xs ys bytes : List ℕ) (p : ℕ) → p + length bytes ≤ length xs → written (xs ++ ys) p bytes ≡ written xs p bytes ++ ys
+pub written-append : (xs ys bytes : List ℕ) (p : ℕ) → p + length bytes ≤ length xs → with_bytes (xs ++ ys) p bytes ≡ with_bytes xs p bytes ++ ys
 written-append xs ys [] p h = refl
 written-append xs ys (b ∷ bytes) p h =
-    ap (λ zs. written zs (p + 1) bytes) (set-append_left xs ys p b (omega (arith, h)))
+    ap (λ zs. with_bytes zs (p + 1) bytes) (set-append_left xs ys p b (omega (arith, h)))
     ∙ written-append (slice_set xs p b) ys bytes (p + 1) (omega (arith, h, length-set xs p b))
 
-pub written_laid : (n p : ℕ) (xs bytes : List ℕ) → p + length bytes ≤ length xs → written (padded n xs) p bytes ≡ padded n (written xs p bytes)
+pub written_laid : (n p : ℕ) (xs bytes : List ℕ) → p + length bytes ≤ length xs → with_bytes (padded n xs) p bytes ≡ padded n (with_bytes xs p bytes)
 written_laid n p xs bytes h =
     written-append xs (replicate (n - length xs) 0) bytes p h
-    ∙ ap (λ k. written xs p bytes ++ replicate (n - k) 0) (sym (length-written xs bytes p))
+    ∙ ap (λ k. with_bytes xs p bytes ++ replicate (n - k) 0) (sym (length-written xs bytes p))
 
 -- the same in the first bytes of a memory
-pub written_front : (n p : ℕ) (xs bytes : List ℕ) → p + length bytes ≤ length (take n xs) → written (take n xs) p bytes ++ drop n xs ≡ written xs p bytes
+pub written_front : (n p : ℕ) (xs bytes : List ℕ) → p + length bytes ≤ length (take n xs) → with_bytes (take n xs) p bytes ++ drop n xs ≡ with_bytes xs p bytes
 written_front n p xs bytes h =
-    sym (written-append (take n xs) (drop n xs) bytes p h) ∙ ap (λ ys. written ys p bytes) (take-append-drop n xs)
+    sym (written-append (take n xs) (drop n xs) bytes p h) ∙ ap (λ ys. with_bytes ys p bytes) (take-append-drop n xs)
 
 -- what is copied to the beginning of eight zeros
-pub copied : (laid : List ℕ) → length laid ≤ 8 → written (replicate 8 0) 0 laid ≡ padded 8 laid
+pub copied : (laid : List ℕ) → length laid ≤ 8 → with_bytes (replicate 8 0) 0 laid ≡ padded 8 laid
 copied laid h =
     let rest : 8 - (0 + length laid) ≡ 8 - length laid = omega arith in
     written-is (replicate 8 0) laid 0 (omega (arith, h))

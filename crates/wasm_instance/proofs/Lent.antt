@@ -3,7 +3,7 @@ use Rattle.std.proofs.Common.{◌≡◌, ◌≤◌, ◌<◌, ◌+◌, ◌-◌, �
 use Rattle.std.proofs.lemmas.List.{take_at, drop_at}
 use Rattle.wasm_ast.specs.declared.operators.StoreOp.{StoreOp}
 use Rattle.wasm_ast.specs.Access.{store_width}
-use Rattle.wasm_meaning.specs.Memory.{written}
+use Rattle.wasm_meaning.specs.Memory.{with_bytes}
 use Rattle.wasm_instance.specs.Accesses.{after_store}
 use Rattle.wasm_instance.specs.Front.{padded}
 use Rattle.wasm_instance.specs.LendingFront.{in_place}
@@ -37,11 +37,11 @@ lent n len xs r m w el er em =
     ∙ sym (ap (λ zs. in_place zs w ++ drop (length r) m) (beginning n xs r m er em) ∙ ap (λ zs. in_place xs w ++ zs) rest)
 
 -- bytes that are written within a beginning that is lent
-pub written_in_place : (m r bytes ys : List ℕ) (p : ℕ) → r ≡ take (length r) m → p + length bytes ≤ length r → ys ≡ written r p bytes → in_place (take (length r) m) ys ++ drop (length r) m ≡ written m p bytes
+pub written_in_place : (m r bytes ys : List ℕ) (p : ℕ) → r ≡ take (length r) m → p + length bytes ≤ length r → ys ≡ with_bytes r p bytes → in_place (take (length r) m) ys ++ drop (length r) m ≡ with_bytes m p bytes
 written_in_place m r bytes ys p er h e =
     let size : length ys ≡ length (take (length r) m) = ap length e ∙ length-written r bytes p ∙ ap length er in
     let fits : p + length bytes ≤ length (take (length r) m) = subst (λ k. p + length bytes ≤ k) (ap length er) h in
-    ap (λ zs. zs ++ drop (length r) m) (same_length (length (take (length r) m)) (take (length r) m) ys size ∙ e ∙ ap (λ zs. written zs p bytes) er)
+    ap (λ zs. zs ++ drop (length r) m) (same_length (length (take (length r) m)) (take (length r) m) ys size ∙ e ∙ ap (λ zs. with_bytes zs p bytes) er)
     ∙ written_front (length r) p m bytes fits
 
 -- after a store that is refused

@@ -11,7 +11,7 @@ use Rattle.wasm_ast.specs.declared.operators.StoreOp.TheVariants as store
 use Rattle.wasm_ast.specs.declared.trap.Trap.{Trap}
 use Rattle.wasm_ast.specs.declared.trap.Trap.TheVariants.{OutOfBounds}
 use Rattle.wasm_ast.specs.Access.{load_width, store_width}
-use Rattle.wasm_meaning.specs.Memory.{bytes_of, loaded, number_of, word_loaded, written}
+use Rattle.wasm_meaning.specs.Memory.{bytes_of, load_value, number_of, word_loaded, with_bytes}
 use Rattle.wasm_instance.specs.Accesses.{in_bounds, load_at, after_store}
 use Rattle.wasm_instance.specs.Front.{padded}
 use Rattle.wasm_instance.proofs.Front.{length-padded, padded_whole, bytes_laid, length-written, written_laid, window}
@@ -80,10 +80,10 @@ past_from_err m p w x t e =
 -- a load that stays in_bounds what is laid out
 pub load_laid : (o : LoadOp) (n p word : ℕ) (xs : List ℕ) → length xs ≤ n → load_at o xs p ≡ Ok word → load_at o (padded n xs) p ≡ Ok word
 load_laid o n p word xs h e =
-    let le : p + load_width o ≤ length xs = within_from_ok xs p (load_width o) (loaded o xs p) word e in
-    let same : loaded o (padded n xs) p ≡ loaded o xs p = ap (λ bs. word_loaded o (number_of bs)) (bytes_laid n p (load_width o) xs le) in
-    is_within (padded n xs) p (load_width o) (loaded o (padded n xs) p) (omega (arith, le, h, length-padded n xs h))
-    ∙ ap Ok same ∙ sym (is_within xs p (load_width o) (loaded o xs p) le) ∙ e
+    let le : p + load_width o ≤ length xs = within_from_ok xs p (load_width o) (load_value o xs p) word e in
+    let same : load_value o (padded n xs) p ≡ load_value o xs p = ap (λ bs. word_loaded o (number_of bs)) (bytes_laid n p (load_width o) xs le) in
+    is_within (padded n xs) p (load_width o) (load_value o (padded n xs) p) (omega (arith, le, h, length-padded n xs h))
+    ∙ ap Ok same ∙ sym (is_within xs p (load_width o) (load_value o xs p) le) ∙ e
 
 -- a load from the eight bytes at its place
 pub load_window : (o : LoadOp) (p : ℕ) (m : List ℕ) → load_at o (take 8 (drop p m)) 0 ≡ load_at o m p
@@ -92,12 +92,12 @@ load_window o p m =
     let len : length (take 8 (drop p m)) ≡ min 8 (length m - p) = length-take 8 (drop p m) ∙ ap (min 8) (length-drop p m) in
     elim (cases_lt (length m) (p + load_width o)) as (λ _. load_at o (take 8 (drop p m)) 0 ≡ load_at o m p) [
       | inl past ↦
-          is_past (take 8 (drop p m)) 0 (load_width o) (loaded o (take 8 (drop p m)) 0) (omega (arith, past, len, small, load_width-positive o))
-          ∙ sym (is_past m p (load_width o) (loaded o m p) past)
+          is_past (take 8 (drop p m)) 0 (load_width o) (load_value o (take 8 (drop p m)) 0) (omega (arith, past, len, small, load_width-positive o))
+          ∙ sym (is_past m p (load_width o) (load_value o m p) past)
       | inr le ↦
-          is_within (take 8 (drop p m)) 0 (load_width o) (loaded o (take 8 (drop p m)) 0) (omega (arith, le, len, small))
+          is_within (take 8 (drop p m)) 0 (load_width o) (load_value o (take 8 (drop p m)) 0) (omega (arith, le, len, small))
           ∙ ap (λ bs. Ok (word_loaded o (number_of bs))) (take-take (load_width o) 8 (drop p m) small)
-          ∙ sym (is_within m p (load_width o) (loaded o m p) le)
+          ∙ sym (is_within m p (load_width o) (load_value o m p) le)
     ]
 
 -- a load past what is laid out, from a copy of eight bytes
@@ -112,14 +112,14 @@ length-bytes_of (suc w) n = ap suc (length-bytes_of w (n / 256))
 pub length-after_store : (o : StoreOp) (m : List ℕ) (p word : ℕ) → length (after_store o m p word) ≡ length m
 length-after_store o m p word = go (nat_lt (length m) (p + store_width o))
   where
-    go : (b : Bool) → length (cond b m (written m p (bytes_of (store_width o) word))) ≡ length m
+    go : (b : Bool) → length (cond b m (with_bytes m p (bytes_of (store_width o) word))) ≡ length m
     go true = refl
     go false = length-written m (bytes_of (store_width o) word) p
 
-stored : (o : StoreOp) (m : List ℕ) (p word : ℕ) → p + store_width o ≤ length m → after_store o m p word ≡ written m p (bytes_of (store_width o) word)
+stored : (o : StoreOp) (m : List ℕ) (p word : ℕ) → p + store_width o ≤ length m → after_store o m p word ≡ with_bytes m p (bytes_of (store_width o) word)
 stored o m p word h =
     let e : nat_lt (length m) (p + store_width o) ≡ false = grind (arith, nat_tests) in
-    ap (λ b. cond b m (written m p (bytes_of (store_width o) word))) e
+    ap (λ b. cond b m (with_bytes m p (bytes_of (store_width o) word))) e
 
 -- a store to what is laid out is a store to the memory
 pub record Stores (o : StoreOp) (n p word : ℕ) (xs : List ℕ) : Type 0 where
@@ -156,4 +156,4 @@ store_reached o n p word xs h reach =
 pub not_stored : (o : StoreOp) (m : List ℕ) (p word : ℕ) → length m < p + store_width o → after_store o m p word ≡ m
 not_stored o m p word h =
     let e : nat_lt (length m) (p + store_width o) ≡ true = grind (arith, nat_tests) in
-    ap (λ b. cond b m (written m p (bytes_of (store_width o) word))) e
+    ap (λ b. cond b m (with_bytes m p (bytes_of (store_width o) word))) e

@@ -5,7 +5,7 @@
 
 ghost use Rattle.std.specs.Prelude.{◌≡◌, ◌+◌, ◌<◌, ◌≤◌, ◌^◌, length};
 ghost use Rattle.wasm_ast.specs.Access.{store_width};
-ghost use Rattle.wasm_meaning.specs.Memory.{bytes_at, number_of, written};
+ghost use Rattle.wasm_meaning.specs.Memory.{bytes_at, number_of, with_bytes};
 ghost use Rattle.wasm_instance.specs.Accesses.{in_bounds, load_at, after_write, after_store};
 
 use wasm_ast::{LoadOp, StoreOp, Trap};
@@ -125,7 +125,7 @@ fn put(memory: &mut [u8], place: usize, bytes: &[u8]) -> Result<(), Trap>
 #[inline(always)]
 pub fn write(memory: &mut [u8], place: usize, bytes: &[u8])
     requires { place + length bytes.now ≤ length memory.old }
-    ensures { memory.new ≡ written memory.old place bytes.now }
+    ensures { memory.new ≡ with_bytes memory.old place bytes.now }
 {
     memory[place..place + bytes.len()].copy_from_slice(bytes);
 }

@@ -3,7 +3,7 @@
 ghost use Rattle.std.specs.Prelude.{◌≡◌, ◌≤◌, ◌<◌, ◌+◌, ◌-◌, ◌^◌, ◌++◌, [], min, length, take, drop, replicate, vec_len, vec_capacity, IfOk, OnOk, OnErr};
 ghost use Rattle.std.specs.Borrow.{sem};
 ghost use Rattle.wasm_ast.specs.Access.{store_width};
-ghost use Rattle.wasm_meaning.specs.Memory.{written};
+ghost use Rattle.wasm_meaning.specs.Memory.{with_bytes};
 ghost use Rattle.wasm_instance.specs.Accesses.{in_bounds, load_at, after_store};
 ghost use Rattle.wasm_instance.specs.Front.{padded};
 
@@ -104,7 +104,7 @@ impl Memory {
     /// Writes bytes from a place on.
     pub fn write(&mut self, place: usize, bytes: &[u8])
         requires { place + length bytes.now ≤ length self.old }
-        ensures { self.new ≡ written self.old place bytes.now }
+        ensures { self.new ≡ with_bytes self.old place bytes.now }
     {
         let _ = &self.size;
         write(self.front(place + bytes.len()), place, bytes);

@@ -2,10 +2,10 @@
 use Rattle.std.proofs.Common.{◌≡◌, ◌≤◌, ◌<◌, ◌+◌, ℕ, suc, List, [], ◌∷◌, ◌++◌, length, take, drop, sym, ap, ◌∙◌, arith, append_assoc, add-zero}
 use Rattle.std.specs.Prelude.{slice_set}
 use Rattle.std.proofs.lemmas.List.{take-append-drop, take_more_set, drop-set-lt, length-set, drop-drop}
-use Rattle.wasm_meaning.specs.Memory.{written}
+use Rattle.wasm_meaning.specs.Memory.{with_bytes}
 
 -- one by one they take the place of those that were there
-pub written-is : (m bytes : List ℕ) (p : ℕ) → p + length bytes ≤ length m → written m p bytes ≡ take p m ++ (bytes ++ drop (p + length bytes) m)
+pub written-is : (m bytes : List ℕ) (p : ℕ) → p + length bytes ≤ length m → with_bytes m p bytes ≡ take p m ++ (bytes ++ drop (p + length bytes) m)
 written-is m [] p h = sym (ap (λ k. take p m ++ drop k m) (add-zero p) ∙ take-append-drop p m)
 written-is m (b ∷ bytes) p h =
     let at : p < length m = omega arith in
@@ -18,7 +18,7 @@ written-is m (b ∷ bytes) p h =
     ∙ ap (λ xs. take p m ++ (b ∷ (bytes ++ xs))) (back ∙ ap (λ k. drop k m) n)
 
 -- the same in the place of the next n bytes
-pub written-part : (m bytes now : List ℕ) (p n : ℕ) → p + length bytes ≤ length m → n ≡ length bytes → now ≡ bytes → take p m ++ (now ++ drop n (drop p m)) ≡ written m p bytes
+pub written-part : (m bytes now : List ℕ) (p n : ℕ) → p + length bytes ≤ length m → n ≡ length bytes → now ≡ bytes → take p m ++ (now ++ drop n (drop p m)) ≡ with_bytes m p bytes
 written-part m bytes now p n h en e =
     ap (λ xs. take p m ++ (xs ++ drop n (drop p m))) e
     ∙ ap (λ xs. take p m ++ (bytes ++ xs)) (drop-drop n p m ∙ ap (λ k. drop (p + k) m) en)

@@ -17,7 +17,7 @@ use Rattle.wasm_ast.specs.Code.{BlockType, Code, End, Do, Block, Loop, If}
 use Rattle.wasm_num.specs.Operators.{binary, unary, compare, eqz, convert, operand_type, result_type}
 use Rattle.wasm_validate.specs.HostCalls.{arity, host_calls}
 use Rattle.wasm_validate.specs.ModuleRules.{invoke_of}
-use Rattle.wasm_meaning.specs.Memory.{pages, bytes_of, loaded, written}
+use Rattle.wasm_meaning.specs.Memory.{pages, bytes_of, load_value, with_bytes}
 use Rattle.wasm_meaning.specs.Values.{Val, value, World, Answer, Next, Branch, Returns, Trapped, Spent, Stuck, Reply, Answering, Function, Program, Then, Means, all_of, top_of, zeros}
 use Rattle.wasm_meaning.specs.Meaning.{host_cost, grow_cost, same_func_type, greatest_depth, then_do, pay, on_top, as_word, with_some, block_end, loop_end, call_end, with_args, all_i32, number, replied, after_call, access, grow, call_host, call_function, type_of, call, call_entry, leaf, tree, bounded, meaning}
 use Rattle.wasm_meaning.specs.Program.{function_of, program_of, fresh_world, invocation}
@@ -190,9 +190,9 @@ module _ {R : Type 0} (P : R → Type 0) where
     leaf_alike g h k d (GlobalSet i) f s l w =
         on_top_alike w s _ _ (λ x s. some_alike w (slice_get w.globals i) _ _ (λ old. cond_alike w (same_type x.type old.type) _ _ _ _ (λ n. (n, refl)) (stuck_alike w)))
     leaf_alike g h k d (Load o align offset) f s l w =
-        on_top_alike w s _ _ (λ x s. word_alike w I32 x _ _ (λ a. access_alike (a + offset) (load_width o) f (value (load_type o) (loaded o w.memory (a + offset)) ∷ s) l w w (λ n. (n, refl))))
+        on_top_alike w s _ _ (λ x s. word_alike w I32 x _ _ (λ a. access_alike (a + offset) (load_width o) f (value (load_type o) (load_value o w.memory (a + offset)) ∷ s) l w w (λ n. (n, refl))))
     leaf_alike g h k d (Store o align offset) f s l w =
-        on_top_alike w s _ _ (λ y s. on_top_alike w s _ _ (λ x s. word_alike w I32 x _ _ (λ a. word_alike w (store_type o) y _ _ (λ m. access_alike (a + offset) (store_width o) f s l w (record w { memory = written w.memory (a + offset) (bytes_of (store_width o) m) }) (λ n. (n, refl))))))
+        on_top_alike w s _ _ (λ y s. on_top_alike w s _ _ (λ x s. word_alike w I32 x _ _ (λ a. word_alike w (store_type o) y _ _ (λ m. access_alike (a + offset) (store_width o) f s l w (record w { memory = with_bytes w.memory (a + offset) (bytes_of (store_width o) m) }) (λ n. (n, refl))))))
     leaf_alike g h k d MemorySize f s l w = λ n. (n, refl)
     leaf_alike g h k d MemoryGrow f s l w =
         on_top_alike w s _ _ (λ x s. word_alike w I32 x _ _ (λ m. pay_alike (grow_cost m) f w _ _ (λ f. grow_alike p.most_pages m f s l w)))

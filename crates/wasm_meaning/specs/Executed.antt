@@ -22,8 +22,8 @@ abbrev pub Counts : Type 0 → Type 0
 Counts R = (depth : ℕ) → Code → Count R
 
 -- an instruction counts where its cost is paid, and so does what it leads to
-abbrev pub paid : ℕ → (ℕ → ℕ) → ℕ
-paid fuel go = cond (nat_lt fuel 1) 0 (1 + go (fuel - 1))
+abbrev pub count_paid : ℕ → (ℕ → ℕ) → ℕ
+count_paid fuel go = cond (nat_lt fuel 1) 0 (1 + go (fuel - 1))
 
 abbrev pub if_some : {A : Type 0} → Option A → (A → ℕ) → ℕ
 if_some None go = 0
@@ -85,13 +85,13 @@ module _ {R : Type 0} (p : Program R) where
   abbrev pub in_tree : Counts R → Counts R
   in_tree count d End f s l w = 0
   in_tree count d (Do o c) f s l w =
-      paid f (λ f. in_leaf count d o f s l w + if_next (leaf p (meaning p) d o f s l w) (in_tree count d c))
+      count_paid f (λ f. in_leaf count d o f s l w + if_next (leaf p (meaning p) d o f s l w) (in_tree count d c))
   in_tree count d (Block t b c) f s l w =
-      paid f (λ f. in_tree count d b f [] l w + if_next (block_end t s (tree p (meaning p) d b f [] l w)) (in_tree count d c))
+      count_paid f (λ f. in_tree count d b f [] l w + if_next (block_end t s (tree p (meaning p) d b f [] l w)) (in_tree count d c))
   in_tree count d (Loop t b c) f s l w =
-      paid f (λ f. (in_tree count d b f [] l w + if_again s (tree p (meaning p) d b f [] l w) (count d (Loop t b End))) + if_next (loop_end t s (meaning p d (Loop t b End)) (tree p (meaning p) d b f [] l w)) (in_tree count d c))
+      count_paid f (λ f. (in_tree count d b f [] l w + if_again s (tree p (meaning p) d b f [] l w) (count d (Loop t b End))) + if_next (loop_end t s (meaning p d (Loop t b End)) (tree p (meaning p) d b f [] l w)) (in_tree count d c))
   in_tree count d (If t a b c) f s l w =
-      paid f (λ f. if_top s (λ x s. if_word I32 x (λ n. cond (nat_eq n 0) (in_tree count d b f [] l w) (in_tree count d a f [] l w) + if_next (block_end t s (cond (nat_eq n 0) (tree p (meaning p) d b f [] l w) (tree p (meaning p) d a f [] l w))) (in_tree count d c))))
+      count_paid f (λ f. if_top s (λ x s. if_word I32 x (λ n. cond (nat_eq n 0) (in_tree count d b f [] l w) (in_tree count d a f [] l w) + if_next (block_end t s (cond (nat_eq n 0) (tree p (meaning p) d b f [] l w) (tree p (meaning p) d a f [] l w))) (in_tree count d c))))
 
   -- at most n loops and calls one in the other, as in the meaning
   abbrev pub in_bounded : ℕ → Counts R

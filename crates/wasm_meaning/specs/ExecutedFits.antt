@@ -18,7 +18,7 @@ use Rattle.wasm_meaning.specs.Meaning.{greatest_depth, same_func_type, then_do, 
 use Rattle.wasm_meaning.specs.Program.{function_of, program_of, fresh_world, invocation}
 use Rattle.wasm_meaning.specs.Fuel.{fuel_left}
 use Rattle.wasm_meaning.specs.Unfold.{meaning-is, meaning-left, leaf_left, host_left}
-use Rattle.wasm_meaning.specs.Executed.{Count, Counts, paid, if_some, if_top, if_word, if_next, if_again, in_function, in_call, in_entry, in_leaf, in_tree, in_bounded, executed, executed_by}
+use Rattle.wasm_meaning.specs.Executed.{Count, Counts, count_paid, if_some, if_top, if_word, if_next, if_again, in_function, in_call, in_entry, in_leaf, in_tree, in_bounded, executed, executed_by}
 
 module _ {R : Type 0} where
   -- k instructions were executed from fuel n to an answer
@@ -43,7 +43,7 @@ module _ {R : Type 0} where
   word_fits : (n : ℕ) (t : ValueType) (x : Val) (g : ℕ → ℕ) (h : ℕ → Answer R) → ((m : ℕ) → Fits n (g m) (h m)) → Fits n (if_word t x g) (as_word t x h)
   word_fits n t x g h k = cond_fits n (same_type x.type t && nat_lt x.word (words t)) (g x.word) 0 (h x.word) Stuck (k x.word) (record { fits = omega arith })
 
-  pay_fits : (f : ℕ) (w : World R) (g : ℕ → ℕ) (h : ℕ → Answer R) → ((f : ℕ) → Fits f (g f) (h f)) → Fits f (paid f g) (pay 1 f w h)
+  pay_fits : (f : ℕ) (w : World R) (g : ℕ → ℕ) (h : ℕ → Answer R) → ((f : ℕ) → Fits f (g f) (h f)) → Fits f (count_paid f g) (pay 1 f w h)
   pay_fits f w g h k = go (nat_lt f 1) refl
     where
       go : (b : Bool) → nat_lt f 1 ≡ b → Fits f (cond b 0 (1 + g (f - 1))) (cond b (Spent w) (h (f - 1)))

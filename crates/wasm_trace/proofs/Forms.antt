@@ -16,7 +16,7 @@ use Rattle.wasm_ast.specs.Code.{BlockType, Code}
 use Rattle.wasm_ast.specs.Access.{load_type, load_width, store_type, store_width}
 use Rattle.wasm_num.specs.Operators.{binary, unary, compare, eqz, convert, operand_type, result_type}
 use Rattle.wasm_validate.specs.HostCalls.{arity}
-use Rattle.wasm_meaning.specs.Memory.{pages, size_word, grown, bytes_of, loaded, written}
+use Rattle.wasm_meaning.specs.Memory.{pages, size_word, with_pages, bytes_of, load_value, with_bytes}
 use Rattle.wasm_meaning.specs.Values as meant
 use Rattle.wasm_meaning.specs.Values.{Val, value, World, Answer, Next, Branch, Returns, Reply, Function, Program, Then, zeros}
 use Rattle.wasm_meaning.specs.Meaning.{host_cost, grow_cost, same_func_type, greatest_depth, pay, on_top, as_word, with_some, call_end, with_args, all_i32, number, replied, access, call_host, call_function, type_of, call, call_entry, leaf, meaning}
@@ -188,11 +188,11 @@ module _ {R : Type 0} (p : Program R) (n : ℕ) (sound : Sound p n) where
         top_meets p ks f0 l w j i s _ _ (λ x s. found_meets p ks f0 l w j i (slice_get w.globals k) _ _ (λ old. replacing_meets p ks f0 l w j i x old _ _ (next_meets p ks f0 l w j i f s l (record w { globals = slice_set w.globals k x }))))
     leaf_meets MemorySize f s lt = put_meets p ks f0 l w j i f (value I32 (size_word w.memory)) s l w
     leaf_meets MemoryGrow f s lt =
-        operand_meets p ks f0 l w j i I32 s _ _ (λ m s. pay_meets p ks f0 l w j i (grow_cost m) f _ _ (λ f. cond_meets p ks f0 l w j i (nat_lt p.most_pages (pages w.memory + m)) _ _ _ _ (put_meets p ks f0 l w j i f (value I32 (words I32 - 1)) s l w) (put_meets p ks f0 l w j i f (value I32 (size_word w.memory)) s l (record w { memory = grown m w.memory }))))
+        operand_meets p ks f0 l w j i I32 s _ _ (λ m s. pay_meets p ks f0 l w j i (grow_cost m) f _ _ (λ f. cond_meets p ks f0 l w j i (nat_lt p.most_pages (pages w.memory + m)) _ _ _ _ (put_meets p ks f0 l w j i f (value I32 (words I32 - 1)) s l w) (put_meets p ks f0 l w j i f (value I32 (size_word w.memory)) s l (record w { memory = with_pages m w.memory }))))
     leaf_meets (Load o align offset) f s lt =
-        operand_meets p ks f0 l w j i I32 s _ _ (λ a s. access_meets p ks f0 l w j i (a + offset) (load_width o) f s _ _ (put_meets p ks f0 l w j i f (value (load_type o) (loaded o w.memory (a + offset))) s l w))
+        operand_meets p ks f0 l w j i I32 s _ _ (λ a s. access_meets p ks f0 l w j i (a + offset) (load_width o) f s _ _ (put_meets p ks f0 l w j i f (value (load_type o) (load_value o w.memory (a + offset))) s l w))
     leaf_meets (Store o align offset) f s lt =
-        operands_meet p ks f0 l w j i I32 (store_type o) s _ _ (λ a m s. access_meets p ks f0 l w j i (a + offset) (store_width o) f s _ _ (next_meets p ks f0 l w j i f s l (record w { memory = written w.memory (a + offset) (bytes_of (store_width o) m) })))
+        operands_meet p ks f0 l w j i I32 (store_type o) s _ _ (λ a m s. access_meets p ks f0 l w j i (a + offset) (store_width o) f s _ _ (next_meets p ks f0 l w j i f s l (record w { memory = with_bytes w.memory (a + offset) (bytes_of (store_width o) m) })))
     leaf_meets (Const t m) f s lt = put_meets p ks f0 l w j i f (value t m) s l w
     leaf_meets (Eqz t) f s lt =
         operand_meets p ks f0 l w j i t s _ _ (λ a s. put_meets p ks f0 l w j i f (value I32 (eqz a)) s l w)

@@ -15,7 +15,7 @@ use Rattle.wasm_ast.specs.Code.{BlockType, Code}
 use Rattle.wasm_ast.specs.Access.{load_type, load_width, store_type, store_width}
 use Rattle.wasm_num.specs.Operators.{binary, unary, compare, eqz, convert, operand_type, result_type}
 use Rattle.wasm_validate.specs.HostCalls.{arity}
-use Rattle.wasm_meaning.specs.Memory.{pages, size_word, grown, bytes_of, loaded, written}
+use Rattle.wasm_meaning.specs.Memory.{pages, size_word, with_pages, bytes_of, load_value, with_bytes}
 use Rattle.wasm_meaning.specs.Values.{Val, value, World, Reply, Function, Program, all_of, top_of, zeros}
 use Rattle.wasm_meaning.specs.Meaning.{host_cost, grow_cost, same_func_type, greatest_depth, type_of}
 
@@ -163,7 +163,7 @@ module _ {R : Type 0} where
 
   abbrev pub grow_step : (most n : ℕ) → ℕ → List Val → World R → List Val → Seq → Step R
   grow_step most n f l w s i =
-      cond (nat_lt most (pages w.memory + n)) (at f l w s (Put (value I32 (words I32 - 1)) i)) (at f l (record w { memory = grown n w.memory }) s (Put (value I32 (size_word w.memory)) i))
+      cond (nat_lt most (pages w.memory + n)) (at f l w s (Put (value I32 (words I32 - 1)) i)) (at f l (record w { memory = with_pages n w.memory }) s (Put (value I32 (size_word w.memory)) i))
 
   -- what a host's answer becomes
   abbrev pub answered : HostAnswer → ℕ → List Val → World R → List Val → Seq → Step R
@@ -233,9 +233,9 @@ module _ {R : Type 0} (p : Program R) where
   op_step MemoryGrow f l w s i =
       operand I32 s (λ n s. paid (grow_cost n) f (λ f. grow_step p.most_pages n f l w s i))
   op_step (Load o align offset) f l w s i =
-      operand I32 s (λ a s. accessed (a + offset) (load_width o) f l w s i (at f l w s (Put (value (load_type o) (loaded o w.memory (a + offset))) i)))
+      operand I32 s (λ a s. accessed (a + offset) (load_width o) f l w s i (at f l w s (Put (value (load_type o) (load_value o w.memory (a + offset))) i)))
   op_step (Store o align offset) f l w s i =
-      operand (store_type o) s (λ n s. operand I32 s (λ a s. accessed (a + offset) (store_width o) f l w s i (at f l (record w { memory = written w.memory (a + offset) (bytes_of (store_width o) n) }) s i)))
+      operand (store_type o) s (λ n s. operand I32 s (λ a s. accessed (a + offset) (store_width o) f l w s i (at f l (record w { memory = with_bytes w.memory (a + offset) (bytes_of (store_width o) n) }) s i)))
   op_step (Const t n) f l w s i = at f l w s (Put (value t n) i)
   op_step (Eqz t) f l w s i = operand t s (λ a s. at f l w s (Put (value I32 (eqz a)) i))
   op_step (Unary t o) f l w s i = operand t s (λ a s. at f l w s (Put (value t (unary t o a)) i))

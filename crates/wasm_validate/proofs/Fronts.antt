@@ -14,7 +14,7 @@ use Rattle.wasm_validate.specs.Operands.{Operands, then, pop_as, push_result, no
 use Rattle.wasm_validate.specs.Algorithm.{step, check, whole_body, first, conditional, instruction}
 use Rattle.wasm_validate.specs.Breaks.{Breaks, BreaksIn, BreaksFirst, BreaksInstr, KeepsOwn, BreaksNone}
 use Rattle.wasm_validate.specs.Refused.{Refused}
-use Rattle.wasm_validate.specs.Front.{cut, IsFront}
+use Rattle.wasm_validate.specs.Front.{unreachable_end, IsFront}
 use Rattle.wasm_validate.specs.Mistyped.{Mismatch, Mistyped, MistypedIf, MistypedFirst}
 use Rattle.wasm_validate.proofs.Lists.{next}
 use Rattle.wasm_validate.proofs.Stands.{Holds, some_stack}
@@ -44,12 +44,12 @@ own_is_clean c o k fault.ImmutableGlobal m = k.1 m
 own_is_clean c o k fault.Alignment m = k.2 m
 own_is_clean c o k _ m = m
 
-cut_is_clean : (c : Context) → BreaksNone c cut
+cut_is_clean : (c : Context) → BreaksNone c unreachable_end
 cut_is_clean c f (inl m) = own_is_clean c Unreachable (λ x. x, λ x. x, λ x. x) f m
 cut_is_clean c f (inr m) = m
 
 -- any code may be cut at once
-cut_front : (code : Code) → IsFront code cut
+cut_front : (code : Code) → IsFront code unreachable_end
 cut_front End = inr refl
 cut_front (Do o rest) = inl refl
 cut_front (Block t b rest) = inl refl
@@ -96,27 +96,27 @@ mistyped_later c t code s s' e m =
 
 if_mistyped : (c : Context) (t : BlockType) (l : BlockType) (a b rest : Code) (s : Operands) → MistypedIf c l a b s → Mistyped c t (If l a b rest) s
 if_mistyped c t l a b rest s (inl e) = (
-  If l cut cut cut,
-  inr (inl (cut, cut_front a, refl)),
-  ap (λ o. then (then o (λ s. then (whole_body (under l c) l cut) (λ _. then (whole_body (under l c) l cut) (λ _. check c cut (push_result l s))))) (finish t)) e,
+  If l unreachable_end unreachable_end unreachable_end,
+  inr (inl (unreachable_end, cut_front a, refl)),
+  ap (λ o. then (then o (λ s. then (whole_body (under l c) l unreachable_end) (λ _. then (whole_body (under l c) l unreachable_end) (λ _. check c unreachable_end (push_result l s))))) (finish t)) e,
   λ f m. elim m [
     | inl m ↦ elim m [ inl x ↦ cut_is_clean (under l c) f x | inr x ↦ cut_is_clean (under l c) f x ]
     | inr x ↦ cut_is_clean c f x
   ],
 )
 if_mistyped c t l a b rest s (inr (inl m)) = (
-  If l m.0 cut cut,
+  If l m.0 unreachable_end unreachable_end,
   inr (inl (m.0, m.1, refl)),
-  ap (λ o. then o (finish t)) (always_none (pop_as I32 s) _ (λ s. ap (λ o. then o (λ _. then (whole_body (under l c) l cut) (λ _. check c cut (push_result l s)))) m.2)),
+  ap (λ o. then o (finish t)) (always_none (pop_as I32 s) _ (λ s. ap (λ o. then o (λ _. then (whole_body (under l c) l unreachable_end) (λ _. check c unreachable_end (push_result l s)))) m.2)),
   λ f n. elim n [
     | inl n ↦ elim n [ inl x ↦ m.3 f x | inr x ↦ cut_is_clean (under l c) f x ]
     | inr x ↦ cut_is_clean c f x
   ],
 )
 if_mistyped c t l a b rest s (inr (inr m)) = (
-  If l a m.1.0 cut,
+  If l a m.1.0 unreachable_end,
   inr (inr (inl (m.1.0, m.1.1, refl))),
-  ap (λ o. then o (finish t)) (always_none (pop_as I32 s) _ (λ s. always_none (whole_body (under l c) l a) _ (λ _. ap (λ o. then o (λ _. check c cut (push_result l s))) m.1.2))),
+  ap (λ o. then o (finish t)) (always_none (pop_as I32 s) _ (λ s. always_none (whole_body (under l c) l a) _ (λ _. ap (λ o. then o (λ _. check c unreachable_end (push_result l s))) m.1.2))),
   λ f n. elim n [
     | inl n ↦ elim n [
       | inl x ↦ broken_is_untyped f (under l c) a [] (results l) x (accepted_is_typed (under l c) l a m.0)
@@ -130,11 +130,11 @@ if_mistyped c t l a b rest s (inr (inr m)) = (
 mistyped_first : (c : Context) (t : BlockType) (code : Code) (s : Operands) → first c code s ≡ None → MistypedFirst c code s → Mistyped c t code s
 mistyped_first c t End s e m = absurd m
 mistyped_first c t (Do o rest) s e m =
-    (Do o cut, inr (cut, cut_front rest, refl), ap (λ o. then (then o (check c cut)) (finish t)) e, λ f n. elim n [ inl x ↦ own_is_clean c o m f x | inr x ↦ cut_is_clean c f x ])
+    (Do o unreachable_end, inr (unreachable_end, cut_front rest, refl), ap (λ o. then (then o (check c unreachable_end)) (finish t)) e, λ f n. elim n [ inl x ↦ own_is_clean c o m f x | inr x ↦ cut_is_clean c f x ])
 mistyped_first c t (Block l b rest) s e m =
-    (Block l m.0 cut, inr (inl (m.0, m.1, refl)), ap (λ o. then (then o (λ _. check c cut (push_result l s))) (finish t)) m.2, λ f n. elim n [ inl x ↦ m.3 f x | inr x ↦ cut_is_clean c f x ])
+    (Block l m.0 unreachable_end, inr (inl (m.0, m.1, refl)), ap (λ o. then (then o (λ _. check c unreachable_end (push_result l s))) (finish t)) m.2, λ f n. elim n [ inl x ↦ m.3 f x | inr x ↦ cut_is_clean c f x ])
 mistyped_first c t (Loop l b rest) s e m =
-    (Loop l m.0 cut, inr (inl (m.0, m.1, refl)), ap (λ o. then (then o (λ _. check c cut (push_result l s))) (finish t)) m.2, λ f n. elim n [ inl x ↦ m.3 f x | inr x ↦ cut_is_clean c f x ])
+    (Loop l m.0 unreachable_end, inr (inl (m.0, m.1, refl)), ap (λ o. then (then o (λ _. check c unreachable_end (push_result l s))) (finish t)) m.2, λ f n. elim n [ inl x ↦ m.3 f x | inr x ↦ cut_is_clean c f x ])
 mistyped_first c t (If l a b rest) s e m = if_mistyped c t l a b rest s m
 
 mistyped_alone : (c : Context) (i : Instr) (rest : Code) (s : Operands) → MistypedFirst c (then_code i End) s → MistypedFirst c (then_code i rest) s

@@ -12,7 +12,7 @@ use Rattle.wasm_validate.specs.Operands.{no_operands}
 use Rattle.wasm_validate.specs.declared.fault.ValidateFault.{ValidateFault}
 use Rattle.wasm_validate.specs.declared.fault.ValidateFault.TheVariants.{Memory, TypeMismatch, Index, ImmutableGlobal, Alignment}
 use Rattle.wasm_validate.specs.Typing.{Context, Types, at, results}
-use Rattle.wasm_validate.specs.ModuleRules.{imported, type_indices, type_at, function_context, no_type, IsFunction}
+use Rattle.wasm_validate.specs.ModuleRules.{imported_functions, type_indices, type_at, function_context, no_type, IsFunction}
 use Rattle.wasm_validate.specs.Indices.{AreTypes}
 use Rattle.wasm_validate.specs.Algorithm.{whole_body}
 use Rattle.wasm_validate.specs.Breaks.{BreaksIn, BreaksNone}
@@ -102,4 +102,4 @@ module _ (m : Module) (f : Func) (t : FuncType) (types : List FuncType) (functio
 -- a defined function's type is among those of all functions
 pub own_type : (m : Module) (functions : List ℕ) (k : ℕ) (f : Func) → functions ≡ type_indices m → AreTypes functions m.types → at m.functions k ≡ Some f → f.type_index < length m.types
 own_type m functions k f e known h =
-    known (length (imported m.imports) + k) f.type_index (ap (λ is. at is (length (imported m.imports) + k)) e ∙ at_append (imported m.imports) (map (λ (f : Func). f.type_index) m.functions) k f.type_index (at_map (λ (f : Func). f.type_index) m.functions k f h))
+    known (length (imported_functions m.imports) + k) f.type_index (ap (λ is. at is (length (imported_functions m.imports) + k)) e ∙ at_append (imported_functions m.imports) (map (λ (f : Func). f.type_index) m.functions) k f.type_index (at_map (λ (f : Func). f.type_index) m.functions k f h))

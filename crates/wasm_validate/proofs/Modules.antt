@@ -15,7 +15,7 @@ use Rattle.wasm_ast.specs.Code.{Code, End, Do}
 use Rattle.wasm_validate.specs.declared.fault.ValidateFault.{ValidateFault}
 use Rattle.wasm_validate.specs.declared.fault.ValidateFault.TheVariants as fault
 use Rattle.wasm_validate.specs.Typing.{at, results}
-use Rattle.wasm_validate.specs.ModuleRules.{imported, type_indices, type_at, function_context, IsValidImport, IsValid}
+use Rattle.wasm_validate.specs.ModuleRules.{imported_functions, type_indices, type_at, function_context, IsValidImport, IsValid}
 use Rattle.wasm_validate.specs.Indices.{AreTypes}
 use Rattle.wasm_validate.specs.HostCalls.{call_type, call_named, then_call, host_calls}
 use Rattle.wasm_validate.specs.Broken.{Broken, BrokenBody, MissingIndex, ImportType, FunctionType, Exported, ElementTable, ElementFunction, InBody, DataMemory, BadLimits, NotConstant, PassesEnd}
@@ -53,22 +53,22 @@ HasImport is t = (j : ℕ) × (i : Import) × (at is j ≡ Some i) × (i.kind �
 later : (i : Import) (is : List Import) (t : ℕ) → HasImport is t → HasImport (i ∷ is) t
 later i is t r = (suc r.0, r.1, r.2, r.3)
 
-first_or_later : (i : Import) (is : List Import) (k t u : ℕ) → i.kind ≡ kind.Function u → at (u ∷ imported is) k ≡ Some t → ((k : ℕ) → at (imported is) k ≡ Some t → HasImport is t) → HasImport (i ∷ is) t
+first_or_later : (i : Import) (is : List Import) (k t u : ℕ) → i.kind ≡ kind.Function u → at (u ∷ imported_functions is) k ≡ Some t → ((k : ℕ) → at (imported_functions is) k ≡ Some t → HasImport is t) → HasImport (i ∷ is) t
 first_or_later i is zero t u d h has = (0, i, refl, d ∙ ap kind.Function (some_same (Some u) u t refl h))
 first_or_later i is (suc k) t u d h has = later i is t (has k h)
 
 -- each type index of an imported function is that of an import
-imported_has : (is : List Import) (k t : ℕ) → at (imported is) k ≡ Some t → HasImport is t
-imported_has [] k t e = absurd (none_some (at (imported []) k) t refl e)
+imported_has : (is : List Import) (k t : ℕ) → at (imported_functions is) k ≡ Some t → HasImport is t
+imported_has [] k t e = absurd (none_some (at (imported_functions []) k) t refl e)
 imported_has (i ∷ is) k t e =
-    elim i.kind as (λ d. i.kind ≡ d → at (elim d [ kind.Function t ↦ t ∷ imported is | _ ↦ imported is ]) k ≡ Some t → HasImport (i ∷ is) t) [ kind.Function u ↦ λ d h. first_or_later i is k t u d h (λ k h. imported_has is k t h) | _ ↦ λ d h. later i is t (imported_has is k t h) ] refl e
+    elim i.kind as (λ d. i.kind ≡ d → at (elim d [ kind.Function t ↦ t ∷ imported_functions is | _ ↦ imported_functions is ]) k ≡ Some t → HasImport (i ∷ is) t) [ kind.Function u ↦ λ d h. first_or_later i is k t u d h (λ k h. imported_has is k t h) | _ ↦ λ d h. later i is t (imported_has is k t h) ] refl e
 
 -- where imports are host calls and functions have types, each function has a type
 pub known_types : (m : Module) → ((k : ℕ) → (i : Import) → at m.imports k ≡ Some i → IsValidImport m.types i) → ((k : ℕ) → (f : Func) → at m.functions k ≡ Some f → f.type_index < length m.types) → AreTypes (type_indices m) m.types
 known_types m imports functions k t e =
-    elim (at_either (imported m.imports) (map (λ (f : Func). f.type_index) m.functions) k t e) [ inl h ↦ of_import h | inr h ↦ of_function h.0 h.1 ]
+    elim (at_either (imported_functions m.imports) (map (λ (f : Func). f.type_index) m.functions) k t e) [ inl h ↦ of_import h | inr h ↦ of_function h.0 h.1 ]
   where
-    of_import : at (imported m.imports) k ≡ Some t → t < length m.types
+    of_import : at (imported_functions m.imports) k ≡ Some t → t < length m.types
     of_import h =
         let r = imported_has m.imports k t h in
         let i = imports r.0 r.1 r.2 in

@@ -18,8 +18,8 @@ name_of GetArg = codes "get_arg"
 name_of SetResult = codes "set_result"
 
 -- the calls that the profile has
-abbrev pub listed : List HostCall
-listed = GetState ∷ PutState ∷ DelState ∷ RangeState ∷ GetArg ∷ SetResult ∷ []
+abbrev pub profile_calls : List HostCall
+profile_calls = GetState ∷ PutState ∷ DelState ∷ RangeState ∷ GetArg ∷ SetResult ∷ []
 
 abbrev pub named_in : List HostCall → List ℕ → Option HostCall
 named_in [] name = None
@@ -27,7 +27,7 @@ named_in (c ∷ cs) name = cond (pointwise ◌==◌ (name_of c) name) (Some c) (
 
 -- the call of a name
 abbrev pub call_named : List ℕ → Option HostCall
-call_named name = named_in listed name
+call_named name = named_in profile_calls name
 
 -- the calls of imports, in order; a name that is none is passed over
 abbrev pub then_call : Option HostCall → List HostCall → List HostCall

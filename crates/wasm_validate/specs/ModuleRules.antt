@@ -24,13 +24,13 @@ use Rattle.wasm_validate.specs.Typing.{Context, Types, at, under, results}
 use Rattle.wasm_validate.specs.HostCalls.{call_type, fabric, call_named}
 
 -- the type indices of imported functions, in order
-abbrev pub imported : List Import → List ℕ
-imported [] = []
-imported (i ∷ is) = elim i.kind [ kind.Function t ↦ t ∷ imported is | _ ↦ imported is ]
+abbrev pub imported_functions : List Import → List ℕ
+imported_functions [] = []
+imported_functions (i ∷ is) = elim i.kind [ kind.Function t ↦ t ∷ imported_functions is | _ ↦ imported_functions is ]
 
 -- the type indices of all functions, the imported ones first
 abbrev pub type_indices : Module → List ℕ
-type_indices m = imported m.imports ++ map (λ (f : Func). f.type_index) m.functions
+type_indices m = imported_functions m.imports ++ map (λ (f : Func). f.type_index) m.functions
 
 abbrev pub function_types : Module → List FuncType
 function_types m = map (type_at m.types) (type_indices m)

@@ -5,7 +5,7 @@ ghost use Rattle.wasm_ast.specs.declared.module.Import.{Import};
 ghost use Rattle.wasm_ast.specs.declared.module.Func.{Func};
 ghost use Rattle.wasm_validate.specs.Typing.{at};
 ghost use Rattle.wasm_validate.specs.HostCalls.{call_named, host_calls};
-ghost use Rattle.wasm_validate.specs.ModuleRules.{IsValidImport, imported, type_indices};
+ghost use Rattle.wasm_validate.specs.ModuleRules.{IsValidImport, imported_functions, type_indices};
 ghost use Rattle.wasm_validate.specs.Indices.{AreTypes};
 ghost use Rattle.wasm_validate.specs.Broken.{Broken};
 

@@ -4,7 +4,7 @@ use Rattle.fab_types.specs.declared.flag.Flag.{Flag}
 use Rattle.endorsement_policy.specs.Endorsed.{is_endorsed}
 use Rattle.ledger_model.specs.Chain.{Chain, Committed, history}
 use Rattle.ledger_model.specs.Flags.{flags_told}
-use Rattle.ledger_model.specs.Judged.{judged}
+use Rattle.ledger_model.specs.Judged.{judge}
 use Rattle.ledger_model.proofs.Judged.{told_judged}
 use Rattle.committer.proofs.Last.{length_map}
 use Rattle.fabric_core.specs.Rule.{table_of}
@@ -19,9 +19,9 @@ returns-clause-committed c =
     let endorsed = is_endorsed c.args.rules.now in
     let rule = table_of c.args.rules.now in
     let number : b.header.number ≡ length chain + 1 = omega (arith, c.in_ok-next.ensures.fits.number, length_map (λ x. x.block) chain) in
-    let flags : flags_told id_of ts b.header.number 0 es c.deref.result.now ≡ judged rule ts (length chain + 1) 0 es =
+    let flags : flags_told id_of ts b.header.number 0 es c.deref.result.now ≡ judge rule ts (length chain + 1) 0 es =
     ap (flags_told id_of ts b.header.number 0 es) (c.deref.ensures.value ∙ c.in_ok-endorsed.ensures ∙ ap (map endorsed) c.as_slice.ensures.value)
     ∙ told_judged id_of endorsed ts b.header.number 0 es
-    ∙ ap (λ (n : ℕ). judged rule ts n 0 es) number
+    ∙ ap (λ (n : ℕ). judge rule ts n 0 es) number
     in
     c.in_ok-next.ensures.committed ∙ ap (λ (fs : List Flag). chain ++ record { block = b; flags = fs } ∷ []) flags

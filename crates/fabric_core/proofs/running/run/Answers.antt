@@ -4,7 +4,7 @@ use Rattle.ledger_model.specs.Chain.{Envelope}
 use Rattle.endorsement_policy.specs.Endorsed.{is_endorsed, CarriesRight}
 use Rattle.simulator.specs.Execution.{exec_of}
 use Rattle.fabric_core.specs.Setting.{limits_of}
-use Rattle.fabric_core.specs.System.{World, Reply, unused, IsStep, AreSteps}
+use Rattle.fabric_core.specs.System.{World, Reply, fresh_orderer, IsStep, AreSteps}
 use Rattle.fabric_core.specs.Inside.{rules_of}
 use Rattle.fabric_core.specs.System.{opening}
 use Rattle.fabric_core.proofs.Lists.{get_here}
@@ -49,7 +49,7 @@ returns-clause-run c =
     let limits = limits_of genesis in
     let start = opening genesis.peers.items genesis.seats limits genesis.reorder in
     let law = c.ordering_laws.ensures.step in
-    let began = c.ordering_laws.ensures.opening (unused limits genesis.reorder) c.requires.some (refl, refl) in
+    let began = c.ordering_laws.ensures.opening (fresh_orderer limits genesis.reorder) c.requires.some (refl, refl) in
     let steps : (more : List Reply) (w : World) → more ≡ c.loop-event.ran.replies.items → w ≡ c.loop-event.ran.system.world → AreSteps r start (take i events) more w =
     λ more w a b. subst (λ (x : World). AreSteps r start (take i events) more x) (sym b) (subst (λ (rs : List Reply). AreSteps r start (take i events) rs c.loop-event.ran.system.world) (sym a) inv.steps)
     in

@@ -4,7 +4,7 @@ use Rattle.std.specs.Option.{option_to_list}
 use Rattle.std.proofs.lemmas.List.{append-nil}
 use Rattle.std.proofs.lemmas.Option.{slice_get-get_or, slice_get_past}
 use Rattle.fab_types.specs.declared.envelope.Envelope.{Envelope}
-use Rattle.orderer.specs.Plans.{picked}
+use Rattle.orderer.specs.Plans.{envelopes_at}
 use Rattle.orderer.proofs.Picking.{picked_more}
 use Rattle.orderer.proofs.chain.picked.Goals.{in-Some+in_ok-clone+in_ok-push, in_default}
 use Rattle.orderer.proofs.chain.picked.Goals as goal
@@ -14,7 +14,7 @@ loop-place-preserved c =
     let batch = c.args.batch.now in
     let order = c.args.order.now in
     let i = c.loop-place.place-index in
-    let front = picked batch (take i order) in
+    let front = envelopes_at batch (take i order) in
     let more = picked_more batch order i 0 c.loop-place-test.true in
     elim c.match-get.branch [
       | in-Some+in_ok-clone+in_ok-push w ↦

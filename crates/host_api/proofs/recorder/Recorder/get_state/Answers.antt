@@ -1,6 +1,6 @@
 use Rattle.std.proofs.Common.{◌≡◌, ◌≤◌, rules, cond, Some, length, option_map, sym, ap, ◌∙◌, arith}
 use Rattle.ledger_model.specs.Views.{values_of}
-use Rattle.host_api.specs.HostStep.{given, span_bytes, get_state, read_key, refuses, replies, nth}
+use Rattle.host_api.specs.HostStep.{or_trap, span_bytes, get_state, read_key, refuses, replies, nth}
 use Rattle.host_api.specs.Recording.{read_reply}
 use Rattle.host_api.proofs.Calls.{here, room, key_ok}
 use Rattle.host_api.proofs.recorder.Recorder.get_state.Goals as goal
@@ -14,7 +14,7 @@ returns-in-Some-Some-clause-answer g c =
     let target = nth c.args.args.now 2 in
     let capacity = nth c.args.args.now 3 in
     let found : c.in_ok-read.field-0 ≡ Some (Some c.in-Some-Some.value) = search rules in
-    here memory s _ key c.in-Some.ensures (λ key. given (span_bytes target capacity memory) memory s (λ room. get_state m key target capacity memory s))
+    here memory s _ key c.in-Some.ensures (λ key. or_trap (span_bytes target capacity memory) memory s (λ room. get_state m key target capacity memory s))
     ∙ room memory s c.bytes_at-2.result _ c.bytes_at-2.ensures (search rules) (get_state m key target capacity memory s)
     ∙ ap (λ b. cond b (read_key m key target capacity memory s) (refuses 2 memory s)) (key_ok key (search rules) (search rules))
     ∙ c.in_ok-read.ensures.answer target capacity memory

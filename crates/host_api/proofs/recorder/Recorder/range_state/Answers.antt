@@ -2,7 +2,7 @@ use Rattle.std.proofs.Common.{◌≡◌, ◌≤◌, rules, cond, Some, length, m
 use Rattle.std.specs.Map.Iter.{deref_pair}
 use Rattle.ledger_model.specs.Views.{values_of}
 use Rattle.host_api.specs.Recorded.{Asked}
-use Rattle.host_api.specs.HostStep.{given, span_bytes, range_state, ask_range, refuses, replies, reply_range_bytes, is_limit, nth}
+use Rattle.host_api.specs.HostStep.{or_trap, span_bytes, range_state, ask_range, refuses, replies, reply_range_bytes, is_limit, nth}
 use Rattle.host_api.specs.Recording.{range_reply, key_and_value}
 use Rattle.host_api.proofs.Calls.{here, room, limit_ok, bounds_ok}
 use Rattle.host_api.proofs.recorder.Recorder.range_state.Goals as goal
@@ -17,8 +17,8 @@ returns-in-Some-2-clause-answer g c =
     let capacity = nth c.args.args.now 6 in
     let asked : Asked = record { start = c.in-Some.start.now; end = c.in-Some-bytes_at.end.now; limit = limit } in
     let found : c.in_ok-ask.field-0 ≡ Some c.in-Some-2.entries = search rules in
-    here memory s _ c.in-Some.start.now c.in-Some.ensures (λ start. given (span_bytes (nth c.args.args.now 2) (nth c.args.args.now 3) memory) memory s (λ end. given (span_bytes target capacity memory) memory s (λ room. range_state m (record { start = start; end = end; limit = limit }) target capacity memory s)))
-    ∙ here memory s _ c.in-Some-bytes_at.end.now c.in-Some-bytes_at.ensures (λ end. given (span_bytes target capacity memory) memory s (λ room. range_state m (record { start = c.in-Some.start.now; end = end; limit = limit }) target capacity memory s))
+    here memory s _ c.in-Some.start.now c.in-Some.ensures (λ start. or_trap (span_bytes (nth c.args.args.now 2) (nth c.args.args.now 3) memory) memory s (λ end. or_trap (span_bytes target capacity memory) memory s (λ room. range_state m (record { start = start; end = end; limit = limit }) target capacity memory s)))
+    ∙ here memory s _ c.in-Some-bytes_at.end.now c.in-Some-bytes_at.ensures (λ end. or_trap (span_bytes target capacity memory) memory s (λ room. range_state m (record { start = c.in-Some.start.now; end = end; limit = limit }) target capacity memory s))
     ∙ room memory s c.bytes_at-3.result _ c.bytes_at-3.ensures (search rules) (range_state m asked target capacity memory s)
     ∙ ap (λ b. cond b (cond (is_limit limit) (ask_range m asked target capacity memory s) (refuses 5 memory s)) (refuses 2 memory s)) (bounds_ok asked.start asked.end (search rules) (search rules))
     ∙ ap (λ b. cond b (ask_range m asked target capacity memory s) (refuses 5 memory s)) (limit_ok limit (search rules) (search rules))
