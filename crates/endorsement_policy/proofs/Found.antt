@@ -6,7 +6,7 @@ use Rattle.std.proofs.lemmas.Bool.{leb-true}
 use Rattle.std.proofs.lemmas.Option.{some_pair_parts, same_Some}
 use Rattle.grammar.specs.Spelling.{IsByte}
 use Rattle.grammar.specs.Reading.{◌>>=◌}
-use Rattle.grammar.specs.Steps.{bind_some, guarded, either}
+use Rattle.grammar.specs.Laws.Steps.{bind_some, guarded, either}
 use Rattle.endorsement_policy.specs.Tree.{Rule, And, Or, OutOf, Policies, End, Org, Of}
 use Rattle.endorsement_policy.specs.View.{then_policy, policies_of, alone}
 use Rattle.endorsement_policy.specs.GoodSets.{Names, is_among}

@@ -9,7 +9,7 @@ use Rattle.std.proofs.lemmas.List.{take_at, drop_at, take-append-drop}
 use Rattle.fab_types.specs.Limits.{is_digit, is_org_name_byte}
 use Rattle.grammar.specs.Spelling.{IsByte, IsText}
 use Rattle.grammar.specs.Reading.{◌>>=◌, byte_at}
-use Rattle.grammar.specs.Steps.{bind_some, guarded, byte_taken}
+use Rattle.grammar.specs.Laws.Steps.{bind_some, guarded, byte_taken}
 use Rattle.endorsement_policy.specs.Tree.{Rule, And, Or, OutOf}
 use Rattle.endorsement_policy.specs.GoodSets.{Name}
 use Rattle.endorsement_policy.specs.Spelling.{IsSpaces, ◌⋯◌, IsLeaf, IsThreshold, decimal_after, leads_with_zero, IsOpening}

@@ -5,7 +5,7 @@ use Rattle.std.proofs.lemmas.Bool.{eqb-true, le-leb, cases_lt}
 use Rattle.std.proofs.lemmas.Option.{same_Some}
 use Rattle.std.proofs.lemmas.List.{append-nil, nil_from_length}
 use Rattle.grammar.specs.Reading.{whole_at}
-use Rattle.grammar.specs.Steps.{bind_some, guarded}
+use Rattle.grammar.specs.Laws.Steps.{bind_some, guarded}
 use Rattle.endorsement_policy.specs.Tree.{Rule, And, Or, OutOf, Policies, End, Org, Of}
 use Rattle.endorsement_policy.specs.View.{alone}
 use Rattle.endorsement_policy.specs.Evaluation.{count}

@@ -1,6 +1,6 @@
 pub mod Tree
 pub mod View
-pub mod Smaller
+pub mod Laws
 pub mod GoodSets
 pub mod Evaluation
 pub mod Spelling

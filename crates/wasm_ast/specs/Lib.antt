@@ -5,6 +5,6 @@ pub mod Conversions
 pub mod Op
 pub mod Code
 pub mod View
-pub mod Smaller
+pub mod Laws
 pub mod Functions
 pub mod HostTypes

@@ -101,7 +101,7 @@ impl Model for Body {
 
     ghost size = { code_size };
 
-    ghost use Rattle.wasm_ast.specs.Smaller.{most_le-code_size};
+    ghost use Rattle.wasm_ast.specs.Laws.Smaller.{most_le-code_size};
     ghost use Rattle.std.proofs.Common.{arith};
 
     ghost size_decreases = { λ b h. omega (arith, most_le-code_size b.items.items) };

@@ -11,7 +11,7 @@ use Rattle.wasm_bytes.specs.declared.fault.FaultKind.TheVariants.{EndedEarly, Ba
 use Rattle.wasm_bytes.specs.Spelling.{IsU32, IsS32, IsS64}
 use Rattle.wasm_bytes.specs.Reading.{u32_at, name_at}
 use Rattle.wasm_bytes.specs.Faults.{InFront, Begins, unsigned_fault, signed_fault, u32_fault, s32_fault, s64_fault, content_fault, name_fault, fault_offset, fault_at}
-use Rattle.wasm_bytes.specs.Leb.{unsigned_takes, unsigned_reads}
+use Rattle.wasm_bytes.specs.Laws.Leb.{unsigned_takes, unsigned_reads}
 use Rattle.wasm_bytes.specs.Refusals.{u32_refusal, s32_refusal, s64_refusal}
 use Rattle.wasm_bytes.proofs.Items.{nothing}
 use Rattle.wasm_bytes.specs.Place.{Place, IsPlace, offset_of}

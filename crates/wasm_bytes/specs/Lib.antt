@@ -5,6 +5,5 @@ pub mod Place
 pub mod Faults
 pub mod Stands
 pub mod Moves
-pub mod Leb
-pub mod Names
+pub mod Laws
 pub mod Refusals

@@ -4,7 +4,7 @@ use Rattle.std.proofs.lemmas.Bool.{cases_lt, le-ltb, lt-ltb}
 use Rattle.wasm_bytes.specs.declared.fault.FaultKind.TheVariants.{EndedEarly, BadNumber}
 use Rattle.wasm_bytes.specs.Spelling.{IsUnsigned, IsSigned, IsU32, IsS32, IsS64}
 use Rattle.wasm_bytes.specs.Faults.{InFront, Begins, unsigned_fault, signed_fault, u32_fault, s32_fault, s64_fault}
-use Rattle.wasm_bytes.specs.Leb.{unsigned_longer, signed_longer}
+use Rattle.wasm_bytes.specs.Laws.Leb.{unsigned_longer, signed_longer}
 
 -- ---- unsigned
 

@@ -6,7 +6,7 @@ use Rattle.wasm_decode.specs.OpReading.{plain_at}
 use Rattle.wasm_decode.specs.TypeSpelling.{IsBlockType}
 use Rattle.wasm_decode.specs.CodeSpelling.{nesting, IsCode, IsExpression}
 use Rattle.wasm_decode.specs.CodeReading.{Instructions, Step, Inner, append, closed_at, block_at, conditional_at, step_at, is_last, code_at, body_at, below, expression_at}
-use Rattle.grammar.specs.Steps.{bind_some}
+use Rattle.grammar.specs.Laws.Steps.{bind_some}
 use Rattle.std.proofs.lemmas.Option.{some_pair_parts}
 use Rattle.wasm_decode.proofs.TypeLaws.{block_type_reads}
 use Rattle.wasm_decode.proofs.OpLaws.{plain_again}

@@ -5,7 +5,7 @@ use Rattle.std.proofs.lemmas.Option.{some_pair_parts, cond_some}
 use Rattle.grammar.specs.Spelling.{◌⟫◌, IsByte}
 use Rattle.grammar.specs.Reading.{◌>>=◌}
 use Rattle.grammar.specs.Table.{row_byte_at}
-use Rattle.grammar.specs.Steps.{bind_some, refused_past, either}
+use Rattle.grammar.specs.Laws.Steps.{bind_some, refused_past, either}
 use Rattle.wasm_ast.specs.Code.{BlockType, Code, End, Do, Block, Loop, If, code_size}
 use Rattle.wasm_decode.specs.Tables.{block_type_rows}
 use Rattle.wasm_decode.specs.TypeSpelling.{IsBlockType}

@@ -3,10 +3,10 @@ use Rattle.std.proofs.Common.{◌≡◌, ℕ, List, Option, Some, refl, sym, ap�
 use Rattle.grammar.specs.Reading.{◌>>=◌}
 use Rattle.grammar.specs.Table.{IsByRow, IsRowByte, row_byte_at, by_row_at}
 use Rattle.grammar.specs.Reads.{Reads, Any}
-use Rattle.grammar.specs.Laws.{row_reads, by_row_reads, made_reads, then_reads, last_reads}
+use Rattle.grammar.specs.Laws.Wholes.{row_reads, by_row_reads, made_reads, then_reads, last_reads}
 use Rattle.wasm_bytes.specs.Spelling.{IsU32, IsName}
 use Rattle.wasm_bytes.specs.Reading.{u32_at, name_at}
-use Rattle.wasm_bytes.specs.Names.{name_reads}
+use Rattle.wasm_bytes.specs.Laws.Names.{name_reads}
 use Rattle.wasm_ast.specs.declared.module.ExternalKind.{ExternalKind}
 use Rattle.wasm_ast.specs.declared.module.ExternalKind.TheVariants as external
 use Rattle.wasm_ast.specs.declared.module.ImportKind.{ImportKind}

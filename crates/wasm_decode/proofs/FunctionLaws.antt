@@ -6,8 +6,8 @@ use Rattle.std.proofs.lemmas.List.{length-append, length-replicate, length-map}
 use Rattle.grammar.specs.Spelling.{◌⟫◌, IsByte, Repeats, IsAtMost}
 use Rattle.grammar.specs.Reading.{◌>>=◌, byte_at, at_most}
 use Rattle.grammar.specs.Reads.{Reads, ReadsIf, Any}
-use Rattle.grammar.specs.Steps.{bind_some, guarded}
-use Rattle.grammar.specs.Laws.{byte_reads, then_reads, last_reads, known_reads, measured_reads}
+use Rattle.grammar.specs.Laws.Steps.{bind_some, guarded}
+use Rattle.grammar.specs.Laws.Wholes.{byte_reads, then_reads, last_reads, known_reads, measured_reads}
 use Rattle.wasm_bytes.specs.Spelling.{IsU32, IsList}
 use Rattle.wasm_bytes.specs.Reading.{u32_at, list_at}
 use Rattle.wasm_ast.specs.Code.{Code}

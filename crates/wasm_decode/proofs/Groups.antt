@@ -6,7 +6,7 @@ use Rattle.wasm_bytes.specs.Reading.{u32_at}
 use Rattle.wasm_ast.specs.declared.types.ValueType.{ValueType}
 use Rattle.wasm_decode.specs.TypeReading.{value_type_at}
 use Rattle.wasm_decode.specs.FunctionReading.{groups_at}
-use Rattle.grammar.specs.Loops.{with_front}
+use Rattle.grammar.specs.Laws.Loops.{with_front}
 
 regroup : (front here : List ValueType) (read : Option (List ValueType × List ℕ)) → with_front front (read >>= λ x. Some (here ++ x.0, x.1)) ≡ with_front (front ++ here) read
 regroup front here (Some x) = ap (λ (ls : List ValueType). Some (ls, x.1)) (sym (append_assoc front here x.0))

@@ -6,13 +6,13 @@ use Rattle.std.proofs.lemmas.List.{length-append}
 use Rattle.grammar.specs.Spelling.{◌⟫◌, IsText, Repeats}
 use Rattle.grammar.specs.Reading.{◌>>=◌, text_at, whole_at}
 use Rattle.grammar.specs.Table.{HasRow, row_at}
-use Rattle.grammar.specs.Rows.{has_row, row_found, row_is_not}
+use Rattle.grammar.specs.Laws.Rows.{has_row, row_found, row_is_not}
 use Rattle.grammar.specs.Reads.{Reads}
-use Rattle.grammar.specs.Steps.{bind_some, guarded, refused_past, either}
-use Rattle.grammar.specs.Laws.{made_reads, text_reads, whole_takes, whole_again, measured_takes, measured_again}
+use Rattle.grammar.specs.Laws.Steps.{bind_some, guarded, refused_past, either}
+use Rattle.grammar.specs.Laws.Wholes.{made_reads, text_reads, whole_takes, whole_again, measured_takes, measured_again}
 use Rattle.wasm_bytes.specs.Spelling.{IsU32, IsName}
 use Rattle.wasm_bytes.specs.Reading.{u32_at, name_at, sized_at}
-use Rattle.wasm_bytes.specs.Names.{name_reads}
+use Rattle.wasm_bytes.specs.Laws.Names.{name_reads}
 use Rattle.wasm_ast.specs.declared.module.Module.{Module}
 use Rattle.wasm_decode.specs.declared.sections.Kind.{Kind}
 use Rattle.wasm_decode.specs.declared.sections.Kind.TheVariants.{Types, Imports, TypeIndices, Tables, Memories, Globals, Exports, Elements, Functions, Data}

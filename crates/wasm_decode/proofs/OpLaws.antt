@@ -5,13 +5,13 @@ use Rattle.std.proofs.lemmas.Option.{some_pair_parts}
 use Rattle.grammar.specs.Spelling.{IsByte}
 use Rattle.grammar.specs.Reading.{◌>>=◌}
 use Rattle.grammar.specs.Table.{row_at, is_unique}
-use Rattle.grammar.specs.Rows.{has_row, row_found, row_is_not}
+use Rattle.grammar.specs.Laws.Rows.{has_row, row_found, row_is_not}
 use Rattle.grammar.specs.Reads.{Reads, Any}
-use Rattle.grammar.specs.Steps.{bind_some}
-use Rattle.grammar.specs.Laws.{made_reads, text_reads, then_reads, last_reads}
+use Rattle.grammar.specs.Laws.Steps.{bind_some}
+use Rattle.grammar.specs.Laws.Wholes.{made_reads, text_reads, then_reads, last_reads}
 use Rattle.wasm_bytes.specs.Spelling.{IsU32, IsS32, IsS64, IsList}
 use Rattle.wasm_bytes.specs.Reading.{u32_at, s32_at, s64_at, list_at}
-use Rattle.wasm_bytes.specs.Leb.{signed_reads}
+use Rattle.wasm_bytes.specs.Laws.Leb.{signed_reads}
 use Rattle.wasm_ast.specs.declared.operators.LoadOp.{LoadOp}
 use Rattle.wasm_ast.specs.declared.operators.StoreOp.{StoreOp}
 use Rattle.wasm_ast.specs.declared.body.MemoryArgument.{MemoryArgument}

@@ -6,11 +6,11 @@ use Rattle.grammar.specs.Spelling.{◌⟫◌, IsAtMost}
 use Rattle.grammar.specs.Reading.{◌>>=◌, at_most}
 use Rattle.grammar.specs.Table.{row_byte_at}
 use Rattle.grammar.specs.Reads.{Reads, ReadsIf, Any}
-use Rattle.grammar.specs.Steps.{bind_some, either}
-use Rattle.grammar.specs.Laws.{row_reads, by_row_reads, bounded_reads, tagged_reads, then_reads, last_reads, known_reads, counted_reads}
+use Rattle.grammar.specs.Laws.Steps.{bind_some, either}
+use Rattle.grammar.specs.Laws.Wholes.{row_reads, by_row_reads, bounded_reads, tagged_reads, then_reads, last_reads, known_reads, counted_reads}
 use Rattle.wasm_bytes.specs.Spelling.{IsU32, IsList}
 use Rattle.wasm_bytes.specs.Reading.{u32_at, list_at}
-use Rattle.wasm_bytes.specs.Leb.{unsigned_reads}
+use Rattle.wasm_bytes.specs.Laws.Leb.{unsigned_reads}
 use Rattle.wasm_ast.specs.declared.types.ValueType.{ValueType}
 use Rattle.wasm_ast.specs.declared.types.FuncType.{FuncType}
 use Rattle.wasm_ast.specs.declared.types.Limits.{Limits}

@@ -3,12 +3,6 @@ pub mod Memory
 pub mod Meaning
 pub mod Program
 pub mod Fuel
-pub mod Fine
 pub mod Following
-pub mod Unfold
 pub mod Executed
-pub mod ExecutedFits
-pub mod Loads
-pub mod Sound
-pub mod NeverStuck
-pub mod Alike
+pub mod Laws

@@ -7,7 +7,7 @@ use Rattle.wasm_ast.specs.Types.{words}
 use Rattle.wasm_ast.specs.declared.types.ValueType.{ValueType}
 use Rattle.wasm_ast.specs.declared.types.ValueType.TheVariants.{I32, I64}
 use Rattle.wasm_num.specs.Operators.{signed, unsigned}
-use Rattle.wasm_num.specs.Fits.{minus_words}
+use Rattle.wasm_num.specs.Laws.Fits.{minus_words}
 
 pub halves : (t : ValueType) → words t ≡ words t / 2 + words t / 2
 halves I32 = refl

@@ -11,7 +11,7 @@ use Rattle.wasm_ast.specs.declared.operators.BinaryOp.TheVariants.{Add, Sub, Mul
 use Rattle.wasm_num.specs.Operators.{signed, unsigned, binary}
 use Rattle.wasm_num.specs.Laws.{divides, ZeroTraps, OverflowTraps, NoOtherTraps}
 use Rattle.wasm_num.proofs.Readings.{halves, half_pos, mag-signed_lt, large_quotient}
-use Rattle.wasm_num.specs.Fits.{unsigned-signed}
+use Rattle.wasm_num.specs.Laws.Fits.{unsigned-signed}
 
 abbrev trap_or : Trap → Result ℕ Trap → Trap
 trap_or d (Ok n) = d

@@ -1,4 +1,7 @@
 -- What the definitions promise, in the standard's words (Core 1.0, section 4.3.2).
+pub mod Digits
+pub mod Rotations
+pub mod Fits
 use Rattle.std.specs.Prelude.{◌≡◌, ℕ, ◌+◌, ◌-◌, ◌*◌, ◌/◌, ◌<◌, Bool, true, false, ◌⊎◌, ◌↔◌, ◌+ℤ◌, ◌*ℤ◌, Ok, Err, IfOk, IsTrue}
 use Rattle.wasm_ast.specs.Types.{words}
 use Rattle.wasm_ast.specs.declared.types.ValueType.{ValueType}

@@ -7,7 +7,7 @@ use Rattle.wasm_ast.specs.Code.{BlockType, Code}
 use Rattle.wasm_meaning.specs.Values as meant
 use Rattle.wasm_meaning.specs.Values.{Val, World, Program, Answer, Next, Branch, Returns, Then, all_of, top_of}
 use Rattle.wasm_meaning.specs.Meaning.{then_do, block_end, loop_end, call_end, with_some}
-use Rattle.wasm_meaning.specs.Unfold.{Within}
+use Rattle.wasm_meaning.specs.Laws.Unfold.{Within}
 use Rattle.wasm_trace.specs.Reduction.{Seq, Nil, Put, Do, Block, Loop, If, Free, FreeBlock, Invoke, Label, Frame, Traps, plain, values, Config, conf, To, Breaks, at, with_found, in_label, in_frame, Steps, Reaches, reduce, reduce_in, step}
 use Rattle.wasm_trace.specs.Context.{Layer, InLabel, InFrame, frames, wrap, plug, Shows}
 

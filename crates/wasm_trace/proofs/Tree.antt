@@ -11,7 +11,7 @@ use Rattle.wasm_meaning.specs.Values as meant
 use Rattle.wasm_meaning.specs.Values.{Val, World, Program, Answer, Next, Branch, Returns, Then}
 use Rattle.wasm_meaning.specs.Meaning.{then_do, pay, on_top, as_word, block_end, loop_end, leaf, tree, meaning}
 use Rattle.wasm_meaning.specs.Fuel.{fuel_left}
-use Rattle.wasm_meaning.specs.Unfold.{Within, weaken, agree_self, block_agree, loop_agree, meaning-is, meaning-within, leaf_left}
+use Rattle.wasm_meaning.specs.Laws.Unfold.{Within, weaken, agree_self, block_agree, loop_agree, meaning-is, meaning-within, leaf_left}
 use Rattle.wasm_trace.specs.Reduction.{Seq, Nil, Do, Block, Loop, If, Label, plain, values, Config, conf, Step, Spent, Stuck, op_step, block_step, loop_step, if_step, reduce_in}
 use Rattle.wasm_trace.specs.Context.{Layer, InLabel, frames, Shows}
 use Rattle.wasm_trace.proofs.Sim.{step_start, reach_refl, one, shows_from, then_shows, block_shows, loop_shows}

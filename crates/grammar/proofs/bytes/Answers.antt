@@ -1,6 +1,6 @@
 use Rattle.grammar.specs.Spelling.{IsByte}
 use Rattle.grammar.specs.Reading.{byte_at}
-use Rattle.grammar.specs.Laws.{byte_reads, spells_once}
+use Rattle.grammar.specs.Laws.Wholes.{byte_reads, spells_once}
 use Rattle.grammar.proofs.bytes.Goals as goal
 
 pub returns : goal.returns

@@ -1,4 +1,4 @@
-use Rattle.wasm_meaning.specs.Alike.{invocation_follows}
+use Rattle.wasm_meaning.specs.Laws.Alike.{invocation_follows}
 use Rattle.wasm_meaning.proofs.follows_host.Goals as goal
 
 pub returns : goal.returns

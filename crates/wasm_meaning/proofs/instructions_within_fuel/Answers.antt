@@ -1,4 +1,4 @@
-use Rattle.wasm_meaning.specs.ExecutedFits.{executed_fits, executed_by_fits}
+use Rattle.wasm_meaning.specs.Laws.ExecutedFits.{executed_fits, executed_by_fits}
 use Rattle.wasm_meaning.proofs.instructions_within_fuel.Goals as goal
 
 pub returns : goal.returns

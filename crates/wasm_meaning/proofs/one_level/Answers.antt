@@ -1,4 +1,4 @@
-use Rattle.wasm_meaning.specs.Unfold.{meaning-is}
+use Rattle.wasm_meaning.specs.Laws.Unfold.{meaning-is}
 use Rattle.wasm_meaning.proofs.one_level.Goals as goal
 
 -- src/lib.rt:13:1

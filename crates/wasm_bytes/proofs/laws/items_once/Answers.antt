@@ -1,7 +1,7 @@
 use Rattle.std.proofs.Common.{◌^◌}
-use Rattle.grammar.specs.Laws.{spells_once}
-use Rattle.wasm_bytes.specs.Leb.{unsigned_reads, signed_reads}
-use Rattle.wasm_bytes.specs.Names.{name_reads}
+use Rattle.grammar.specs.Laws.Wholes.{spells_once}
+use Rattle.wasm_bytes.specs.Laws.Leb.{unsigned_reads, signed_reads}
+use Rattle.wasm_bytes.specs.Laws.Names.{name_reads}
 use Rattle.wasm_bytes.proofs.laws.items_once.Goals as goal
 
 pub returns : goal.returns

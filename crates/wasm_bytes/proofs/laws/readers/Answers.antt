@@ -1,6 +1,6 @@
 use Rattle.std.proofs.Common.{◌^◌}
-use Rattle.wasm_bytes.specs.Leb.{unsigned_reads, signed_reads}
-use Rattle.wasm_bytes.specs.Names.{name_reads}
+use Rattle.wasm_bytes.specs.Laws.Leb.{unsigned_reads, signed_reads}
+use Rattle.wasm_bytes.specs.Laws.Names.{name_reads}
 use Rattle.wasm_bytes.proofs.laws.readers.Goals as goal
 
 pub returns : goal.returns

@@ -1,6 +1,6 @@
 use Rattle.std.proofs.Common.{◌≡◌, ◌-◌}
 use Rattle.wasm_decode.specs.FunctionReading.{groups_at}
-use Rattle.grammar.specs.Loops.{with_front}
+use Rattle.grammar.specs.Laws.Loops.{with_front}
 use Rattle.wasm_decode.specs.Faults.{Kept}
 use Rattle.wasm_decode.proofs.functions.groups.Given as goal
 

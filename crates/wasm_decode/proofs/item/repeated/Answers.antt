@@ -1,7 +1,7 @@
 use Rattle.std.proofs.Common.{◌≡◌, ap, sym, ◌∙◌, Some, None, rules}
 use Rattle.std.proofs.lemmas.Result.{err_from_is_err_and}
 use Rattle.grammar.specs.Reading.{repeats_at}
-use Rattle.grammar.specs.Loops.{goes_on, refused, is_done}
+use Rattle.grammar.specs.Laws.Loops.{goes_on, refused, is_done}
 use Rattle.wasm_decode.proofs.Loop.{Fails-weaker}
 use Rattle.wasm_decode.proofs.item.repeated.Goals as goal
 

@@ -1,6 +1,6 @@
 use Rattle.std.proofs.Common.{◌≡◌, ◌-◌}
 use Rattle.grammar.specs.Reading.{repeats_at}
-use Rattle.grammar.specs.Loops.{with_front}
+use Rattle.grammar.specs.Laws.Loops.{with_front}
 use Rattle.wasm_decode.specs.Faults.{Kept}
 use Rattle.wasm_decode.proofs.item.repeated.Given as goal
 

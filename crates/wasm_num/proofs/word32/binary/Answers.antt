@@ -1,5 +1,5 @@
 use Rattle.std.proofs.Common.{Ok, ap, ◌∙◌, ◌%◌, arith}
-use Rattle.wasm_num.specs.Rotations.{or-rotated_left, or-rotated_right}
+use Rattle.wasm_num.specs.Laws.Rotations.{or-rotated_left, or-rotated_right}
 use Rattle.wasm_num.proofs.word32.binary.Goals as goal
 
 pub returns-in-Rotl : goal.returns-in-Rotl

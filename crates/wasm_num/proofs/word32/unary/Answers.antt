@@ -1,4 +1,4 @@
-use Rattle.wasm_num.specs.Digits.{zeros_before-digits, zeros_before-reverse-digits, sum-digits}
+use Rattle.wasm_num.specs.Laws.Digits.{zeros_before-digits, zeros_before-reverse-digits, sum-digits}
 use Rattle.wasm_num.proofs.word32.unary.Goals as goal
 
 pub returns-in-Clz : goal.returns-in-Clz

@@ -1,7 +1,7 @@
 use Rattle.std.proofs.Common.{◌≡◌, ◌^◌, Some, None, ap, rules, to_z, of_z, w32, w64}
 use Rattle.wasm_bytes.specs.Spelling.{IsS32}
 use Rattle.wasm_bytes.specs.Reading.{s32_at}
-use Rattle.wasm_bytes.specs.Leb.{signed_reads}
+use Rattle.wasm_bytes.specs.Laws.Leb.{signed_reads}
 use Rattle.wasm_bytes.specs.Place.{Place}
 use Rattle.wasm_bytes.specs.Faults.{s32_fault, fault_at}
 use Rattle.wasm_bytes.proofs.Items.{taken, nothing}

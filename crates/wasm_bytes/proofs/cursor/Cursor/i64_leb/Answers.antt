@@ -1,7 +1,7 @@
 use Rattle.std.proofs.Common.{◌≡◌, ◌^◌, Some, None, ap, rules, to_z, of_z, w64}
 use Rattle.wasm_bytes.specs.Spelling.{IsS64}
 use Rattle.wasm_bytes.specs.Reading.{s64_at}
-use Rattle.wasm_bytes.specs.Leb.{signed_reads}
+use Rattle.wasm_bytes.specs.Laws.Leb.{signed_reads}
 use Rattle.wasm_bytes.specs.Place.{Place}
 use Rattle.wasm_bytes.specs.Faults.{s64_fault, fault_at}
 use Rattle.wasm_bytes.proofs.Items.{taken, nothing}

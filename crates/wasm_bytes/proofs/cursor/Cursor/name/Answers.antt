@@ -1,7 +1,7 @@
 use Rattle.std.proofs.Common.{◌≡◌, Some, None, ap, rules}
 use Rattle.wasm_bytes.specs.Spelling.{IsName}
 use Rattle.wasm_bytes.specs.Reading.{name_at}
-use Rattle.wasm_bytes.specs.Names.{name_reads}
+use Rattle.wasm_bytes.specs.Laws.Names.{name_reads}
 use Rattle.wasm_bytes.specs.Place.{Place}
 use Rattle.wasm_bytes.specs.Faults.{name_fault, fault_at}
 use Rattle.wasm_bytes.proofs.Items.{taken, nothing}

@@ -1,7 +1,7 @@
 use Rattle.std.proofs.Common.{◌≡◌, ◌^◌, Some, None, ap, rules}
 use Rattle.wasm_bytes.specs.Spelling.{IsU32}
 use Rattle.wasm_bytes.specs.Reading.{u32_at}
-use Rattle.wasm_bytes.specs.Leb.{unsigned_reads}
+use Rattle.wasm_bytes.specs.Laws.Leb.{unsigned_reads}
 use Rattle.wasm_bytes.specs.Place.{Place}
 use Rattle.wasm_bytes.specs.Faults.{u32_fault, fault_at}
 use Rattle.wasm_bytes.proofs.Items.{taken, nothing}

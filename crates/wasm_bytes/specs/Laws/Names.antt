@@ -6,10 +6,10 @@ use Rattle.std.proofs.lemmas.Bool.{ltb-false, le-ltb}
 use Rattle.std.proofs.lemmas.List.{take_at, drop_at, take-append-drop, length-append, length-take}
 use Rattle.std.proofs.lemmas.Option.{cond_some}
 use Rattle.grammar.specs.Reads.{Reads}
-use Rattle.grammar.specs.Steps.{bind_some, refused_past}
+use Rattle.grammar.specs.Laws.Steps.{bind_some, refused_past}
 use Rattle.wasm_bytes.specs.Spelling.{IsUnsigned, IsName}
 use Rattle.wasm_bytes.specs.Reading.{unsigned_at, name_at}
-use Rattle.wasm_bytes.specs.Leb.{unsigned_again, unsigned_takes}
+use Rattle.wasm_bytes.specs.Laws.Leb.{unsigned_again, unsigned_takes}
 
 name_again : (text : List ℕ) (name rest : List ℕ) → IsName name text → name_at (text ++ rest) ≡ Some (name, rest)
 unfolding name_at

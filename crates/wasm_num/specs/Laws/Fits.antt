@@ -18,8 +18,8 @@ use Rattle.wasm_ast.specs.declared.operators.CompareOp.TheVariants.{Eq, Ne, LtS,
 use Rattle.wasm_ast.specs.declared.operators.ConvertOp.{ConvertOp}
 use Rattle.wasm_ast.specs.declared.operators.ConvertOp.TheVariants.{WrapI64, ExtendI32S, ExtendI32U}
 use Rattle.wasm_num.specs.Operators.{signed, unsigned, places, around, binary, unary, truth, compare, convert, operand_type, result_type}
-use Rattle.wasm_num.specs.Rotations.{around_lt}
-use Rattle.wasm_num.specs.Digits.{sum_digits_le, zeros_before_digits_le, zeros_before_reverse_digits_le}
+use Rattle.wasm_num.specs.Laws.Rotations.{around_lt}
+use Rattle.wasm_num.specs.Laws.Digits.{sum_digits_le, zeros_before_digits_le, zeros_before_reverse_digits_le}
 
 -- ---- words and readings
 

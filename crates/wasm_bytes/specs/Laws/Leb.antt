@@ -6,7 +6,7 @@ use Rattle.wasm_bytes.specs.Spelling.{IsUnsigned, IsSigned}
 use Rattle.grammar.specs.Reads.{Reads}
 use Rattle.grammar.specs.Reading.{◌>>=◌}
 use Rattle.wasm_bytes.specs.Reading.{unsigned_at, signed_at}
-use Rattle.grammar.specs.Steps.{bind_some, guarded}
+use Rattle.grammar.specs.Laws.Steps.{bind_some, guarded}
 
 pub unsigned_again : (bound : ℕ) (text : List ℕ) (n : ℕ) (rest : List ℕ) → IsUnsigned bound text n → unsigned_at bound (text ++ rest) ≡ Some (n, rest)
 unfolding unsigned_at

@@ -17,7 +17,7 @@ use Rattle.wasm_meaning.specs.Values.{Val, World, Answer, Next, Branch, Returns,
 use Rattle.wasm_meaning.specs.Meaning.{greatest_depth, same_func_type, then_do, pay, on_top, as_word, with_some, block_end, loop_end, call_end, call_host, call_function, type_of, call, call_entry, leaf, tree, meaning}
 use Rattle.wasm_meaning.specs.Program.{function_of, program_of, fresh_world, invocation}
 use Rattle.wasm_meaning.specs.Fuel.{fuel_left}
-use Rattle.wasm_meaning.specs.Unfold.{meaning-is, meaning-left, leaf_left, host_left}
+use Rattle.wasm_meaning.specs.Laws.Unfold.{meaning-is, meaning-left, leaf_left, host_left}
 use Rattle.wasm_meaning.specs.Executed.{Count, Counts, count_paid, if_some, if_top, if_word, if_next, if_again, in_function, in_call, in_entry, in_leaf, in_tree, in_bounded, executed, executed_by}
 
 module _ {R : Type 0} where

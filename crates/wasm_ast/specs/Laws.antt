@@ -1,0 +1,2 @@
+-- No definitions: laws that crates above cite.
+pub mod Smaller

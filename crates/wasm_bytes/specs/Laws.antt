@@ -1,0 +1,3 @@
+-- No definitions: laws that crates above cite.
+pub mod Leb
+pub mod Names

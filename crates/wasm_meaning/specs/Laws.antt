@@ -1,0 +1,8 @@
+-- No definitions: laws that crates above cite.
+pub mod Fine
+pub mod Unfold
+pub mod ExecutedFits
+pub mod Loads
+pub mod Sound
+pub mod NeverStuck
+pub mod Alike
