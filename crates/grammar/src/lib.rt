@@ -7,7 +7,7 @@
 //! both ways that they fit: what it gives is spelled at the front, and each spelled value is given,
 //! whatever follows. So no two values are spelled by the beginnings of one list of bytes.
 //!
-//! The laws of `specs/Laws.antt` prove this for a whole from its parts, so that a crate that reads
+//! The laws of `specs/Laws` prove this for a whole from its parts, so that a crate that reads
 //! a format proves a line or two for each of its items. There is no code here but one law, and
 //! nothing of any one format.
 #![tactic(auto)]

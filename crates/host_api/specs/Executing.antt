@@ -1,5 +1,5 @@
 -- The execution of a chaincode's module, and that it depends only on what it read.
-use Rattle.std.specs.Prelude.{◌≡◌, ℕ, ◌-◌, [], ◌∷◌, ◌==◌, cond}
+use Rattle.std.specs.Prelude.{◌≡◌, ℕ, ◌-◌, [], ◌∷◌, ◌==◌, if◌then◌else◌}
 use Rattle.wasm_ast.specs.declared.module.Module.{Module}
 use Rattle.wasm_ast.specs.Traps.{trap_number}
 use Rattle.wasm_meaning.specs.Values.{Answer, Next, Branch, Returns, Trapped, Spent, Stuck}
@@ -15,7 +15,7 @@ outcome_with ending m s = record { ending = ending; seen = seen_on m s }
 
 -- status 0 is success
 abbrev pub ending_of : (status : ℕ) → ledger.Ending
-ending_of status = cond (status == 0) ledger.Done (ledger.Status status)
+ending_of status = if (status == 0) then ledger.Done else ledger.Status status
 
 -- How an execution that was given this fuel ended on a plain state, and what it saw there. That of a valid module ends with one
 -- word, a trap or its fuel spent; the other cases stand for nothing.

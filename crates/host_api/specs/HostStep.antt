@@ -1,5 +1,5 @@
 -- What the host of chaincode answers and records, by cases on its six calls. A negative answer -k is the word 2 ^ 32 - k.
-use Rattle.std.specs.Prelude.{ℕ, ◌+◌, ◌-◌, ◌/◌, ◌%◌, ◌^◌, List, [], ◌∷◌, ◌++◌, Bool, cond, ◌&&◌, nat_le, Option, Some, None, length, take, drop, get_or}
+use Rattle.std.specs.Prelude.{ℕ, ◌+◌, ◌-◌, ◌/◌, ◌%◌, ◌^◌, List, [], ◌∷◌, ◌++◌, Bool, if◌then◌else◌, ◌&&◌, nat_le, Option, Some, None, length, take, drop, get_or, cond}
 use Rattle.std.specs.List.{flat_map}
 use Rattle.std.specs.Ordering.{eq_by_cmp}
 use Rattle.std.specs.FinMap.{get}
@@ -17,7 +17,7 @@ use Rattle.host_api.specs.Recorded.{Asked, Recorded}
 abbrev pub with_item : {X : Type 0} → (X → Bytes) → X → List X → List X
 with_item key x [] = x ∷ []
 with_item key x (y ∷ ys) =
-    cond (is_before (key y) (key x)) (y ∷ with_item key x ys) (cond (eq_by_cmp key_cmp (key y) (key x)) (x ∷ ys) (x ∷ y ∷ ys))
+    if is_before (key y) (key x) then (y ∷ with_item key x ys) else (if eq_by_cmp key_cmp (key y) (key x) then (x ∷ ys) else (x ∷ y ∷ ys))
 
 -- a key is recorded once
 abbrev pub with_key : Bytes → List Bytes → List Bytes
@@ -39,7 +39,7 @@ traps memory s = record { answer = answer.OutOfBounds; memory = memory; records 
 -- the bytes of a pointer and a length, where these lie within the memory; a length of 0 must lie there too
 abbrev pub span_bytes : (pointer len : ℕ) → (memory : List ℕ) → Option Bytes
 span_bytes pointer len memory =
-    cond (nat_le (pointer + len) (length memory)) (Some (take len (drop pointer memory))) None
+    if (nat_le (pointer + len) (length memory)) then Some (take len (drop pointer memory)) else None
 
 -- a call traps where bytes that it is given do not lie within the memory
 abbrev pub or_trap : Option Bytes → (memory : List ℕ) → Recorded → (Bytes → Reply Recorded) → Reply Recorded
@@ -65,7 +65,7 @@ is_limit n = nat_le 1 n && nat_le n 64
 -- a reply is written at the target only if it fits the capacity whole; its length is answered either way
 abbrev pub replies : Bytes → (target capacity : ℕ) → (memory : List ℕ) → Recorded → Reply Recorded
 replies bytes target capacity memory s =
-    says (length bytes) (cond (nat_le (length bytes) capacity) (with_bytes memory target bytes) memory) s
+    says (length bytes) (if nat_le (length bytes) capacity then with_bytes memory target bytes else memory) s
 
 -- -1 answers a key that is absent
 abbrev pub value_reply : Option Bytes → (target capacity : ℕ) → (memory : List ℕ) → Recorded → Reply Recorded
@@ -76,13 +76,13 @@ value_reply (Some bytes) target capacity memory s = replies bytes target capacit
 abbrev pub read_key : Plain → (key : Bytes) → (target capacity : ℕ) → (memory : List ℕ) → Recorded → Reply Recorded
 read_key m key target capacity memory s =
     let reads = with_key key s.reads in
-    cond (nat_le (length reads) 256) (value_reply (get m key) target capacity memory (record s { reads = reads })) (refuses 3 memory s)
+    if nat_le (length reads) 256 then value_reply (get m key) target capacity memory (record s { reads = reads }) else refuses 3 memory s
 
 -- -3 answers a write that would make 65 keys. A write of None deletes its key.
 abbrev pub write : WriteItem → (memory : List ℕ) → Recorded → Reply Recorded
 write w memory s =
     let writes = with_write w s.writes in
-    cond (nat_le (length writes) 64) (says 0 memory (record s { writes = writes })) (refuses 3 memory s)
+    if nat_le (length writes) 64 then says 0 memory (record s { writes = writes }) else refuses 3 memory s
 
 -- the key's length and its bytes, the value's length in two bytes, the least first, and its bytes
 abbrev pub reply_entry_bytes : Bytes × Bytes → Bytes
@@ -96,27 +96,27 @@ reply_range_bytes es = length es ∷ flat_map reply_entry_bytes es
 abbrev pub ask_range : Plain → Asked → (target capacity : ℕ) → (memory : List ℕ) → Recorded → Reply Recorded
 ask_range m a target capacity memory s =
     let ranges = s.ranges ++ a ∷ [] in
-    cond (nat_le (length ranges) 16) (replies (reply_range_bytes (first m a.start a.end a.limit)) target capacity memory (record s { ranges = ranges })) (refuses 3 memory s)
+    if nat_le (length ranges) 16 then replies (reply_range_bytes (first m a.start a.end a.limit)) target capacity memory (record s { ranges = ranges }) else refuses 3 memory s
 
 abbrev pub get_state : Plain → (key : Bytes) → (target capacity : ℕ) → (memory : List ℕ) → Recorded → Reply Recorded
 get_state m key target capacity memory s =
-    cond (is_key key) (read_key m key target capacity memory s) (refuses 2 memory s)
+    if is_key key then read_key m key target capacity memory s else refuses 2 memory s
 
 abbrev pub put_state : (key bytes memory : List ℕ) → Recorded → Reply Recorded
 put_state key bytes memory s =
-    cond (is_key key) (cond (is_value bytes) (write (record { key = key; value = Some bytes }) memory s) (refuses 4 memory s)) (refuses 2 memory s)
+    if is_key key then (if is_value bytes then write (record { key = key; value = Some bytes }) memory s else refuses 4 memory s) else refuses 2 memory s
 
 abbrev pub del_state : (key memory : List ℕ) → Recorded → Reply Recorded
 del_state key memory s =
-    cond (is_key key) (write (record { key = key; value = None }) memory s) (refuses 2 memory s)
+    if is_key key then write (record { key = key; value = None }) memory s else refuses 2 memory s
 
 abbrev pub range_state : Plain → Asked → (target capacity : ℕ) → (memory : List ℕ) → Recorded → Reply Recorded
 range_state m a target capacity memory s =
-    cond (is_bound a.start && is_bound a.end) (cond (is_limit a.limit) (ask_range m a target capacity memory s) (refuses 5 memory s)) (refuses 2 memory s)
+    if (is_bound a.start && is_bound a.end) then (if is_limit a.limit then ask_range m a target capacity memory s else refuses 5 memory s) else refuses 2 memory s
 
 abbrev pub set_result : (bytes memory : List ℕ) → Recorded → Reply Recorded
 set_result bytes memory s =
-    cond (is_value bytes) (says 0 memory (record s { result = bytes })) (refuses 4 memory s)
+    if is_value bytes then says 0 memory (record s { result = bytes }) else refuses 4 memory s
 
 abbrev pub nth : List ℕ → ℕ → ℕ
 nth args i = get_or args i 0

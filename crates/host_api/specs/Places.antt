@@ -1,5 +1,5 @@
 -- Where an item stands, or would stand, among items in key order.
-use Rattle.std.specs.Prelude.{ℕ, List, Bool, false, Option, Some, None, Result, Ok, Err, cond}
+use Rattle.std.specs.Prelude.{ℕ, List, Bool, false, Option, Some, None, Result, Ok, Err, if◌then◌else◌}
 use Rattle.std.specs.Ordering.{eq_by_cmp}
 use Rattle.std.specs.List.{prefix_len, slice_get}
 use Rattle.fab_types.specs.Order.{key_cmp, is_before}
@@ -17,4 +17,4 @@ has_key key_of key (Some x) = eq_by_cmp key_cmp (key_of x) key
 -- the place of the item with the key, or else the place where one would stand
 abbrev pub found_at : {X : Type 0} → (X → Bytes) → Bytes → List X → Result ℕ ℕ
 found_at key_of key xs =
-    let n = place_of key_of key xs in cond (has_key key_of key (slice_get xs n)) (Ok n) (Err n)
+    let n = place_of key_of key xs in if has_key key_of key (slice_get xs n) then Ok n else Err n

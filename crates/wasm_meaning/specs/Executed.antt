@@ -1,5 +1,5 @@
 -- How many instructions the meaning of code executes: those whose cost of 1 is paid.
-use Rattle.std.specs.Prelude.{ℕ, zero, suc, ◌+◌, ◌-◌, List, [], ◌∷◌, ◌++◌, Option, Some, None, cond, ◌&&◌, nat_lt, nat_eq, length, take, reverse, slice_get, map}
+use Rattle.std.specs.Prelude.{ℕ, zero, suc, ◌+◌, ◌-◌, List, [], ◌∷◌, ◌++◌, Option, Some, None, if◌then◌else◌, ◌&&◌, nat_lt, nat_eq, length, take, reverse, slice_get, map}
 use Rattle.wasm_ast.specs.declared.types.ValueType.{ValueType}
 use Rattle.wasm_ast.specs.declared.types.ValueType.TheVariants.{I32}
 use Rattle.wasm_ast.specs.declared.module.Module.{Module}
@@ -23,7 +23,7 @@ Counts R = (depth : ℕ) → Code → Count R
 
 -- an instruction counts where its cost is paid, and so does what it leads to
 abbrev pub count_paid : ℕ → (ℕ → ℕ) → ℕ
-count_paid fuel go = cond (nat_lt fuel 1) 0 (1 + go (fuel - 1))
+count_paid fuel go = if nat_lt fuel 1 then 0 else (1 + go (fuel - 1))
 
 abbrev pub if_some : {A : Type 0} → Option A → (A → ℕ) → ℕ
 if_some None go = 0
@@ -34,7 +34,7 @@ if_top [] go = 0
 if_top (x ∷ s) go = go x s
 
 abbrev pub if_word : ValueType → Val → (ℕ → ℕ) → ℕ
-if_word t x go = cond (same_type x.type t && nat_lt x.word (words t)) (go x.word) 0
+if_word t x go = if (same_type x.type t && nat_lt x.word (words t)) then go x.word else 0
 
 module _ {R : Type 0} where
   -- what comes after code that went past its end
@@ -59,20 +59,20 @@ module _ {R : Type 0} where
   -- the body of a function that is called
   abbrev pub in_function : Counts R → ℕ → Function → Count R
   in_function count d fn f s l w =
-      let n = length fn.type.params in cond (nat_lt (length s) n) 0 (cond (nat_lt d greatest_depth) (count (d + 1) fn.body f [] (reverse (take n s) ++ zeros fn.locals) w) 0)
+      let n = length fn.type.params in if nat_lt (length s) n then 0 else (if nat_lt d greatest_depth then (count (d + 1) fn.body f [] (reverse (take n s) ++ zeros fn.locals) w) else 0)
 
 module _ {R : Type 0} (p : Program R) where
   -- a call of a function: only one of a module function executes instructions
   abbrev pub in_call : Counts R → ℕ → ℕ → Count R
   in_call count d i f s l w =
-      cond (nat_lt i (length p.imports)) 0 (if_some (slice_get p.functions (i - length p.imports)) (λ fn. in_function count d fn f s l w))
+      if nat_lt i (length p.imports) then 0 else (if_some (slice_get p.functions (i - length p.imports)) (λ fn. in_function count d fn f s l w))
 
   -- a call by an entry of the table
   abbrev pub in_entry : Counts R → ℕ → FuncType → Option (Option ℕ) → Count R
   in_entry count d t None f s l w = 0
   in_entry count d t (Some None) f s l w = 0
   in_entry count d t (Some (Some i)) f s l w =
-      if_some (type_of p i) (λ u. cond (same_func_type t u) (in_call count d i f s l w) 0)
+      if_some (type_of p i) (λ u. if same_func_type t u then in_call count d i f s l w else 0)
 
   -- only a call executes instructions beyond itself
   abbrev pub in_leaf : Counts R → ℕ → Op → Count R
@@ -91,7 +91,7 @@ module _ {R : Type 0} (p : Program R) where
   in_tree count d (Loop t b c) f s l w =
       count_paid f (λ f. (in_tree count d b f [] l w + if_again s (tree p (meaning p) d b f [] l w) (count d (Loop t b End))) + if_next (loop_end t s (meaning p d (Loop t b End)) (tree p (meaning p) d b f [] l w)) (in_tree count d c))
   in_tree count d (If t a b c) f s l w =
-      count_paid f (λ f. if_top s (λ x s. if_word I32 x (λ n. cond (nat_eq n 0) (in_tree count d b f [] l w) (in_tree count d a f [] l w) + if_next (block_end t s (cond (nat_eq n 0) (tree p (meaning p) d b f [] l w) (tree p (meaning p) d a f [] l w))) (in_tree count d c))))
+      count_paid f (λ f. if_top s (λ x s. if_word I32 x (λ n. (if nat_eq n 0 then in_tree count d b f [] l w else in_tree count d a f [] l w) + if_next (block_end t s (if nat_eq n 0 then tree p (meaning p) d b f [] l w else tree p (meaning p) d a f [] l w)) (in_tree count d c))))
 
   -- at most n loops and calls one in the other, as in the meaning
   abbrev pub in_bounded : ℕ → Counts R

@@ -1,5 +1,5 @@
 -- Reduction (Core 1.0, chapter 4): one instruction at a time, on nested labels and frames, its cost taken first.
-use Rattle.std.specs.Prelude.{◌≡◌, ℕ, zero, suc, ◌+◌, ◌-◌, ◌%◌, List, [], ◌∷◌, ◌++◌, Option, Some, None, Result, Ok, Err, cond, nat_lt, nat_eq, length, take, drop, reverse, slice_get, slice_set, get_or}
+use Rattle.std.specs.Prelude.{◌≡◌, ℕ, zero, suc, ◌+◌, ◌-◌, ◌%◌, List, [], ◌∷◌, ◌++◌, Option, Some, None, Result, Ok, Err, if◌then◌else◌, nat_lt, nat_eq, length, take, drop, reverse, slice_get, slice_set, get_or}
 use Rattle.wasm_ast.specs.declared.types.ValueType.{ValueType}
 use Rattle.wasm_ast.specs.declared.types.ValueType.TheVariants.{I32}
 use Rattle.wasm_ast.specs.declared.types.FuncType.{FuncType}
@@ -87,7 +87,7 @@ module _ {R : Type 0} where
 
   -- a cost is taken before anything else happens
   abbrev pub paid : ℕ → ℕ → (ℕ → Step R) → Step R
-  paid cost f go = cond (nat_lt f cost) Spent (go (f - cost))
+  paid cost f go = if nat_lt f cost then Spent else (go (f - cost))
 
   abbrev pub with_top : List Val → (Val → List Val → Step R) → Step R
   with_top [] go = Stuck
@@ -96,12 +96,12 @@ module _ {R : Type 0} where
   -- the last value, which is to be of this type
   abbrev pub operand : ValueType → List Val → (ℕ → List Val → Step R) → Step R
   operand t [] go = Stuck
-  operand t (x ∷ s) go = cond (same_type x.type t) (go x.word s) Stuck
+  operand t (x ∷ s) go = if same_type x.type t then go x.word s else Stuck
 
   -- the words of values that are to be i32
   abbrev pub with_words : List Val → (List ℕ → Step R) → Step R
   with_words [] go = go []
-  with_words (x ∷ xs) go = cond (same_type x.type I32) (with_words xs (λ ns. go (x.word ∷ ns))) Stuck
+  with_words (x ∷ xs) go = if same_type x.type I32 then (with_words xs (λ ns. go (x.word ∷ ns))) else Stuck
 
   abbrev pub with_found : {A : Type 0} → Option A → (A → Step R) → Step R
   with_found None go = Stuck
@@ -109,11 +109,11 @@ module _ {R : Type 0} where
 
   -- n values in order, and those before them
   abbrev pub with_last : ℕ → List Val → (List Val → List Val → Step R) → Step R
-  with_last n s go = cond (nat_lt (length s) n) Stuck (go (reverse (take n s)) (drop n s))
+  with_last n s go = if nat_lt (length s) n then Stuck else go (reverse (take n s)) (drop n s)
 
   -- a value of the same type in place of an old one
   abbrev pub replacing : Val → Val → Step R → Step R
-  replacing x old go = cond (same_type x.type old.type) go Stuck
+  replacing x old go = if same_type x.type old.type then go else Stuck
 
   -- `trap` alone, or within a sequence that it takes the place of
   abbrev pub trap_step : ℕ → List Val → World R → List Val → Trap → Seq → Step R
@@ -159,11 +159,11 @@ module _ {R : Type 0} where
 
   -- an access to so many bytes from a place on
   abbrev pub accessed : (place width : ℕ) → ℕ → List Val → World R → List Val → Seq → Step R → Step R
-  accessed place width f l w s i go = cond (nat_lt (length w.memory) (place + width)) (at f l w s (Traps trap.OutOfBounds i)) go
+  accessed place width f l w s i go = if (nat_lt (length w.memory) (place + width)) then at f l w s (Traps trap.OutOfBounds i) else go
 
   abbrev pub grow_step : (most n : ℕ) → ℕ → List Val → World R → List Val → Seq → Step R
   grow_step most n f l w s i =
-      cond (nat_lt most (pages w.memory + n)) (at f l w s (Put (value I32 (words I32 - 1)) i)) (at f l (record w { memory = with_pages n w.memory }) s (Put (value I32 (size_word w.memory)) i))
+      if (nat_lt most (pages w.memory + n)) then (at f l w s (Put (value I32 (words I32 - 1)) i)) else at f l (record w { memory = with_pages n w.memory }) s (Put (value I32 (size_word w.memory)) i)
 
   -- what a host's answer becomes
   abbrev pub answered : HostAnswer → ℕ → List Val → World R → List Val → Seq → Step R
@@ -176,7 +176,7 @@ module _ {R : Type 0} where
   -- a frame round the function's body, within at most 64 frames
   abbrev pub invoke_step : ℕ → Function → ℕ → List Val → World R → List Val → Seq → Step R
   invoke_step d fn f l w s i =
-      with_last (length fn.type.params) s (λ args s. cond (nat_lt d greatest_depth) (at f l w s (Frame fn.type.result (args ++ zeros fn.locals) (FreeBlock fn.type.result fn.body Nil) i)) (at f l w s (Traps trap.CallDepth i)))
+      with_last (length fn.type.params) s (λ args s. if nat_lt d greatest_depth then (at f l w s (Frame fn.type.result (args ++ zeros fn.locals) (FreeBlock fn.type.result fn.body Nil) i)) else at f l w s (Traps trap.CallDepth i))
 
   abbrev pub block_step : BlockType → Code → ℕ → List Val → World R → List Val → Seq → Step R
   block_step t b f l w s i = at f l w s (Label t code.End (plain b Nil) i)
@@ -186,7 +186,7 @@ module _ {R : Type 0} where
 
   abbrev pub if_step : BlockType → Code → Code → ℕ → List Val → World R → List Val → Seq → Step R
   if_step t a b f l w s i =
-      operand I32 s (λ n s. block_step t (cond (nat_eq n 0) b a) f l w s i)
+      operand I32 s (λ n s. block_step t (if nat_eq n 0 then b else a) f l w s i)
 
 module _ {R : Type 0} (p : Program R) where
   -- a call of the host is answered at once
@@ -197,14 +197,14 @@ module _ {R : Type 0} (p : Program R) where
   -- a call of a function by its index, the imported ones first
   abbrev pub call_step : ℕ → ℕ → List Val → World R → List Val → Seq → Step R
   call_step k f l w s i =
-      cond (nat_lt k (length p.imports)) (with_found (slice_get p.imports k) (λ which. host_step which f l w s i)) (with_found (slice_get p.functions (k - length p.imports)) (λ fn. at f l w s (Invoke fn i)))
+      if nat_lt k (length p.imports) then (with_found (slice_get p.imports k) (λ which. host_step which f l w s i)) else (with_found (slice_get p.functions (k - length p.imports)) (λ fn. at f l w s (Invoke fn i)))
 
   -- a call of a function of the type t by an entry of the table
   abbrev pub entry_step : FuncType → Option (Option ℕ) → ℕ → List Val → World R → List Val → Seq → Step R
   entry_step t None f l w s i = at f l w s (Traps trap.UndefinedElement i)
   entry_step t (Some None) f l w s i = at f l w s (Traps trap.UninitializedElement i)
   entry_step t (Some (Some k)) f l w s i =
-      with_found (type_of p k) (λ u. cond (same_func_type t u) (call_step k f l w s i) (at f l w s (Traps trap.IndirectCallType i)))
+      with_found (type_of p k) (λ u. if same_func_type t u then call_step k f l w s i else at f l w s (Traps trap.IndirectCallType i))
 
   -- an instruction with none inside, its cost taken: the fuel, the locals, the world, the values before it, the last first, and what follows
   abbrev pub op_step : Op → ℕ → List Val → World R → List Val → Seq → Step R
@@ -212,11 +212,11 @@ module _ {R : Type 0} (p : Program R) where
   op_step Nop f l w s i = at f l w s i
   op_step Drop f l w s i = with_top s (λ x s. at f l w s i)
   op_step Select f l w s i =
-      operand I32 s (λ n s. with_top s (λ y s. with_top s (λ x s. replacing x y (at f l w s (Put (cond (nat_eq n 0) y x) i)))))
+      operand I32 s (λ n s. with_top s (λ y s. with_top s (λ x s. replacing x y (at f l w s (Put (if nat_eq n 0 then y else x) i)))))
   op_step Return f l w s i = Leaves f s
   op_step (Br k) f l w s i = Breaks k f s
   op_step (BrIf k) f l w s i =
-      operand I32 s (λ n s. cond (nat_eq n 0) (at f l w s i) (at f l w s (Free (Br k) i)))
+      operand I32 s (λ n s. if nat_eq n 0 then at f l w s i else at f l w s (Free (Br k) i))
   op_step (BrTable ks k) f l w s i =
       operand I32 s (λ n s. at f l w s (Free (Br (get_or ks n k)) i))
   op_step (Call k) f l w s i = call_step k f l w s i

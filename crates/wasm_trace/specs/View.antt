@@ -1,5 +1,5 @@
 -- The configuration that a stepper stands for.
-use Rattle.std.specs.Prelude.{◌≡◌, ◌≤◌, ℕ, List, [], ◌∷◌, ◌++◌, Option, Some, None, Result, Ok, Err, Bool, true, false, cond, map, reverse, slice_get, slice_set}
+use Rattle.std.specs.Prelude.{◌≡◌, ◌≤◌, ℕ, List, [], ◌∷◌, ◌++◌, Option, Some, None, Result, Ok, Err, Bool, true, false, if◌then◌else◌, map, reverse, slice_get, slice_set}
 use Rattle.wasm_ast.specs.declared.types.ValueType.TheVariants as type
 use Rattle.wasm_ast.specs.declared.body.Instr.{Instr}
 use Rattle.wasm_ast.specs.declared.trap.Trap.{Trap}
@@ -204,7 +204,7 @@ OnLocals R o vs ls vs' ls' t = (p : Program R) (f : ℕ) (w : World R) (i : Seq)
 
 -- the last value takes the place of a local or a global of the same type
 abbrev pub Replaced : (R : Type 0) → ℕ → (stack slots : List Value) → Bool → (after set : List Value) → Type 0
-Replaced R k vs ls b vs' ls' = (go : List Val → List Val → Step R) → with_top (stack_of vs) (λ x s. with_found (slice_get (vals ls) k) (λ old. replacing x old (go (slice_set (vals ls) k x) s))) ≡ cond b (go (vals ls') (stack_of vs')) Stuck
+Replaced R k vs ls b vs' ls' = (go : List Val → List Val → Step R) → with_top (stack_of vs) (λ x s. with_found (slice_get (vals ls) k) (λ old. replacing x old (go (slice_set (vals ls) k x) s))) ≡ (if b then go (vals ls') (stack_of vs') else Stuck)
 
 -- the same with the globals
 abbrev pub OnGlobals : (R : Type 0) → Op → (stack globals after set : List Value) → Turn → Type 0

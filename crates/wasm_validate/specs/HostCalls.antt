@@ -1,5 +1,5 @@
 -- The functions that chaincode may import, all of the module `fabric`.
-use Rattle.std.specs.Prelude.{◌==◌, ℕ, List, [], ◌∷◌, Option, Some, None, cond, codes}
+use Rattle.std.specs.Prelude.{◌==◌, ℕ, List, [], ◌∷◌, Option, Some, None, if◌then◌else◌, codes}
 use Rattle.std.specs.Cmp.Lexicographic.{pointwise}
 use Rattle.wasm_ast.specs.declared.module.Import.{Import}
 use Rattle.wasm_ast.specs.declared.host_call.HostCall.{HostCall}
@@ -23,7 +23,7 @@ profile_calls = GetState ∷ PutState ∷ DelState ∷ RangeState ∷ GetArg ∷
 
 abbrev pub named_in : List HostCall → List ℕ → Option HostCall
 named_in [] name = None
-named_in (c ∷ cs) name = cond (pointwise ◌==◌ (name_of c) name) (Some c) (named_in cs name)
+named_in (c ∷ cs) name = if pointwise ◌==◌ (name_of c) name then Some c else named_in cs name
 
 -- the call of a name
 abbrev pub call_named : List ℕ → Option HostCall

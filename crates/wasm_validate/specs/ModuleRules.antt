@@ -1,5 +1,5 @@
 -- When a module is valid (Core 1.0, section 3.4), cut to the profile.
-use Rattle.std.specs.Prelude.{◌≡◌, ◌<◌, ◌≤◌, ◌+◌, ◌*◌, ◌==◌, ℕ, List, [], ◌∷◌, ◌++◌, map, length, Option, Some, None, IfSome, codes, Bool, true, false, cond, ◌&&◌}
+use Rattle.std.specs.Prelude.{◌≡◌, ◌<◌, ◌≤◌, ◌+◌, ◌*◌, ◌==◌, ℕ, List, [], ◌∷◌, ◌++◌, map, length, Option, Some, None, IfSome, codes, Bool, true, false, if◌then◌else◌, ◌&&◌}
 use Rattle.std.specs.Cmp.Lexicographic.{pointwise}
 use Rattle.wasm_ast.specs.declared.types.ValueType.TheVariants.{I32}
 use Rattle.wasm_ast.specs.declared.types.FuncType.{FuncType}
@@ -80,7 +80,7 @@ is_function _ = false
 -- the index of the first function that some exports name `invoke`
 abbrev pub invoke_in : List Export → Option ℕ
 invoke_in [] = None
-invoke_in (e ∷ es) = cond (is_function e.kind && pointwise ◌==◌ e.name (codes "invoke")) (Some e.index) (invoke_in es)
+invoke_in (e ∷ es) = if (is_function e.kind && pointwise ◌==◌ e.name (codes "invoke")) then Some e.index else invoke_in es
 
 -- the index of the function that a module exports as `invoke`
 abbrev pub invoke_of : Module → Option ℕ
