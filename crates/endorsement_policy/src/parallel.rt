@@ -47,7 +47,7 @@ pub fn check_all<R: Threads + Sync, G: Gate>(
                 v.items) }
         { check_share(alloc, rules, envelopes, worker, workers, gate) },
     )?;
-    gathered(alloc, rules, envelopes, &shares)
+    gather(alloc, rules, envelopes, &shares)
 }
 
 /// The answers of one worker: for the envelopes whose places are its number modulo the number of
@@ -80,7 +80,7 @@ fn check_share<G: Gate>(
 }
 
 /// The workers' answers by the envelopes' places.
-fn gathered(
+fn gather(
     alloc: Global,
     rules: &Rules,
     envelopes: &[Envelope],

@@ -78,7 +78,7 @@ fn last_flags(alloc: Global, snapshot: &Snapshot) -> Result<Vec<Flag>, AllocErro
 }
 
 /// A simulation, where want of memory is no refusal of the chaincode's.
-fn simulated(
+fn simulate_begun(
     alloc: Global,
     book: &Book,
     snapshot: &Snapshot,
@@ -176,7 +176,7 @@ impl Peer {
             None => Ok(Reply::NoSuchSeat),
             Some(None) => Ok(Reply::NothingBegun),
             Some(Some(begun)) => {
-                let reply = match simulated(alloc, book, &begun.snapshot, &begun.proposal)? {
+                let reply = match simulate_begun(alloc, book, &begun.snapshot, &begun.proposal)? {
                     Ok(payload) => endorsed(alloc, rules, &self.org, &self.snapshot, payload)?,
                     Err(refusal) => Reply::Refused(refusal),
                 };

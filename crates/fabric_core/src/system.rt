@@ -73,7 +73,8 @@ pub struct System {
     orderer: Orderer,
 }
 
-/// How many peers there are, how many envelopes wait, and the height. The tags' keys are not printed.
+/// How many peers there are, how many envelopes wait, and the height. The tags' keys are not
+/// printed.
 impl Debug for System {
     fn fmt<W: Write>(&self, f: &mut Formatter<W>) -> fmt::Result {
         f.debug_struct("System")

@@ -12,10 +12,10 @@ pub fn tag(key: &[u8], bytes: &[u8]) -> [u8; 32]
 {
     let key = padded_key(key);
     let mut inner = Sha256::new();
-    inner.update(&masked(&key, 0x36));
+    inner.update(&mask(&key, 0x36));
     inner.update(bytes);
     let mut outer = Sha256::new();
-    outer.update(&masked(&key, 0x5c));
+    outer.update(&mask(&key, 0x5c));
     outer.update(&inner.finalize());
     outer.finalize()
 }
@@ -46,7 +46,7 @@ fn padded_key(key: &[u8]) -> [u8; 64]
 }
 
 /// Each byte of the key against the pad, by exclusive or.
-fn masked(key: &[u8; 64], pad: u8) -> [u8; 64]
+fn mask(key: &[u8; 64], pad: u8) -> [u8; 64]
     ensures { result ≡ mask pad key.now }
 {
     let mut block = *key;

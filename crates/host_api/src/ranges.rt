@@ -39,8 +39,8 @@ pub fn range_reply(
     requires count { length entries.now ≤ 64 }
     requires room { target + capacity ≤ length memory.old }
     ensures { (s : Recorded) →
-        replies (reply_range_bytes (map key_and_value (map deref_pair entries.now))) target capacity memory.old
-        s
+        replies (reply_range_bytes (map key_and_value (map deref_pair entries.now))) target capacity
+        memory.old s
         ≡ record { answer = result; memory = memory.new; records = s } }
 {
     let len = reply_len(entries);
@@ -68,7 +68,8 @@ fn write_entries(entries: &[(&Key, &(Value, Version))], at: usize, memory: &mut 
     requires room { at + length (reply_range_bytes (map key_and_value (map deref_pair entries.now)))
         ≤ length memory.old }
     ensures { memory.new
-        ≡ with_bytes memory.old at (reply_range_bytes (map key_and_value (map deref_pair entries.now))) }
+        ≡ with_bytes memory.old at
+        (reply_range_bytes (map key_and_value (map deref_pair entries.now))) }
 {
     memory[at] = entries.len() as u8;
     let mut next = at + 1;
@@ -82,7 +83,8 @@ fn write_entry(key: &[u8], value: &[u8], at: usize, memory: &mut [u8]) -> usize
     requires key { length key.now ≤ 64 }
     requires value { length value.now ≤ 4096 }
     requires room { at + length (reply_entry_bytes (key.now, value.now)) ≤ length memory.old }
-    ensures written { memory.new ≡ with_bytes memory.old at (reply_entry_bytes (key.now, value.now)) }
+    ensures written { memory.new
+        ≡ with_bytes memory.old at (reply_entry_bytes (key.now, value.now)) }
     ensures next { result ≡ at + length (reply_entry_bytes (key.now, value.now)) }
 {
     memory[at] = key.len() as u8;

@@ -257,11 +257,11 @@ impl<'v, V: View> Recorder<'v, V> {
         ensures opened { self.new.opened ≡ self.old.opened }
     {
         match search(&self.writes, key) {
-            Ok(at) => self.writes[at].value = copied(self.alloc, value)?,
+            Ok(at) => self.writes[at].value = copy_of(self.alloc, value)?,
             Err(_) if self.writes.len() == MOST_WRITES => return Ok(negative(NO_ROOM)),
             Err(at) => {
                 let key = copied_key(self.alloc, key)?;
-                let value = copied(self.alloc, value)?;
+                let value = copy_of(self.alloc, value)?;
                 self.writes.insert(at, WriteItem { key, value })?;
             }
         }
@@ -396,7 +396,7 @@ fn copied_bound(alloc: Global, bytes: &[u8]) -> Result<Bound, AllocError>
 }
 
 /// A copy of the bytes of a value, where there is one.
-fn copied(alloc: Global, bytes: Option<&[u8]>) -> Result<Option<Value>, AllocError>
+fn copy_of(alloc: Global, bytes: Option<&[u8]>) -> Result<Option<Value>, AllocError>
     requires { IfSome bytes (λ b. IsValue b.now) }
     ensures { IfOk result (λ v. v ≡ option_map (λ b. b.now) bytes.entry) }
 {

@@ -57,7 +57,8 @@ pub fn versions_name_the_entries_of_a_range()
 /// to it (`next`), and so any blocks have them that are flagged one after another from the empty
 /// chain on (`all`).
 pub fn computed_flags_are_right()
-    ensures next { (rule : FlagRule) (chain : Chain) (b : Block) → HasFlagsBy rule [] (history chain) →
+    ensures next { (rule : FlagRule) (chain : Chain) (b : Block) →
+        HasFlagsBy rule [] (history chain) →
         HasFlagsBy rule []
         (history
         (chain ++

@@ -134,7 +134,7 @@ impl Session {
                 Some(envelope) => Ok(Step::Do(Event::Submit(envelope), None)),
                 None => Err(Failure::BadLine(number)),
             },
-            Action::SubmitBytes(bytes) => self.submitted(&bytes),
+            Action::SubmitBytes(bytes) => self.submit(&bytes),
             Action::Take => Ok(Step::Do(Event::Take, None)),
             Action::Tick => Ok(Step::Do(Event::Tick, None)),
             Action::Commit { peer } => Ok(Step::Do(
@@ -147,7 +147,7 @@ impl Session {
     }
 
     /// The submit of the envelope that these bytes spell.
-    fn submitted(&self, bytes: &[u8]) -> Result<Step, Failure>
+    fn submit(&self, bytes: &[u8]) -> Result<Step, Failure>
         ensures silent { IfErr result IsSilent }
     {
         match decode_envelope(self.alloc, bytes) {

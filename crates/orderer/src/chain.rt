@@ -29,7 +29,7 @@ fn next_link(blocks: &[Block]) -> [u8; 32]
 }
 
 /// The envelopes at these places of a batch, in the order of the places.
-fn picked(alloc: Global, batch: &[Envelope], order: &[usize]) -> Result<Vec<Envelope>, AllocError>
+fn pick(alloc: Global, batch: &[Envelope], order: &[usize]) -> Result<Vec<Envelope>, AllocError>
     ensures { IfOk result (λ v. v.items ≡ envelopes_at batch.now order.now) }
 {
     let mut envelopes = Vec::with_capacity(alloc, order.len())?;
@@ -106,7 +106,7 @@ pub(crate) fn add_batch(
         (λ cause. IsBatchRefused (plans_of reorder) cause blocks.old.items batch.now) }
 {
     let plan = plan_of(alloc, reorder, batch)?;
-    let survivors = picked(alloc, batch, &plan.order)?;
+    let survivors = pick(alloc, batch, &plan.order)?;
     let aborted = Seq::new(plan.aborted);
     if survivors.is_empty() {
         return Ok(BatchReport {

@@ -82,7 +82,7 @@ fn aborts(
 }
 
 /// The plan of a batch without its stale transactions, the others in a legal order.
-fn arranged(alloc: Global, batch: &[Envelope]) -> Result<Plan, AllocError>
+fn arrange(alloc: Global, batch: &[Envelope]) -> Result<Plan, AllocError>
     requires { length batch.now ≤ 512 }
     ensures { IfOk result (λ p. IsArranged batch.now p.order.items p.aborted.items) }
 {
@@ -102,7 +102,7 @@ pub(crate) fn plan_of(alloc: Global, reorder: bool, batch: &[Envelope]) -> Resul
     ensures places { IfOk result (λ p. ArePlaces (length batch.now) p.order.items) }
 {
     if reorder {
-        arranged(alloc, batch)
+        arrange(alloc, batch)
     } else {
         as_cut(alloc, batch)
     }

@@ -52,7 +52,8 @@ impl Seat {
     /// memory (9).
     pub fn begin(&mut self, proposal: &Proposal) -> Result<Begun, TakeRefusal>
         ensures begun { IfOk result
-            (λ b. (b.proposal ≡ proposal.now) × IsPrefix (seen_chain self.old) (arc_value b.snapshot) ×
+            (λ b. (b.proposal ≡ proposal.now) ×
+            IsPrefix (seen_chain self.old) (arc_value b.snapshot) ×
             (seen_chain self.new ≡ arc_value b.snapshot)) }
         ensures refused { IfErr result (λ _. seen_chain self.new ≡ seen_chain self.old) }
         ensures same { (self.new.endorser ≡ self.old.endorser) ×
@@ -90,8 +91,8 @@ impl Seat {
 
     /// Begins and finishes a proposal. Refused as these are.
     pub fn endorse(&mut self, proposal: &Proposal) -> Result<(Payload, Endorsement), FinishRefusal>
-        ensures endorsed { Endorses self.old.endorser proposal.now (seen_chain self.old) (seen_chain self.new)
-            result }
+        ensures endorsed { Endorses self.old.endorser proposal.now (seen_chain self.old)
+            (seen_chain self.new) result }
         ensures same { (self.new.endorser ≡ self.old.endorser) ×
             (peer_of self.new ≡ peer_of self.old) }
     {
@@ -121,7 +122,8 @@ impl Seat {
         requires { cell_of_told told.now ≡ peer_of self.old }
         ensures longer { (IsPrefix (seen_chain self.old) (told_list told.now) ×
             (seen_chain self.new ≡ told_list told.now)) ⊎
-            (IsPrefix (told_list told.now) (seen_chain self.old) × (seen_chain self.new ≡ seen_chain self.old)) }
+            (IsPrefix (told_list told.now) (seen_chain self.old) ×
+            (seen_chain self.new ≡ seen_chain self.old)) }
         ensures same { (self.new.endorser ≡ self.old.endorser) ×
             (peer_of self.new ≡ peer_of self.old) }
     {

@@ -64,7 +64,8 @@ impl Peer {
     ) -> Result<(PeerWriter, Vec<Seat>), OpenRefusal>
         requires seats { (0 < seats) × (seats < 2 ^ 32) }
         ensures writer { IfOk result
-            (λ t. (published_chain t.0 ≡ []) × (arc_value t.0.rules ≡ arc_value genesis.now.rules)) }
+            (λ t. (published_chain t.0 ≡ []) ×
+            (arc_value t.0.rules ≡ arc_value genesis.now.rules)) }
         ensures length { IfOk result (λ t. length t.1.items ≡ seats) }
         ensures seats { IfOk result
             (λ t. All
@@ -170,7 +171,8 @@ impl PeerWriter {
             ≡ published_chain self.old ++
             next_by (arc_value self.old.rules) (published_chain self.old) block ∷ []) }
         ensures told { IfOk result
-            (λ t. (cell_of_told t ≡ peer_of_writer self.old) × (told_list t ≡ published_chain self.new)) }
+            (λ t. (cell_of_told t ≡ peer_of_writer self.old) ×
+            (told_list t ≡ published_chain self.new)) }
         ensures fits { OnOk result (Fits (blocks_of (published_chain self.old)) block) }
         ensures refused { IfErr result
             (λ refusal. IsRefused refusal (blocks_of (published_chain self.old)) block) }

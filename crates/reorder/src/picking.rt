@@ -96,7 +96,7 @@ pub fn picks(alloc: Global, edges: &Matrix, gone: &[usize]) -> Result<Vec<Pick>,
     ensures { IfOk result
         (λ v. IsPlan edges.now.size (edge_at edges.now) (all_but gone.now edges.now.size) v.items) }
 {
-    let back = edges.flipped(alloc)?;
+    let back = edges.transpose(alloc)?;
     let mut left = vec![in alloc; true; edges.size]?;
     let mut into = counts(alloc, &back)?;
     let mut out = counts(alloc, edges)?;

@@ -22,7 +22,8 @@ pub fn commit_rest<R: Threads + Wait + Sync>(
 ) -> Result<(), AllocError>
     requires linked { AreLinked [] blocks.now }
     requires count { length blocks.now ≤ 65535 }
-    requires first { IsFirstOf (arc_value writer.old.rules) blocks.now (published_chain writer.old) }
+    requires first { IsFirstOf (arc_value writer.old.rules) blocks.now
+        (published_chain writer.old) }
     ensures rules { writer.new.rules ≡ writer.old.rules }
     ensures first { IsFirstOf (arc_value writer.old.rules) blocks.now (published_chain writer.new) }
     ensures all { OnOk result (length (published_chain writer.new) ≡ length blocks.now) }

@@ -35,7 +35,8 @@ impl Reader {
     /// owner of the snapshot was refused (9).
     pub fn take(&mut self) -> Result<Arc<Snapshot>, TakeRefusal>
         ensures taken { IfOk result
-            (λ s. IsPrefix (seen_list self.old) (arc_value s) × (seen_list self.new ≡ arc_value s)) }
+            (λ s. IsPrefix (seen_list self.old) (arc_value s) ×
+            (seen_list self.new ≡ arc_value s)) }
         ensures refused { IfErr result (λ _. seen_list self.new ≡ seen_list self.old) }
         ensures same { cell_of_reader self.new ≡ cell_of_reader self.old }
     {
@@ -61,7 +62,8 @@ impl Reader {
         requires { cell_of_told told.now ≡ cell_of_reader self.old }
         ensures longer { (IsPrefix (seen_list self.old) (told_list told.now) ×
             (seen_list self.new ≡ told_list told.now)) ⊎
-            (IsPrefix (told_list told.now) (seen_list self.old) × (seen_list self.new ≡ seen_list self.old)) }
+            (IsPrefix (told_list told.now) (seen_list self.old) ×
+            (seen_list self.new ≡ seen_list self.old)) }
         ensures same { cell_of_reader self.new ≡ cell_of_reader self.old }
     {
         if self.front.begins(&told.front) {

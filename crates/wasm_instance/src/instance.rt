@@ -81,8 +81,8 @@ impl Instance {
     ///
     /// # Errors
     ///
-    /// `OutOfBounds` where the bytes that it writes would not all lie in_bounds the memory, which then
-    /// stays as it was. The sum is unbounded: it does not wrap at 2^32.
+    /// `OutOfBounds` where the bytes that it writes would not all lie in_bounds the memory, which
+    /// then stays as it was. The sum is unbounded: it does not wrap at 2^32.
     #[inline(always)]
     pub fn store(&mut self, op: StoreOp, address: u32, offset: u32, word: u64) -> Result<(), Trap>
         ensures answer { result ≡ in_bounds self.old.memory (address + offset) (store_width op) tt }

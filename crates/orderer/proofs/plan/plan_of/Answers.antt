@@ -10,7 +10,7 @@ use Rattle.orderer.proofs.plan.plan_of.Goals as goal
 pub returns-then-reorder-clause-places : goal.returns-then-reorder-clause-places
 returns-then-reorder-clause-places c =
     let batch = c.args.batch.now in
-    IfOk-weaker c.arranged.result _ _ (λ p a. planned_places (length batch) (edge_of batch) (stale batch) p.order.items a.dropped a.planned) c.arranged.ensures
+    IfOk-weaker c.arrange.result _ _ (λ p a. planned_places (length batch) (edge_of batch) (stale batch) p.order.items a.dropped a.planned) c.arrange.ensures
 
 pub returns-else-reorder-clause-places : goal.returns-else-reorder-clause-places
 returns-else-reorder-clause-places c =

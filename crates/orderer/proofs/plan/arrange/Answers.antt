@@ -1,7 +1,7 @@
 use Rattle.std.proofs.Common.{sym, subst, ◌∙◌, ◌<◌, ℕ, List, length}
 use Rattle.std.specs.List.{AllByRecursion}
 use Rattle.orderer.proofs.Arranging.{stale_inside}
-use Rattle.orderer.proofs.plan.arranged.Goals as goal
+use Rattle.orderer.proofs.plan.arrange.Goals as goal
 
 pub reorder-requires-clause-gone : goal.reorder-requires-clause-gone
 reorder-requires-clause-gone c =

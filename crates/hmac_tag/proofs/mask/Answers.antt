@@ -1,6 +1,6 @@
 use Rattle.std.proofs.Common.{ap, ◌∙◌, arith, slice_set, slice_index_or, bit_xor}
 use Rattle.hmac_tag.proofs.Masks.{one_more}
-use Rattle.hmac_tag.proofs.masked.Goals as goal
+use Rattle.hmac_tag.proofs.mask.Goals as goal
 
 pub loop-place-preserved : goal.loop-place-preserved
 loop-place-preserved c =
