@@ -9,6 +9,7 @@ ghost use Rattle.committer.specs.Fits.{blocks_of, Fits, IsRefused};
 
 use crate::refusal::CommitRefusal;
 use fab_types::Block;
+use fab_types::limits::LAST_BLOCK;
 use mvcc_validate::flags;
 use std::alloc::{AllocError, Global};
 use wire::{data_hash, header_hash};
@@ -33,7 +34,7 @@ fn check(alloc: Global, snapshot: &Snapshot, block: &Block) -> Result<(), Commit
         (λ refusal. IsRefused refusal (blocks_of snapshot.now) block.now) }
 {
     let height = snapshot.height();
-    if height == 65_535 {
+    if height == LAST_BLOCK as usize {
         return Err(CommitRefusal::AtEnd);
     }
     if block.header.number.get() != height as u32 + 1 {

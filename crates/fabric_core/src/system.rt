@@ -11,6 +11,7 @@ ghost use Rattle.fabric_core.specs.Inside.{rules_of};
 use crate::event::{Event, Reply};
 use crate::peer::Peer;
 use endorsement_policy::Rules;
+use fab_types::limits::LAST_BLOCK;
 use fab_types::{Block, Envelope, OrgName, Proposal};
 use orderer::{OrderCause, Orderer};
 use seq::Seq;
@@ -284,7 +285,7 @@ impl System {
     pub fn blocks(&self) -> &[Block]
         ensures all { result.now ≡ self.now.world.orderer.chain }
         ensures linked { AreLinked [] self.now.world.orderer.chain }
-        ensures count { length self.now.world.orderer.chain ≤ 65535 }
+        ensures count { length self.now.world.orderer.chain ≤ LAST_BLOCK }
     {
         self.orderer.blocks()
     }

@@ -12,6 +12,7 @@ ghost use Rattle.orderer.specs.Adding.{BeginsWith, IsBatchRefused, IsCutRefused}
 use crate::plan::plan_of;
 use crate::report::{BatchReport, OrderCause};
 use batch_cutter::Cut;
+use fab_types::limits::LAST_BLOCK;
 use fab_types::{Block, BlockData, BlockNumber, Envelope, Header};
 use seq::Seq;
 use std::alloc::{AllocError, Global};
@@ -82,8 +83,8 @@ fn push_block(
 
 /// The number of the block after `count` blocks. None where no block can follow.
 fn next_number(count: usize) -> Option<BlockNumber>
-    requires { count ≤ 65535 }
-    ensures { MatchOption result (count ≡ 65535) (λ n. n ≡ suc count) }
+    requires { count ≤ LAST_BLOCK }
+    ensures { MatchOption result (count ≡ LAST_BLOCK) (λ n. n ≡ suc count) }
 {
     BlockNumber::new(count as u32 + 1)
 }
@@ -96,11 +97,11 @@ pub(crate) fn add_batch(
     blocks: &mut Vec<Block>,
     batch: &[Envelope],
 ) -> Result<BatchReport, OrderCause>
-    requires blocks { length blocks.old.items ≤ 65535 }
+    requires blocks { length blocks.old.items ≤ LAST_BLOCK }
     requires batch { IsBlockData batch.now }
     ensures added { IfOk result
         (λ report. Adds (plans_of reorder) blocks.old.items batch.now report blocks.new.items) }
-    ensures number { OnOk result (length blocks.new.items ≤ 65535) }
+    ensures number { OnOk result (length blocks.new.items ≤ LAST_BLOCK) }
     ensures unchanged { OnErr result (blocks.new.items ≡ blocks.old.items) }
     ensures refused { IfErr result
         (λ cause. IsBatchRefused (plans_of reorder) cause blocks.old.items batch.now) }
@@ -131,12 +132,12 @@ fn add_each(
     blocks: &mut Vec<Block>,
     cut: &Cut<Envelope>,
 ) -> Result<Vec<BatchReport>, OrderCause>
-    requires blocks { length blocks.old.items ≤ 65535 }
+    requires blocks { length blocks.old.items ≤ LAST_BLOCK }
     requires batches { AllByRecursion IsBlockData (batches cut.now) }
     ensures added { IfOk result
         (λ reports. AddsEach (plans_of reorder) blocks.old.items (batches cut.now) reports.items
         blocks.new.items) }
-    ensures number { OnOk result (length blocks.new.items ≤ 65535) }
+    ensures number { OnOk result (length blocks.new.items ≤ LAST_BLOCK) }
     ensures begins { BeginsWith blocks.old.items blocks.new.items }
     ensures refused { IfErr result
         (λ cause. IsCutRefused (plans_of reorder) cause blocks.old.items (batches cut.now)) }
@@ -162,12 +163,12 @@ pub(crate) fn add_cut(
     blocks: &mut Vec<Block>,
     cut: &Cut<Envelope>,
 ) -> Result<Vec<BatchReport>, OrderCause>
-    requires blocks { length blocks.old.items ≤ 65535 }
+    requires blocks { length blocks.old.items ≤ LAST_BLOCK }
     requires batches { AllByRecursion IsBlockData (batches cut.now) }
     ensures added { IfOk result
         (λ reports. AddsEach (plans_of reorder) blocks.old.items (batches cut.now) reports.items
         blocks.new.items) }
-    ensures number { OnOk result (length blocks.new.items ≤ 65535) }
+    ensures number { OnOk result (length blocks.new.items ≤ LAST_BLOCK) }
     ensures unchanged { OnErr result (blocks.new.items ≡ blocks.old.items) }
     ensures refused { IfErr result
         (λ cause. IsCutRefused (plans_of reorder) cause blocks.old.items (batches cut.now)) }

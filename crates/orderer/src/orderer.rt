@@ -11,6 +11,7 @@ ghost use Rattle.orderer.specs.Ordering.{Ordering, AreLimits, Takes, IsRefused};
 use crate::chain::{add_batch, add_cut};
 use crate::report::{BatchReport, OrderCause, OrderRefusal};
 use batch_cutter::Cutter;
+use fab_types::limits::LAST_BLOCK;
 use fab_types::{Block, Envelope};
 use std::alloc::Global;
 use std::marker::Model;
@@ -88,7 +89,7 @@ impl Orderer {
         ensures taken { IfOk result
             (λ reports. Takes self.old (message given) reports.items self.new) }
         ensures size { OnOk result (envelope_size given ≤ self.old.limits.absolute) }
-        ensures numbers { OnOk result (length self.new.chain ≤ 65535) }
+        ensures numbers { OnOk result (length self.new.chain ≤ LAST_BLOCK) }
         ensures refused { IfErr result
             (λ refusal. IsRefused refusal.cause self.old (message given)) }
         ensures handed_back { IfErr result (λ refusal. refusal.envelope ≡ Some given) }
@@ -120,7 +121,7 @@ impl Orderer {
     pub fn tick(&mut self) -> Result<Option<BatchReport>, OrderRefusal>
         ensures taken { IfOk result
             (λ report. Takes self.old timeout (option_to_list report) self.new) }
-        ensures numbers { OnOk result (length self.new.chain ≤ 65535) }
+        ensures numbers { OnOk result (length self.new.chain ≤ LAST_BLOCK) }
         ensures refused { IfErr result (λ refusal. IsRefused refusal.cause self.old timeout) }
         ensures handed_back { IfErr result (λ refusal. refusal.envelope ≡ None) }
         ensures unchanged { OnErr result (self.new ≡ self.old) }
@@ -144,7 +145,7 @@ impl Orderer {
     pub fn blocks(&self) -> &[Block]
         ensures all { result.now ≡ self.now.chain }
         ensures linked { AreLinked [] self.now.chain }
-        ensures count { length self.now.chain ≤ 65535 }
+        ensures count { length self.now.chain ≤ LAST_BLOCK }
     {
         &self.blocks
     }

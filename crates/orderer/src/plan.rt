@@ -8,6 +8,7 @@ ghost use Rattle.orderer.specs.Numbers.{abort_number};
 ghost use Rattle.orderer.specs.Plans.{ArePlaces};
 
 use fab_types::Envelope;
+use fab_types::limits::MOST_TRANSACTIONS;
 use reorder::{early_abort, reorder};
 use std::alloc::{AllocError, Global};
 use std::fmt::{self, Display, Formatter, Write};
@@ -66,7 +67,7 @@ fn aborts(
     outdated: &[usize],
     dropped: &[usize],
 ) -> Result<Vec<(u16, AbortCause)>, AllocError>
-    requires { count ≤ 512 }
+    requires { count ≤ MOST_TRANSACTIONS }
     ensures { IfOk result
         (λ v. v.items ≡ aborts outdated.now dropped.now (range_with_len 0 count)) }
 {
@@ -83,7 +84,7 @@ fn aborts(
 
 /// The plan of a batch without its stale transactions, the others in a legal order.
 fn arrange(alloc: Global, batch: &[Envelope]) -> Result<Plan, AllocError>
-    requires { length batch.now ≤ 512 }
+    requires { length batch.now ≤ MOST_TRANSACTIONS }
     ensures { IfOk result (λ p. IsArranged batch.now p.order.items p.aborted.items) }
 {
     let outdated = early_abort(alloc, batch)?;
@@ -97,7 +98,7 @@ fn arrange(alloc: Global, batch: &[Envelope]) -> Result<Plan, AllocError>
 
 /// The plan of a batch. With `reorder` it is thinned and ordered, else it stays as it was cut.
 pub(crate) fn plan_of(alloc: Global, reorder: bool, batch: &[Envelope]) -> Result<Plan, AllocError>
-    requires { length batch.now ≤ 512 }
+    requires { length batch.now ≤ MOST_TRANSACTIONS }
     ensures planned { IfOk result (λ p. plans_of reorder batch.now p.order.items p.aborted.items) }
     ensures places { IfOk result (λ p. ArePlaces (length batch.now) p.order.items) }
 {

@@ -9,6 +9,7 @@ ghost use Rattle.seat_threads.specs.Chains.{IsFirstOf};
 
 use committer::CommitRefusal;
 use fab_types::Block;
+use fab_types::limits::LAST_BLOCK;
 use peer_node::PeerWriter;
 use std::alloc::AllocError;
 use std::sync::Wait;
@@ -21,7 +22,7 @@ pub fn commit_rest<R: Threads + Wait + Sync>(
     blocks: &[Block],
 ) -> Result<(), AllocError>
     requires linked { AreLinked [] blocks.now }
-    requires count { length blocks.now ≤ 65535 }
+    requires count { length blocks.now ≤ LAST_BLOCK }
     requires first { IsFirstOf (arc_value writer.old.rules) blocks.now
         (published_chain writer.old) }
     ensures rules { writer.new.rules ≡ writer.old.rules }

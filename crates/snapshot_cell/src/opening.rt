@@ -14,6 +14,7 @@ use crate::reader::Reader;
 use crate::refusal::OpenRefusal;
 use crate::writer::Writer;
 use fab_types::CommittedBlock;
+use fab_types::limits::LAST_BLOCK;
 use left_right::writer;
 use std::alloc::{AllocError, Global};
 use std::sync::{Arc, Wait};
@@ -59,7 +60,7 @@ fn reach(
     blocks: &[Arc<CommittedBlock>],
 ) -> Result<Front, AllocError>
     requires new { (history.now.head.book ≡ front.seen.book) × (front.seen.log ≡ []) }
-    requires limit { length blocks.now ≤ 65535 }
+    requires limit { length blocks.now ≤ LAST_BLOCK }
     ensures { IfOk result
         (λ f. (f.seen.log ≡ blocks_in blocks.now) × (f.seen.book ≡ front.seen.book)) }
 {

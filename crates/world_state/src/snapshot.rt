@@ -15,6 +15,7 @@ ghost use Rattle.world_state.specs.Shared.{blocks_in};
 use crate::index::{IdIndex, index_block, is_indexed};
 use crate::ranges::{first_entries, range_in};
 use crate::writes::{StateMap, apply_block};
+use fab_types::limits::LAST_BLOCK;
 use fab_types::{Block, Bound, CommittedBlock, Flag, Key, Value, Version};
 use persist_map::{PMap, Range};
 use std::alloc::{AllocError, Global};
@@ -38,7 +39,7 @@ fn with_block(
     blocks: &[Arc<CommittedBlock>],
     block: CommittedBlock,
 ) -> Result<Vec<Arc<CommittedBlock>>, AllocError>
-    requires { length blocks.now ≤ 65535 }
+    requires { length blocks.now ≤ LAST_BLOCK }
     ensures { IfOk result (λ v. blocks_in v.items ≡ blocks_in blocks.now ++ block ∷ []) }
 {
     let mut longer = Vec::with_capacity(alloc, blocks.len() + 1)?;
@@ -86,7 +87,7 @@ impl Snapshot {
     /// How many blocks there are, at most 65,535.
     pub fn height(&self) -> usize
         ensures value { result ≡ length self.now }
-        ensures limits { length self.now ≤ 65535 }
+        ensures limits { length self.now ≤ LAST_BLOCK }
     {
         self.blocks.len()
     }
@@ -94,7 +95,7 @@ impl Snapshot {
     /// The blocks with their flags, from block 1 on. There are at most 65,535.
     pub fn blocks(&self) -> &[Arc<CommittedBlock>]
         ensures value { blocks_in result.now ≡ self.now }
-        ensures limits { length self.now ≤ 65535 }
+        ensures limits { length self.now ≤ LAST_BLOCK }
     {
         &self.blocks
     }
