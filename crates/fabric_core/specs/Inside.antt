@@ -8,7 +8,8 @@ use Rattle.ledger_model.specs.Execution.{Exec}
 use Rattle.simulator.specs.declared.book.Chaincode.{Chaincode}
 use Rattle.endorsement_policy.specs.Endorsed.{Listed}
 use Rattle.fabric_core.specs.Rule.{table_of, seal_of}
-use Rattle.fabric_core.specs.System.{Rules, Noted, PeerState, World, chain_of_first}
+use Rattle.simulator.specs.Execution.{exec_of}
+use Rattle.fabric_core.specs.System.{Rules, Event, Reply, Noted, PeerState, World, IsStep, chain_of_first}
 use Rattle.fabric_core.specs.declared.peer.Begun.{Begun}
 use Rattle.fabric_core.specs.declared.peer.Peer.{Peer}
 
@@ -22,6 +23,14 @@ pub record State : Type 0 where
 -- the rules with these chaincodes, organisations and policies, and this queue
 abbrev pub rules_of : Exec → Listed → ℕ → Rules
 rules_of exec listed capacity = record { exec = exec; rule = table_of listed; seal = seal_of listed; capacity = capacity }
+
+-- a call takes a step of the abstract world: with this event, and this reply
+abbrev pub TakesStep : (old new : State) → Event → Reply → Type 0
+TakesStep old new event reply = IsStep (rules_of (exec_of old.book) old.rules old.capacity) old.world event reply new.world
+
+-- what every call keeps: the chaincodes, the organisations and policies, and the queue's capacity
+abbrev pub KeepsSetting : (old new : State) → Type 0
+KeepsSetting old new = (new.book ≡ old.book) × (new.rules ≡ old.rules) × (new.capacity ≡ old.capacity)
 
 abbrev pub noted : Begun → Noted
 noted b = record { proposal = b.proposal; height = length b.snapshot.value }

@@ -7,10 +7,10 @@ ghost use Rattle.committer.specs.Fits.{Fits, blocks_of};
 ghost use Rattle.fabric_core.specs.Rule.{table_of};
 ghost use Rattle.endorsement_policy.specs.Endorsed.{is_right};
 ghost use Rattle.simulator.specs.Execution.{exec_of};
-ghost use Rattle.fabric_core.specs.System.{Reply, IsStep, chain_of};
+ghost use Rattle.fabric_core.specs.System.{Reply, chain_of};
 ghost use Rattle.orderer.specs.Ordering.{AreLimits};
 ghost use Rattle.fabric_core.specs.Setting.{limits_of};
-ghost use Rattle.fabric_core.specs.Inside.{rules_of};
+ghost use Rattle.fabric_core.specs.Inside.{rules_of, TakesStep, KeepsSetting};
 ghost use Rattle.fabric_core.specs.Headline.{IsRun, IsHonest, ConflictsAreOlder};
 
 use crate::event::{Event, Reply};
@@ -34,17 +34,11 @@ impl Ran {
     /// One step more. Where memory is refused, the system and the replies stay.
     fn advance(&mut self, event: &Event) -> Result<(), AllocError>
         ensures step { OnOk result
-            ((reply : Reply) ×
-            IsStep
-            (rules_of (exec_of self.old.system.book) self.old.system.rules
-            self.old.system.capacity)
-            self.old.system.world event.now reply self.new.system.world ×
+            ((reply : Reply) × TakesStep self.old.system self.new.system event.now reply ×
             (self.new.replies.items ≡ self.old.replies.items ++ reply ∷ [])) }
         ensures system { OnErr result (self.new.system ≡ self.old.system) }
         ensures replies { OnErr result (self.new.replies.items ≡ self.old.replies.items) }
-        ensures book { self.new.system.book ≡ self.old.system.book }
-        ensures rules { self.new.system.rules ≡ self.old.system.rules }
-        ensures capacity { self.new.system.capacity ≡ self.old.system.capacity }
+        ensures keeps { KeepsSetting self.old.system self.new.system }
         ensures refused { self.new.refused ≡ self.old.refused }
     {
         let event = event.clone()?;

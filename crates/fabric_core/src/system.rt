@@ -4,9 +4,9 @@ ghost use Rattle.std.specs.Prelude.{◌≡◌, ◌≤◌, [], IfOk, OnErr, optio
 ghost use Rattle.wire.specs.Links.{AreLinked};
 ghost use Rattle.orderer.specs.Ordering.{AreLimits};
 ghost use Rattle.fabric_core.specs.Setting.{limits_of};
-ghost use Rattle.fabric_core.specs.System.{opening, IsStep, Begin, Finish, Submit, Take, Tick, Commit, chain_of};
+ghost use Rattle.fabric_core.specs.System.{opening, Begin, Finish, Submit, Take, Tick, Commit, chain_of};
 ghost use Rattle.simulator.specs.Execution.{exec_of};
-ghost use Rattle.fabric_core.specs.Inside.{rules_of};
+ghost use Rattle.fabric_core.specs.Inside.{rules_of, TakesStep, KeepsSetting};
 
 use crate::event::{Event, Reply};
 use crate::peer::Peer;
@@ -145,11 +145,8 @@ impl System {
 
     fn begin(&mut self, peer: usize, seat: usize, proposal: Proposal) -> Result<Reply, AllocError>
         ensures step { IfOk result
-            (λ reply. IsStep (rules_of (exec_of self.old.book) self.old.rules self.old.capacity)
-            self.old.world (Begin peer seat proposal) reply self.new.world) }
-        ensures book { self.new.book ≡ self.old.book }
-        ensures rules { self.new.rules ≡ self.old.rules }
-        ensures capacity { self.new.capacity ≡ self.old.capacity }
+            (λ reply. TakesStep self.old self.new (Begin peer seat proposal) reply) }
+        ensures keeps { KeepsSetting self.old self.new }
         ensures unchanged { OnErr result (self.new ≡ self.old) }
     {
         if peer >= self.peers.len() {
@@ -160,11 +157,8 @@ impl System {
 
     fn finish(&mut self, peer: usize, seat: usize) -> Result<Reply, AllocError>
         ensures step { IfOk result
-            (λ reply. IsStep (rules_of (exec_of self.old.book) self.old.rules self.old.capacity)
-            self.old.world (Finish peer seat) reply self.new.world) }
-        ensures book { self.new.book ≡ self.old.book }
-        ensures rules { self.new.rules ≡ self.old.rules }
-        ensures capacity { self.new.capacity ≡ self.old.capacity }
+            (λ reply. TakesStep self.old self.new (Finish peer seat) reply) }
+        ensures keeps { KeepsSetting self.old self.new }
         ensures unchanged { OnErr result (self.new ≡ self.old) }
     {
         if peer >= self.peers.len() {
@@ -175,11 +169,8 @@ impl System {
 
     fn submit(&mut self, envelope: Envelope) -> Result<Reply, AllocError>
         ensures step { IfOk result
-            (λ reply. IsStep (rules_of (exec_of self.old.book) self.old.rules self.old.capacity)
-            self.old.world (Submit envelope) reply self.new.world) }
-        ensures book { self.new.book ≡ self.old.book }
-        ensures rules { self.new.rules ≡ self.old.rules }
-        ensures capacity { self.new.capacity ≡ self.old.capacity }
+            (λ reply. TakesStep self.old self.new (Submit envelope) reply) }
+        ensures keeps { KeepsSetting self.old self.new }
         ensures unchanged { OnErr result (self.new ≡ self.old) }
     {
         if self.queue.len() >= self.capacity {
@@ -191,11 +182,8 @@ impl System {
 
     fn take(&mut self) -> Result<Reply, AllocError>
         ensures step { IfOk result
-            (λ reply. IsStep (rules_of (exec_of self.old.book) self.old.rules self.old.capacity)
-            self.old.world Take reply self.new.world) }
-        ensures book { self.new.book ≡ self.old.book }
-        ensures rules { self.new.rules ≡ self.old.rules }
-        ensures capacity { self.new.capacity ≡ self.old.capacity }
+            (λ reply. TakesStep self.old self.new Take reply) }
+        ensures keeps { KeepsSetting self.old self.new }
         ensures unchanged { OnErr result (self.new ≡ self.old) }
     {
         let Some(envelope) = self.queue.pop_front() else {
@@ -219,11 +207,8 @@ impl System {
 
     fn tick(&mut self) -> Result<Reply, AllocError>
         ensures step { IfOk result
-            (λ reply. IsStep (rules_of (exec_of self.old.book) self.old.rules self.old.capacity)
-            self.old.world Tick reply self.new.world) }
-        ensures book { self.new.book ≡ self.old.book }
-        ensures rules { self.new.rules ≡ self.old.rules }
-        ensures capacity { self.new.capacity ≡ self.old.capacity }
+            (λ reply. TakesStep self.old self.new Tick reply) }
+        ensures keeps { KeepsSetting self.old self.new }
         ensures unchanged { OnErr result (self.new ≡ self.old) }
     {
         match self.orderer.tick() {
@@ -238,11 +223,8 @@ impl System {
 
     fn commit(&mut self, peer: usize) -> Result<Reply, AllocError>
         ensures step { IfOk result
-            (λ reply. IsStep (rules_of (exec_of self.old.book) self.old.rules self.old.capacity)
-            self.old.world (Commit peer) reply self.new.world) }
-        ensures book { self.new.book ≡ self.old.book }
-        ensures rules { self.new.rules ≡ self.old.rules }
-        ensures capacity { self.new.capacity ≡ self.old.capacity }
+            (λ reply. TakesStep self.old self.new (Commit peer) reply) }
+        ensures keeps { KeepsSetting self.old self.new }
         ensures unchanged { OnErr result (self.new ≡ self.old) }
     {
         if peer >= self.peers.len() {
@@ -260,11 +242,8 @@ impl System {
     /// One step. Where memory is refused, nothing changes, and there was no step.
     pub fn step(&mut self, event: Event) -> Result<Reply, AllocError>
         ensures step { IfOk result
-            (λ reply. IsStep (rules_of (exec_of self.old.book) self.old.rules self.old.capacity)
-            self.old.world event reply self.new.world) }
-        ensures book { self.new.book ≡ self.old.book }
-        ensures rules { self.new.rules ≡ self.old.rules }
-        ensures capacity { self.new.capacity ≡ self.old.capacity }
+            (λ reply. TakesStep self.old self.new event reply) }
+        ensures keeps { KeepsSetting self.old self.new }
         ensures unchanged { OnErr result (self.new ≡ self.old) }
     {
         match event {

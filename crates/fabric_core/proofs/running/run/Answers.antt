@@ -33,9 +33,9 @@ loop-event-preserved c =
     record {
       refused = c.advance.ensures.refused ∙ inv.refused;
       steps = more;
-      book = c.advance.ensures.book ∙ inv.book;
-      rules = c.advance.ensures.rules ∙ inv.rules;
-      capacity = c.advance.ensures.capacity ∙ inv.capacity;
+      book = c.advance.ensures.keeps.0 ∙ inv.book;
+      rules = c.advance.ensures.keeps.1 ∙ inv.rules;
+      capacity = c.advance.ensures.keeps.2 ∙ inv.capacity;
     }
 
 pub returns-clause-run : goal.returns-clause-run
