@@ -13,7 +13,7 @@ ghost use Rattle.host_api.specs.HostStep.{host_step, read_key, write, ask_range}
 ghost use Rattle.host_api.specs.Recording.{read_reply, range_reply, key_and_value};
 
 use crate::keyed::search;
-use crate::memory::{bytes_at, negative, reach, reply};
+use crate::memory::{span_bytes, negative, reach, reply};
 use crate::ranges::{range_entries, range_reply};
 use crate::view::View;
 use fab_types::{
@@ -164,10 +164,10 @@ impl<'v, V: View> Recorder<'v, V> {
             ≡ record { answer = a; memory = memory.new; records = self.new.records }) }
         ensures opened { self.new.opened ≡ self.old.opened }
     {
-        let Some(key) = bytes_at(memory, args[0], args[1]) else {
+        let Some(key) = span_bytes(memory, args[0], args[1]) else {
             return Ok(HostAnswer::OutOfBounds);
         };
-        if bytes_at(memory, args[2], args[3]).is_none() {
+        if span_bytes(memory, args[2], args[3]).is_none() {
             return Ok(HostAnswer::OutOfBounds);
         }
         if key.is_empty() || key.len() > 64 {
@@ -212,10 +212,10 @@ impl<'v, V: View> Recorder<'v, V> {
             ≡ record { answer = a; memory = memory.now; records = self.new.records }) }
         ensures opened { self.new.opened ≡ self.old.opened }
     {
-        let Some(key) = bytes_at(memory, args[0], args[1]) else {
+        let Some(key) = span_bytes(memory, args[0], args[1]) else {
             return Ok(HostAnswer::OutOfBounds);
         };
-        let Some(value) = bytes_at(memory, args[2], args[3]) else {
+        let Some(value) = span_bytes(memory, args[2], args[3]) else {
             return Ok(HostAnswer::OutOfBounds);
         };
         if key.is_empty() || key.len() > 64 {
@@ -236,7 +236,7 @@ impl<'v, V: View> Recorder<'v, V> {
             ≡ record { answer = a; memory = memory.now; records = self.new.records }) }
         ensures opened { self.new.opened ≡ self.old.opened }
     {
-        let Some(key) = bytes_at(memory, args[0], args[1]) else {
+        let Some(key) = span_bytes(memory, args[0], args[1]) else {
             return Ok(HostAnswer::OutOfBounds);
         };
         if key.is_empty() || key.len() > 64 {
@@ -277,13 +277,13 @@ impl<'v, V: View> Recorder<'v, V> {
             ≡ record { answer = a; memory = memory.new; records = self.new.records }) }
         ensures opened { self.new.opened ≡ self.old.opened }
     {
-        let Some(start) = bytes_at(memory, args[0], args[1]) else {
+        let Some(start) = span_bytes(memory, args[0], args[1]) else {
             return Ok(HostAnswer::OutOfBounds);
         };
-        let Some(end) = bytes_at(memory, args[2], args[3]) else {
+        let Some(end) = span_bytes(memory, args[2], args[3]) else {
             return Ok(HostAnswer::OutOfBounds);
         };
-        if bytes_at(memory, args[5], args[6]).is_none() {
+        if span_bytes(memory, args[5], args[6]).is_none() {
             return Ok(HostAnswer::OutOfBounds);
         }
         if start.len() > 64 || end.len() > 64 {
@@ -341,7 +341,7 @@ impl<'v, V: View> Recorder<'v, V> {
             ≡ record { answer = a; memory = memory.new; records = self.new.records }) }
         ensures opened { self.new.opened ≡ self.old.opened }
     {
-        if bytes_at(memory, args[0], args[1]).is_none() {
+        if span_bytes(memory, args[0], args[1]).is_none() {
             return Ok(HostAnswer::OutOfBounds);
         }
         let argument = self.argument.as_slice();
@@ -357,7 +357,7 @@ impl<'v, V: View> Recorder<'v, V> {
             ≡ record { answer = a; memory = memory.now; records = self.new.records }) }
         ensures opened { self.new.opened ≡ self.old.opened }
     {
-        let Some(bytes) = bytes_at(memory, args[0], args[1]) else {
+        let Some(bytes) = span_bytes(memory, args[0], args[1]) else {
             return Ok(HostAnswer::OutOfBounds);
         };
         if bytes.len() > 4096 {

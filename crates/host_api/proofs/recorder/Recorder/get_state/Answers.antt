@@ -15,7 +15,7 @@ returns-in-Some-Some-clause-answer g c =
     let capacity = nth c.args.args.now 3 in
     let found : c.in_ok-read.field-0 ≡ Some (Some c.in-Some-Some.value) = search rules in
     here memory s _ key c.in-Some.ensures (λ key. or_trap (span_bytes target capacity memory) memory s (λ room. get_state m key target capacity memory s))
-    ∙ room memory s c.bytes_at-2.result _ c.bytes_at-2.ensures (search rules) (get_state m key target capacity memory s)
+    ∙ room memory s c.span_bytes-2.result _ c.span_bytes-2.ensures (search rules) (get_state m key target capacity memory s)
     ∙ ap (λ b. cond b (read_key m key target capacity memory s) (refuses 2 memory s)) (key_ok key (search rules) (search rules))
     ∙ c.in_ok-read.ensures.answer target capacity memory
     ∙ ap (λ o. read_reply (option_map (option_map (λ v. v.now)) o) target capacity memory c.read.new.self.records) found
