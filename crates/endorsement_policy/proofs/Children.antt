@@ -1,7 +1,9 @@
 -- Reading children one after another, as a loop does.
-use Rattle.std.proofs.Common.{◌≡◌, ℕ, suc, ◌-◌, ◌+◌, ◌≤◌, ◌<◌, true, false, List, [], ◌∷◌, ◌++◌, Option, Some, None, refl, sym, ap, ◌∙◌, append_assoc, arith}
+use Rattle.std.proofs.Common.{◌≡◌, ℕ, zero, suc, ◌-◌, ◌+◌, ◌≤◌, ◌<◌, Bool, true, false, cond, List, [], ◌∷◌, ◌++◌, length, Option, Some, None, refl, sym, ap, subst, ◌∙◌, append_assoc, arith}
+use Rattle.std.proofs.lemmas.Option.{some_pair_parts}
 use Rattle.grammar.specs.Reading.{◌>>=◌}
-use Rattle.endorsement_policy.specs.Reading.{after_spaces, comma_at, children_at}
+use Rattle.grammar.specs.Laws.Steps.{bind_some}
+use Rattle.endorsement_policy.specs.Reading.{after_spaces, before, comma_at, children_at}
 use Rattle.endorsement_policy.specs.declared.policy.Policy.{Policy}
 use Rattle.endorsement_policy.specs.declared.fault.PolicyFault.{PolicyFault}
 use Rattle.endorsement_policy.specs.declared.fault.PolicyFault.TheVariants.{Memory, Syntax, UnknownOrganisation, Threshold, TooDeep}
@@ -67,3 +69,18 @@ fails_of (Syntax o) P h = h
 fails_of UnknownOrganisation P h = h
 fails_of Threshold P h = h
 fails_of TooDeep P h = h
+
+-- what begins with a child is not empty
+not_empty : (p : Policy) (others : Option (List Policy × List ℕ)) (ps : List Policy) (rest : List ℕ) → before p others ≡ Some (ps, rest) → 1 ≤ length ps
+not_empty p (Some qs) ps rest e = subst (λ (all : List Policy). 1 ≤ length all) (some_pair_parts (p ∷ qs.0) ps qs.1 rest e).0 (omega arith)
+not_empty p None ps rest e = absurd cc
+
+-- where children are read, there is one or more
+pub some_child : (read : List ℕ → Option (Policy × List ℕ)) (n : ℕ) (bytes rest : List ℕ) (ps : List Policy) → children_at read n bytes ≡ Some (ps, rest) → 1 ≤ length ps
+unfolding children_at
+some_child read zero bytes rest ps e = absurd cc
+some_child read (suc n) bytes rest ps e =
+    let others = λ (c : Bool × List ℕ). cond c.0 (children_at read n c.1) (Some ([], c.1)) in
+    let p = bind_some (read (after_spaces bytes)) (λ p. comma_at p.1 >>= λ c. before p.0 (others c)) (ps, rest) e in
+    let c = bind_some (comma_at p.0.1) (λ c. before p.0.0 (others c)) (ps, rest) p.2 in
+    not_empty p.0.0 (others c.0) ps rest c.2

@@ -1,6 +1,6 @@
 //! Operators, before their children are read.
 
-ghost use Rattle.std.specs.Prelude.{◌≡◌};
+ghost use Rattle.std.specs.Prelude.{◌≡◌, ◌≤◌, length};
 ghost use Rattle.endorsement_policy.specs.Operators.{rule_of};
 ghost use Rattle.endorsement_policy.specs.Reading.{is_threshold, made};
 
@@ -15,18 +15,22 @@ pub(crate) enum Operator {
 }
 
 impl Operator {
-    /// The operator over these children. None if its threshold is 0 or above their number.
+    /// The operator over these children, of which there is one or more. None if its threshold is 0
+    /// or above their number.
     pub(crate) fn over(self, children: Vec<Policy>) -> Option<Policy>
+        requires { 1 ≤ length children.items }
         ensures { result ≡ made is_threshold (rule_of self) children.items }
     {
+        let count = children.len();
+        let children = Policies::new(children)?;
         match self {
-            Operator::And => Some(Policy::And(Policies::new(children))),
-            Operator::Or => Some(Policy::Or(Policies::new(children))),
+            Operator::And => Some(Policy::And(children)),
+            Operator::Or => Some(Policy::Or(children)),
             Operator::OutOf(threshold) => {
-                if threshold < 1 || threshold as usize > children.len() {
+                if threshold < 1 || threshold as usize > count {
                     return None;
                 }
-                Some(Policy::OutOf(threshold, Policies::new(children)))
+                Some(Policy::OutOf(threshold, children))
             }
         }
     }

@@ -56,7 +56,7 @@ fn do_need_someone(policies: &[ChaincodePolicy]) -> bool
 
 impl Rules {
     /// The rules of these organisations and policies. None where some policy is satisfied without
-    /// any endorsement, as `And` of no policies is.
+    /// any endorsement, as one with the threshold 0 is.
     pub fn new(organisations: Vec<Organisation>, policies: Vec<ChaincodePolicy>) -> Option<Rules>
         ensures accepted { IsSome result ↔ (do_need_someone policies.items ≡ true) }
         ensures value { IfSome result

@@ -58,7 +58,8 @@ fn endorsement(alloc: Global, letter: u8, bytes: &[u8]) -> Result<Endorsement, F
 
 fn policies(alloc: Global) -> Result<Vec<ChaincodePolicy>, Failure> {
     let chaincode = chaincode(alloc)?;
-    let policy = Policy::OutOf(2, Policies::new(leaves(alloc)?));
+    let leaves = Policies::new(leaves(alloc)?).ok_or(Failure::Limit)?;
+    let policy = Policy::OutOf(2, leaves);
     Ok(vec![in alloc; ChaincodePolicy { chaincode, policy }]?)
 }
 

@@ -294,7 +294,7 @@ fn an_envelope_is_endorsed(rt: HostRuntime) -> Result<(), Fail> {
 /// A policy of any of A, made without a text.
 fn any_of_a(alloc: Global) -> Result<Policies, Fail> {
     let a = Policy::Org(org(alloc, b'A')?);
-    Ok(Policies::new(vec![in alloc; a]?))
+    Ok(Policies::new(vec![in alloc; a]?).ok_or("a policy")?)
 }
 
 fn is_satisfied_by_two(policy: &Policy, two: &OrgSet, b: &OrgName, c: &OrgName) -> bool {
@@ -314,17 +314,24 @@ fn a_policy_is_satisfied(rt: HostRuntime) -> Result<(), Fail> {
     Ok(())
 }
 
-/// A policy that nobody satisfies: all of none.
-fn all_of_none(alloc: Global) -> Result<ChaincodePolicy, Fail> {
+#[test]
+fn an_operator_has_a_child(rt: HostRuntime) -> Result<(), Fail> {
+    let alloc = rt.alloc();
+    assert!(rt; Policies::new(Vec::new(alloc)).is_none());
+    Ok(())
+}
+
+/// A policy that needs nobody: none of A.
+fn none_of_a(alloc: Global) -> Result<ChaincodePolicy, Fail> {
     let chaincode = chaincode(alloc, b"kv")?;
-    let policy = Policy::And(Policies::new(Vec::new(alloc)));
+    let policy = Policy::OutOf(0, any_of_a(alloc)?);
     Ok(ChaincodePolicy { chaincode, policy })
 }
 
 #[test]
 fn rules_need_someone(rt: HostRuntime) -> Result<(), Fail> {
     let alloc = rt.alloc();
-    let policies = vec![in alloc; all_of_none(alloc)?]?;
+    let policies = vec![in alloc; none_of_a(alloc)?]?;
     assert!(rt; Rules::new(Vec::new(alloc), policies).is_none());
     Ok(())
 }

@@ -2,11 +2,11 @@ use Rattle.std.proofs.Common.{rules, ◌≡◌, ◌-◌, ◌+◌, Option, Some, 
 use Rattle.std.proofs.lemmas.Result.{err_from_is_err_and}
 use Rattle.grammar.specs.Reading.{◌>>=◌}
 use Rattle.endorsement_policy.specs.Parsing.{Keeps}
-use Rattle.endorsement_policy.specs.Leniency.{Leniency}
+use Rattle.endorsement_policy.specs.Leniency.{Leniency, strict}
 use Rattle.endorsement_policy.specs.Operators.{rule_of}
 use Rattle.endorsement_policy.specs.declared.policy.Policy.{Policy}
 use Rattle.endorsement_policy.specs.Reading.{after_spaces, comma_at, children_at, fits_by, is_known_by, opening_at, policy_by}
-use Rattle.endorsement_policy.proofs.Children.{goes_on, ends, refused, broken, too_many, fails_of, Fails-weaker}
+use Rattle.endorsement_policy.proofs.Children.{some_child, goes_on, ends, refused, broken, too_many, fails_of, Fails-weaker}
 use Rattle.endorsement_policy.proofs.Levels.{quoted, unopened, at_bottom, unfed, fed, made_by, not_made}
 use Rattle.endorsement_policy.proofs.reading.+policy.Goals as goal
 
@@ -78,6 +78,10 @@ policy-returns-in_err-children t c =
     rw (p.1, p.2) (Fails-weaker e ((m : Leniency) → Keeps e m → children_at (policy_by orgs m (c.args.levels - 1)) 1024 c.opening.new.self ≡ None) ((m : Leniency) → Keeps e m → policy_by orgs m c.args.levels c.args.reader.now ≡ None)
     (λ h m k. unfed (is_known_by orgs m) (fits_by m) (c.args.levels + m.more) (c.args.levels - 1 + m.more) c.args.reader.now (search rules) (let z = c.if-levels-eq0.false in omega arith) (rule_of c.in_ok-operator.operator) c.opening.new.self c.in_ok-operator.ensures (h m k))
     c.in_err-children.ensures)
+
+pub policy-over-requires : goal.policy-over-requires
+policy-over-requires t c =
+    some_child (policy_by c.args.orgs.now strict (c.args.levels - 1)) 1024 c.opening.new.self c.children.new.reader c.in_ok-children.children.items (c.in_ok-children.ensures strict)
 
 pub policy-returns-in_default : goal.policy-returns-in_default
 policy-returns-in_default t c =
