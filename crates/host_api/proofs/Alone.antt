@@ -1,15 +1,13 @@
 -- The host answers alike on two states that agree on what it recorded, and so an execution depends only on what it read.
-use Rattle.std.proofs.Common.{◌≡◌, ◌≢◌, ℕ, Bool, true, false, cond, List, [], ◌∷◌, ◌++◌, length, Option, Some, None, map, refl, sym, ap, ◌∙◌, subst}
-use Rattle.std.specs.Prelude.{nat_le, ◌&&◌, ◌==◌}
+use Rattle.std.proofs.Common.{◌≡◌, ℕ, Bool, true, false, cond, List, [], ◌∷◌, ◌++◌, length, Option, Some, None, map, refl, sym, ap, ◌∙◌, subst}
+use Rattle.std.specs.Prelude.{nat_le, ◌&&◌}
 use Rattle.std.specs.List.{AllByRecursion}
 use Rattle.std.specs.Ordering.{eq_by_cmp}
 use Rattle.std.specs.FinMap.{get}
 use Rattle.fab_types.specs.Order.{key_cmp, is_before}
 use Rattle.fab_types.specs.declared.items.WriteItem.{WriteItem}
-use Rattle.wasm_ast.specs.declared.host_call.HostCall.{HostCall}
 use Rattle.wasm_ast.specs.declared.host_call.HostCall.TheVariants as call
 use Rattle.wasm_ast.specs.declared.module.Module.{Module}
-use Rattle.wasm_ast.specs.Traps.{trap_number}
 use Rattle.wasm_validate.specs.ModuleRules.{IsValid}
 use Rattle.wasm_meaning.specs.Values.{Answer, Next, Branch, Returns, Trapped, Spent, Stuck, Reply}
 use Rattle.wasm_meaning.specs.Following.{Ends, Follows}
@@ -20,9 +18,11 @@ use Rattle.ledger_model.specs.Chain.{Bytes}
 use Rattle.ledger_model.specs.Views.{Plain, first}
 use Rattle.ledger_model.specs.Execution as ledger
 use Rattle.ledger_model.proofs.Keys.{tie_same}
+use Rattle.host_api.specs.declared.refusal.Refusal.{Refusal}
+use Rattle.host_api.specs.declared.refusal.Refusal.TheVariants as refusal
 use Rattle.host_api.specs.Recorded.{Asked, Recorded, nothing_recorded, key_seen, range_seen, seen_on}
 use Rattle.host_api.specs.HostStep.{with_key, with_write, says, or_trap, span_bytes, is_key, is_bound, is_value, is_limit, value_reply, read_key, write, ask_range, replies, reply_range_bytes, refuses, get_state, put_state, del_state, range_state, set_result, nth, host_step}
-use Rattle.host_api.specs.Executing.{outcome_with, ending_of, outcome_of, execution, outcome, ReadsAlone}
+use Rattle.host_api.specs.Executing.{ending_of, outcome_of, execution, outcome, ReadsAlone}
 
 abbrev SameKey : Plain → Plain → Bytes → Type 0
 SameKey m n key = get m key ≡ get n key
@@ -93,35 +93,35 @@ module _ (m n : Plain) where
   write_good w memory s =
       let writes = with_write w s.writes in
       let after = says 0 memory (record s { writes = writes }) in
-      cond_good s (nat_le (length writes) 64) after (refuses 3 memory s) after (refuses 3 memory s) (λ a. (record { reads = a.reads; ranges = a.ranges }, refl)) (λ a. (a, refl))
+      cond_good s (nat_le (length writes) 64) after (refuses refusal.NoRoom memory s) after (refuses refusal.NoRoom memory s) (λ a. (record { reads = a.reads; ranges = a.ranges }, refl)) (λ a. (a, refl))
 
   result_good : (bytes memory : List ℕ) (s : Recorded) → Good m n s (set_result bytes memory s) (set_result bytes memory s)
   result_good bytes memory s =
       cond_good s (is_value bytes) _ _ _ _ (λ a. (record { reads = a.reads; ranges = a.ranges }, refl)) (λ a. (a, refl))
 
-  refused : (k : ℕ) (memory : List ℕ) (s : Recorded) → Good m n s (refuses k memory s) (refuses k memory s)
-  refused k memory s = still s (refuses k memory s) refl
+  refused : (why : Refusal) (memory : List ℕ) (s : Recorded) → Good m n s (refuses why memory s) (refuses why memory s)
+  refused why memory s = still s (refuses why memory s) refl
 
   get_good : (key : Bytes) (target capacity : ℕ) (memory : List ℕ) (s : Recorded) → Good m n s (get_state m key target capacity memory s) (get_state n key target capacity memory s)
   get_good key target capacity memory s =
-      cond_good s (is_key key) (read_key m key target capacity memory s) (refuses 2 memory s) (read_key n key target capacity memory s) (refuses 2 memory s) (read_good key target capacity memory s) (refused 2 memory s)
+      cond_good s (is_key key) (read_key m key target capacity memory s) (refuses refusal.KeyLength memory s) (read_key n key target capacity memory s) (refuses refusal.KeyLength memory s) (read_good key target capacity memory s) (refused refusal.KeyLength memory s)
 
   put_good : (key bytes memory : List ℕ) (s : Recorded) → Good m n s (put_state key bytes memory s) (put_state key bytes memory s)
   put_good key bytes memory s =
       let w : WriteItem = record { key = key; value = Some bytes } in
-      let put = cond (is_value bytes) (write w memory s) (refuses 4 memory s) in
-      cond_good s (is_key key) put (refuses 2 memory s) put (refuses 2 memory s) (cond_good s (is_value bytes) (write w memory s) (refuses 4 memory s) (write w memory s) (refuses 4 memory s) (write_good w memory s) (refused 4 memory s)) (refused 2 memory s)
+      let put = cond (is_value bytes) (write w memory s) (refuses refusal.ValueLength memory s) in
+      cond_good s (is_key key) put (refuses refusal.KeyLength memory s) put (refuses refusal.KeyLength memory s) (cond_good s (is_value bytes) (write w memory s) (refuses refusal.ValueLength memory s) (write w memory s) (refuses refusal.ValueLength memory s) (write_good w memory s) (refused refusal.ValueLength memory s)) (refused refusal.KeyLength memory s)
 
   del_good : (key memory : List ℕ) (s : Recorded) → Good m n s (del_state key memory s) (del_state key memory s)
   del_good key memory s =
       let w : WriteItem = record { key = key; value = None } in
-      cond_good s (is_key key) (write w memory s) (refuses 2 memory s) (write w memory s) (refuses 2 memory s) (write_good w memory s) (refused 2 memory s)
+      cond_good s (is_key key) (write w memory s) (refuses refusal.KeyLength memory s) (write w memory s) (refuses refusal.KeyLength memory s) (write_good w memory s) (refused refusal.KeyLength memory s)
 
   asked_good : (a : Asked) (target capacity : ℕ) (memory : List ℕ) (s : Recorded) → Good m n s (range_state m a target capacity memory s) (range_state n a target capacity memory s)
   asked_good a target capacity memory s =
       let one = ask_range m a target capacity memory s in
       let other = ask_range n a target capacity memory s in
-      cond_good s (is_bound a.start && is_bound a.end) (cond (is_limit a.limit) one (refuses 5 memory s)) (refuses 2 memory s) (cond (is_limit a.limit) other (refuses 5 memory s)) (refuses 2 memory s) (cond_good s (is_limit a.limit) one (refuses 5 memory s) other (refuses 5 memory s) (range_good a target capacity memory s) (refused 5 memory s)) (refused 2 memory s)
+      cond_good s (is_bound a.start && is_bound a.end) (cond (is_limit a.limit) one (refuses refusal.Limit memory s)) (refuses refusal.KeyLength memory s) (cond (is_limit a.limit) other (refuses refusal.Limit memory s)) (refuses refusal.KeyLength memory s) (cond_good s (is_limit a.limit) one (refuses refusal.Limit memory s) other (refuses refusal.Limit memory s) (range_good a target capacity memory s) (refused refusal.Limit memory s)) (refused refusal.KeyLength memory s)
 
   pub host_follows : (argument : Bytes) → Follows (host_step m argument) (host_step n argument) (Agree m n)
   host_follows argument call.GetState args memory s =

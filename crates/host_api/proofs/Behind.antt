@@ -14,6 +14,7 @@ use Rattle.fab_types.specs.declared.items.WriteItem.{WriteItem}
 use Rattle.ledger_model.specs.Chain.{Bytes}
 use Rattle.ledger_model.specs.Views.{Plain, first}
 use Rattle.std.specs.FinMap.{get}
+use Rattle.host_api.specs.declared.refusal.Refusal.TheVariants as refusal
 use Rattle.host_api.specs.Recorded.{Asked, Recorded}
 use Rattle.host_api.specs.HostStep.{nth, with_key, with_write, says, refuses, span_bytes, or_trap, is_key, is_value, is_bound, is_limit, replies, value_reply, read_key, write, reply_range_bytes, ask_range, get_state, put_state, del_state, range_state, set_result, host_step}
 use Rattle.host_api.specs.Reach.{reach}
@@ -60,38 +61,38 @@ module _ (front rest : List ℕ) where
       let reads = with_key key s.reads in
       let read : read_key m key target capacity (front ++ rest) s ≡ behind rest (read_key m key target capacity front s) =
       cond_behind (nat_le (length (with_key key s.reads)) 256) _ _ _ _ (value_behind (get m key) target capacity (record s { reads = with_key key s.reads }) h) refl in
-      cond_behind (is_key key) (read_key m key target capacity (front ++ rest) s) (refuses 2 (front ++ rest) s) (read_key m key target capacity front s) (refuses 2 front s) read refl
+      cond_behind (is_key key) (read_key m key target capacity (front ++ rest) s) (refuses refusal.KeyLength (front ++ rest) s) (read_key m key target capacity front s) (refuses refusal.KeyLength front s) read refl
 
   write_behind : (w : WriteItem) (s : Recorded) → write w (front ++ rest) s ≡ behind rest (write w front s)
   write_behind w s =
       let t : Recorded = record s { writes = with_write w s.writes } in
-      cond_behind (nat_le (length (with_write w s.writes)) 64) (says 0 (front ++ rest) t) (refuses 3 (front ++ rest) s) (says 0 front t) (refuses 3 front s) refl refl
+      cond_behind (nat_le (length (with_write w s.writes)) 64) (says 0 (front ++ rest) t) (refuses refusal.NoRoom (front ++ rest) s) (says 0 front t) (refuses refusal.NoRoom front s) refl refl
 
   put_behind : (key bytes : Bytes) (s : Recorded) → put_state key bytes (front ++ rest) s ≡ behind rest (put_state key bytes front s)
   put_behind key bytes s =
       let w : WriteItem = record { key = key; value = Some bytes } in
-      let put = cond_behind (is_value bytes) (write w (front ++ rest) s) (refuses 4 (front ++ rest) s) (write w front s) (refuses 4 front s) (write_behind w s) refl in
-      cond_behind (is_key key) (cond (is_value bytes) (write w (front ++ rest) s) (refuses 4 (front ++ rest) s)) (refuses 2 (front ++ rest) s) (cond (is_value bytes) (write w front s) (refuses 4 front s)) (refuses 2 front s) put refl
+      let put = cond_behind (is_value bytes) (write w (front ++ rest) s) (refuses refusal.ValueLength (front ++ rest) s) (write w front s) (refuses refusal.ValueLength front s) (write_behind w s) refl in
+      cond_behind (is_key key) (cond (is_value bytes) (write w (front ++ rest) s) (refuses refusal.ValueLength (front ++ rest) s)) (refuses refusal.KeyLength (front ++ rest) s) (cond (is_value bytes) (write w front s) (refuses refusal.ValueLength front s)) (refuses refusal.KeyLength front s) put refl
 
   del_behind : (key : Bytes) (s : Recorded) → del_state key (front ++ rest) s ≡ behind rest (del_state key front s)
   del_behind key s =
       let w : WriteItem = record { key = key; value = None } in
-      cond_behind (is_key key) (write w (front ++ rest) s) (refuses 2 (front ++ rest) s) (write w front s) (refuses 2 front s) (write_behind w s) refl
+      cond_behind (is_key key) (write w (front ++ rest) s) (refuses refusal.KeyLength (front ++ rest) s) (write w front s) (refuses refusal.KeyLength front s) (write_behind w s) refl
 
   ask_behind : (m : Plain) (a : Asked) (target capacity : ℕ) (s : Recorded) → target + capacity ≤ length front → ask_range m a target capacity (front ++ rest) s ≡ behind rest (ask_range m a target capacity front s)
   ask_behind m a target capacity s h =
       let t : Recorded = record s { ranges = s.ranges ++ a ∷ [] } in
       let bytes : Bytes = reply_range_bytes (first m a.start a.end a.limit) in
-      cond_behind (nat_le (length (s.ranges ++ a ∷ [])) 16) (replies bytes target capacity (front ++ rest) t) (refuses 3 (front ++ rest) s) (replies bytes target capacity front t) (refuses 3 front s) (replies_behind bytes target capacity t h) refl
+      cond_behind (nat_le (length (s.ranges ++ a ∷ [])) 16) (replies bytes target capacity (front ++ rest) t) (refuses refusal.NoRoom (front ++ rest) s) (replies bytes target capacity front t) (refuses refusal.NoRoom front s) (replies_behind bytes target capacity t h) refl
 
   range_behind : (m : Plain) (a : Asked) (target capacity : ℕ) (s : Recorded) → target + capacity ≤ length front → range_state m a target capacity (front ++ rest) s ≡ behind rest (range_state m a target capacity front s)
   range_behind m a target capacity s h =
-      cond_behind (is_bound a.start && is_bound a.end) (cond (is_limit a.limit) (ask_range m a target capacity (front ++ rest) s) (refuses 5 (front ++ rest) s)) (refuses 2 (front ++ rest) s) (cond (is_limit a.limit) (ask_range m a target capacity front s) (refuses 5 front s)) (refuses 2 front s) (cond_behind (is_limit a.limit) (ask_range m a target capacity (front ++ rest) s) (refuses 5 (front ++ rest) s) (ask_range m a target capacity front s) (refuses 5 front s) (ask_behind m a target capacity s h) refl) refl
+      cond_behind (is_bound a.start && is_bound a.end) (cond (is_limit a.limit) (ask_range m a target capacity (front ++ rest) s) (refuses refusal.Limit (front ++ rest) s)) (refuses refusal.KeyLength (front ++ rest) s) (cond (is_limit a.limit) (ask_range m a target capacity front s) (refuses refusal.Limit front s)) (refuses refusal.KeyLength front s) (cond_behind (is_limit a.limit) (ask_range m a target capacity (front ++ rest) s) (refuses refusal.Limit (front ++ rest) s) (ask_range m a target capacity front s) (refuses refusal.Limit front s) (ask_behind m a target capacity s h) refl) refl
 
   result_behind : (bytes : Bytes) (s : Recorded) → set_result bytes (front ++ rest) s ≡ behind rest (set_result bytes front s)
   result_behind bytes s =
       let t : Recorded = record s { result = bytes } in
-      cond_behind (is_value bytes) (says 0 (front ++ rest) t) (refuses 4 (front ++ rest) s) (says 0 front t) (refuses 4 front s) refl refl
+      cond_behind (is_value bytes) (says 0 (front ++ rest) t) (refuses refusal.ValueLength (front ++ rest) s) (says 0 front t) (refuses refusal.ValueLength front s) refl refl
 
   -- each call whose bytes lie at the beginning
   step_behind : (m : Plain) (argument : Bytes) (which : HostCall) (args : List ℕ) (s : Recorded) → reach which args ≤ length front → host_step m argument which args (front ++ rest) s ≡ behind rest (host_step m argument which args front s)

@@ -1,14 +1,13 @@
 -- The first entries of a range are what an item of a payload may hold.
-use Rattle.std.proofs.Common.{◌≡◌, ℕ, zero, suc, ◌≤◌, Bool, true, false, cond, T, ◌&&◌, List, [], ◌∷◌, map, filter, take, length, refl, ap, ◌∙◌, is_lt, arith}
-use Rattle.std.specs.declared.cmp.Ordering.{Ordering}
+use Rattle.std.proofs.Common.{◌≡◌, ℕ, zero, suc, ◌≤◌, Bool, true, false, cond, T, ◌&&◌, List, [], ◌∷◌, map, take, length, refl, arith}
 use Rattle.std.specs.List.{list_all}
 use Rattle.std.specs.FinMap.{entries, entries_sorted, is_sorted}
 use Rattle.std.specs.FinMap.Entries.{below_all}
 use Rattle.fab_types.specs.Order.{key_cmp, is_before, are_ascending, is_within}
-use Rattle.fab_types.specs.Sets.{Range, IsRange, entry_keys}
+use Rattle.fab_types.specs.Sets.{IsRange, entry_keys}
 use Rattle.fab_types.specs.declared.items.RangeEntry.{RangeEntry}
 use Rattle.ledger_model.specs.Chain.{Bytes, Version}
-use Rattle.ledger_model.specs.Views.{Versioned, entries_within, first}
+use Rattle.ledger_model.specs.Views.{Versioned, entries_within}
 use Rattle.ledger_model.specs.Flags.{entry_of, entries_at}
 use Rattle.ledger_model.proofs.Sorted.{both, and_first, and_second, sorted_filter}
 

@@ -1,20 +1,21 @@
 -- What recorded items say of the questions behind them.
-use Rattle.std.proofs.Common.{◌≡◌, ◌≢◌, ℕ, suc, ◌+◌, ◌≤◌, Bool, true, false, cond, List, [], ◌∷◌, ◌++◌, length, map, Option, Some, None, Err, refl, sym, ap, ◌∙◌, subst, arith}
+use Rattle.std.proofs.Common.{◌≡◌, ◌≢◌, ℕ, suc, ◌+◌, ◌≤◌, Bool, true, false, cond, List, [], ◌∷◌, ◌++◌, length, map, Option, Some, refl, sym, ap, ◌∙◌, subst, arith}
 use Rattle.std.specs.Prelude.{nat_le, IfSome}
 use Rattle.std.specs.FinMap.{get}
 use Rattle.std.proofs.lemmas.Bool.Decides.{nat_tests}
 use Rattle.fab_types.specs.Order.{are_ascending}
-use Rattle.fab_types.specs.Sets.{Range, IsReadSet, IsWriteSet}
+use Rattle.fab_types.specs.Sets.{Range}
 use Rattle.fab_types.specs.declared.items.ReadItem.{ReadItem}
 use Rattle.fab_types.specs.declared.items.WriteItem.{WriteItem}
 use Rattle.ledger_model.specs.Chain.{Bytes, Version}
 use Rattle.ledger_model.specs.Views.{Plain, Versioned, first, values_of}
 use Rattle.ledger_model.proofs.Views.{first-values_of}
 use Rattle.ledger_model.specs.Execution.{read_item, range_item}
-use Rattle.host_api.specs.Recorded.{Asked, Recorded, key_seen, range_seen}
+use Rattle.host_api.specs.declared.refusal.Refusal.TheVariants as refusal
+use Rattle.host_api.specs.Recorded.{Asked, key_seen, range_seen}
 use Rattle.host_api.specs.HostStep.{with_item, with_key, with_write, says, refuses, value_reply, read_key, write, ask_range, replies, reply_range_bytes}
 use Rattle.host_api.specs.Recording.{read_of, range_of, asked_of, recorded_of, key_and_value, AreItems}
-use Rattle.host_api.proofs.Places.{IsFound, IsGap, is_gap, grown, map-with_item, ascend_item}
+use Rattle.host_api.proofs.Places.{map-with_item, ascend_item}
 
 fits : (n most : ℕ) → n ≤ most → nat_le n most ≡ true
 fits n most le = grind (arith, nat_tests)
@@ -32,15 +33,15 @@ length-keys (x ∷ xs) = ap suc (length-keys xs)
 
 module _ (p : Plain) (key : Bytes) (reads : List ReadItem) (ranges : List Range) (result : Bytes) (writes : List WriteItem) where
   -- a read of these keys, which are so many
-  by_keys : (keys : List Bytes) → with_key key (map (λ r. r.key) reads) ≡ keys → (b : Bool) → nat_le (length keys) 256 ≡ b → (target capacity : ℕ) (memory : List ℕ) → read_key p key target capacity memory (recorded_of reads ranges result writes) ≡ cond b (value_reply (get p key) target capacity memory (record (recorded_of reads ranges result writes) { reads = keys })) (refuses 3 memory (recorded_of reads ranges result writes))
+  by_keys : (keys : List Bytes) → with_key key (map (λ r. r.key) reads) ≡ keys → (b : Bool) → nat_le (length keys) 256 ≡ b → (target capacity : ℕ) (memory : List ℕ) → read_key p key target capacity memory (recorded_of reads ranges result writes) ≡ cond b (value_reply (get p key) target capacity memory (record (recorded_of reads ranges result writes) { reads = keys })) (refuses refusal.NoRoom memory (recorded_of reads ranges result writes))
   by_keys keys is b e target capacity memory =
-      ap (λ (ks : List Bytes). cond (nat_le (length ks) 256) (value_reply (get p key) target capacity memory (record (recorded_of reads ranges result writes) { reads = ks })) (refuses 3 memory (recorded_of reads ranges result writes))) is
-      ∙ ap (λ b. cond b (value_reply (get p key) target capacity memory (record (recorded_of reads ranges result writes) { reads = keys })) (refuses 3 memory (recorded_of reads ranges result writes))) e
+      ap (λ (ks : List Bytes). cond (nat_le (length ks) 256) (value_reply (get p key) target capacity memory (record (recorded_of reads ranges result writes) { reads = ks })) (refuses refusal.NoRoom memory (recorded_of reads ranges result writes))) is
+      ∙ ap (λ b. cond b (value_reply (get p key) target capacity memory (record (recorded_of reads ranges result writes) { reads = keys })) (refuses refusal.NoRoom memory (recorded_of reads ranges result writes))) e
 
   pub read_again : length reads ≤ 256 → with_key key (map (λ r. r.key) reads) ≡ map (λ r. r.key) reads → (target capacity : ℕ) (memory : List ℕ) → read_key p key target capacity memory (recorded_of reads ranges result writes) ≡ value_reply (get p key) target capacity memory (recorded_of reads ranges result writes)
   read_again le same = by_keys (map (λ r. r.key) reads) same true (fits _ 256 (omega (arith, le, length-keys reads)))
 
-  pub read_full : (x : ReadItem) → x.key ≡ key → length (with_item (λ r. r.key) x reads) ≡ 257 → (target capacity : ℕ) (memory : List ℕ) → read_key p key target capacity memory (recorded_of reads ranges result writes) ≡ refuses 3 memory (recorded_of reads ranges result writes)
+  pub read_full : (x : ReadItem) → x.key ≡ key → length (with_item (λ r. r.key) x reads) ≡ 257 → (target capacity : ℕ) (memory : List ℕ) → read_key p key target capacity memory (recorded_of reads ranges result writes) ≡ refuses refusal.NoRoom memory (recorded_of reads ranges result writes)
   read_full x same n =
       by_keys (map (λ r. r.key) (with_item (λ r. r.key) x reads)) (ap (λ k. with_key k (map (λ r. r.key) reads)) (sym same) ∙ sym (keys_with x reads)) false (over _ 256 (length-keys (with_item (λ r. r.key) x reads) ∙ n))
 
@@ -49,13 +50,13 @@ module _ (p : Plain) (key : Bytes) (reads : List ReadItem) (ranges : List Range)
       by_keys (map (λ r. r.key) new) (ap (λ k. with_key k (map (λ r. r.key) reads)) (sym same) ∙ sym (keys_with x reads) ∙ sym (ap (map (λ r. r.key)) is)) true (fits _ 256 (omega (arith, le, length-keys new)))
 
 module _ (reads : List ReadItem) (ranges : List Range) (result : Bytes) (writes : List WriteItem) where
-  pub write_full : (w : WriteItem) → length (with_write w writes) ≡ 65 → (memory : List ℕ) → write w memory (recorded_of reads ranges result writes) ≡ refuses 3 memory (recorded_of reads ranges result writes)
+  pub write_full : (w : WriteItem) → length (with_write w writes) ≡ 65 → (memory : List ℕ) → write w memory (recorded_of reads ranges result writes) ≡ refuses refusal.NoRoom memory (recorded_of reads ranges result writes)
   write_full w n memory =
-      ap (λ b. cond b (says 0 memory (record (recorded_of reads ranges result writes) { writes = with_write w writes })) (refuses 3 memory (recorded_of reads ranges result writes))) (over _ 64 n)
+      ap (λ b. cond b (says 0 memory (record (recorded_of reads ranges result writes) { writes = with_write w writes })) (refuses refusal.NoRoom memory (recorded_of reads ranges result writes))) (over _ 64 n)
 
   pub write_new : (w : WriteItem) (new : List WriteItem) → new ≡ with_write w writes → length new ≤ 64 → (memory : List ℕ) → write w memory (recorded_of reads ranges result writes) ≡ says 0 memory (recorded_of reads ranges result new)
   write_new w new is le memory =
-      ap (λ b. cond b (says 0 memory (record (recorded_of reads ranges result writes) { writes = with_write w writes })) (refuses 3 memory (recorded_of reads ranges result writes))) (fits _ 64 (subst (λ (ws : List WriteItem). length ws ≤ 64) is le)) ∙ ap (λ (ws : List WriteItem). says 0 memory (recorded_of reads ranges result ws)) (sym is)
+      ap (λ b. cond b (says 0 memory (record (recorded_of reads ranges result writes) { writes = with_write w writes })) (refuses refusal.NoRoom memory (recorded_of reads ranges result writes))) (fits _ 64 (subst (λ (ws : List WriteItem). length ws ≤ 64) is le)) ∙ ap (λ (ws : List WriteItem). says 0 memory (recorded_of reads ranges result ws)) (sym is)
 
 module _ (m : Versioned) (reads : List ReadItem) (ranges : List Range) (writes : List WriteItem) (are : AreItems m reads ranges writes) where
   pub items_read : (x : ReadItem) → x ≡ read_of m x.key → (new : List ReadItem) → new ≡ with_item (λ r. r.key) x reads → length new ≤ 256 → AreItems m new ranges writes
@@ -120,6 +121,6 @@ module _ (m : Versioned) (reads : List ReadItem) (ranges : List Range) (result :
       let s = recorded_of reads ranges result writes in
       let asked : map asked_of new ≡ map asked_of ranges ++ a ∷ [] = ap (map asked_of) e ∙ map-more asked_of ranges (range_of m a) in
       let count : length (map asked_of ranges ++ a ∷ []) ≤ 16 = omega (arith, ap length asked, length-asked new, one_more 16 (length ranges) are.range_count ne (ap length e ∙ length-more ranges (range_of m a))) in
-      ap (λ b. cond b (replies (reply_range_bytes (first (values_of m) a.start a.end a.limit)) target capacity memory (record s { ranges = map asked_of ranges ++ a ∷ [] })) (refuses 3 memory s)) (fits _ 16 count)
+      ap (λ b. cond b (replies (reply_range_bytes (first (values_of m) a.start a.end a.limit)) target capacity memory (record s { ranges = map asked_of ranges ++ a ∷ [] })) (refuses refusal.NoRoom memory s)) (fits _ 16 count)
       ∙ ap (λ (qs : List Asked). replies (reply_range_bytes (first (values_of m) a.start a.end a.limit)) target capacity memory (record s { ranges = qs })) (sym asked)
       ∙ ap (λ (fs : List (Bytes × Bytes)). replies (reply_range_bytes fs) target capacity memory (recorded_of reads new result writes)) (first-values_of m a.start a.end a.limit ∙ ap (map key_and_value) (sym is))

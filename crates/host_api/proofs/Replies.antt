@@ -1,14 +1,14 @@
 -- A reply that is made entry by entry.
-use Rattle.std.proofs.Common.{◌≡◌, ◌+◌, ◌*◌, ◌≤◌, ◌<◌, ◌%◌, ◌/◌, ℕ, zero, suc, List, [], ◌∷◌, ◌++◌, length, map, drop, refl, sym, ap, ◌∙◌, subst, arith, get_or, Bor}
+use Rattle.std.proofs.Common.{◌≡◌, ◌+◌, ◌≤◌, ◌<◌, ℕ, zero, suc, List, [], ◌∷◌, ◌++◌, length, map, drop, refl, sym, ap, ◌∙◌, arith, get_or, Bor}
 use Rattle.std.specs.List.{flat_map}
 use Rattle.std.specs.Map.Iter.{deref_pair}
 use Rattle.std.proofs.lemmas.Grind.{common_steps}
 use Rattle.fab_types.specs.declared.items.RangeEntry.{RangeEntry}
 use Rattle.wasm_meaning.specs.Memory.{with_bytes}
 use Rattle.ledger_model.specs.Chain.{Bytes, Version}
-use Rattle.host_api.specs.HostStep.{reply_entry_bytes, reply_range_bytes}
+use Rattle.host_api.specs.HostStep.{reply_entry_bytes}
 use Rattle.host_api.specs.Recording.{key_and_value, version_entry}
-use Rattle.host_api.proofs.Bytes.{written-append, length-written}
+use Rattle.host_api.proofs.Bytes.{written-append}
 
 -- a reference to an entry
 abbrev pub Lent : Type 0

@@ -1,5 +1,5 @@
 -- What the host of chaincode answers and records, by cases on its six calls. A negative answer -k is the word 2 ^ 32 - k.
-use Rattle.std.specs.Prelude.{ℕ, ◌+◌, ◌-◌, ◌/◌, ◌%◌, ◌^◌, List, [], ◌∷◌, ◌++◌, Bool, if◌then◌else◌, ◌&&◌, nat_le, Option, Some, None, length, take, drop, get_or, cond}
+use Rattle.std.specs.Prelude.{ℕ, ◌+◌, ◌-◌, ◌/◌, ◌%◌, ◌^◌, List, [], ◌∷◌, ◌++◌, Bool, if◌then◌else◌, ◌&&◌, nat_le, Option, Some, None, length, take, drop, get_or}
 use Rattle.std.specs.List.{flat_map}
 use Rattle.std.specs.Ordering.{eq_by_cmp}
 use Rattle.std.specs.FinMap.{get}
@@ -11,6 +11,9 @@ use Rattle.wasm_meaning.specs.Values.{Reply, Answering}
 use Rattle.wasm_meaning.specs.Memory.{with_bytes}
 use Rattle.ledger_model.specs.Chain.{Bytes}
 use Rattle.ledger_model.specs.Views.{Plain, first}
+use Rattle.host_api.specs.declared.refusal.Refusal.{Refusal}
+use Rattle.host_api.specs.declared.refusal.Refusal.TheVariants as refusal
+use Rattle.host_api.specs.Refusals.{refusal_number}
 use Rattle.host_api.specs.Recorded.{Asked, Recorded}
 
 -- an item in its place among others in key order; an earlier one of its key is replaced
@@ -29,9 +32,9 @@ with_write = with_item (λ w. w.key)
 abbrev pub says : ℕ → (memory : List ℕ) → Recorded → Reply Recorded
 says n memory s = record { answer = answer.Value n; memory = memory; records = s }
 
--- the answer -k, which changes nothing
-abbrev pub refuses : ℕ → (memory : List ℕ) → Recorded → Reply Recorded
-refuses k memory s = says (2 ^ 32 - k) memory s
+-- the answer -k for the number k of a refusal, which changes nothing
+abbrev pub refuses : Refusal → (memory : List ℕ) → Recorded → Reply Recorded
+refuses why memory s = says (2 ^ 32 - refusal_number why) memory s
 
 abbrev pub traps : (memory : List ℕ) → Recorded → Reply Recorded
 traps memory s = record { answer = answer.OutOfBounds; memory = memory; records = s }
@@ -67,22 +70,22 @@ abbrev pub replies : Bytes → (target capacity : ℕ) → (memory : List ℕ) �
 replies bytes target capacity memory s =
     says (length bytes) (if nat_le (length bytes) capacity then with_bytes memory target bytes else memory) s
 
--- -1 answers a key that is absent
+-- a key that is absent is refused
 abbrev pub value_reply : Option Bytes → (target capacity : ℕ) → (memory : List ℕ) → Recorded → Reply Recorded
-value_reply None target capacity memory s = refuses 1 memory s
+value_reply None target capacity memory s = refuses refusal.Absent memory s
 value_reply (Some bytes) target capacity memory s = replies bytes target capacity memory s
 
--- -3 answers a read that would make 257 keys. Any other is recorded, and the state alone gives the answer.
+-- A read that would make 257 keys is refused. Any other is recorded, and the state alone gives the answer.
 abbrev pub read_key : Plain → (key : Bytes) → (target capacity : ℕ) → (memory : List ℕ) → Recorded → Reply Recorded
 read_key m key target capacity memory s =
     let reads = with_key key s.reads in
-    if nat_le (length reads) 256 then value_reply (get m key) target capacity memory (record s { reads = reads }) else refuses 3 memory s
+    if nat_le (length reads) 256 then value_reply (get m key) target capacity memory (record s { reads = reads }) else refuses refusal.NoRoom memory s
 
--- -3 answers a write that would make 65 keys. A write of None deletes its key.
+-- A write that would make 65 keys is refused. A write of None deletes its key.
 abbrev pub write : WriteItem → (memory : List ℕ) → Recorded → Reply Recorded
 write w memory s =
     let writes = with_write w s.writes in
-    if nat_le (length writes) 64 then says 0 memory (record s { writes = writes }) else refuses 3 memory s
+    if nat_le (length writes) 64 then says 0 memory (record s { writes = writes }) else refuses refusal.NoRoom memory s
 
 -- the key's length and its bytes, the value's length in two bytes, the least first, and its bytes
 abbrev pub reply_entry_bytes : Bytes × Bytes → Bytes
@@ -92,31 +95,31 @@ reply_entry_bytes e = length e.0 ∷ e.0 ++ (length e.1 % 256 ∷ length e.1 / 2
 abbrev pub reply_range_bytes : List (Bytes × Bytes) → Bytes
 reply_range_bytes es = length es ∷ flat_map reply_entry_bytes es
 
--- -3 answers the 17th range; range entries make no reads
+-- the 17th range is refused; range entries make no reads
 abbrev pub ask_range : Plain → Asked → (target capacity : ℕ) → (memory : List ℕ) → Recorded → Reply Recorded
 ask_range m a target capacity memory s =
     let ranges = s.ranges ++ a ∷ [] in
-    if nat_le (length ranges) 16 then replies (reply_range_bytes (first m a.start a.end a.limit)) target capacity memory (record s { ranges = ranges }) else refuses 3 memory s
+    if nat_le (length ranges) 16 then replies (reply_range_bytes (first m a.start a.end a.limit)) target capacity memory (record s { ranges = ranges }) else refuses refusal.NoRoom memory s
 
 abbrev pub get_state : Plain → (key : Bytes) → (target capacity : ℕ) → (memory : List ℕ) → Recorded → Reply Recorded
 get_state m key target capacity memory s =
-    if is_key key then read_key m key target capacity memory s else refuses 2 memory s
+    if is_key key then read_key m key target capacity memory s else refuses refusal.KeyLength memory s
 
 abbrev pub put_state : (key bytes memory : List ℕ) → Recorded → Reply Recorded
 put_state key bytes memory s =
-    if is_key key then (if is_value bytes then write (record { key = key; value = Some bytes }) memory s else refuses 4 memory s) else refuses 2 memory s
+    if is_key key then (if is_value bytes then write (record { key = key; value = Some bytes }) memory s else refuses refusal.ValueLength memory s) else refuses refusal.KeyLength memory s
 
 abbrev pub del_state : (key memory : List ℕ) → Recorded → Reply Recorded
 del_state key memory s =
-    if is_key key then write (record { key = key; value = None }) memory s else refuses 2 memory s
+    if is_key key then write (record { key = key; value = None }) memory s else refuses refusal.KeyLength memory s
 
 abbrev pub range_state : Plain → Asked → (target capacity : ℕ) → (memory : List ℕ) → Recorded → Reply Recorded
 range_state m a target capacity memory s =
-    if (is_bound a.start && is_bound a.end) then (if is_limit a.limit then ask_range m a target capacity memory s else refuses 5 memory s) else refuses 2 memory s
+    if (is_bound a.start && is_bound a.end) then (if is_limit a.limit then ask_range m a target capacity memory s else refuses refusal.Limit memory s) else refuses refusal.KeyLength memory s
 
 abbrev pub set_result : (bytes memory : List ℕ) → Recorded → Reply Recorded
 set_result bytes memory s =
-    if is_value bytes then says 0 memory (record s { result = bytes }) else refuses 4 memory s
+    if is_value bytes then says 0 memory (record s { result = bytes }) else refuses refusal.ValueLength memory s
 
 abbrev pub nth : List ℕ → ℕ → ℕ
 nth args i = get_or args i 0

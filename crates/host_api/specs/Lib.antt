@@ -1,3 +1,4 @@
+pub mod Refusals
 pub mod Recorded
 pub mod HostStep
 pub mod Recording
@@ -6,3 +7,4 @@ pub mod Plain
 pub mod Places
 pub mod Parts
 pub mod Reach
+pub mod Steps

@@ -8,6 +8,7 @@ use Rattle.wasm_meaning.specs.Values.{Reply}
 use Rattle.ledger_model.specs.Chain.{Bytes, Version}
 use Rattle.ledger_model.specs.Views.{Versioned}
 use Rattle.ledger_model.specs.Flags.{version_at, entries_at}
+use Rattle.host_api.specs.declared.refusal.Refusal.TheVariants as refusal
 use Rattle.host_api.specs.Recorded.{Asked, Recorded}
 use Rattle.host_api.specs.HostStep.{refuses, value_reply, replies, reply_range_bytes}
 
@@ -46,12 +47,12 @@ pub record AreItems (m : Versioned) (reads : List ReadItem) (ranges : List Range
 
 -- what is told of a read: nothing where there was no room for its key, else the value
 abbrev pub read_reply : Option (Option Bytes) → (target capacity : ℕ) → (memory : List ℕ) → Recorded → Reply Recorded
-read_reply None target capacity memory s = refuses 3 memory s
+read_reply None target capacity memory s = refuses refusal.NoRoom memory s
 read_reply (Some value) target capacity memory s = value_reply value target capacity memory s
 
 -- the same of a range and its entries
 abbrev pub range_reply : Option (List (Bytes × Bytes)) → (target capacity : ℕ) → (memory : List ℕ) → Recorded → Reply Recorded
-range_reply None target capacity memory s = refuses 3 memory s
+range_reply None target capacity memory s = refuses refusal.NoRoom memory s
 range_reply (Some es) target capacity memory s = replies (reply_range_bytes es) target capacity memory s
 
 -- an entry without its version

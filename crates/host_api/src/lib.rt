@@ -22,6 +22,7 @@ mod memory;
 mod plain_map;
 mod ranges;
 mod recorder;
+mod refusal;
 mod view;
 
 pub use plain_map::PlainMap;

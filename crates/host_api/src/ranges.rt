@@ -7,7 +7,8 @@ ghost use Rattle.host_api.specs.Recorded.{Recorded};
 ghost use Rattle.host_api.specs.HostStep.{replies, reply_range_bytes, reply_entry_bytes};
 ghost use Rattle.host_api.specs.Recording.{key_and_value, version_entry};
 
-use crate::memory::write_bytes;
+use crate::memory::{Span, write_bytes};
+use fab_types::limits::{MOST_KEY_BYTES, MOST_RANGE_ENTRIES, MOST_VALUE_BYTES};
 use fab_types::{Key, RangeEntry, Value, Version};
 use std::alloc::{AllocError, Global};
 use wasm_ast::HostAnswer;
@@ -29,30 +30,30 @@ pub fn range_entries(
     Ok(items)
 }
 
-/// Answers the length of the reply that these entries make, which is written only if it fits whole.
+/// Answers the length of the reply that these entries make, which is written only if it fits its
+/// room whole.
 pub fn range_reply(
     entries: &[(&Key, &(Value, Version))],
-    target: u32,
-    capacity: u32,
+    room: Span,
     memory: &mut [u8],
 ) -> HostAnswer
-    requires count { length entries.now ≤ 64 }
-    requires room { target + capacity ≤ length memory.old }
+    requires count { length entries.now ≤ MOST_RANGE_ENTRIES }
+    requires room { room.pointer + room.len ≤ length memory.old }
     ensures { (s : Recorded) →
-        replies (reply_range_bytes (map key_and_value (map deref_pair entries.now))) target capacity
-        memory.old s
+        replies (reply_range_bytes (map key_and_value (map deref_pair entries.now))) room.pointer
+        room.len memory.old s
         ≡ record { answer = result; memory = memory.new; records = s } }
 {
     let len = reply_len(entries);
-    if len <= capacity {
-        write_entries(entries, target as usize, memory);
+    if len <= room.len {
+        write_entries(entries, room.pointer as usize, memory);
     }
     HostAnswer::Value(len)
 }
 
 // The length of the reply.
 fn reply_len(entries: &[(&Key, &(Value, Version))]) -> u32
-    requires { length entries.now ≤ 64 }
+    requires { length entries.now ≤ MOST_RANGE_ENTRIES }
     ensures { result ≡ length (reply_range_bytes (map key_and_value (map deref_pair entries.now))) }
 {
     let mut len = 1;
@@ -64,7 +65,7 @@ fn reply_len(entries: &[(&Key, &(Value, Version))]) -> u32
 
 // Writes the reply from a place on.
 fn write_entries(entries: &[(&Key, &(Value, Version))], at: usize, memory: &mut [u8])
-    requires count { length entries.now ≤ 64 }
+    requires count { length entries.now ≤ MOST_RANGE_ENTRIES }
     requires room { at + length (reply_range_bytes (map key_and_value (map deref_pair entries.now)))
         ≤ length memory.old }
     ensures { memory.new
@@ -80,8 +81,8 @@ fn write_entries(entries: &[(&Key, &(Value, Version))], at: usize, memory: &mut 
 
 // Writes an entry from a place on, and answers the place after it.
 fn write_entry(key: &[u8], value: &[u8], at: usize, memory: &mut [u8]) -> usize
-    requires key { length key.now ≤ 64 }
-    requires value { length value.now ≤ 4096 }
+    requires key { length key.now ≤ MOST_KEY_BYTES }
+    requires value { length value.now ≤ MOST_VALUE_BYTES }
     requires room { at + length (reply_entry_bytes (key.now, value.now)) ≤ length memory.old }
     ensures written { memory.new
         ≡ with_bytes memory.old at (reply_entry_bytes (key.now, value.now)) }

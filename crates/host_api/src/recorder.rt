@@ -1,6 +1,6 @@
 //! The host that records what chaincode does.
 
-ghost use Rattle.std.specs.Prelude.{◌≡◌, ◌≤◌, ℕ, List, IfOk, IfSome, length, map, option_map};
+ghost use Rattle.std.specs.Prelude.{◌≡◌, ◌≤◌, ◌∷◌, ◌++◌, ℕ, List, IfOk, IfSome, length, map, option_map};
 ghost use Rattle.std.specs.FinMap.{get};
 ghost use Rattle.std.specs.Map.Iter.{deref_pair};
 ghost use Rattle.fab_types.specs.Limits.{IsKey, IsBound, IsValue};
@@ -9,13 +9,18 @@ ghost use Rattle.wasm_validate.specs.HostCalls.{arity};
 ghost use Rattle.ledger_model.specs.Views.{values_of};
 ghost use Rattle.ledger_model.specs.Flags.{version_at};
 ghost use Rattle.host_api.specs.Recorded.{Recorded, nothing_recorded, seen_on};
-ghost use Rattle.host_api.specs.HostStep.{host_step, read_key, write, ask_range};
+ghost use Rattle.host_api.specs.HostStep.{read_key, write, ask_range};
 ghost use Rattle.host_api.specs.Recording.{read_reply, range_reply, key_and_value};
+ghost use Rattle.host_api.specs.Steps.{Steps, words_of};
 
 use crate::keyed::search;
-use crate::memory::{span_bytes, negative, reach, reply};
+use crate::memory::{Span, reach, reply, span_bytes};
 use crate::ranges::{range_entries, range_reply};
+use crate::refusal::{Refusal, negative};
 use crate::view::View;
+use fab_types::limits::{
+    MOST_KEY_BYTES, MOST_RANGE_ENTRIES, MOST_RANGES, MOST_READS, MOST_VALUE_BYTES, MOST_WRITES,
+};
 use fab_types::{
     Bound, Key, RangeItem, Ranges, ReadItem, ReadSet, Value, Version, WriteItem, WriteSet,
 };
@@ -24,25 +29,6 @@ use std::alloc::{AllocError, Global};
 use std::fmt::{self, Debug, Formatter, Write};
 use std::marker::Model;
 use wasm_instance::Memory;
-
-/// The most keys that a run may read.
-const MOST_READS: usize = 256;
-/// The most ranges that a run may ask for.
-const MOST_RANGES: usize = 16;
-/// The most keys that a run may write.
-const MOST_WRITES: usize = 64;
-
-/// Answers -1 to -5: the key is absent, a key or a bound has a wrong length, there is no room for
-/// one more, the value is too long, the limit is not 1 to 64.
-const ABSENT: u32 = 1;
-
-const KEY_LENGTH: u32 = 2;
-
-const NO_ROOM: u32 = 3;
-
-const VALUE_LENGTH: u32 = 4;
-
-const WRONG_LIMIT: u32 = 5;
 
 /// Answers chaincode from a view of the state, and records what it reads and writes. The items are
 /// kept as a payload has them: in key order, with the view's versions.
@@ -139,44 +125,49 @@ impl<'v, V: View> Recorder<'v, V> {
     ) -> Result<HostAnswer, AllocError>
         requires { length args.now ≡ arity which }
         ensures answer { IfOk result
-            (λ a. host_step (values_of (V.state self.old.opened.view)) self.old.opened.argument
-            which args.now memory.old self.old.records
-            ≡ record { answer = a; memory = memory.new; records = self.new.records }) }
+            (Steps V.state self.old self.new which args.now memory.old memory.new) }
         ensures opened { self.new.opened ≡ self.old.opened }
         ensures keeps { length memory.new ≡ length memory.old }
     {
+        let first = Span::at(args, 0);
         match which {
-            HostCall::GetState => self.get_state(args, memory),
-            HostCall::PutState => self.put_state(args, memory),
-            HostCall::DelState => self.del_state(args, memory),
-            HostCall::RangeState => self.range_state(args, memory),
-            HostCall::GetArg => self.get_arg(args, memory),
-            HostCall::SetResult => self.set_result(args, memory),
+            HostCall::GetState => self.get_state(first, Span::at(args, 2), memory),
+            HostCall::PutState => self.put_state(first, Span::at(args, 2), memory),
+            HostCall::DelState => self.del_state(first, memory),
+            HostCall::RangeState => {
+                let (end, limit, room) = (Span::at(args, 2), args[4], Span::at(args, 5));
+                self.range_state(first, end, limit, room, memory)
+            }
+            HostCall::GetArg => self.get_arg(first, memory),
+            HostCall::SetResult => self.set_result(first, memory),
         }
     }
 
     /// The value of a key, by the view alone.
-    fn get_state(&mut self, args: &[u32], memory: &mut [u8]) -> Result<HostAnswer, AllocError>
-        requires { length args.now ≡ 4 }
+    fn get_state(
+        &mut self,
+        key: Span,
+        room: Span,
+        memory: &mut [u8],
+    ) -> Result<HostAnswer, AllocError>
         ensures answer { IfOk result
-            (λ a. host_step (values_of (V.state self.old.opened.view)) self.old.opened.argument
-            host_call.GetState args.now memory.old self.old.records
-            ≡ record { answer = a; memory = memory.new; records = self.new.records }) }
+            (Steps V.state self.old self.new host_call.GetState (words_of key ++ words_of room)
+            memory.old memory.new) }
         ensures opened { self.new.opened ≡ self.old.opened }
     {
-        let Some(key) = span_bytes(memory, args[0], args[1]) else {
+        let Some(key) = span_bytes(memory, key) else {
             return Ok(HostAnswer::OutOfBounds);
         };
-        if span_bytes(memory, args[2], args[3]).is_none() {
+        if span_bytes(memory, room).is_none() {
             return Ok(HostAnswer::OutOfBounds);
         }
-        if key.is_empty() || key.len() > 64 {
-            return Ok(negative(KEY_LENGTH));
+        if key.is_empty() || key.len() > MOST_KEY_BYTES {
+            return Ok(negative(Refusal::KeyLength));
         }
         match self.read(key)? {
-            None => Ok(negative(NO_ROOM)),
-            Some(None) => Ok(negative(ABSENT)),
-            Some(Some(value)) => Ok(reply(value.as_slice(), args[2], args[3], memory)),
+            None => Ok(negative(Refusal::NoRoom)),
+            Some(None) => Ok(negative(Refusal::Absent)),
+            Some(Some(value)) => Ok(reply(value.as_slice(), room, memory)),
         }
     }
 
@@ -204,43 +195,39 @@ impl<'v, V: View> Recorder<'v, V> {
     }
 
     /// Puts a value at a key.
-    fn put_state(&mut self, args: &[u32], memory: &[u8]) -> Result<HostAnswer, AllocError>
-        requires { length args.now ≡ 4 }
+    fn put_state(&mut self, key: Span, value: Span, memory: &[u8]) -> Result<HostAnswer, AllocError>
         ensures answer { IfOk result
-            (λ a. host_step (values_of (V.state self.old.opened.view)) self.old.opened.argument
-            host_call.PutState args.now memory.now self.old.records
-            ≡ record { answer = a; memory = memory.now; records = self.new.records }) }
+            (Steps V.state self.old self.new host_call.PutState (words_of key ++ words_of value)
+            memory.now memory.now) }
         ensures opened { self.new.opened ≡ self.old.opened }
     {
-        let Some(key) = span_bytes(memory, args[0], args[1]) else {
+        let Some(key) = span_bytes(memory, key) else {
             return Ok(HostAnswer::OutOfBounds);
         };
-        let Some(value) = span_bytes(memory, args[2], args[3]) else {
+        let Some(value) = span_bytes(memory, value) else {
             return Ok(HostAnswer::OutOfBounds);
         };
-        if key.is_empty() || key.len() > 64 {
-            return Ok(negative(KEY_LENGTH));
+        if key.is_empty() || key.len() > MOST_KEY_BYTES {
+            return Ok(negative(Refusal::KeyLength));
         }
-        if value.len() > 4096 {
-            return Ok(negative(VALUE_LENGTH));
+        if value.len() > MOST_VALUE_BYTES {
+            return Ok(negative(Refusal::ValueLength));
         }
         self.write(key, Some(value))
     }
 
     /// Deletes a key.
-    fn del_state(&mut self, args: &[u32], memory: &[u8]) -> Result<HostAnswer, AllocError>
-        requires { length args.now ≡ 2 }
+    fn del_state(&mut self, key: Span, memory: &[u8]) -> Result<HostAnswer, AllocError>
         ensures answer { IfOk result
-            (λ a. host_step (values_of (V.state self.old.opened.view)) self.old.opened.argument
-            host_call.DelState args.now memory.now self.old.records
-            ≡ record { answer = a; memory = memory.now; records = self.new.records }) }
+            (Steps V.state self.old self.new host_call.DelState (words_of key) memory.now
+            memory.now) }
         ensures opened { self.new.opened ≡ self.old.opened }
     {
-        let Some(key) = span_bytes(memory, args[0], args[1]) else {
+        let Some(key) = span_bytes(memory, key) else {
             return Ok(HostAnswer::OutOfBounds);
         };
-        if key.is_empty() || key.len() > 64 {
-            return Ok(negative(KEY_LENGTH));
+        if key.is_empty() || key.len() > MOST_KEY_BYTES {
+            return Ok(negative(Refusal::KeyLength));
         }
         self.write(key, None)
     }
@@ -258,7 +245,7 @@ impl<'v, V: View> Recorder<'v, V> {
     {
         match search(&self.writes, key) {
             Ok(at) => self.writes[at].value = copy_of(self.alloc, value)?,
-            Err(_) if self.writes.len() == MOST_WRITES => return Ok(negative(NO_ROOM)),
+            Err(_) if self.writes.len() == MOST_WRITES => return Ok(negative(Refusal::NoRoom)),
             Err(at) => {
                 let key = copied_key(self.alloc, key)?;
                 let value = copy_of(self.alloc, value)?;
@@ -269,32 +256,37 @@ impl<'v, V: View> Recorder<'v, V> {
     }
 
     /// The first entries of a range, by the view alone.
-    fn range_state(&mut self, args: &[u32], memory: &mut [u8]) -> Result<HostAnswer, AllocError>
-        requires { length args.now ≡ 7 }
+    fn range_state(
+        &mut self,
+        start: Span,
+        end: Span,
+        limit: u32,
+        room: Span,
+        memory: &mut [u8],
+    ) -> Result<HostAnswer, AllocError>
         ensures answer { IfOk result
-            (λ a. host_step (values_of (V.state self.old.opened.view)) self.old.opened.argument
-            host_call.RangeState args.now memory.old self.old.records
-            ≡ record { answer = a; memory = memory.new; records = self.new.records }) }
+            (Steps V.state self.old self.new host_call.RangeState
+            (words_of start ++ words_of end ++ limit ∷ words_of room) memory.old memory.new) }
         ensures opened { self.new.opened ≡ self.old.opened }
     {
-        let Some(start) = span_bytes(memory, args[0], args[1]) else {
+        let Some(start) = span_bytes(memory, start) else {
             return Ok(HostAnswer::OutOfBounds);
         };
-        let Some(end) = span_bytes(memory, args[2], args[3]) else {
+        let Some(end) = span_bytes(memory, end) else {
             return Ok(HostAnswer::OutOfBounds);
         };
-        if span_bytes(memory, args[5], args[6]).is_none() {
+        if span_bytes(memory, room).is_none() {
             return Ok(HostAnswer::OutOfBounds);
         }
-        if start.len() > 64 || end.len() > 64 {
-            return Ok(negative(KEY_LENGTH));
+        if start.len() > MOST_KEY_BYTES || end.len() > MOST_KEY_BYTES {
+            return Ok(negative(Refusal::KeyLength));
         }
-        if args[4] == 0 || args[4] > 64 {
-            return Ok(negative(WRONG_LIMIT));
+        if limit == 0 || limit > MOST_RANGE_ENTRIES as u32 {
+            return Ok(negative(Refusal::Limit));
         }
-        match self.ask(start, end, args[4])? {
-            None => Ok(negative(NO_ROOM)),
-            Some(entries) => Ok(range_reply(&entries, args[5], args[6], memory)),
+        match self.ask(start, end, limit)? {
+            None => Ok(negative(Refusal::NoRoom)),
+            Some(entries) => Ok(range_reply(&entries, room, memory)),
         }
     }
 
@@ -309,7 +301,7 @@ impl<'v, V: View> Recorder<'v, V> {
         requires start { IsBound start.now }
         requires end { IsBound end.now }
         requires least { 1 ≤ limit }
-        requires greatest { limit ≤ 64 }
+        requires greatest { limit ≤ MOST_RANGE_ENTRIES }
         ensures answer { IfOk result
             (λ found. (target capacity : ℕ) (memory : List ℕ) →
             ask_range (values_of (V.state self.old.opened.view))
@@ -317,7 +309,8 @@ impl<'v, V: View> Recorder<'v, V> {
             memory self.old.records
             ≡ range_reply (option_map (λ v. map key_and_value (map deref_pair v.items)) found)
             target capacity memory self.new.records) }
-        ensures count { IfOk result (λ found. IfSome found (λ v. length v.items ≤ 64)) }
+        ensures count { IfOk result
+            (λ found. IfSome found (λ v. length v.items ≤ MOST_RANGE_ENTRIES)) }
         ensures opened { self.new.opened ≡ self.old.opened }
     {
         if self.ranges.len() == MOST_RANGES {
@@ -333,35 +326,31 @@ impl<'v, V: View> Recorder<'v, V> {
     }
 
     /// The argument of the proposal.
-    fn get_arg(&mut self, args: &[u32], memory: &mut [u8]) -> Result<HostAnswer, AllocError>
-        requires { length args.now ≡ 2 }
+    fn get_arg(&mut self, room: Span, memory: &mut [u8]) -> Result<HostAnswer, AllocError>
         ensures answer { IfOk result
-            (λ a. host_step (values_of (V.state self.old.opened.view)) self.old.opened.argument
-            host_call.GetArg args.now memory.old self.old.records
-            ≡ record { answer = a; memory = memory.new; records = self.new.records }) }
+            (Steps V.state self.old self.new host_call.GetArg (words_of room) memory.old
+            memory.new) }
         ensures opened { self.new.opened ≡ self.old.opened }
     {
-        if span_bytes(memory, args[0], args[1]).is_none() {
+        if span_bytes(memory, room).is_none() {
             return Ok(HostAnswer::OutOfBounds);
         }
         let argument = self.argument.as_slice();
-        Ok(reply(argument, args[0], args[1], memory))
+        Ok(reply(argument, room, memory))
     }
 
     /// The result of the chaincode, in place of an earlier one.
-    fn set_result(&mut self, args: &[u32], memory: &[u8]) -> Result<HostAnswer, AllocError>
-        requires { length args.now ≡ 2 }
+    fn set_result(&mut self, bytes: Span, memory: &[u8]) -> Result<HostAnswer, AllocError>
         ensures answer { IfOk result
-            (λ a. host_step (values_of (V.state self.old.opened.view)) self.old.opened.argument
-            host_call.SetResult args.now memory.now self.old.records
-            ≡ record { answer = a; memory = memory.now; records = self.new.records }) }
+            (Steps V.state self.old self.new host_call.SetResult (words_of bytes) memory.now
+            memory.now) }
         ensures opened { self.new.opened ≡ self.old.opened }
     {
-        let Some(bytes) = span_bytes(memory, args[0], args[1]) else {
+        let Some(bytes) = span_bytes(memory, bytes) else {
             return Ok(HostAnswer::OutOfBounds);
         };
-        if bytes.len() > 4096 {
-            return Ok(negative(VALUE_LENGTH));
+        if bytes.len() > MOST_VALUE_BYTES {
+            return Ok(negative(Refusal::ValueLength));
         }
         self.result = Value::new(bytes.to_vec(self.alloc)?).unwrap();
         Ok(HostAnswer::Value(0))

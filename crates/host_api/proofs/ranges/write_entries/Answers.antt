@@ -1,6 +1,5 @@
-use Rattle.std.proofs.Common.{◌≡◌, ◌+◌, length, drop, ap, ◌∙◌, arith}
+use Rattle.std.proofs.Common.{◌+◌, length, drop, ap, ◌∙◌, arith}
 use Rattle.wasm_meaning.specs.Memory.{with_bytes}
-use Rattle.ledger_model.specs.Chain.{Bytes}
 use Rattle.host_api.specs.HostStep.{reply_entry_bytes}
 use Rattle.host_api.proofs.Replies.{bytes_of, written_entry, length_next, length-entry}
 use Rattle.host_api.proofs.ranges.write_entries.Goals as goal

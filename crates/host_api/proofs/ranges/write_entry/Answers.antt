@@ -1,4 +1,4 @@
-use Rattle.std.proofs.Common.{◌∙◌, ◌+◌, ◌%◌, ◌/◌, length}
+use Rattle.std.proofs.Common.{◌∙◌, ◌%◌, ◌/◌, length}
 use Rattle.host_api.proofs.Bytes.{entry_written}
 use Rattle.host_api.proofs.ranges.write_entry.Goals as goal
 

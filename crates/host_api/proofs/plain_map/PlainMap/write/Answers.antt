@@ -1,5 +1,5 @@
 use Rattle.std.proofs.Common.{Some, None, ◌∙◌, ap, sym}
-use Rattle.std.specs.FinMap.{insert, from_entries}
+use Rattle.std.specs.FinMap.{insert}
 use Rattle.ledger_model.specs.Views.{key_cmp, values_of}
 use Rattle.ledger_model.proofs.Keys.{keys_total}
 use Rattle.persist_map.specs.Entries.{get}

@@ -1,8 +1,7 @@
-use Rattle.std.proofs.Common.{◌≡◌, ◌≤◌, ◌++◌, ◌∷◌, [], rules, ℕ, List, length, map, sym, ap, ◌∙◌, subst, arith}
+use Rattle.std.proofs.Common.{◌≡◌, ◌++◌, ◌∷◌, [], ℕ, List, map, sym, ap, ◌∙◌, subst, arith}
 use Rattle.std.specs.Map.Iter.{deref_pair}
 use Rattle.fab_types.specs.Sets.{Range, IsRange}
 use Rattle.ledger_model.specs.Views.{values_of}
-use Rattle.ledger_model.specs.Flags.{entries_at}
 use Rattle.host_api.specs.Recorded.{Asked}
 use Rattle.host_api.specs.HostStep.{ask_range, replies, reply_range_bytes}
 use Rattle.host_api.specs.Recording.{Recording, version_entry, key_and_value, recorded_of, range_of}

@@ -1,4 +1,4 @@
-use Rattle.std.proofs.Common.{◌≡◌, sym, ap, ◌∙◌, subst}
+use Rattle.std.proofs.Common.{◌≡◌, sym, ◌∙◌, subst}
 use Rattle.ledger_model.specs.Views.{values_of}
 use Rattle.host_api.specs.declared.recorder.Parts.{Parts}
 use Rattle.host_api.specs.Recorded.{seen_on}

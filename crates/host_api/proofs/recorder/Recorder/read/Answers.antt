@@ -3,6 +3,7 @@ use Rattle.std.specs.FinMap.{get}
 use Rattle.std.proofs.lemmas.Option.{slice_get_read}
 use Rattle.fab_types.specs.declared.items.ReadItem.{ReadItem}
 use Rattle.ledger_model.specs.Views.{values_of}
+use Rattle.host_api.specs.declared.refusal.Refusal.TheVariants as refusal
 use Rattle.host_api.specs.HostStep.{with_item, read_key, refuses, value_reply}
 use Rattle.host_api.specs.Places.{found_at}
 use Rattle.host_api.specs.Recording.{Recording, recorded_of}
@@ -40,7 +41,7 @@ returns-in-Err-clause-answer g c =
     let gap = is_gap (λ (r : ReadItem). r.key) c.args.key.now reads _ (c.in-Err.ensures ∙ ap (found_at (λ (r : ReadItem). r.key) c.args.key.now) c.deref.ensures.value) in
     let item : ReadItem = record { key = c.args.key.now; version = None } in
     let full : length (with_item (λ r. r.key) item reads) ≡ 257 = omega (arith, grown (λ (r : ReadItem). r.key) c.args.key.now reads _ gap item refl, c.len.ensures, c.if-len-eq-MOST_READS.true) in
-    subst (λ (r : Recording _). (target capacity : ℕ) (memory : List ℕ) → read_key (values_of (g.V.View.state r.opened.view)) c.args.key.now target capacity memory r.records ≡ refuses 3 memory r.records) c.self.view_is (read_full _ c.args.key.now reads c.self.inside.ranges.items c.self.inside.result c.self.inside.writes.items item refl full)
+    subst (λ (r : Recording _). (target capacity : ℕ) (memory : List ℕ) → read_key (values_of (g.V.View.state r.opened.view)) c.args.key.now target capacity memory r.records ≡ refuses refusal.NoRoom memory r.records) c.self.view_is (read_full _ c.args.key.now reads c.self.inside.ranges.items c.self.inside.result c.self.inside.writes.items item refl full)
 
 pub returns-in_ok-insert-in-Err-2-clause-answer : goal.returns-in_ok-insert-in-Err-2-clause-answer
 returns-in_ok-insert-in-Err-2-clause-answer g c =

@@ -1,7 +1,8 @@
-use Rattle.std.proofs.Common.{◌≡◌, ◌≤◌, ◌+◌, ℕ, List, Option, length, option_map, refl, sym, ap, ◌∙◌, subst, arith, length-set}
+use Rattle.std.proofs.Common.{◌≡◌, ◌≤◌, length, option_map, refl, sym, ap, ◌∙◌, subst, arith, length-set}
 use Rattle.std.specs.Prelude.{slice_set}
 use Rattle.std.proofs.lemmas.Option.{slice_get_read}
 use Rattle.fab_types.specs.declared.items.WriteItem.{WriteItem}
+use Rattle.host_api.specs.declared.refusal.Refusal.TheVariants as refusal
 use Rattle.host_api.specs.HostStep.{with_write, write, says, refuses}
 use Rattle.host_api.specs.Places.{found_at}
 use Rattle.host_api.specs.Recording.{Recording, recorded_of}
@@ -34,7 +35,7 @@ returns-in-Err-clause-answer g c =
     let gap = is_gap (λ (w : WriteItem). w.key) c.args.key.now writes _ (c.in-Err.ensures ∙ ap (found_at (λ (w : WriteItem). w.key) c.args.key.now) c.deref.ensures.value) in
     let item : WriteItem = record { key = c.args.key.now; value = option_map (λ v. v.now) c.args.value } in
     let full : length (with_write item writes) ≡ 65 = omega (arith, grown (λ (w : WriteItem). w.key) c.args.key.now writes _ gap item refl, c.len.ensures, c.if-len-eq-MOST_WRITES.true) in
-    λ memory. subst (λ (r : Recording _). write item memory r.records ≡ refuses 3 memory r.records) c.self.view_is (write_full c.self.inside.reads.items c.self.inside.ranges.items c.self.inside.result writes item full memory) ∙ ap (λ a. record { answer = a; memory = memory; records = c.args.self.now.records }) (sym c.negative.ensures)
+    λ memory. subst (λ (r : Recording _). write item memory r.records ≡ refuses refusal.NoRoom memory r.records) c.self.view_is (write_full c.self.inside.reads.items c.self.inside.ranges.items c.self.inside.result writes item full memory) ∙ ap (λ a. record { answer = a; memory = memory; records = c.args.self.now.records }) (sym c.negative.ensures)
 
 pub insert-requires : goal.insert-requires
 insert-requires g c =
