@@ -11,7 +11,7 @@ use Rattle.wasm_ast.specs.declared.module.Module.{Module}
 use Rattle.wasm_validate.specs.ModuleRules.{IsValid}
 use Rattle.wasm_meaning.specs.Values.{Answer, Next, Branch, Returns, Trapped, Spent, Stuck, Reply}
 use Rattle.wasm_meaning.specs.Following.{Ends, Follows}
-use Rattle.wasm_meaning.specs.Laws.Fine.{IsEnding}
+use Rattle.wasm_meaning.specs.Fine.{IsEnding}
 use Rattle.wasm_meaning.specs.Laws.Alike.{invocation_follows}
 use Rattle.wasm_meaning.specs.Laws.NeverStuck.{invocation_ends}
 use Rattle.ledger_model.specs.Chain.{Bytes}

@@ -9,6 +9,7 @@ ghost use Rattle.orderer.specs.Ordering.{Ordering, IsOrdered, IsOpening, RunsOut
 
 use batch_cutter::division_laws;
 use fab_types::Envelope;
+use fab_types::limits::LAST_BLOCK;
 
 /// What holds of each orderer. One without blocks has made what no marks ask for, and what it makes
 /// of one mark more is what all the marks ask for. Marks ask for one chain, one step gives one
@@ -26,7 +27,7 @@ pub fn ordering_laws()
         (reports left : List BatchReport) →
         Takes old mark reports new → Takes old mark left other → (reports ≡ left) × (new ≡ other) }
     ensures past { (old new : Ordering) (mark : Mark Envelope) (reports : List BatchReport) →
-        RunsOut old mark → Takes old mark reports new → 65535 < length new.chain }
+        RunsOut old mark → Takes old mark reports new → LAST_BLOCK < length new.chain }
     ensures legal { (old new : Ordering) (mark : Mark Envelope) (reports : List BatchReport) →
         old.reorder ≡ true → Takes old mark reports new → AreLegal old.chain → AreLegal new.chain }
 {

@@ -1,4 +1,4 @@
--- Loads and stores in_bounds what is laid out of a memory, and past it.
+-- Loads and stores within what is laid out of a memory, and past it.
 use Rattle.std.proofs.Common.{◌≡◌, ◌≤◌, ◌<◌, ◌+◌, ◌-◌, ℕ, zero, suc, ◌/◌, Bool, true, false, List, length, take, drop, min, inl, inr, refl, sym, ap, ◌∙◌, arith, length-take, length-drop}
 use Rattle.std.specs.Prelude.{Ok, Err, cond, nat_lt}
 use Rattle.std.proofs.lemmas.Bool.{cases_lt}
@@ -54,7 +54,7 @@ store_width-le store.I64To8 = omega arith
 store_width-le store.I64To16 = omega arith
 store_width-le store.I64To32 = omega arith
 
--- what an access in_bounds the memory gives, and one past its end
+-- what an access within the memory gives, and one past its end
 pub is_within : {A : Type 0} (m : List ℕ) (p w : ℕ) (x : A) → p + w ≤ length m → in_bounds m p w x ≡ Ok x
 is_within m p w x h =
     let e : nat_lt (length m) (p + w) ≡ false = grind (arith, nat_tests) in ap (λ b. cond b (Err OutOfBounds) (Ok x)) e
@@ -77,7 +77,7 @@ past_from_err m p w x t e =
       | inr le ↦ let c : Ok x ≡ Err t = sym (is_within m p w x le) ∙ e in absurd cc
     ]
 
--- a load that stays in_bounds what is laid out
+-- a load that stays within what is laid out
 pub load_laid : (o : LoadOp) (n p word : ℕ) (xs : List ℕ) → length xs ≤ n → load_at o xs p ≡ Ok word → load_at o (padded n xs) p ≡ Ok word
 load_laid o n p word xs h e =
     let le : p + load_width o ≤ length xs = within_from_ok xs p (load_width o) (load_value o xs p) word e in

@@ -1,6 +1,6 @@
 //! Loads, stores and growth of a memory as bytes (Core 1.0, section 4.4.4).
 //!
-//! Each access tests once that it lies in_bounds the memory. It has a place, an operand plus an
+//! Each access tests once that it lies within the memory. It has a place, an operand plus an
 //! offset, and so below 2^33.
 
 ghost use Rattle.std.specs.Prelude.{◌≡◌, ◌+◌, ◌<◌, ◌≤◌, ◌^◌, length};
@@ -107,7 +107,7 @@ pub fn store_word(op: StoreOp, memory: &mut [u8], place: usize, word: u64) -> Re
     }
 }
 
-// Writes bytes from a place on, where they all lie in_bounds the memory.
+// Writes bytes from a place on, where they all lie within the memory.
 #[inline(always)]
 fn put(memory: &mut [u8], place: usize, bytes: &[u8]) -> Result<(), Trap>
     requires { place < 2 ^ 62 }

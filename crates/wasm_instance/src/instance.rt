@@ -68,7 +68,7 @@ impl Instance {
     ///
     /// # Errors
     ///
-    /// `OutOfBounds` where the bytes that it reads do not all lie in_bounds the memory. The sum is
+    /// `OutOfBounds` where the bytes that it reads do not all lie within the memory. The sum is
     /// unbounded: it does not wrap at 2^32.
     #[inline(always)]
     pub fn load(&self, op: LoadOp, address: u32, offset: u32) -> Result<u64, Trap>
@@ -81,7 +81,7 @@ impl Instance {
     ///
     /// # Errors
     ///
-    /// `OutOfBounds` where the bytes that it writes would not all lie in_bounds the memory, which
+    /// `OutOfBounds` where the bytes that it writes would not all lie within the memory, which
     /// then stays as it was. The sum is unbounded: it does not wrap at 2^32.
     #[inline(always)]
     pub fn store(&mut self, op: StoreOp, address: u32, offset: u32, word: u64) -> Result<(), Trap>

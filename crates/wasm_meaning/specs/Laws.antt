@@ -1,5 +1,4 @@
 -- No definitions: laws that crates above cite.
-pub mod Fine
 pub mod Unfold
 pub mod ExecutedFits
 pub mod Loads

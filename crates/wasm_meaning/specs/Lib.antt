@@ -5,4 +5,5 @@ pub mod Program
 pub mod Fuel
 pub mod Following
 pub mod Executed
+pub mod Fine
 pub mod Laws

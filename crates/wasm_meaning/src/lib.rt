@@ -64,7 +64,7 @@ ghost use Rattle.wasm_meaning.specs.Meaning.{tree, meaning};
 ghost use Rattle.wasm_meaning.specs.Program.{invocation};
 ghost use Rattle.wasm_meaning.specs.Fuel.{fuel_left};
 ghost use Rattle.wasm_meaning.specs.Executed.{executed, executed_by};
-ghost use Rattle.wasm_meaning.specs.Laws.Fine.{IsEnding, IsTypedProgram, IsSound};
+ghost use Rattle.wasm_meaning.specs.Fine.{IsEnding, IsTypedProgram, IsSound};
 ghost use Rattle.wasm_meaning.specs.Following.{Ends, Follows};
 
 /// What code does is one level of its tree, over the same meaning of what is inside. The bound on

@@ -17,7 +17,7 @@ use Rattle.wasm_validate.specs.HostCalls.{host_calls, call_type}
 use Rattle.wasm_validate.specs.ModuleRules.{IsValid, no_type, invoke_of}
 use Rattle.wasm_meaning.specs.Program.{function_of, program_of, fresh_world}
 use Rattle.wasm_meaning.specs.Meaning.{greatest_depth, with_some, call_function, meaning}
-use Rattle.wasm_meaning.specs.Laws.Fine.{IsEnding}
+use Rattle.wasm_meaning.specs.Fine.{IsEnding}
 use Rattle.wasm_meaning.specs.Laws.NeverStuck.{invocation_ends}
 use Rattle.interp.specs.Reading.{type_in}
 use Rattle.wasm_meaning.specs.Values.{Val, World, Answer, Answering, Program, Function, zeros}

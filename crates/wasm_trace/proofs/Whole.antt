@@ -10,7 +10,7 @@ use Rattle.wasm_meaning.specs.Values as meant
 use Rattle.wasm_meaning.specs.Values.{Val, value, World, Answer, Next, Branch, Returns, Answering, Function, Program}
 use Rattle.wasm_meaning.specs.Meaning.{with_some, call_function, meaning}
 use Rattle.wasm_meaning.specs.Program.{function_of, program_of, fresh_world, invocation}
-use Rattle.wasm_meaning.specs.Laws.Fine.{IsEnding}
+use Rattle.wasm_meaning.specs.Fine.{IsEnding}
 use Rattle.wasm_meaning.specs.Laws.NeverStuck.{invocation_ends}
 use Rattle.interp.specs.Ended.{Ended}
 use Rattle.interp.specs.declared.outcome.Outcome.{Outcome}
