@@ -5,7 +5,7 @@ use Rattle.ledger_program.proofs.module_file.valid_module.Goals as goal
 
 pub returns-in-Err-Malformed-clause-refused : goal.returns-in-Err-Malformed-clause-refused
 returns-in-Err-Malformed-clause-refused c =
-    (λ m spelled. let e = rw c.in-Err-Malformed.field-0-is at (c.in-Err-Malformed.ensures.only m spelled) in cc, rw c.in-Err-Malformed.field-0-is at c.in-Err-Malformed.ensures.fault)
+    (λ m spelled. let e = rw c.in-Err-Malformed.field-0-is at (c.in-Err-Malformed.ensures.only m spelled) in cc, rw c.in-Err-Malformed.field-0-is (rw c.in-Err-Malformed.field-0-is at c.in-Err-Malformed.ensures.fault))
 
 pub returns-in-Ok-validate-clause-ok : goal.returns-in-Ok-validate-clause-ok
 returns-in-Ok-validate-clause-ok c =
