@@ -1,6 +1,6 @@
 //! Flags.
 
-ghost use Rattle.std.specs.Prelude.{◌≡◌, IfOk, List, length};
+ghost use Rattle.std.specs.Prelude.{◌≡◌, ◌++◌, ◌∷◌, [], IfOk, OnOk, List, length};
 ghost use Rattle.ledger_model.specs.Chain.{Placed, history, is_valid};
 ghost use Rattle.ledger_model.specs.State.{state};
 ghost use Rattle.ledger_model.specs.Flags.{stands_in, flag_at, flags_told};
@@ -14,7 +14,7 @@ use fab_types::{Block, Flag, Payload, Version};
 use std::alloc::{AllocError, Global};
 use std::collections::{BTreeMap, BTreeSet};
 use wire::tx_id;
-use world_state::{Snapshot, TxIds, add_id, is_known};
+use world_state::{Snapshot, TxIds, add_id};
 
 fn is_valid(flag: Flag) -> bool
     ensures { result ≡ is_valid flag }
@@ -22,31 +22,39 @@ fn is_valid(flag: Flag) -> bool
     matches!(flag, Flag::Valid)
 }
 
-/// Whether an id stands in the chain or in the block so far.
-fn is_duplicate(snapshot: &Snapshot, ids: &TxIds, id: &[u8; 32]) -> bool
-    ensures { (earlier : List Placed) → AreNewIds ids.now.keys (history snapshot.now) earlier →
-        result ≡ stands_in id_of earlier id.now }
+/// Adds an id to those of the block so far, and says whether it stood among them or in the chain.
+fn add_tx(snapshot: &Snapshot, ids: &mut TxIds, id: [u8; 32]) -> Result<bool, AllocError>
+    ensures stood { IfOk result
+        (λ stood. (earlier : List Placed) →
+        AreNewIds ids.old.keys (history snapshot.now) earlier →
+        stood ≡ stands_in id_of earlier id) }
+    ensures added { OnOk result
+        ((earlier : List Placed) (next : Placed) → id ≡ id_of next.envelope.payload.proposal →
+        AreNewIds ids.old.keys (history snapshot.now) earlier →
+        AreNewIds ids.new.keys (history snapshot.now) (earlier ++ next ∷ [])) }
 {
-    snapshot.has_tx(id) || is_known(ids, id)
+    if snapshot.has_tx(&id) {
+        return Ok(true);
+    }
+    Ok(!add_id(ids, id)?)
 }
 
-/// The flag of the transaction that comes next, which has this id.
+/// The flag of the transaction that comes next, whose id stood before it or did not.
 fn flag_of(
     alloc: Global,
     snapshot: &Snapshot,
-    ids: &TxIds,
     written: &Written,
-    id: &[u8; 32],
+    stood: bool,
     endorsed: bool,
     payload: &Payload,
 ) -> Result<Flag, AllocError>
-    requires id { id.now ≡ id_of payload.now.proposal }
     ensures { IfOk result
-        (λ flag. (earlier : List Placed) → AreNewIds ids.now.keys (history snapshot.now) earlier →
+        (λ flag. (earlier : List Placed) →
+        stood ≡ stands_in id_of earlier (id_of payload.now.proposal) →
         IsOver written.now.entries (state (history snapshot.now)) (state earlier) →
         flag ≡ flag_at id_of earlier endorsed payload.now) }
 {
-    if is_duplicate(snapshot, ids, id) {
+    if stood {
         return Ok(Flag::DuplicateTxid);
     }
     if !endorsed {
@@ -93,16 +101,8 @@ pub fn flags(
     for (place, envelope) in envelopes.iter().enumerate() {
         let payload = &envelope.payload;
         let id = tx_id(alloc, &payload.proposal)?;
-        let flag = flag_of(
-            alloc,
-            snapshot,
-            &ids,
-            &written,
-            &id,
-            endorsed[place],
-            payload,
-        )?;
-        add_id(&mut ids, id)?;
+        let stood = add_tx(snapshot, &mut ids, id)?;
+        let flag = flag_of(alloc, snapshot, &written, stood, endorsed[place], payload)?;
         if is_valid(flag) {
             let version = Version::new(number, place as u32).unwrap();
             put_writes(&mut written, payload.writes.as_slice(), version)?;
