@@ -15,7 +15,7 @@ use Rattle.fab_types.specs.declared.block.Block.{Block}
 use Rattle.fab_types.specs.declared.envelope.Endorsement.{Endorsement}
 use Rattle.wire.specs.Ids.{id_of}
 use Rattle.endorsement_policy.specs.Endorsed.{Listed, is_right, is_endorsed, CarriesRight}
-use Rattle.fabric_core.specs.Rule.{table_of, seal_of}
+use Rattle.ledger_setting.specs.Rule.{table_of, seal_of}
 use Rattle.ledger_model.proofs.Judged.{flags_judged, judged_onto-append, judged_grows, judged_current, judged_endorsed}
 use Rattle.ledger_model.proofs.Reruns.{reruns_and_map, reruns_same}
 use Rattle.simulator.specs.Answers.{done_or_refusal, payload_or_refusal}

@@ -17,7 +17,7 @@ use Rattle.batch_cutter.specs.Division.{Mark, timeout}
 use Rattle.orderer.specs.Ordering.{Ordering, Takes}
 use Rattle.orderer.specs.declared.report.BatchReport.{BatchReport}
 use Rattle.orderer.proofs.Refusing.{takes_begins}
-use Rattle.fabric_core.specs.Rule.{table_of, seal_of}
+use Rattle.ledger_setting.specs.Rule.{table_of, seal_of}
 use Rattle.simulator.specs.declared.refusal.SimRefusal.{SimRefusal}
 use Rattle.simulator.specs.Answers.{payload_or_refusal}
 use Rattle.fabric_core.specs.System.{PeerState, World, Reply, Begun as IsBegun, Nothing, IsCommitted, fresh, chain_of_first, begin_seat, begin, finish_reply, finish_seat, finish, commit_next, commit, at_peer}
@@ -114,7 +114,7 @@ pub timed_right : (listed : Listed) (peers : List Peer) (old : Ordering) (report
 timed_right listed peers old report new right takes = mark_right listed peers old timeout (option_to_list report) new right takes
 
 -- a peer with the next block
-pub committed : (rule : FlagRule) (blocks : List Block) (old new : Peer) (b : Block) (reply : Reply) → IsPeerRight (chain_of_first rule blocks) old → slice_get blocks (length old.snapshot.value) ≡ Some b → reply ≡ IsCommitted (judge rule (history old.snapshot.value) (length old.snapshot.value + 1) 0 b.envelopes) → new.snapshot.value ≡ old.snapshot.value ++ record { block = b; flags = judge rule (history old.snapshot.value) (length old.snapshot.value + 1) 0 b.envelopes } ∷ [] → new.seats.items ≡ old.seats.items → new.org ≡ old.org → (commit (chain_of_first rule blocks) (peer_of old) ≡ (reply, peer_of new)) × IsPeerRight (chain_of_first rule blocks) new
+pub committed : (rule : FlagRule) (blocks : List Block) (old new : Peer) (b : Block) (reply : Reply) → IsPeerRight (chain_of_first rule blocks) old → slice_get blocks (length old.snapshot.value) ≡ Some b → reply ≡ IsCommitted (length old.snapshot.value + 1) (judge rule (history old.snapshot.value) (length old.snapshot.value + 1) 0 b.envelopes) → new.snapshot.value ≡ old.snapshot.value ++ record { block = b; flags = judge rule (history old.snapshot.value) (length old.snapshot.value + 1) 0 b.envelopes } ∷ [] → new.seats.items ≡ old.seats.items → new.org ≡ old.org → (commit (chain_of_first rule blocks) (peer_of old) ≡ (reply, peer_of new)) × IsPeerRight (chain_of_first rule blocks) new
 committed rule blocks old new b reply right there told made seats org =
     let c = old.snapshot.value in
     let next : Committed = record { block = b; flags = judge rule (history c) (length c + 1) 0 b.envelopes } in
@@ -141,7 +141,7 @@ free_right chain zero = tt
 free_right chain (suc n) = (tt, free_right chain n)
 
 -- what committing at a peer leaves, whether memory was refused or not
-pub commit_all : {E : Type 0} (rule : FlagRule) (blocks : List Block) (old new : Peer) (b : Block) (r : Result Reply E) → IsPeerRight (chain_of_first rule blocks) old → slice_get blocks (length old.snapshot.value) ≡ Some b → IfOk r (λ reply. reply ≡ IsCommitted (judge rule (history old.snapshot.value) (length old.snapshot.value + 1) 0 b.envelopes)) → IfOk r (λ reply. new.snapshot.value ≡ old.snapshot.value ++ record { block = b; flags = judge rule (history old.snapshot.value) (length old.snapshot.value + 1) 0 b.envelopes } ∷ []) → new.seats.items ≡ old.seats.items → new.org ≡ old.org → OnErr r (new ≡ old) → IfOk r (λ reply. commit (chain_of_first rule blocks) (peer_of old) ≡ (reply, peer_of new)) × IsPeerRight (chain_of_first rule blocks) new
+pub commit_all : {E : Type 0} (rule : FlagRule) (blocks : List Block) (old new : Peer) (b : Block) (r : Result Reply E) → IsPeerRight (chain_of_first rule blocks) old → slice_get blocks (length old.snapshot.value) ≡ Some b → IfOk r (λ reply. reply ≡ IsCommitted (length old.snapshot.value + 1) (judge rule (history old.snapshot.value) (length old.snapshot.value + 1) 0 b.envelopes)) → IfOk r (λ reply. new.snapshot.value ≡ old.snapshot.value ++ record { block = b; flags = judge rule (history old.snapshot.value) (length old.snapshot.value + 1) 0 b.envelopes } ∷ []) → new.seats.items ≡ old.seats.items → new.org ≡ old.org → OnErr r (new ≡ old) → IfOk r (λ reply. commit (chain_of_first rule blocks) (peer_of old) ≡ (reply, peer_of new)) × IsPeerRight (chain_of_first rule blocks) new
 commit_all rule blocks old new b (Ok reply) right there told made seats org same = committed rule blocks old new b reply right there told made seats org
 commit_all rule blocks old new b (Err x) right there told made seats org same = (tt, subst (IsPeerRight (chain_of_first rule blocks)) (sym same) right)
 

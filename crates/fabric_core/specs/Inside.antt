@@ -7,7 +7,7 @@ use Rattle.ledger_model.specs.Chain.{Envelope, Chain}
 use Rattle.ledger_model.specs.Execution.{Exec}
 use Rattle.simulator.specs.declared.book.Chaincode.{Chaincode}
 use Rattle.endorsement_policy.specs.Endorsed.{Listed}
-use Rattle.fabric_core.specs.Rule.{table_of, seal_of}
+use Rattle.ledger_setting.specs.Rule.{table_of, seal_of}
 use Rattle.simulator.specs.Execution.{exec_of}
 use Rattle.fabric_core.specs.System.{Rules, Event, Reply, Noted, PeerState, World, IsStep, chain_of_first}
 use Rattle.fabric_core.specs.declared.peer.Begun.{Begun}

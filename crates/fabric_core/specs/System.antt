@@ -98,7 +98,7 @@ finish exec seal chain peer seat = finish_seat exec seal chain peer seat (slice_
 -- Commit, at a peer: the next block, if there is one
 abbrev pub commit_next : PeerState → Option Committed → Reply × PeerState
 commit_next peer None = (Nothing, peer)
-commit_next peer (Some c) = (IsCommitted c.flags, record peer { height = peer.height + 1 })
+commit_next peer (Some c) = (IsCommitted (peer.height + 1) c.flags, record peer { height = peer.height + 1 })
 
 abbrev pub commit : (ℕ → Chain) → PeerState → Reply × PeerState
 commit chain peer = commit_next peer (slice_get (chain (peer.height + 1)) peer.height)

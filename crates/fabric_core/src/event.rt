@@ -1,5 +1,8 @@
 //! What can happen to a system, and what it replies.
 
+ghost use Rattle.std.specs.Prelude.{◌≡◌};
+ghost use Rattle.fabric_core.specs.Numbers.{reply_number};
+
 use fab_types::{Endorsement, Envelope, Flag, Payload, Proposal};
 use orderer::BatchReport;
 use seq::Seq;
@@ -93,6 +96,30 @@ pub enum Reply {
     /// Take, Tick: a block would be needed past the last number (422). A taken envelope is handed
     /// back.
     NoBlockLeft(Option<Envelope>),
-    /// Commit: the block is on the peer's chain, with these flags.
-    Committed(Seq<Flag>),
+    /// Commit: the block of this number is on the peer's chain, with these flags.
+    Committed(usize, Seq<Flag>),
+}
+
+impl Reply {
+    /// The number of the refusal, as it stands at each reply above. None where nothing was refused.
+    pub fn number(&self) -> Option<u16>
+        ensures { result ≡ reply_number self.now }
+    {
+        match self {
+            Reply::Refused(refusal) => Some(refusal.number()),
+            Reply::QueueFull => Some(411),
+            Reply::TooLarge(_) => Some(421),
+            Reply::NoBlockLeft(_) => Some(422),
+            Reply::SeatBusy => Some(451),
+            Reply::NoSuchPeer | Reply::NoSuchSeat => Some(452),
+            Reply::NothingBegun => Some(453),
+            Reply::Begun(_)
+            | Reply::Endorsed(..)
+            | Reply::Queued
+            | Reply::Nothing
+            | Reply::Ordered(_)
+            | Reply::Cut(_)
+            | Reply::Committed(..) => None,
+        }
+    }
 }

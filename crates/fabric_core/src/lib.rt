@@ -13,7 +13,6 @@
 #![tactic(auto)]
 
 mod auditing;
-mod committing;
 mod event;
 mod laws;
 mod peer;
@@ -22,9 +21,8 @@ mod system;
 mod verdict;
 
 pub use auditing::audit;
-pub use committing::commit_checked;
 pub use event::{Event, Reply};
 pub use laws::honest_chains_pass_the_audit;
 pub use running::{Ran, run};
-pub use system::{Genesis, System};
+pub use system::System;
 pub use verdict::Audit;

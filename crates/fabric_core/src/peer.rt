@@ -5,18 +5,18 @@ ghost use Rattle.ledger_model.specs.Chain.{Chain, Committed, history};
 ghost use Rattle.ledger_model.specs.State.{state};
 ghost use Rattle.committer.specs.Fits.{Fits, blocks_of};
 ghost use Rattle.ledger_model.specs.Judged.{judge};
-ghost use Rattle.fabric_core.specs.Rule.{table_of, seal_of};
+ghost use Rattle.ledger_setting.specs.Rule.{table_of, seal_of};
 ghost use Rattle.simulator.specs.Answers.{payload_or_refusal};
 ghost use Rattle.simulator.specs.Execution.{exec_of};
 ghost use Rattle.fabric_core.specs.System.{IsCommitted, fresh, begin, finish_reply, finish};
 ghost use Rattle.fabric_core.specs.Inside.{peer_of, IsPeerRight};
 
-use crate::committing::commit_checked;
 use crate::event::Reply;
 use committer::CommitRefusal;
 use endorsement_policy::Rules;
 use endorser::{recheck, seal};
 use fab_types::{Block, Flag, OrgName, Payload, Proposal};
+use ledger_setting::commit_checked;
 use seq::Seq;
 use simulator::{Book, SimRefusal, simulate};
 use std::alloc::{AllocError, Global};
@@ -196,7 +196,7 @@ impl Peer {
         requires next { Fits (blocks_of self.old.snapshot.value) block }
         ensures reply { IfOk result
             (λ reply. reply
-            ≡ IsCommitted
+            ≡ IsCommitted (length self.old.snapshot.value + 1)
             (judge (table_of rules.now) (history self.old.snapshot.value)
             (length self.old.snapshot.value + 1) 0 block.envelopes)) }
         ensures chain { IfOk result
@@ -213,7 +213,8 @@ impl Peer {
         ensures unchanged { OnErr result (self.new ≡ self.old) }
     {
         let snapshot = extended(alloc, rules, &self.snapshot, block)?;
-        let reply = Reply::Committed(Seq::new(last_flags(alloc, &snapshot)?));
+        let flags = Seq::new(last_flags(alloc, &snapshot)?);
+        let reply = Reply::Committed(snapshot.height(), flags);
         self.snapshot = Arc::new(alloc, snapshot)?;
         Ok(reply)
     }

@@ -4,18 +4,19 @@ ghost use Rattle.std.specs.Prelude.{◌≡◌, ◌++◌, ◌∷◌, [], ℕ, tru
 ghost use Rattle.ledger_model.specs.Chain.{Chain};
 ghost use Rattle.fab_types.specs.declared.block.Block.{Block};
 ghost use Rattle.committer.specs.Fits.{Fits, blocks_of};
-ghost use Rattle.fabric_core.specs.Rule.{table_of};
+ghost use Rattle.ledger_setting.specs.Rule.{table_of};
 ghost use Rattle.endorsement_policy.specs.Endorsed.{is_right};
 ghost use Rattle.simulator.specs.Execution.{exec_of};
 ghost use Rattle.fabric_core.specs.System.{Reply, chain_of};
 ghost use Rattle.orderer.specs.Ordering.{AreLimits};
-ghost use Rattle.fabric_core.specs.Setting.{limits_of};
+ghost use Rattle.ledger_setting.specs.Setting.{limits_of};
 ghost use Rattle.fabric_core.specs.Inside.{rules_of, TakesStep, KeepsSetting};
 ghost use Rattle.fabric_core.specs.Headline.{IsRun, IsHonest, ConflictsAreOlder};
 
 use crate::event::{Event, Reply};
-use crate::system::{Genesis, System};
+use crate::system::System;
 use endorsement_policy::an_endorsed_envelope_carries_a_right_tag;
+use ledger_setting::Genesis;
 use orderer::ordering_laws;
 use simulator::reads_alone;
 use std::alloc::{AllocError, Global};

@@ -3,7 +3,7 @@
 ghost use Rattle.std.specs.Prelude.{◌≡◌, ◌≤◌, [], IfOk, OnErr, option_map, length};
 ghost use Rattle.wire.specs.Links.{AreLinked};
 ghost use Rattle.orderer.specs.Ordering.{AreLimits};
-ghost use Rattle.fabric_core.specs.Setting.{limits_of};
+ghost use Rattle.ledger_setting.specs.Setting.{limits_of};
 ghost use Rattle.fabric_core.specs.System.{opening, Begin, Finish, Submit, Take, Tick, Commit, chain_of};
 ghost use Rattle.simulator.specs.Execution.{exec_of};
 ghost use Rattle.fabric_core.specs.Inside.{rules_of, TakesStep, KeepsSetting};
@@ -12,7 +12,8 @@ use crate::event::{Event, Reply};
 use crate::peer::Peer;
 use endorsement_policy::Rules;
 use fab_types::limits::LAST_BLOCK;
-use fab_types::{Block, Envelope, OrgName, Proposal};
+use fab_types::{Block, Envelope, Proposal};
+use ledger_setting::Genesis;
 use orderer::{OrderCause, Orderer};
 use seq::Seq;
 use simulator::Book;
@@ -22,44 +23,6 @@ use std::fmt::{self, Debug, Formatter, Write};
 use std::marker::Model;
 use std::sync::Arc;
 use world_state::Snapshot;
-
-/// What a system begins with.
-#[derive(Drop)]
-pub struct Genesis {
-    /// The chaincodes.
-    pub book: Arc<Book>,
-    /// The organisations, and the policies of the chaincodes.
-    pub rules: Arc<Rules>,
-    /// Each peer's organisation.
-    pub peers: Vec<OrgName>,
-    /// How many proposals a peer can simulate at a time.
-    pub seats: usize,
-    /// How many envelopes the queue holds.
-    pub queue: usize,
-    /// How many envelopes a batch holds at most.
-    pub count: usize,
-    /// How many bytes of envelopes a batch of several holds at most.
-    pub preferred: usize,
-    /// How many bytes an envelope has at most.
-    pub absolute: usize,
-    /// Whether batches are put in a legal order.
-    pub reorder: bool,
-}
-
-/// The tags' keys are not printed.
-impl Debug for Genesis {
-    fn fmt<W: Write>(&self, f: &mut Formatter<W>) -> fmt::Result {
-        f.debug_struct("Genesis")
-            .field("peers", &self.peers)
-            .field("seats", &self.seats)
-            .field("queue", &self.queue)
-            .field("count", &self.count)
-            .field("preferred", &self.preferred)
-            .field("absolute", &self.absolute)
-            .field("reorder", &self.reorder)
-            .finish_non_exhaustive()
-    }
-}
 
 /// Peers, the queue, and the orderer. Contracts see the book, the
 /// rules, the queue's capacity and the abstract world.

@@ -22,6 +22,6 @@ pub needs_one : (plans : List Envelope → List ℕ → List (ℕ × AbortCause)
     → plans batch order aborted → 1 ≤ length (envelopes_at batch order) → length old ≡ 65535 → IsBatchRefused plans NoNumber old batch
 needs_one plans old batch order aborted planned some full =
     let es = envelopes_at batch order in
-    let report : BatchReport = record { block = number_of old es; aborted = aborted } in
+    let report : BatchReport = record { block = number_of old es; count = length es; aborted = aborted } in
     let block = something old es some in
-    (report, with_batch old es, (record { order = order; planned = planned; chain = refl; number = refl }), omega (arith, full, ap length block.0, length-append old (next_block old es ∷ [])))
+    (report, with_batch old es, (record { order = order; planned = planned; chain = refl; number = refl; count = refl }), omega (arith, full, ap length block.0, length-append old (next_block old es ∷ [])))

@@ -112,15 +112,18 @@ pub(crate) fn add_batch(
     if survivors.is_empty() {
         return Ok(BatchReport {
             block: None,
+            count: 0,
             aborted,
         });
     }
     let Some(number) = next_number(blocks.len()) else {
         return Err(OrderCause::NoNumber);
     };
+    let count = survivors.len();
     push_block(alloc, blocks, number, survivors)?;
     Ok(BatchReport {
         block: Some(number.get()),
+        count,
         aborted,
     })
 }

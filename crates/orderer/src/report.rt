@@ -17,6 +17,8 @@ use std::fmt::{self, Display, Formatter, Write};
 pub struct BatchReport {
     /// The number of its block. None where nothing survived, so that there is no block.
     pub block: Option<u32>,
+    /// How many transactions its block has: 0 where there is no block.
+    pub count: usize,
     /// The places in the batch as it was cut, from 0, of the transactions that are left out,
     /// ascending, and why.
     pub aborted: Seq<(u16, AbortCause)>,

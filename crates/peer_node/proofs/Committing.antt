@@ -10,7 +10,7 @@ use Rattle.ledger_model.specs.Judged.{judge}
 use Rattle.ledger_model.proofs.Judged.{told_judged}
 use Rattle.committer.specs.Fits.{Fits, blocks_of}
 use Rattle.committer.proofs.Last.{length_map}
-use Rattle.fabric_core.specs.Rule.{table_of}
+use Rattle.ledger_setting.specs.Rule.{table_of}
 use Rattle.peer_node.specs.Writers.{next_by}
 
 pub committed : (listed : Listed) (chain shown : Chain) (b : Block) (endorsed : List Bool) → shown ≡ chain → endorsed ≡ map (is_endorsed listed) b.envelopes → Fits (blocks_of shown) b

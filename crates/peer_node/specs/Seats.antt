@@ -15,7 +15,7 @@ use Rattle.simulator.specs.declared.refusal.SimRefusal.TheVariants.{UnknownChain
 use Rattle.simulator.specs.Execution.{exec_of}
 use Rattle.simulator.specs.Answers.{payload_or_refusal}
 use Rattle.endorsement_policy.specs.Endorsed.{Listed}
-use Rattle.fabric_core.specs.Rule.{seal_of}
+use Rattle.ledger_setting.specs.Rule.{seal_of}
 use Rattle.snapshot_cell.specs.Seats as cell
 use Rattle.peer_node.specs.declared.seat.Endorser.{Endorser}
 use Rattle.peer_node.specs.declared.seat.Seat.{Seat}

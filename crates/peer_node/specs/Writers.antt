@@ -5,7 +5,7 @@ use Rattle.fab_types.specs.declared.block.Block.{Block}
 use Rattle.ledger_model.specs.Chain.{Chain, Committed, history}
 use Rattle.ledger_model.specs.Judged.{judge}
 use Rattle.endorsement_policy.specs.Endorsed.{Listed}
-use Rattle.fabric_core.specs.Rule.{table_of}
+use Rattle.ledger_setting.specs.Rule.{table_of}
 use Rattle.snapshot_cell.specs.Seats as cell
 use Rattle.peer_node.specs.declared.writer.PeerWriter.{PeerWriter}
 

@@ -4,7 +4,7 @@ ghost use Rattle.std.specs.Prelude.{◌≡◌, ◌<◌, ◌^◌, [], length, All
 ghost use Rattle.std.specs.Arc.{arc_value};
 ghost use Rattle.logbook.specs.Pages.{Book as PeerId};
 ghost use Rattle.ledger_model.specs.Chain.{Chain};
-ghost use Rattle.fabric_core.specs.Rule.{table_of};
+ghost use Rattle.ledger_setting.specs.Rule.{table_of};
 ghost use Rattle.store_replay.specs.Lawful.{AreLawful};
 ghost use Rattle.snapshot_cell.specs.Seats.{EachBegins};
 ghost use Rattle.peer_node.specs.Refusals.{IsReopenRefused};
@@ -17,7 +17,7 @@ use block_store::Loaded;
 use committer::{CommitRefusal, commit_on};
 use endorsement_policy::{Gate, Rules, check_all};
 use fab_types::{Block, OrgName};
-use fabric_core::Genesis;
+use ledger_setting::Genesis;
 use simulator::Book;
 use snapshot_cell::{OpenRefusal, Reader, Told, Writer, open};
 use std::alloc::{AllocError, Global};

@@ -3,7 +3,7 @@ use Rattle.std.proofs.Common.{◌≡◌, ◌+◌, ◌++◌, ◌∷◌, [], List,
 use Rattle.fab_types.specs.declared.block.Block.{Block}
 use Rattle.ledger_model.specs.Chain.{Chain, Envelope}
 use Rattle.endorsement_policy.specs.Endorsed.{Listed}
-use Rattle.fabric_core.specs.Rule.{table_of}
+use Rattle.ledger_setting.specs.Rule.{table_of}
 use Rattle.fabric_core.specs.System.{chain_of_first}
 use Rattle.batch_cutter.specs.Division.{Mark}
 use Rattle.orderer.specs.Ordering.{Ordering, Takes}

@@ -3,7 +3,7 @@ use Rattle.std.specs.Prelude.{◌≡◌, List, length}
 use Rattle.fab_types.specs.declared.block.Block.{Block}
 use Rattle.ledger_model.specs.Chain.{Chain}
 use Rattle.endorsement_policy.specs.Endorsed.{Listed}
-use Rattle.fabric_core.specs.Rule.{table_of}
+use Rattle.ledger_setting.specs.Rule.{table_of}
 use Rattle.fabric_core.specs.System.{chain_of_first}
 
 -- the chain of the first of these blocks, each transaction marked by the table

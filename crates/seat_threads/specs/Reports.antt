@@ -6,7 +6,7 @@ use Rattle.simulator.specs.declared.book.Chaincode.{Chaincode}
 use Rattle.simulator.specs.Execution.{exec_of}
 use Rattle.endorsement_policy.specs.Endorsed.{Listed}
 use Rattle.ledger_model.specs.Judged.{judged_chain}
-use Rattle.fabric_core.specs.Rule.{table_of}
+use Rattle.ledger_setting.specs.Rule.{table_of}
 use Rattle.fabric_core.specs.Audit.{AuditSays}
 use Rattle.seat_threads.specs.declared.running.Report.{Report}
 

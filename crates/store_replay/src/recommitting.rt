@@ -1,7 +1,7 @@
 //! Stored blocks as a chain again.
 
 ghost use Rattle.std.specs.Prelude.{◌≡◌, [], IfOk, IfErr};
-ghost use Rattle.fabric_core.specs.Rule.{table_of};
+ghost use Rattle.ledger_setting.specs.Rule.{table_of};
 ghost use Rattle.store_replay.specs.Lawful.{AreLawful, IsRecommitRefused};
 
 use crate::refusal::RecommitRefusal;

@@ -4,14 +4,14 @@ ghost use Rattle.std.specs.Prelude.{◌≡◌, ◌≢◌, ℕ, List, [], ◌∷�
 ghost use Rattle.fab_types.specs.Committed.{Committed};
 ghost use Rattle.ledger_model.specs.Chain.{Chain};
 ghost use Rattle.block_store.specs.Loading.{IsTold, ReadsAll};
-ghost use Rattle.fabric_core.specs.Rule.{table_of};
+ghost use Rattle.ledger_setting.specs.Rule.{table_of};
 ghost use Rattle.store_replay.specs.Replay.{IsPushed, Replays, IsReplayed, earlier, first_of};
 
 use block_store::{CountedRead, End, load};
 use committer::CommitRefusal;
 use endorsement_policy::Rules;
 use fab_types::{CommittedBlock, Flag};
-use fabric_core::{Genesis, commit_checked};
+use ledger_setting::{Genesis, commit_checked};
 use std::alloc::{AllocError, Global};
 use world_state::Snapshot;
 

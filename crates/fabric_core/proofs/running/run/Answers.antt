@@ -3,7 +3,7 @@ use Rattle.ledger_model.specs.Execution.{ReadsAlone}
 use Rattle.ledger_model.specs.Chain.{Envelope}
 use Rattle.endorsement_policy.specs.Endorsed.{is_endorsed, CarriesRight}
 use Rattle.simulator.specs.Execution.{exec_of}
-use Rattle.fabric_core.specs.Setting.{limits_of}
+use Rattle.ledger_setting.specs.Setting.{limits_of}
 use Rattle.fabric_core.specs.System.{World, Reply, fresh_orderer, IsStep, AreSteps}
 use Rattle.fabric_core.specs.Inside.{rules_of}
 use Rattle.fabric_core.specs.System.{opening}

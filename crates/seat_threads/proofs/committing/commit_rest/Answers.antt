@@ -1,7 +1,7 @@
 use Rattle.std.proofs.Common.{◌≡◌, ◌<◌, ◌+◌, ◌++◌, ◌∷◌, [], ◌∙◌, ℕ, Some, length, slice_get, refl, ap, arith}
 use Rattle.std.specs.Arc.{arc_value}
 use Rattle.std.proofs.lemmas.Option.{slice_get_read}
-use Rattle.fabric_core.specs.Rule.{table_of}
+use Rattle.ledger_setting.specs.Rule.{table_of}
 use Rattle.fabric_core.proofs.Blocks.{fits_next, no_longer}
 use Rattle.peer_node.specs.Writers.{published_chain, next_by}
 use Rattle.seat_threads.proofs.Chaining.{one_more}

@@ -1,7 +1,7 @@
 use Rattle.std.proofs.Common.{rules, ◌≡◌, ◌∙◌, ◌++◌, ◌∷◌, [], List, true, ap, sym, subst, append_assoc}
 use Rattle.fab_types.specs.Committed.{Committed}
 use Rattle.ledger_model.specs.Chain.{Chain}
-use Rattle.fabric_core.specs.Rule.{table_of}
+use Rattle.ledger_setting.specs.Rule.{table_of}
 use Rattle.store_replay.specs.declared.replaying.Pushed.TheVariants as pushed
 use Rattle.store_replay.specs.Lawful.{AreLawful}
 use Rattle.store_replay.specs.Replay.{IsPushed}

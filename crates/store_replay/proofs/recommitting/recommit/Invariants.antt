@@ -1,5 +1,5 @@
 use Rattle.std.proofs.Common.{◌≡◌, ◌++◌, []}
-use Rattle.fabric_core.specs.Rule.{table_of}
+use Rattle.ledger_setting.specs.Rule.{table_of}
 use Rattle.store_replay.specs.Lawful.{AreLawful}
 use Rattle.store_replay.proofs.recommitting.recommit.Given as goal
 

@@ -1,6 +1,6 @@
 use Rattle.std.proofs.Common.{rules, ◌≡◌, ◌∙◌, ◌∷◌, sym, subst, Option, ℕ}
 use Rattle.ledger_model.specs.Chain.{Chain}
-use Rattle.fabric_core.specs.Rule.{table_of}
+use Rattle.ledger_setting.specs.Rule.{table_of}
 use Rattle.store_replay.specs.declared.replaying.Pushed.TheVariants as pushed
 use Rattle.store_replay.specs.Replay.{IsPushed}
 use Rattle.store_replay.proofs.Going.{GoesOn, goes_on, stops, ends, none_left}

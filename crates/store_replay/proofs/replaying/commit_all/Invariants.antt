@@ -1,5 +1,5 @@
 use Rattle.std.proofs.Common.{◌≡◌, None}
-use Rattle.fabric_core.specs.Rule.{table_of}
+use Rattle.ledger_setting.specs.Rule.{table_of}
 use Rattle.store_replay.proofs.Going.{GoesOn}
 use Rattle.store_replay.proofs.replaying.commit_all.Given as goal
 

@@ -3,7 +3,7 @@ use Rattle.fab_types.specs.declared.block.Block.{Block}
 use Rattle.ledger_model.specs.Chain.{history}
 use Rattle.ledger_model.specs.Judged.{judge}
 use Rattle.committer.specs.Fits.{Fits, blocks_of}
-use Rattle.fabric_core.specs.Rule.{table_of}
+use Rattle.ledger_setting.specs.Rule.{table_of}
 use Rattle.store_replay.specs.Replay.{judged_behind}
 use Rattle.store_replay.proofs.Going.{has_flags}
 use Rattle.store_replay.proofs.replaying.push.Goals as goal

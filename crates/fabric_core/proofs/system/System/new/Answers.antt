@@ -1,7 +1,7 @@
 use Rattle.std.proofs.Common.{◌≡◌, ◌<◌, ◌∙◌, ◌++◌, ◌∷◌, [], ap, sym, subst, refl, map, length, arith}
 use Rattle.std.proofs.lemmas.List.{map-append}
 use Rattle.std.specs.List.{AllByRecursion}
-use Rattle.fabric_core.specs.Rule.{table_of}
+use Rattle.ledger_setting.specs.Rule.{table_of}
 use Rattle.fabric_core.specs.System.{PeerState, chain_of_first}
 use Rattle.endorsement_policy.specs.Endorsed.{Listed}
 use Rattle.orderer.specs.Ordering.{Ordering}

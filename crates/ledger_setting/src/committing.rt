@@ -4,7 +4,7 @@ ghost use Rattle.std.specs.Prelude.{◌≡◌, [], ◌∷◌, ◌++◌, ◌+◌,
 ghost use Rattle.ledger_model.specs.Chain.{history};
 ghost use Rattle.ledger_model.specs.Judged.{judge};
 ghost use Rattle.committer.specs.Fits.{Fits, IsRefused, blocks_of};
-ghost use Rattle.fabric_core.specs.Rule.{table_of};
+ghost use Rattle.ledger_setting.specs.Rule.{table_of};
 
 use committer::{CommitRefusal, commit_on};
 use endorsement_policy::{Rules, check_plain};

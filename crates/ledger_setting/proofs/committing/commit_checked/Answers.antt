@@ -7,8 +7,8 @@ use Rattle.ledger_model.specs.Flags.{flags_told}
 use Rattle.ledger_model.specs.Judged.{judge}
 use Rattle.ledger_model.proofs.Judged.{told_judged}
 use Rattle.committer.proofs.Last.{length_map}
-use Rattle.fabric_core.specs.Rule.{table_of}
-use Rattle.fabric_core.proofs.committing.commit_checked.Goals as goal
+use Rattle.ledger_setting.specs.Rule.{table_of}
+use Rattle.ledger_setting.proofs.committing.commit_checked.Goals as goal
 
 pub returns-clause-committed : goal.returns-clause-committed
 returns-clause-committed c =

@@ -1,0 +1,9 @@
+//! What the peers of a ledger go by: what a system begins with, the rule by which they judge, and
+//! the commit of a block under it.
+#![tactic(auto)]
+
+mod committing;
+mod genesis;
+
+pub use committing::commit_checked;
+pub use genesis::Genesis;
