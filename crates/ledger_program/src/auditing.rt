@@ -1,16 +1,13 @@
 //! The command `audit`.
 
 ghost use Rattle.std.specs.Prelude.{◌≡◌, true, false, IfOk};
-ghost use Rattle.ledger_program.specs.Told.{Tells};
+ghost use Rattle.ledger_lines.specs.Told.{Tells};
 
-use crate::failure::Failure;
-use crate::files::Files;
-use crate::lines::print_audit;
-use crate::opening::genesis_in;
-use crate::printer::Printer;
-use crate::storing::replayed;
+use crate::replaying::replayed;
 use block_store::End;
-use fabric_core::Genesis;
+use ledger_lines::{Failure, Files, Printer};
+use ledger_session::print_audit;
+use ledger_setting::Genesis;
 use std::alloc::Global;
 use std::io::Write;
 use store_replay::Replayed;
@@ -21,17 +18,28 @@ use store_replay::Replayed;
 pub fn audit<F: Files, W: Write>(
     alloc: Global,
     files: &mut F,
-    genesis: &str,
+    genesis: &Genesis,
     store: &str,
     out: &mut Printer<'_, W>,
 ) -> Result<(), Failure>
     ensures tells { Tells out.old out.new result }
 {
-    let genesis = genesis_in(alloc, files, genesis)?;
-    let replayed = replayed(alloc, files, &genesis, store)?;
+    let replayed = replayed(alloc, files, genesis, store)?;
+    print_replayed(alloc, genesis, &replayed, out)
+}
+
+/// Prints what was found of a store.
+fn print_replayed<W: Write>(
+    alloc: Global,
+    genesis: &Genesis,
+    replayed: &Replayed,
+    out: &mut Printer<'_, W>,
+) -> Result<(), Failure>
+    ensures tells { Tells out.old out.new result }
+{
     let blocks = replayed.blocks;
     writeln!(out, "blocks {blocks}")?;
-    let is_good = print_findings(alloc, &genesis, &replayed, out)?;
+    let is_good = print_findings(alloc, genesis, replayed, out)?;
     match replayed.end {
         End::Clean if is_good => Ok(()),
         End::Clean => Err(Failure::Differs),

@@ -1,11 +1,9 @@
 //! The command `check`.
 
-ghost use Rattle.ledger_program.specs.Told.{Tells};
+ghost use Rattle.ledger_lines.specs.Told.{Tells};
 
-use crate::failure::Failure;
-use crate::files::{Files, read_at_most};
-use crate::module_file::defined_functions;
-use crate::printer::Printer;
+use ledger_lines::{Failure, Files, Printer, read_at_most};
+use module_file::defined_functions;
 use std::alloc::Global;
 use std::io::Write;
 
@@ -24,6 +22,5 @@ pub fn check<F: Files, W: Write>(
     let bytes = read_at_most(alloc, files, module, MOST_READ)?;
     let functions = defined_functions(alloc, &bytes)?;
     let length = bytes.len();
-    writeln!(out, "valid functions={functions} bytes={length}")?;
-    Ok(())
+    writeln!(out, "valid functions={functions} bytes={length}")
 }

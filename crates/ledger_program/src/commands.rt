@@ -1,18 +1,19 @@
 //! The program, but for the machine that it runs on.
 
-ghost use Rattle.std.specs.Prelude.{◌≡◌, ◌<◌};
-ghost use Rattle.ledger_program.specs.Told.{IsTold, Says, Tells};
+ghost use Rattle.std.specs.Prelude.{◌≡◌, ◌<◌, ◌^◌, length};
+ghost use Rattle.orderer.specs.Ordering.{AreLimits};
+ghost use Rattle.ledger_setting.specs.Setting.{limits_of};
+ghost use Rattle.ledger_lines.specs.Told.{IsTold, Says, Tells};
 
 use crate::auditing::audit;
 use crate::checking::check;
-use crate::failure::Failure;
-use crate::files::Files;
-use crate::printer::Printer;
-use crate::session::run;
 use crate::simulation::simulate;
 use crate::threading::threads;
 use crate::tracing::trace;
-use crate::words::{self, Task};
+use ledger_lines::{Failure, Files, Printer, genesis_in};
+use ledger_session::run;
+use ledger_setting::Genesis;
+use ledger_words::{Task, WordsFault, Work, parse};
 use std::alloc::Global;
 use std::io::Write;
 use std::sync::Wait;
@@ -53,7 +54,7 @@ pub fn program<R: Threads + Wait + Sync + Send + Copy + 'static, F: Files, W: Wr
         return 0;
     };
     match tell(failure, out) {
-        Ok(()) if failure == Failure::Usage => 2,
+        Ok(()) if matches!(failure, Failure::Usage) => 2,
         _ => 1,
     }
 }
@@ -79,28 +80,51 @@ fn carry_out<R: Threads + Wait + Sync + Send + Copy + 'static, F: Files, W: Writ
 ) -> Result<(), Failure>
     ensures tells { Tells out.old out.new result }
 {
-    match words::parse(alloc, words)? {
-        Task::Check { module } => check(alloc, files, module, out),
-        Task::Simulate {
-            genesis,
-            proposal,
-            store,
-        } => simulate(alloc, files, genesis, &proposal, store, out),
-        Task::Run {
-            genesis,
-            events,
-            store,
-        } => run(alloc, files, genesis, events, store, out),
-        Task::Threads {
-            genesis,
-            chaincode,
-            rounds,
-        } => threads(rt, alloc, files, genesis, &chaincode, rounds, out),
-        Task::Audit { genesis, store } => audit(alloc, files, genesis, store, out),
-        Task::Trace {
-            genesis,
-            proposal,
-            most,
-        } => trace(alloc, files, genesis, &proposal, most, out),
+    match parse(alloc, words) {
+        Ok(Task::Check { module }) => check(alloc, files, module, out),
+        Ok(Task::Work { genesis, work }) => { with_genesis(rt, alloc, files, genesis, &work, out) }
+        Err(WordsFault::Memory) => Err(Failure::Memory),
+        Err(WordsFault::Usage) => Err(Failure::Usage),
+    }
+}
+
+/// Does what is asked for of the genesis in the file of this name.
+fn with_genesis<R: Threads + Wait + Sync + Send + Copy + 'static, F: Files, W: Write>(
+    rt: &R,
+    alloc: Global,
+    files: &mut F,
+    name: &str,
+    work: &Work<'_>,
+    out: &mut Printer<'_, W>,
+) -> Result<(), Failure>
+    ensures tells { Tells out.old out.new result }
+{
+    let genesis = genesis_in(alloc, files, name)?;
+    do_work(rt, alloc, files, &genesis, work, out)
+}
+
+/// Does what is asked for of a genesis.
+fn do_work<R: Threads + Wait + Sync + Send + Copy + 'static, F: Files, W: Write>(
+    rt: &R,
+    alloc: Global,
+    files: &mut F,
+    genesis: &Genesis,
+    work: &Work<'_>,
+    out: &mut Printer<'_, W>,
+) -> Result<(), Failure>
+    requires limits { AreLimits (limits_of genesis.now) }
+    requires peers { 0 < length genesis.now.peers.items }
+    requires seats { (0 < genesis.now.seats) × (genesis.now.seats < 2 ^ 32) }
+    requires queue { 0 < genesis.now.queue }
+    ensures tells { Tells out.old out.new result }
+{
+    match work {
+        Work::Simulate { proposal, store } => {
+            simulate(alloc, files, genesis, proposal, *store, out)
+        }
+        Work::Run { events, store } => run(alloc, files, genesis, events, *store, out),
+        Work::Threads { chaincode, rounds } => threads(rt, alloc, genesis, chaincode, *rounds, out),
+        Work::Audit { store } => audit(alloc, files, genesis, store, out),
+        Work::Trace { proposal, most } => trace(alloc, genesis, proposal, *most, out),
     }
 }

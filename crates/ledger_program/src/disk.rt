@@ -1,6 +1,6 @@
 //! The files of the machine.
 
-use crate::files::Files;
+use ledger_lines::Files;
 use std::fs::{self, File};
 
 /// The files of the machine that the program runs on.

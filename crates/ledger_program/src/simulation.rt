@@ -1,57 +1,69 @@
 //! The command `sim`.
 
-ghost use Rattle.std.specs.Prelude.{IfErr};
-ghost use Rattle.ledger_program.specs.Told.{IsSilent, Tells};
+ghost use Rattle.ledger_lines.specs.Told.{Tells};
 
-use crate::failure::Failure;
-use crate::files::Files;
-use crate::lines::print_payload;
-use crate::opening::genesis_in;
-use crate::printer::Printer;
-use crate::storing::replayed;
+use crate::replaying::replayed;
 use block_store::End;
 use fab_types::Proposal;
-use fabric_core::Genesis;
+use ledger_lines::{Failure, Files, Printer, print_payload};
+use ledger_setting::Genesis;
 use std::alloc::Global;
 use std::io::Write;
+use store_replay::Replayed;
 use world_state::Snapshot;
 
 /// Simulates a call, and prints its transaction.
+///
+/// Refused where a block of the store does not fit, and where the store does not end with its last
+/// record. Flags that the store has are passed over.
 pub fn simulate<F: Files, W: Write>(
     alloc: Global,
     files: &mut F,
-    genesis: &str,
+    genesis: &Genesis,
     proposal: &Proposal,
     store: Option<&str>,
     out: &mut Printer<'_, W>,
 ) -> Result<(), Failure>
     ensures tells { Tells out.old out.new result }
 {
-    let genesis = genesis_in(alloc, files, genesis)?;
-    let snapshot = match store {
-        None => Snapshot::empty(alloc),
-        Some(name) => whole_store(alloc, files, &genesis, name)?,
-    };
-    let payload = simulator::simulate(alloc, &*genesis.book, &snapshot, proposal)?;
-    print_payload(alloc, &payload, out)
+    match store {
+        None => print_call(alloc, genesis, &Snapshot::empty(alloc), proposal, out),
+        Some(name) => {
+            let replayed = replayed(alloc, files, genesis, name)?;
+            print_call_after(alloc, genesis, &replayed, proposal, out)
+        }
+    }
 }
 
-/// The chain of a store. Refused where one of its blocks does not fit, and where it does not end
-/// with its last record. Flags that the store has are passed over.
-fn whole_store<F: Files>(
+/// Simulates a call on the state after a whole store.
+fn print_call_after<W: Write>(
     alloc: Global,
-    files: &mut F,
     genesis: &Genesis,
-    name: &str,
-) -> Result<Snapshot, Failure>
-    ensures silent { IfErr result IsSilent }
+    replayed: &Replayed,
+    proposal: &Proposal,
+    out: &mut Printer<'_, W>,
+) -> Result<(), Failure>
+    ensures tells { Tells out.old out.new result }
 {
-    let replayed = replayed(alloc, files, genesis, name)?;
     if let Some(refusal) = replayed.refused {
         return Err(Failure::Commit(refusal));
     }
     match replayed.end {
-        End::Clean => Ok(replayed.snapshot),
+        End::Clean => print_call(alloc, genesis, &replayed.snapshot, proposal, out),
         end => Err(Failure::Store(end)),
     }
+}
+
+/// Simulates a call on the state of a snapshot.
+fn print_call<W: Write>(
+    alloc: Global,
+    genesis: &Genesis,
+    snapshot: &Snapshot,
+    proposal: &Proposal,
+    out: &mut Printer<'_, W>,
+) -> Result<(), Failure>
+    ensures tells { Tells out.old out.new result }
+{
+    let payload = simulator::simulate(alloc, &*genesis.book, snapshot, proposal)?;
+    print_payload(alloc, &payload, out)
 }

@@ -1,14 +1,15 @@
 //! The command `threads`.
 
-ghost use Rattle.ledger_program.specs.Told.{Tells};
+ghost use Rattle.std.specs.Prelude.{◌<◌, ◌^◌, length};
+ghost use Rattle.orderer.specs.Ordering.{AreLimits};
+ghost use Rattle.ledger_setting.specs.Setting.{limits_of};
+ghost use Rattle.ledger_lines.specs.Told.{Tells};
 
-use crate::failure::Failure;
-use crate::files::Files;
-use crate::lines::print_audit;
-use crate::opening::genesis_in;
-use crate::printer::Printer;
 use fab_types::Name;
-use seat_threads::run_seats;
+use ledger_lines::{Failure, Printer};
+use ledger_session::print_audit;
+use ledger_setting::Genesis;
+use seat_threads::{Report, SeatsRefusal, run_seats};
 use std::alloc::Global;
 use std::io::Write;
 use std::sync::Wait;
@@ -17,19 +18,32 @@ use std::thread::Threads;
 /// Lets each seat of the first peer endorse and submit so many calls of a chaincode on a thread of
 /// its own, and prints how many were endorsed and refused, how many blocks came of them, and what
 /// the audit of the chain says.
-pub fn threads<R: Threads + Wait + Sync + Send + Copy + 'static, F: Files, W: Write>(
+pub fn threads<R: Threads + Wait + Sync + Send + Copy + 'static, W: Write>(
     rt: &R,
     alloc: Global,
-    files: &mut F,
-    genesis: &str,
+    genesis: &Genesis,
     chaincode: &Name,
     rounds: u32,
     out: &mut Printer<'_, W>,
 ) -> Result<(), Failure>
+    requires limits { AreLimits (limits_of genesis.now) }
+    requires peers { 0 < length genesis.now.peers.items }
+    requires seats { (0 < genesis.now.seats) × (genesis.now.seats < 2 ^ 32) }
+    requires queue { 0 < genesis.now.queue }
     ensures tells { Tells out.old out.new result }
 {
-    let genesis = genesis_in(alloc, files, genesis)?;
-    let report = run_seats(rt, alloc, &genesis, chaincode, rounds)?;
+    match run_seats(rt, alloc, genesis, chaincode, rounds) {
+        Ok(report) => print_report(report, out),
+        Err(SeatsRefusal::OutOfMemory) => Err(Failure::Memory),
+        Err(SeatsRefusal::NoPlace) => Err(Failure::NoPlace),
+        Err(SeatsRefusal::NoEntry) => Err(Failure::NoEntry),
+    }
+}
+
+/// Prints what seats have done.
+fn print_report<W: Write>(report: Report, out: &mut Printer<'_, W>) -> Result<(), Failure>
+    ensures tells { Tells out.old out.new result }
+{
     writeln!(out, "endorsed {}", report.endorsed)?;
     writeln!(out, "refused {}", report.refused)?;
     writeln!(out, "blocks {}", report.blocks)?;

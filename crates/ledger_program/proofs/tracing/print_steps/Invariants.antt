@@ -1,5 +1,5 @@
 use Rattle.std.proofs.Common.{◌≡◌}
-use Rattle.ledger_program.specs.Told.{IsMore}
+use Rattle.ledger_lines.specs.Told.{IsMore}
 use Rattle.ledger_program.proofs.tracing.print_steps.Given as goal
 
 abbrev pub invariant-loop : goal.invariant-loop

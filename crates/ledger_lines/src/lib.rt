@@ -1,0 +1,19 @@
+//! What every command of the ledger's program stands on: the files that it is given, the lines that
+//! it prints, and why it ends with a failure.
+//!
+//! [`Files`] is where files are read and written, and [`genesis_in`] reads what a system begins
+//! with. [`Printer`] is where lines are printed: contracts see of it whether a text was printed,
+//! and whether one could not be. [`Failure`] says why a command was not done.
+#![tactic(auto)]
+
+mod failure;
+mod files;
+mod lines;
+mod opening;
+mod printer;
+
+pub use failure::Failure;
+pub use files::{FileFault, Files, read_all, read_at_most};
+pub use lines::{hex_of, id_of, print_payload, version_of};
+pub use opening::{genesis_in, system_genesis};
+pub use printer::Printer;

@@ -1,3 +1,0 @@
-pub mod Modules
-pub mod Opening
-pub mod Told

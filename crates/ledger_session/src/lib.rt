@@ -1,0 +1,13 @@
+//! The command `run` of the ledger's program: the events of a file, on the system that a genesis
+//! opens.
+//!
+//! [`run`] prints what each line comes to, then the state of the first peer and the audit of its
+//! chain, and writes that chain to a store where one is named.
+#![tactic(auto)]
+
+mod lines;
+mod session;
+mod storing;
+
+pub use lines::print_audit;
+pub use session::run;

@@ -1,0 +1,108 @@
+//! What the program prints of a system and its blocks.
+
+ghost use Rattle.std.specs.Prelude.{◌≡◌, true, false, IfOk};
+ghost use Rattle.ledger_lines.specs.Told.{Tells};
+
+use fab_types::Flag;
+use fabric_core::{Audit, Reply};
+use ledger_lines::{Failure, Printer, hex_of, version_of};
+use orderer::BatchReport;
+use std::alloc::Global;
+use std::io::Write;
+use world_state::Snapshot;
+
+/// Prints each key of the state with its version and value, in key order.
+pub(crate) fn print_state<W: Write>(
+    alloc: Global,
+    snapshot: &Snapshot,
+    out: &mut Printer<'_, W>,
+) -> Result<(), Failure>
+    ensures tells { Tells out.old out.new result }
+{
+    for (key, (value, version)) in snapshot.entries(alloc)? {
+        let key = hex_of(alloc, key.as_slice())?;
+        let version = version_of(alloc, *version)?;
+        let value = hex_of(alloc, value.as_slice())?;
+        writeln!(out, "state {key} {version} {value}")?;
+    }
+    Ok(())
+}
+
+/// Prints what an audit says, and answers whether all transactions agree with their reruns.
+pub fn print_audit<W: Write>(audit: Audit, out: &mut Printer<'_, W>) -> Result<bool, Failure>
+    ensures tells { Tells out.old out.new result }
+    ensures differs { IfOk result (λ good. good ≡ false → out.new.printed ≡ true) }
+{
+    match audit {
+        Audit::Agrees { .. } => {
+            writeln!(out, "audit agrees")?;
+            Ok(true)
+        }
+        Audit::Differs { block, tx } => {
+            writeln!(out, "audit differs {block}.{tx}")?;
+            Ok(false)
+        }
+    }
+}
+
+/// Prints the block of a batch, where it made one, with its count of transactions, and what was
+/// aborted.
+fn print_batch<W: Write>(report: &BatchReport, out: &mut Printer<'_, W>) -> Result<(), Failure>
+    ensures tells { Tells out.old out.new result }
+{
+    match report.block {
+        Some(number) => writeln!(out, "block {number} txs {}", report.count)?,
+        None => writeln!(out, "no block")?,
+    }
+    for (index, cause) in report.aborted.as_slice() {
+        writeln!(out, "aborted {index} {cause}")?;
+    }
+    Ok(())
+}
+
+/// Prints the batches that a taken envelope ended.
+fn print_batches<W: Write>(reports: &[BatchReport], out: &mut Printer<'_, W>) -> Result<(), Failure>
+    ensures tells { Tells out.old out.new result }
+{
+    for report in reports {
+        print_batch(report, out)?;
+    }
+    Ok(())
+}
+
+/// Prints the number of a block that was committed, and its flags.
+fn print_committed<W: Write>(
+    number: usize,
+    flags: &[Flag],
+    out: &mut Printer<'_, W>,
+) -> Result<(), Failure>
+    ensures tells { Tells out.old out.new result }
+{
+    write!(out, "committed {number} flags")?;
+    for flag in flags {
+        write!(out, " {flag}")?;
+    }
+    writeln!(out)?;
+    Ok(())
+}
+
+/// Prints a reply. Of one with the height of a begin or with a payload, nothing.
+pub(crate) fn print_reply<W: Write>(reply: &Reply, out: &mut Printer<'_, W>) -> Result<(), Failure>
+    ensures tells { Tells out.old out.new result }
+{
+    match reply {
+        Reply::Queued => writeln!(out, "queued"),
+        Reply::Nothing => writeln!(out, "none"),
+        Reply::Ordered(reports) => {
+            writeln!(out, "taken")?;
+            print_batches(reports.as_slice(), out)
+        }
+        Reply::Cut(report) => print_batch(report, out),
+        Reply::Committed(number, flags) => print_committed(*number, flags.as_slice(), out),
+        Reply::Refused(refusal) => writeln!(out, "{refusal}"),
+        reply => match reply.number() {
+            Some(number) => writeln!(out, "refused {number}"),
+            None => Ok(()),
+        },
+    }
+}

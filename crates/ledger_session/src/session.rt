@@ -1,0 +1,269 @@
+//! The command `run`: a system, on which the lines of a file are events.
+
+ghost use Rattle.std.specs.Prelude.{◌≡◌, true, false, IfOk, IfErr};
+ghost use Rattle.orderer.specs.Ordering.{AreLimits};
+ghost use Rattle.ledger_setting.specs.Setting.{limits_of};
+ghost use Rattle.ledger_lines.specs.Told.{IsSilent, Tells};
+
+use crate::lines::{print_audit, print_reply, print_state};
+use crate::storing::write_store;
+use events::{Action, BadLine, Bindings, read_event};
+use fab_types::{Endorsement, Payload, Proposal};
+use fabric_core::{Event, Reply, System, audit};
+use ledger_lines::{Failure, Files, Printer, id_of, read_all};
+use ledger_setting::Genesis;
+use std::alloc::Global;
+use std::io::{BufRead, Write};
+use wire::{WireFault, decode_envelope};
+
+/// A system at work, and the endorsements that have a name.
+#[derive(Drop)]
+struct Session {
+    alloc: Global,
+    system: System,
+    bindings: Bindings,
+}
+
+/// Runs the lines of a file of events on the system that a genesis opens, prints what each comes
+/// to, the state of the first peer after them and the audit of its chain, and writes that chain to a
+/// store if there is one.
+///
+/// A line that stands for nothing ends the run, and then no store is written.
+pub fn run<F: Files, W: Write>(
+    alloc: Global,
+    files: &mut F,
+    genesis: &Genesis,
+    events: &str,
+    store: Option<&str>,
+    out: &mut Printer<'_, W>,
+) -> Result<(), Failure>
+    requires { AreLimits (limits_of genesis.now) }
+    ensures tells { Tells out.old out.new result }
+{
+    let lines = read_all(alloc, files, events)?;
+    let mut session = Session::open(alloc, genesis)?;
+    session.run_to_end(files, genesis, &lines, store, out)
+}
+
+impl Session {
+    /// The system that a genesis opens.
+    fn open(alloc: Global, genesis: &Genesis) -> Result<Session, Failure>
+        requires { AreLimits (limits_of genesis.now) }
+        ensures silent { IfErr result IsSilent }
+    {
+        let system = System::new(alloc, genesis)?;
+        Ok(Session {
+            alloc,
+            system,
+            bindings: Bindings::new(alloc),
+        })
+    }
+
+    /// Runs the lines, prints how the first peer stands then, and writes its chain to a store if
+    /// there is one.
+    fn run_to_end<F: Files, W: Write>(
+        &mut self,
+        files: &mut F,
+        genesis: &Genesis,
+        lines: &[u8],
+        store: Option<&str>,
+        out: &mut Printer<'_, W>,
+    ) -> Result<(), Failure>
+        ensures tells { Tells out.old out.new result }
+    {
+        self.run_lines(lines, out)?;
+        let is_good = self.print_end(genesis, out)?;
+        if let (Some(name), Some(snapshot)) = (store, self.system.snapshot(0)) {
+            write_store(self.alloc, files, name, snapshot)?;
+        }
+        if is_good {
+            Ok(())
+        } else {
+            Err(Failure::Differs)
+        }
+    }
+
+    /// Does what each line stands for, in order, and prints what it comes to.
+    fn run_lines<W: Write>(&mut self, lines: &[u8], out: &mut Printer<'_, W>) -> Result<(), Failure>
+        ensures tells { Tells out.old out.new result }
+    {
+        for (index, line) in BufRead::split(lines, self.alloc, b'\n').enumerate() {
+            let line = line?;
+            self.take_line(&line, index.saturating_add(1), out)?;
+        }
+        Ok(())
+    }
+
+    /// Does what the line of this number stands for, and prints what it comes to.
+    fn take_line<W: Write>(
+        &mut self,
+        line: &[u8],
+        number: usize,
+        out: &mut Printer<'_, W>,
+    ) -> Result<(), Failure>
+        ensures tells { Tells out.old out.new result }
+    {
+        let Ok(line) = std::str::from_utf8(line) else {
+            return Err(Failure::BadLine(number));
+        };
+        match read_event(self.alloc, line) {
+            Ok(action) => self.act(action, number, out),
+            Err(BadLine::Memory) => Err(Failure::Memory),
+            Err(BadLine::NoForm) => Err(Failure::BadLine(number)),
+        }
+    }
+
+    /// Does what the line of this number asks for.
+    fn act<W: Write>(
+        &mut self,
+        action: Action,
+        number: usize,
+        out: &mut Printer<'_, W>,
+    ) -> Result<(), Failure>
+        ensures tells { Tells out.old out.new result }
+    {
+        match action {
+            Action::Begin {
+                peer,
+                seat,
+                proposal,
+            } => self.begin(peer as usize, seat as usize, proposal, out),
+            Action::Finish { peer, seat, name } => {
+                self.finish(peer as usize, seat as usize, name, out)
+            }
+            Action::SubmitEndorsed(names) => self.submit_endorsed(&names, number, out),
+            Action::SubmitBytes(bytes) => self.submit_bytes(&bytes, out),
+            Action::Take => self.step(Event::Take, out),
+            Action::Tick => self.step(Event::Tick, out),
+            Action::Commit { peer } => self.step(
+                Event::Commit {
+                    peer: peer as usize,
+                },
+                out,
+            ),
+        }
+    }
+
+    /// One step, whose reply is printed.
+    fn step<W: Write>(&mut self, event: Event, out: &mut Printer<'_, W>) -> Result<(), Failure>
+        ensures tells { Tells out.old out.new result }
+    {
+        let reply = self.system.step(event)?;
+        print_reply(&reply, out)
+    }
+
+    /// Begins a proposal at a seat. Prints where, and on what height.
+    fn begin<W: Write>(
+        &mut self,
+        peer: usize,
+        seat: usize,
+        proposal: Proposal,
+        out: &mut Printer<'_, W>,
+    ) -> Result<(), Failure>
+        ensures tells { Tells out.old out.new result }
+    {
+        let reply = self.system.step(Event::Begin {
+            peer,
+            seat,
+            proposal,
+        })?;
+        match &reply {
+            Reply::Begun(height) => writeln!(out, "begun {peer}.{seat} at {height}"),
+            reply => print_reply(reply, out),
+        }
+    }
+
+    /// Finishes what a seat has begun. What is endorsed gets the name.
+    fn finish<W: Write>(
+        &mut self,
+        peer: usize,
+        seat: usize,
+        name: String,
+        out: &mut Printer<'_, W>,
+    ) -> Result<(), Failure>
+        ensures tells { Tells out.old out.new result }
+    {
+        match self.system.step(Event::Finish { peer, seat })? {
+            Reply::Endorsed(payload, endorsement) => self.bind(name, payload, endorsement, out),
+            reply => print_reply(&reply, out),
+        }
+    }
+
+    /// Prints an endorsed payload's id, and gives it its name.
+    fn bind<W: Write>(
+        &mut self,
+        name: String,
+        payload: Payload,
+        endorsement: Endorsement,
+        out: &mut Printer<'_, W>,
+    ) -> Result<(), Failure>
+        ensures tells { Tells out.old out.new result }
+    {
+        print_endorsed(self.alloc, &name, &payload, out)?;
+        self.bindings.bind(name, payload, endorsement)?;
+        Ok(())
+    }
+
+    /// Submits the envelope that names stand for, in the line of this number.
+    fn submit_endorsed<W: Write>(
+        &mut self,
+        names: &[String],
+        number: usize,
+        out: &mut Printer<'_, W>,
+    ) -> Result<(), Failure>
+        ensures tells { Tells out.old out.new result }
+    {
+        match self.bindings.resolve(names)? {
+            Some(envelope) => self.step(Event::Submit(envelope), out),
+            None => Err(Failure::BadLine(number)),
+        }
+    }
+
+    /// Submits the envelope that bytes spell.
+    fn submit_bytes<W: Write>(
+        &mut self,
+        bytes: &[u8],
+        out: &mut Printer<'_, W>,
+    ) -> Result<(), Failure>
+        ensures tells { Tells out.old out.new result }
+    {
+        match decode_envelope(self.alloc, bytes) {
+            Ok(envelope) => self.step(Event::Submit(envelope), out),
+            Err(WireFault::Memory) => Err(Failure::Memory),
+            Err(fault) => {
+                let number = fault.number();
+                writeln!(out, "refused {number}")
+            }
+        }
+    }
+
+    /// Prints the state of the first peer and what the audit of its chain says, and answers whether
+    /// all transactions agree with their reruns.
+    fn print_end<W: Write>(
+        &self,
+        genesis: &Genesis,
+        out: &mut Printer<'_, W>,
+    ) -> Result<bool, Failure>
+        ensures tells { Tells out.old out.new result }
+        ensures differs { IfOk result (λ good. good ≡ false → out.new.printed ≡ true) }
+    {
+        let Some(snapshot) = self.system.snapshot(0) else {
+            return Ok(true);
+        };
+        print_state(self.alloc, snapshot, out)?;
+        print_audit(audit(self.alloc, genesis, snapshot)?, out)
+    }
+}
+
+/// Prints the name and the id of an endorsed payload.
+fn print_endorsed<W: Write>(
+    alloc: Global,
+    name: &str,
+    payload: &Payload,
+    out: &mut Printer<'_, W>,
+) -> Result<(), Failure>
+    ensures tells { Tells out.old out.new result }
+{
+    let id = id_of(alloc, payload)?;
+    writeln!(out, "endorsed {name} {id}")
+}

@@ -1,0 +1,181 @@
+//! What the words ask for.
+
+use crate::commands::commands;
+use clap::ArgMatches;
+use clap::error::ErrorKind;
+use fab_types::{Name, Proposal, Value};
+use hex::{FromHex, FromHexError};
+use std::alloc::{AllocError, Global};
+
+/// How many rounds `threads` runs at most, and how many steps `trace` shows at most.
+const MOST_COUNT: u32 = 1_000;
+
+/// What the words ask for. Texts are names of files.
+#[derive(Drop)]
+pub enum Task<'a> {
+    /// Tell whether the bytes of a file are a valid module.
+    Check { module: &'a str },
+    /// Do this with the chaincodes, organisations and peers of a genesis.
+    Work { genesis: &'a str, work: Work<'a> },
+}
+
+/// What is asked for of a genesis.
+#[derive(Drop)]
+pub enum Work<'a> {
+    /// Simulate this call, on the state after a store if there is one.
+    Simulate {
+        proposal: Proposal,
+        store: Option<&'a str>,
+    },
+    /// Run the events of a file, and write the chain of the first peer to a store if there is one.
+    Run {
+        events: &'a str,
+        store: Option<&'a str>,
+    },
+    /// Let the seats of the first peer endorse so many calls each, on threads of their own.
+    Threads {
+        chaincode: Name,
+        rounds: u32,
+    },
+    /// Commit a store's chain again, and audit it.
+    Audit {
+        store: &'a str,
+    },
+    /// Show this many steps at most of this call, on the empty state.
+    Trace {
+        proposal: Proposal,
+        most: u32,
+    },
+}
+
+/// Why the words name no task.
+#[derive(Clone, Copy, Debug, PartialEq, Eq)]
+pub enum WordsFault {
+    Memory,
+    Usage,
+}
+
+impl From<AllocError> for WordsFault {
+    fn from(_error: AllocError) -> WordsFault {
+        WordsFault::Memory
+    }
+}
+
+impl From<FromHexError> for WordsFault {
+    fn from(error: FromHexError) -> WordsFault {
+        match error {
+            FromHexError::OutOfMemory => WordsFault::Memory,
+            _ => WordsFault::Usage,
+        }
+    }
+}
+
+impl From<clap::Error> for WordsFault {
+    fn from(error: clap::Error) -> WordsFault {
+        if error.kind() == ErrorKind::OutOfMemory {
+            WordsFault::Memory
+        } else {
+            WordsFault::Usage
+        }
+    }
+}
+
+/// The task that the words name, the command first.
+///
+/// Usage where they are no command, or a word is missing, left over, or no hex, count or name
+/// within its limits.
+pub fn parse<'a>(alloc: Global, words: &'a [String]) -> Result<Task<'a>, WordsFault> {
+    let matches = commands(alloc)?.try_get_matches_from(words)?;
+    task_of(alloc, &matches)
+}
+
+/// The task of what was matched.
+fn task_of<'a>(alloc: Global, matches: &ArgMatches<'a>) -> Result<Task<'a>, WordsFault> {
+    let Some((name, command)) = matches.subcommand() else {
+        return Err(WordsFault::Usage);
+    };
+    if name == "check" {
+        let module = text(command, "MODULE")?;
+        return Ok(Task::Check { module });
+    }
+    let genesis = text(command, "GENESIS")?;
+    let work = work_of(alloc, name, command)?;
+    Ok(Task::Work { genesis, work })
+}
+
+/// What a command of this name asks for.
+fn work_of<'a>(
+    alloc: Global,
+    name: &str,
+    command: &ArgMatches<'a>,
+) -> Result<Work<'a>, WordsFault> {
+    match name {
+        "sim" => Ok(Work::Simulate {
+            proposal: proposal(alloc, command, command.get_str("nonce"))?,
+            store: command.get_str("store"),
+        }),
+        "run" => Ok(Work::Run {
+            events: text(command, "EVENTS")?,
+            store: command.get_str("store"),
+        }),
+        "threads" => Ok(Work::Threads {
+            rounds: count(text(command, "ROUNDS")?)?,
+            chaincode: chaincode(alloc, command)?,
+        }),
+        "audit" => Ok(Work::Audit {
+            store: text(command, "STORE")?,
+        }),
+        "trace" => Ok(Work::Trace {
+            most: command.get_str("steps").map_or(Ok(MOST_COUNT), count)?,
+            proposal: proposal(alloc, command, None)?,
+        }),
+        _ => Err(WordsFault::Usage),
+    }
+}
+
+/// The text of a word that has to be there.
+fn text<'a>(matches: &ArgMatches<'a>, name: &str) -> Result<&'a str, WordsFault> {
+    matches.get_str(name).ok_or(WordsFault::Usage)
+}
+
+/// The number that digits stand for, from 1 to 1000.
+fn count(digits: &str) -> Result<u32, WordsFault> {
+    match digits.parse::<u32>() {
+        Ok(count) if (1..=MOST_COUNT).contains(&count) => Ok(count),
+        _ => Err(WordsFault::Usage),
+    }
+}
+
+/// The chaincode that the words name.
+fn chaincode(alloc: Global, call: &ArgMatches<'_>) -> Result<Name, WordsFault> {
+    let name = text(call, "CHAINCODE")?.as_bytes().to_vec(alloc)?;
+    Name::new(name).ok_or(WordsFault::Usage)
+}
+
+/// The bytes that hex stands for; none for `-`.
+fn argument(alloc: Global, digits: &str) -> Result<Value, WordsFault> {
+    let bytes = match digits {
+        "-" => Vec::new(alloc),
+        digits => hex::decode(alloc, digits)?,
+    };
+    Value::new(bytes).ok_or(WordsFault::Usage)
+}
+
+/// The call that words stand for, with this nonce, or with zeros.
+fn proposal(
+    alloc: Global,
+    call: &ArgMatches<'_>,
+    nonce: Option<&str>,
+) -> Result<Proposal, WordsFault> {
+    let nonce = match nonce {
+        Some(digits) => <[u8; 16]>::from_hex(digits)?,
+        None => [0; 16],
+    };
+    let argument = argument(alloc, text(call, "ARG")?)?;
+    let chaincode = chaincode(alloc, call)?;
+    Ok(Proposal {
+        chaincode,
+        argument,
+        nonce,
+    })
+}
