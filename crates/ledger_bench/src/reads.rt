@@ -6,7 +6,7 @@ use crate::failure::Failure;
 use crate::members::{org, rules};
 use crate::workload::key;
 use fab_types::{Block, Key};
-use fabric_core::Genesis;
+use ledger_setting::Genesis;
 use peer_node::{Peer, PeerWriter, Seat};
 use simulator::Book;
 use std::alloc::Global;

@@ -1,13 +1,15 @@
-//! Each law once.
+//! Each law of the ledger's crates once.
 
+use host_api::{equal_views, reads_alone};
 use ledger_model::{
     a_version_names_one_value, computed_flags_are_right, current_reruns_agree,
     legal_blocks_conflict_only_with_what_was_before, reruns_agree, state_is_by_the_last_writer,
     the_table_judges, versions_name_the_entries_of_a_range,
 };
+use wire::spellings_differ;
 
 #[test]
-fn laws_of_histories_hold(_rt: HostRuntime) {
+fn laws_hold(_rt: HostRuntime) {
     state_is_by_the_last_writer();
     a_version_names_one_value();
     versions_name_the_entries_of_a_range();
@@ -16,4 +18,7 @@ fn laws_of_histories_hold(_rt: HostRuntime) {
     the_table_judges();
     current_reruns_agree();
     legal_blocks_conflict_only_with_what_was_before();
+    reads_alone();
+    equal_views();
+    spellings_differ();
 }

@@ -1,27 +1,18 @@
 //! Tests of the ledger's crates, a file for each crate. There is no code beside them.
 //!
 //! What can be said as data (bytes, chains with their flags, calls of the host and of chaincode,
-//! with their answers) is a line of `ledger_cases`. What stands here is what no line can say:
-//! clones, printed text, threads, devices that fail, calls that no line makes, and each law once.
-//! It stands above the crates that it tests, since a crate with tests is proved a second time
-//! together with them.
+//! with their answers) is a line of `ledger_cases` or `program_cases`. What stands here is what no
+//! line can say: calls that no line makes, and each law once. It stands above the crates that it
+//! tests, since a crate with tests is proved a second time together with them.
 #![tactic(auto)]
 
 #[cfg(test)]
 mod fab_types_test;
 #[cfg(test)]
-mod host_api_test;
-#[cfg(test)]
 mod ledger_model_test;
-#[cfg(test)]
-mod mvcc_validate_test;
 #[cfg(test)]
 mod persist_map_test;
 #[cfg(test)]
 mod samples;
 #[cfg(test)]
-mod simulator_test;
-#[cfg(test)]
 mod wire_test;
-#[cfg(test)]
-mod world_state_test;

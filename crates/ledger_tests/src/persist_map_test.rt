@@ -28,58 +28,39 @@ fn finds_all(map: &PMap<u32, u32>, count: u32, most: u32) -> bool {
     true
 }
 
-#[test]
-fn ten_thousand_ascending_keys_make_312_pages(rt: HostRuntime) -> Result<(), Fail> {
-    let map = ascending(rt.alloc(), 10_000)?;
-    assert!(rt; map.pages() == 312 && is_at(&map, 10_000, None));
-    Ok(())
+/// Whether 10,000 ascending keys make 312 pages, and each is found by 16 comparisons: 312 has nine
+/// binary digits.
+fn are_in_pages(map: &PMap<u32, u32>) -> bool {
+    map.pages() == 312 && is_at(map, 10_000, None) && finds_all(map, 10_000, 16)
 }
 
-/// 312 has nine binary digits.
-#[test]
-fn each_of_ten_thousand_keys_is_found_by_16_comparisons(rt: HostRuntime) -> Result<(), Fail> {
-    let map = ascending(rt.alloc(), 10_000)?;
-    assert!(rt; finds_all(&map, 10_000, 16));
-    Ok(())
+/// Whether this is the value at 7, and 8 is there or not.
+fn has(map: &PMap<u32, u32>, at_7: u32, at_8: Option<u32>) -> bool {
+    is_at(map, 7, Some(at_7)) && is_at(map, 8, at_8)
 }
 
-#[test]
-fn older_maps_answer_as_before(rt: HostRuntime) -> Result<(), Fail> {
-    let old = ascending(rt.alloc(), 200)?;
+/// Whether a map answers as before where others were made of it.
+fn stay_in_others(old: &PMap<u32, u32>) -> Result<bool, AllocError> {
     let other = old.insert(7, 70)?;
     let less = other.remove(&8)?;
-    let old_stays = is_at(&old, 7, Some(7)) && is_at(&old, 8, Some(8));
-    let other_stays = is_at(&other, 7, Some(70)) && is_at(&other, 8, Some(8));
-    assert!(rt; old_stays && other_stays && is_at(&less, 7, Some(70)) && is_at(&less, 8, None));
-    Ok(())
+    Ok(has(old, 7, Some(8)) && has(&other, 70, Some(8)) && has(&less, 70, None))
 }
 
-#[test]
-fn a_copy_stays_where_the_map_is_changed(rt: HostRuntime) -> Result<(), Fail> {
-    let mut map = ascending(rt.alloc(), 200)?;
+/// Whether a copy answers as before where the map is changed.
+fn stays_in_a_copy(mut map: PMap<u32, u32>) -> Result<bool, AllocError> {
     let copy = map.clone()?;
     map.put(7, 70)?;
     map.put(7, 71)?;
     map.delete(&8)?;
-    let copy_stays = is_at(&copy, 7, Some(7)) && is_at(&copy, 8, Some(8));
-    assert!(rt; copy_stays && is_at(&map, 7, Some(71)) && is_at(&map, 8, None));
-    Ok(())
+    Ok(has(&copy, 7, Some(8)) && has(&map, 71, None))
 }
 
-/// A map of two pages without the entries of the first.
-fn without_first_page(alloc: Global) -> Result<PMap<u32, u32>, AllocError> {
-    let mut map = ascending(alloc, 65)?;
+/// Whether a map of two pages has one without the entries of the first.
+fn leaves_a_page(mut map: PMap<u32, u32>) -> Result<bool, AllocError> {
     for key in 0..32 {
         map.delete(&key)?;
     }
-    Ok(map)
-}
-
-#[test]
-fn an_empty_page_goes_out(rt: HostRuntime) -> Result<(), Fail> {
-    let map = without_first_page(rt.alloc())?;
-    assert!(rt; map.pages() == 1 && is_at(&map, 31, None) && is_at(&map, 32, Some(32)));
-    Ok(())
+    Ok(map.pages() == 1 && is_at(&map, 31, None) && is_at(&map, 32, Some(32)))
 }
 
 /// Whether the keys of entries are those from a first one on, so many.
@@ -94,29 +75,51 @@ fn are_from(entries: &[(&u32, &u32)], first: u32, count: usize) -> bool {
     entries.len() == count
 }
 
-#[test]
-fn a_range_goes_on_past_a_page(rt: HostRuntime) -> Result<(), Fail> {
-    let map = ascending(rt.alloc(), 200)?;
-    let cut = map.first_from(Some(&30), Some(&100), 64)?;
-    let ended = map.first_from(Some(&30), Some(&90), 64)?;
-    assert!(rt; are_from(&cut, 30, 64) && are_from(&ended, 30, 60));
-    Ok(())
+/// Whether a range of at most 64 entries begins with this key and has so many.
+fn is_range(map: &PMap<u32, u32>, start: u32, end: u32, count: usize) -> Result<bool, AllocError> {
+    let entries = map.first_from(Some(&start), Some(&end), 64)?;
+    Ok(are_from(&entries, start, count))
 }
 
-#[test]
-fn a_range_without_bounds_has_all(rt: HostRuntime) -> Result<(), Fail> {
-    let alloc = rt.alloc();
-    let map = ascending(alloc, 200)?;
+/// Whether ranges go on past a page, have at most as many entries as are asked for, and end before
+/// their ends.
+fn are_ranges(map: &PMap<u32, u32>) -> Result<bool, AllocError> {
+    let is_cut = is_range(map, 30, 100, 64)?;
+    let is_ended = is_range(map, 30, 90, 60)?;
+    let is_empty = is_range(map, 50, 50, 0)?;
+    let is_crossed = is_range(map, 150, 50, 0)?;
+    Ok(is_cut && is_ended && is_empty && is_crossed)
+}
+
+/// Whether the range without bounds has so many keys.
+fn are_all(alloc: Global, map: &PMap<u32, u32>, count: usize) -> Result<bool, AllocError> {
     let all: Vec<(&u32, &u32)> = map.range(None, None).collect(alloc)?;
-    assert!(rt; are_from(&all, 0, 200));
+    Ok(are_from(&all, 0, count))
+}
+
+#[test]
+fn a_large_map_is_in_pages(rt: HostRuntime) -> Result<(), Fail> {
+    let alloc = rt.alloc();
+    let are_in_pages = are_in_pages(&ascending(alloc, 10_000)?);
+    let leaves_a_page = leaves_a_page(ascending(alloc, 65)?)?;
+    assert!(rt; are_in_pages && leaves_a_page);
     Ok(())
 }
 
 #[test]
-fn a_range_from_its_end_on_is_empty(rt: HostRuntime) -> Result<(), Fail> {
-    let map = ascending(rt.alloc(), 200)?;
-    let none = map.first_from(Some(&50), Some(&50), 64)?;
-    let crossed = map.first_from(Some(&150), Some(&50), 64)?;
-    assert!(rt; none.is_empty() && crossed.is_empty());
+fn older_maps_answer_as_before(rt: HostRuntime) -> Result<(), Fail> {
+    let alloc = rt.alloc();
+    let stay = stay_in_others(&ascending(alloc, 200)?)?;
+    let stays = stays_in_a_copy(ascending(alloc, 200)?)?;
+    assert!(rt; stay && stays);
+    Ok(())
+}
+
+#[test]
+fn ranges_go_on_past_pages(rt: HostRuntime) -> Result<(), Fail> {
+    let alloc = rt.alloc();
+    let are_ranges = are_ranges(&ascending(alloc, 200)?)?;
+    let are_all = are_all(alloc, &ascending(alloc, 200)?, 200)?;
+    assert!(rt; are_ranges && are_all);
     Ok(())
 }

@@ -1,28 +1,22 @@
-//! The bytes of parts of a transaction, and that no two values have the same.
+//! The bytes of parts of a transaction.
 
-use crate::samples::{BLOCK, ENVELOPE, envelope};
+use crate::samples::{ENVELOPE, PROPOSAL, envelope};
+use fab_types::Envelope;
+use std::alloc::{AllocError, Global};
 use std::test::Fail;
-use wire::{WireFault, encode_envelope, encode_proposal, spellings_differ};
+use wire::{WireFault, encode_proposal};
+
+/// Whether the bytes of an envelope's proposal are the first of the envelope's, and these are as
+/// many as its size.
+fn is_in_front(alloc: Global, envelope: &Envelope) -> Result<bool, AllocError> {
+    let bytes = encode_proposal(alloc, &envelope.payload.proposal)?;
+    Ok(bytes.as_slice() == &ENVELOPE[..PROPOSAL] && envelope.size() == ENVELOPE.len())
+}
 
 #[test]
 fn a_proposal_is_the_front_of_its_envelope(rt: HostRuntime) -> Result<(), Fail> {
     let alloc = rt.alloc();
-    let bytes = encode_proposal(alloc, &envelope(alloc)?.payload.proposal)?;
-    assert!(rt; bytes.as_slice() == &BLOCK[ENVELOPE..ENVELOPE + 22]);
+    let is_in_front = is_in_front(alloc, &envelope(alloc)?)?;
+    assert!(rt; is_in_front && WireFault::Memory.number() == 9);
     Ok(())
-}
-
-#[test]
-fn an_envelope_takes_as_many_bytes_as_its_size(rt: HostRuntime) -> Result<(), Fail> {
-    let alloc = rt.alloc();
-    let envelope = envelope(alloc)?;
-    let bytes = encode_envelope(alloc, &envelope)?;
-    assert!(rt; envelope.size() == bytes.len());
-    Ok(())
-}
-
-#[test]
-fn no_two_values_have_the_same_bytes(rt: HostRuntime) {
-    spellings_differ();
-    assert!(rt; WireFault::Memory.number() == 9);
 }

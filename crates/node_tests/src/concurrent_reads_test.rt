@@ -1,6 +1,7 @@
 //! Reads on one thread beside a long endorsement on another, while blocks are committed on a third.
 
-use crate::peer_node_test::{chain, commit, genesis, key, org, proposal};
+use crate::peer_node_test::commit;
+use crate::samples::{LOOP, Setup, opening};
 use fab_types::{Key, Proposal};
 use orderer::Orderer;
 use peer_node::{Peer, PeerWriter, Seat};
@@ -63,52 +64,51 @@ fn commit_each<R: Threads + Wait + Sync>(rt: &R, writer: &mut PeerWriter, chain:
 
 /// What the threads met: the number of the refusal of the endorsement, and whether each read was
 /// answered and each block taken.
-#[derive(Clone, Copy, Debug, PartialEq, Eq)]
-struct Met {
-    refused: u16,
-    are_answered: bool,
-    are_committed: bool,
-}
+type Met = ((u16, bool), bool);
 
+/// What the threads meet, of which one endorses the call and one reads the key that it writes.
 fn meet<R: Threads + Wait + Sync>(
     rt: &R,
-    alloc: Global,
     writer: &mut PeerWriter,
-    mut seats: Vec<Seat>,
-) -> Result<Met, Fail> {
-    let chain = chain(alloc, BLOCKS)?;
-    let proposal = proposal(alloc, b"long", 1)?;
-    let key = key(alloc, b"k")?;
-    let endorsing = seats.pop().ok_or("a seat")?;
-    let reading = seats.pop().ok_or("a seat")?;
-    let ((refused, are_answered), are_committed) = join(
+    setup: &Setup,
+    endorsing: Seat,
+    reading: Seat,
+) -> Option<Met> {
+    let proposal = &setup.call.payload.proposal;
+    let [write] = setup.call.payload.writes.as_slice() else {
+        return None;
+    };
+    let (key, chain) = (&write.key, &setup.chain);
+    Some(join(
         rt,
-        || endorse_and_read(rt, endorsing, reading, &proposal, &key),
-        || commit_each(rt, writer, &chain),
-    );
-    Ok(Met {
-        refused,
-        are_answered,
-        are_committed,
-    })
+        || endorse_and_read(rt, endorsing, reading, proposal, key),
+        || commit_each(rt, writer, chain),
+    ))
+}
+
+/// What the threads of a peer with two seats meet, and how many blocks it has then.
+fn met<R: Threads + Wait + Sync>(rt: &R, alloc: Global, setup: &Setup) -> (Option<Met>, usize) {
+    let genesis = &setup.genesis;
+    let Some(org) = genesis.peers.first() else {
+        return (None, 0);
+    };
+    let Ok((mut writer, mut seats)) = Peer::open(rt, alloc, genesis, org, 2) else {
+        return (None, 0);
+    };
+    let met = match (seats.pop(), seats.pop()) {
+        (Some(one), Some(two)) => meet(rt, &mut writer, setup, one, two),
+        _ => None,
+    };
+    let height = writer.newest().height();
+    writer.close(rt);
+    (met, height)
 }
 
 #[test]
 fn reads_go_on_beside_a_long_endorsement(rt: HostRuntime) -> Result<(), Fail> {
     let alloc = rt.alloc();
-    let genesis = genesis(alloc)?;
-    let Ok((mut writer, seats)) = Peer::open(&rt, alloc, &genesis, &org(alloc)?, 2) else {
-        return Err("a peer".into());
-    };
-    let met = meet(&rt, alloc, &mut writer, seats);
-    let height = writer.newest().height();
-    writer.close(&rt);
-    let expected = Met {
-        refused: 403,
-        are_answered: true,
-        are_committed: true,
-    };
-    assert!(rt; met? == expected);
-    assert!(rt; height == usize::from(BLOCKS));
+    let setup = opening(alloc, LOOP, BLOCKS)?;
+    let met = met(&rt, alloc, &setup);
+    assert!(rt; met == (Some(((403, true), true)), usize::from(BLOCKS)));
     Ok(())
 }

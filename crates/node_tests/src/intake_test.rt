@@ -1,8 +1,8 @@
 //! A full intake hands an envelope back, and gives what it took in.
 
-use crate::transactions::transaction;
+use crate::samples::transaction;
 use fab_types::Envelope;
-use intake::{Full, Intake};
+use intake::{Intake, ReceiverSeat, SenderSeat};
 use std::alloc::Global;
 use std::sync::Wait;
 use std::test::Fail;
@@ -11,29 +11,51 @@ fn nonce(envelope: &Envelope) -> u8 {
     envelope.payload.proposal.nonce[0]
 }
 
-/// Whether the second of two envelopes comes back from an intake of one place, and the first is
-/// taken.
-fn is_handed_back<R: Wait>(rt: &R, alloc: Global) -> Result<bool, Fail> {
+/// The nonce of a transaction where it is handed back, or 0.
+fn handed_back<R: Wait>(
+    rt: &R,
+    alloc: Global,
+    seat: &mut SenderSeat,
+    sent: u8,
+) -> Result<u8, Fail> {
+    match seat.submit(rt, transaction(alloc, sent, b'a')?) {
+        Ok(()) => Ok(0),
+        Err(full) => Ok(nonce(&full.envelope)),
+    }
+}
+
+/// The nonce of the envelope that is taken, or 0.
+fn taken<R: Wait>(rt: &R, receiver: &mut ReceiverSeat) -> u8 {
+    match receiver.take(rt) {
+        Some(envelope) => nonce(&envelope),
+        None => 0,
+    }
+}
+
+/// What is handed back of two transactions, and what is taken then.
+fn answers<R: Wait>(
+    rt: &R,
+    alloc: Global,
+    seat: &mut SenderSeat,
+    receiver: &mut ReceiverSeat,
+) -> Result<[u8; 4], Fail> {
+    let first = handed_back(rt, alloc, seat, 3)?;
+    let second = handed_back(rt, alloc, seat, 4)?;
+    Ok([first, second, taken(rt, receiver), taken(rt, receiver)])
+}
+
+/// The same of an intake of one place.
+fn answers_of_one_place<R: Wait>(rt: &R, alloc: Global) -> Result<[u8; 4], Fail> {
     let (mut seats, mut receiver) = Intake::open(alloc, 1, 1)?;
-    let mut seat = seats.pop().ok_or("a seat")?;
-    let first = transaction(alloc, 3, &[], &[b"a"])?;
-    let second = transaction(alloc, 4, &[], &[b"a"])?;
-    let is_taken_in = seat.submit(rt, first).is_ok();
-    let back = seat
-        .submit(rt, second)
-        .err()
-        .map(|full| nonce(&full.envelope));
-    let front = receiver.take(rt).map(|envelope| nonce(&envelope));
-    Ok(is_taken_in && back == Some(4) && front == Some(3) && receiver.take(rt).is_none())
+    match seats.first_mut() {
+        Some(seat) => answers(rt, alloc, seat, &mut receiver),
+        None => Err("a seat".into()),
+    }
 }
 
 #[test]
 fn a_full_intake_hands_the_envelope_back(rt: HostRuntime) -> Result<(), Fail> {
-    let alloc = rt.alloc();
-    assert!(rt; is_handed_back(&rt, alloc)?);
-    let full = Full {
-        envelope: transaction(alloc, 1, &[], &[b"a"])?,
-    };
-    assert!(rt; format!(in alloc; "{full}")?.as_str() == "refused 411");
+    let answers = answers_of_one_place(&rt, rt.alloc())?;
+    assert!(rt; answers == [0, 4, 3, 0]);
     Ok(())
 }

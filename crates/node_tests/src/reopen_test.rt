@@ -1,131 +1,114 @@
 //! Peers that come back with the blocks of their stores.
 
-ghost use Rattle.std.specs.Prelude.{◌≡◌, IfOk, length};
-
-use crate::peer_node_test::{chain, commit, genesis, org};
+use crate::peer_node_test::commit;
+use crate::samples::{GET_PUT_A, opening};
 use block_store::{append, load};
 use counted::Counted;
-use fab_types::{CommittedBlock, Flag};
-use fabric_core::Genesis;
+use fab_types::{Block, Flag};
+use ledger_setting::Genesis;
 use orderer::Orderer;
 use peer_node::{Peer, PeerWriter};
 use std::alloc::{AllocError, Global};
-use std::sync::{Arc, Wait};
+use std::sync::Wait;
 use std::test::Fail;
 use std::thread::Threads;
 
-/// The flags of a block, or as many of a conflict.
-fn flags(alloc: Global, block: &CommittedBlock, is_other: bool) -> Result<Vec<Flag>, AllocError>
-    ensures { IfOk result (λ v. length v.items ≡ length block.now.block.envelopes) }
-{
-    if is_other {
-        vec![in alloc; Flag::MvccReadConflict; block.flags().len()]
-    } else {
-        block.flags().to_vec(alloc)
-    }
+/// Appends a block of one transaction with this flag. Whether that was done.
+fn is_appended(alloc: Global, device: &mut Counted<Vec<u8>>, block: &Block, flag: Flag) -> bool {
+    block.envelopes.as_slice().len() == 1 && append(alloc, device, block, &[flag]).is_ok()
 }
 
-/// The bytes of a store of these blocks, of which one, counted from 0, has other flags.
-fn store(
+/// Appends blocks that are VALID, but for the one of a number, which is a conflict.
+fn append_each(
     alloc: Global,
-    blocks: &[Arc<CommittedBlock>],
-    other: Option<usize>,
-) -> Result<Vec<u8>, Fail> {
-    let mut device = Counted::new(Vec::new(alloc));
-    for (place, block) in blocks.iter().enumerate() {
-        let flags = flags(alloc, block, other == Some(place))?;
-        append(alloc, &mut device, block.block(), &flags)
-            .ok()
-            .ok_or("memory")?;
+    device: &mut Counted<Vec<u8>>,
+    blocks: &[Block],
+    other: u32,
+) -> Result<(), Fail> {
+    for block in blocks {
+        let flag = if block.header.number.get() == other {
+            Flag::MvccReadConflict
+        } else {
+            Flag::Valid
+        };
+        if !is_appended(alloc, device, block, flag) {
+            return Err("a record".into());
+        }
     }
+    Ok(())
+}
+
+/// The bytes of a store of these blocks, of which the one of a number has another flag.
+fn store(alloc: Global, blocks: &[Block], other: u32) -> Result<Vec<u8>, Fail> {
+    let mut device = Counted::new(Vec::new(alloc));
+    append_each(alloc, &mut device, blocks, other)?;
     Ok(device.into_inner())
 }
 
-/// Commits the blocks from a number to 5. Whether all were committed.
-fn commit_from<R: Threads + Wait + Sync>(
+/// The heights of a peer before and after it takes blocks 4 and 5.
+fn heights<R: Threads + Wait + Sync>(
     rt: &R,
     writer: &mut PeerWriter,
     chain: &Orderer,
-    first: u32,
-) -> bool {
-    let mut is_done = true;
-    for number in first..6 {
-        is_done &= commit(rt, writer, chain, number).is_some();
-    }
-    is_done
+) -> (usize, usize) {
+    let before = writer.newest().height();
+    commit(rt, writer, chain, 4);
+    commit(rt, writer, chain, 5);
+    (before, writer.newest().height())
 }
 
-/// The store of a peer that committed five blocks, whole, cut inside its fourth record, and with
-/// other flags of its second block.
-#[derive(Drop)]
-struct Stores {
-    whole: Vec<u8>,
-    cut: Vec<u8>,
-    other: Vec<u8>,
-}
-
-fn stores_of(alloc: Global, blocks: &[Arc<CommittedBlock>]) -> Result<Stores, Fail> {
-    let whole = store(alloc, blocks, None)?;
-    let three = blocks.get(..3).ok_or("three blocks")?;
-    let before = store(alloc, three, None)?.len();
-    let cut = whole.get(..before + 10).ok_or("a fourth record")?;
-    Ok(Stores {
-        cut: cut.to_vec(alloc)?,
-        other: store(alloc, blocks, Some(1))?,
-        whole,
-    })
-}
-
-fn make_stores<R: Threads + Wait + Sync>(
-    rt: &R,
-    alloc: Global,
-    genesis: &Genesis,
-    chain: &Orderer,
-) -> Result<Stores, Fail> {
-    let Ok((mut writer, _seats)) = Peer::open(rt, alloc, genesis, &org(alloc)?, 1) else {
-        return Err("a peer".into());
-    };
-    let is_done = commit_from(rt, &mut writer, chain, 1);
-    let stores = stores_of(alloc, writer.newest().blocks());
-    writer.close(rt);
-    let stores = stores?;
-    if is_done {
-        Ok(stores)
-    } else {
-        Err("five blocks".into())
-    }
-}
-
-/// The height of a peer that comes back with a store, and its store once it has taken all blocks
-/// from 4 on; or the number of the refusal.
+/// The heights of a peer that comes back with a store, before and after it takes blocks 4 and 5; or
+/// the number of the refusal.
 fn reopened<R: Threads + Wait + Sync>(
     rt: &R,
     alloc: Global,
     genesis: &Genesis,
     chain: &Orderer,
     bytes: &[u8],
-) -> Result<Result<(usize, Vec<u8>), u16>, Fail> {
+) -> Result<Result<(usize, usize), u16>, AllocError> {
     let loaded = load(alloc, &mut Counted::new(bytes))?;
-    let (mut writer, _seats) = match Peer::reopen(rt, alloc, genesis, &org(alloc)?, 1, loaded) {
-        Ok(peer) => peer,
-        Err(refusal) => return Ok(Err(refusal.number())),
+    let Some(org) = genesis.peers.first() else {
+        return Ok(Err(0));
     };
-    let height = writer.newest().height();
-    commit_from(rt, &mut writer, chain, 4);
-    let whole = store(alloc, writer.newest().blocks(), None);
-    writer.close(rt);
-    Ok(Ok((height, whole?)))
+    match Peer::reopen(rt, alloc, genesis, org, 1, loaded) {
+        Ok((mut writer, _seats)) => {
+            let heights = heights(rt, &mut writer, chain);
+            writer.close(rt);
+            Ok(Ok(heights))
+        }
+        Err(refusal) => Ok(Err(refusal.number())),
+    }
+}
+
+/// Whether the bytes of a store, but for ten of the end of its fourth record, give three blocks.
+fn is_back<R: Threads + Wait + Sync>(
+    rt: &R,
+    alloc: Global,
+    genesis: &Genesis,
+    chain: &Orderer,
+) -> Result<bool, Fail> {
+    let store = store(alloc, chain.blocks(), 0)?;
+    let cut = store.get(..store.len() / 5 * 4 - 10).unwrap_or(&[]);
+    Ok(reopened(rt, alloc, genesis, chain, cut)? == Ok((3, 5)))
+}
+
+/// Whether a store with another flag of its second block is refused.
+fn is_refused<R: Threads + Wait + Sync>(
+    rt: &R,
+    alloc: Global,
+    genesis: &Genesis,
+    chain: &Orderer,
+) -> Result<bool, Fail> {
+    let store = store(alloc, chain.blocks(), 2)?;
+    Ok(reopened(rt, alloc, genesis, chain, &store)? == Err(711))
 }
 
 #[test]
 fn a_peer_comes_back_with_its_store(rt: HostRuntime) -> Result<(), Fail> {
     let alloc = rt.alloc();
-    let genesis = genesis(alloc)?;
-    let chain = chain(alloc, 5)?;
-    let stores = make_stores(&rt, alloc, &genesis, &chain)?;
-    let back = reopened(&rt, alloc, &genesis, &chain, &stores.cut)?;
-    assert!(rt; back == Ok((3, stores.whole)));
-    let refused = reopened(&rt, alloc, &genesis, &chain, &stores.other)?;
-    assert!(rt; refused == Err(711));
+    let setup = opening(alloc, GET_PUT_A, 5)?;
+    let is_back = is_back(&rt, alloc, &setup.genesis, &setup.chain)?;
+    let is_refused = is_refused(&rt, alloc, &setup.genesis, &setup.chain)?;
+    assert!(rt; is_back && is_refused);
     Ok(())
 }

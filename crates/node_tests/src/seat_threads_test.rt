@@ -2,10 +2,10 @@
 
 ghost use Rattle.std.specs.Prelude.{◌≡◌, ◌<◌, ◌+◌, ◌*◌, IfOk};
 
-use crate::peer_node_test::{genesis, name};
+use crate::samples::{GET_PUT_A, genesis, transaction};
 use fabric_core::Audit;
-use seat_threads::{Report, SeatsRefusal, run_seats};
-use std::alloc::{AllocError, Global};
+use seat_threads::{Report, run_seats};
+use std::alloc::Global;
 use std::sync::Wait;
 use std::test::Fail;
 use std::thread::Threads;
@@ -20,11 +20,19 @@ fn report_of<R: Threads + Wait + Sync + Send + Copy + 'static>(
     requires { (0 < seats) × (seats < 1000) }
     ensures { IfOk result (λ r. r.endorsed + r.refused ≡ seats * rounds) }
 {
-    let mut genesis = genesis(alloc)?;
+    let call = transaction(alloc, 0, b'a')?;
+    let mut genesis = genesis(alloc, GET_PUT_A)?;
     genesis.seats = seats;
-    let kv = name(alloc, b"kv")?;
-    let report = run_seats(rt, alloc, &genesis, &kv, rounds);
-    Ok(report.ok().ok_or("a report")?)
+    match run_seats(
+        rt,
+        alloc,
+        &genesis,
+        &call.payload.proposal.chaincode,
+        rounds,
+    ) {
+        Ok(report) => Ok(report),
+        Err(_) => Err("a report".into()),
+    }
 }
 
 /// Whether something was endorsed and the audit of the chain agrees.
@@ -33,25 +41,10 @@ fn is_sound(report: Report) -> bool {
 }
 
 #[test]
-fn four_seats_work_fifty_rounds(rt: HostRuntime) -> Result<(), Fail> {
-    let report = report_of(&rt, rt.alloc(), 4, 50)?;
-    assert!(rt; report.endorsed + report.refused == 200);
-    assert!(rt; is_sound(report));
-    Ok(())
-}
-
-#[test]
-fn sixty_four_seats_work_twenty_rounds(rt: HostRuntime) -> Result<(), Fail> {
-    let report = report_of(&rt, rt.alloc(), 64, 20)?;
-    assert!(rt; report.endorsed + report.refused == 1280);
-    assert!(rt; is_sound(report));
-    Ok(())
-}
-
-#[test]
-fn a_refusal_of_seats_is_printed(rt: HostRuntime) -> Result<(), Fail> {
-    let alloc = rt.alloc();
-    let refusal = SeatsRefusal::from(AllocError);
-    assert!(rt; format!(in alloc; "{refusal}")?.as_str() == "refused 9");
+fn seats_work_in_rounds(rt: HostRuntime) -> Result<(), Fail> {
+    let few = report_of(&rt, rt.alloc(), 4, 50)?;
+    let many = report_of(&rt, rt.alloc(), 64, 20)?;
+    assert!(rt; few.endorsed + few.refused == 200 && is_sound(few));
+    assert!(rt; many.endorsed + many.refused == 1280 && is_sound(many));
     Ok(())
 }

@@ -4,10 +4,9 @@ ghost use Rattle.std.specs.Prelude.{◌≡◌, [], IfOk};
 ghost use Rattle.snapshot_cell.specs.Lists.{OneMore};
 ghost use Rattle.snapshot_cell.specs.Seats.{published_list, cell_of_reader, cell_of_writer, cell_of_told};
 
-use crate::transactions::transaction;
-use endorsement_policy::Rules;
-use fabric_core::commit_checked;
-use orderer::Orderer;
+use crate::samples::{GET_PUT_A, chain, genesis};
+use fab_types::Block;
+use ledger_setting::commit_checked;
 use snapshot_cell::{Reader, Told, Writer, open};
 use std::alloc::Global;
 use std::sync::Wait;
@@ -15,17 +14,25 @@ use std::test::Fail;
 use std::thread::{Threads, join};
 use world_state::Snapshot;
 
-/// A chain of one block.
+/// The first block of a chain.
+fn first_block(alloc: Global) -> Result<Block, Fail> {
+    let chain = chain(alloc, 1)?;
+    match chain.blocks().first() {
+        Some(block) => Ok(block.clone()?),
+        None => Err("a block".into()),
+    }
+}
+
+/// The snapshot after one block.
 fn one_block(alloc: Global) -> Result<Snapshot, Fail>
     ensures { IfOk result (λ s. OneMore [] s) }
 {
-    let rules = Rules::new(Vec::new(alloc), Vec::new(alloc)).ok_or("rules")?;
-    let mut orderer = Orderer::new(alloc, 1, 1000, 1000, false);
-    let envelope = transaction(alloc, 1, &[], &[b"k"])?;
-    orderer.accept(envelope).ok().ok_or("a block")?;
-    let block = orderer.blocks().first().ok_or("a block")?.clone()?;
-    let none = Snapshot::empty(alloc);
-    Ok(commit_checked(alloc, &rules, &none, block)?)
+    let block = first_block(alloc)?;
+    let genesis = genesis(alloc, GET_PUT_A)?;
+    match commit_checked(alloc, &genesis.rules, &Snapshot::empty(alloc), block) {
+        Ok(snapshot) => Ok(snapshot),
+        Err(_) => Err("a snapshot".into()),
+    }
 }
 
 /// The height that a seat takes once it has learned what was told, or 0.

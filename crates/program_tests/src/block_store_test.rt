@@ -4,18 +4,15 @@ ghost use Rattle.std.specs.Prelude.{◌≡◌, ◌≤◌, IfOk, length};
 
 use block_store::{AppendFault, End, RecordReader, append, load};
 use counted::Counted;
-use fab_types::{Block, BlockData, BlockNumber, Flag, Header};
+use fab_types::{Block, Flag};
 use std::alloc::{AllocError, Global};
 use std::io::{self, Read, Write};
 use std::test::Fail;
-use wire::decode_envelope;
+use wire::decode_block;
 
-/// The envelope of the chaincode `kv` that puts `1` at `a` and reads nothing, without endorsements.
-const PUT: [u8; 36] = [
-    0x02, 0x6b, 0x76, 0x00, 0x00, 0x00, 0x00, 0x00, 0x00, 0x00, 0x00, 0x00, 0x00, 0x00, 0x00, 0x00,
-    0x00, 0x00, 0x00, 0x00, 0x00, 0x00, 0x00, 0x00, 0x00, 0x00, 0x00, 0x00, 0x01, 0x01, 0x61, 0x01,
-    0x00, 0x01, 0x31, 0x00,
-];
+/// The bytes of a block of one transaction, but for its number.
+const BLOCK: [u8; 110] =
+    *b"\x00\x00\x00\x00\x07\x07\x07\x07\x07\x07\x07\x07\x07\x07\x07\x07\x07\x07\x07\x07\x07\x07\x07\x07\x07\x07\x07\x07\x07\x07\x07\x07\x07\x07\x07\x07\x09\x09\x09\x09\x09\x09\x09\x09\x09\x09\x09\x09\x09\x09\x09\x09\x09\x09\x09\x09\x09\x09\x09\x09\x09\x09\x09\x09\x09\x09\x09\x09\x00\x01\x00\x00\x00\x24\x02kv\x00\x00\x00\x00\x00\x00\x00\x00\x00\x00\x00\x00\x00\x00\x00\x00\x00\x00\x00\x00\x00\x00\x00\x00\x00\x01\x01a\x01\x00\x011\x00";
 
 /// The length of a record of these stores: the length of the block, its header, the count of its
 /// envelopes, one envelope behind its length, a flag and the digest.
@@ -80,18 +77,13 @@ impl Read for Tape {
     }
 }
 
-fn block(alloc: Global, number: u32) -> Result<Block, Fail> {
-    let number = BlockNumber::new(number).ok_or("a number of a block")?;
-    let envelope = decode_envelope(alloc, &PUT)
-        .ok()
-        .ok_or("the bytes are an envelope")?;
-    let envelopes = BlockData::new(vec![in alloc; envelope]?).ok_or("one envelope")?;
-    let header = Header {
-        number,
-        previous_hash: [7; 32],
-        data_hash: [9; 32],
-    };
-    Ok(Block { header, envelopes })
+fn block(alloc: Global, number: u8) -> Result<Block, Fail> {
+    let mut bytes = BLOCK;
+    bytes[3] = number;
+    match decode_block(alloc, &bytes) {
+        Ok(block) => Ok(block),
+        Err(_) => Err("a block".into()),
+    }
 }
 
 /// A flag for each envelope.
@@ -101,16 +93,22 @@ fn flags(alloc: Global, block: &Block) -> Result<Vec<Flag>, AllocError>
     Ok(vec![in alloc; Flag::MvccReadConflict; block.envelopes.as_slice().len()]?)
 }
 
-/// The bytes of a store of so many blocks.
-fn store(alloc: Global, count: u32) -> Result<Vec<u8>, Fail> {
-    let mut tape = Counted::new(Tape::new(Vec::new(alloc), 50, NEVER));
+/// Appends so many blocks.
+fn append_each(alloc: Global, tape: &mut Counted<Tape>, count: u8) -> Result<(), Fail> {
     for before in 0..count {
-        let block = block(alloc, before + 1)?;
+        let block = block(alloc, before.wrapping_add(1))?;
         let flags = flags(alloc, &block)?;
-        append(alloc, &mut tape, &block, &flags)
-            .ok()
-            .ok_or("memory")?;
+        if append(alloc, tape, &block, &flags).is_err() {
+            return Err("a record".into());
+        }
     }
+    Ok(())
+}
+
+/// The bytes of a store of so many blocks.
+fn store(alloc: Global, count: u8) -> Result<Vec<u8>, Fail> {
+    let mut tape = Counted::new(Tape::new(Vec::new(alloc), 50, NEVER));
+    append_each(alloc, &mut tape, count)?;
     Ok(tape.into_inner().bytes)
 }
 
@@ -133,27 +131,18 @@ fn answer_of_tape(
     Ok((loaded.blocks.len(), loaded.end))
 }
 
-/// Whether a store that is cut behind its fourth record is torn, and clean right behind it.
+/// Whether a store that is cut behind its second record is torn, and clean right behind it.
 fn cuts_are_told(alloc: Global, bytes: &[u8]) -> Result<bool, AllocError> {
-    let mut is_told = answer(alloc, bytes)? == (5, End::Clean);
-    for cut in 4 * RECORD..bytes.len() {
-        let end = if cut == 4 * RECORD {
+    let mut is_told = answer(alloc, bytes)? == (3, End::Clean);
+    for cut in 2 * RECORD..bytes.len() {
+        let end = if cut == 2 * RECORD {
             End::Clean
         } else {
             End::Torn
         };
-        is_told &= answer(alloc, &bytes[..cut])? == (4, end);
+        is_told &= answer(alloc, &bytes[..cut])? == (2, end);
     }
     Ok(is_told)
-}
-
-#[test]
-fn a_store_is_cut_inside_its_last_record(rt: HostRuntime) -> Result<(), Fail> {
-    let alloc = rt.alloc();
-    let bytes = store(alloc, 5)?;
-    let is_told = cuts_are_told(alloc, &bytes)?;
-    assert!(rt; is_told);
-    Ok(())
 }
 
 /// Whether a store of three blocks gives them all in two pieces, the first of them so long.
@@ -183,17 +172,6 @@ fn answer_by_byte(alloc: Global, bytes: &[u8]) -> Result<(usize, End), AllocErro
         blocks.append(&mut reader.feed(&[*byte])?)?;
     }
     Ok((blocks.len(), reader.finish()))
-}
-
-#[test]
-fn pieces_give_what_the_whole_gives(rt: HostRuntime) -> Result<(), Fail> {
-    let alloc = rt.alloc();
-    let bytes = store(alloc, 3)?;
-    let in_two = is_whole_in_any_two(alloc, &bytes)?;
-    let by_byte = answer_by_byte(alloc, &bytes)?;
-    let whole = answer(alloc, &bytes)?;
-    assert!(rt; in_two && by_byte == whole && whole == (3, End::Clean));
-    Ok(())
 }
 
 /// Whether a write of record 2 that fails at this call tells what it wrote, and leaves a store that
@@ -245,15 +223,6 @@ fn are_read_up_to_the_failure(alloc: Global, bytes: &[u8]) -> Result<bool, Alloc
     Ok(are)
 }
 
-#[test]
-fn a_failed_read_gives_the_blocks_before(rt: HostRuntime) -> Result<(), Fail> {
-    let alloc = rt.alloc();
-    let bytes = store(alloc, 3)?;
-    let are = are_read_up_to_the_failure(alloc, &bytes)?;
-    assert!(rt; are);
-    Ok(())
-}
-
 /// Whether a store of which this byte is flipped loads as the blocks before the record that holds
 /// it.
 fn is_found(alloc: Global, bytes: &mut [u8], at: usize) -> Result<bool, AllocError> {
@@ -282,12 +251,21 @@ fn each_flip_is_found(alloc: Global, bytes: &mut [u8]) -> Result<bool, AllocErro
     Ok(is_each)
 }
 
+/// Whether pieces give what the whole gives.
+fn are_in_pieces(alloc: Global, bytes: &[u8]) -> Result<bool, AllocError> {
+    let in_two = is_whole_in_any_two(alloc, bytes)?;
+    Ok(in_two && answer_by_byte(alloc, bytes)? == (3, End::Clean))
+}
+
 #[test]
-fn each_flipped_byte_is_found(rt: HostRuntime) -> Result<(), Fail> {
+fn a_store_is_read_as_far_as_it_is_whole(rt: HostRuntime) -> Result<(), Fail> {
     let alloc = rt.alloc();
     let mut bytes = store(alloc, 3)?;
-    let is_each = each_flip_is_found(alloc, &mut bytes)?;
-    assert!(rt; is_each);
+    let are_told = cuts_are_told(alloc, &bytes)?;
+    let are_in_pieces = are_in_pieces(alloc, &bytes)?;
+    let are_read = are_read_up_to_the_failure(alloc, &bytes)?;
+    let are_found = each_flip_is_found(alloc, &mut bytes)?;
+    assert!(rt; are_told && are_in_pieces && are_read && are_found);
     Ok(())
 }
 

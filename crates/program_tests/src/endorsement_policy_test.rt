@@ -1,31 +1,42 @@
-//! Policies, rules and checks of envelopes: each public function once, and checks by several
-//! workers.
+//! Policies and rules that no text spells, and checks of envelopes by several workers.
 
 use endorsement_policy::{
-    ChaincodePolicy, Gate, OrgSet, Organisation, Policies, Policy, PolicyFault, Rules, TagKey,
-    check_all, check_plain, is_endorsed, parse, satisfied,
+    ChaincodePolicy, Gate, OrgSet, Organisation, Policies, Policy, Rules, TagKey, check_all,
+    check_plain, parse, satisfied,
 };
-use fab_types::{
-    Endorsement, Endorsements, Envelope, Name, OrgName, Payload, Proposal, Ranges, ReadSet, Value,
-    WriteSet,
-};
+use fab_types::{Envelope, Name, OrgName};
+use hmac_tag::{check, tag};
 use std::alloc::{AllocError, Global};
 use std::sync::atomic::{AtomicBool, AtomicUsize, Ordering};
 use std::test::Fail;
 use std::thread;
 use std::thread::Threads;
-use wire::encode_payload;
+use wire::decode_envelope;
 
-fn org(alloc: Global, letter: u8) -> Result<OrgName, Fail> {
-    Ok(OrgName::new(vec![in alloc; letter]?).ok_or("a name")?)
+/// The bytes of a call of `kv` without an argument, which reads and writes nothing, and two
+/// endorsements, by `A` and `A`, with tags of zeros.
+const CALL: [u8; 98] =
+    *b"\x02kv\x00\x00\x00\x00\x00\x00\x00\x00\x00\x00\x00\x00\x00\x00\x00\x00\x00\x00\x00\x00\x00\x00\x00\x00\x00\x00\x02\x01A\x00\x00\x00\x00\x00\x00\x00\x00\x00\x00\x00\x00\x00\x00\x00\x00\x00\x00\x00\x00\x00\x00\x00\x00\x00\x00\x00\x00\x00\x00\x00\x00\x01A\x00\x00\x00\x00\x00\x00\x00\x00\x00\x00\x00\x00\x00\x00\x00\x00\x00\x00\x00\x00\x00\x00\x00\x00\x00\x00\x00\x00\x00\x00\x00\x00";
+
+/// How many of them are the payload's.
+const PAYLOAD: usize = 29;
+
+/// Where the name and the tag of each endorsement begin.
+const NAMES: [usize; 2] = [31, 65];
+
+const TAGS: [usize; 2] = [32, 66];
+
+fn org(alloc: Global, letter: u8) -> Option<OrgName> {
+    OrgName::new(vec![in alloc; letter].ok()?)
 }
 
-fn orgs(alloc: Global, letters: &[u8]) -> Result<Vec<OrgName>, Fail> {
+/// The organisations of these letters.
+fn orgs(alloc: Global, letters: &[u8]) -> Option<Vec<OrgName>> {
     let mut names = Vec::new(alloc);
     for letter in letters {
-        names.push(org(alloc, *letter)?)?;
+        names.push(org(alloc, *letter)?).ok()?;
     }
-    Ok(names)
+    Some(names)
 }
 
 /// The bytes of an organisation's key.
@@ -33,89 +44,60 @@ fn secret(letter: u8) -> [u8; 3] {
     [letter, 0, letter]
 }
 
-fn organisation(alloc: Global, letter: u8) -> Result<Organisation, Fail> {
+fn organisation(alloc: Global, letter: u8) -> Option<Organisation> {
+    let key = TagKey::new(secret(letter).to_vec(alloc).ok()?)?;
     let name = org(alloc, letter)?;
-    let key = TagKey::new(secret(letter).to_vec(alloc)?).ok_or("a key")?;
-    Ok(Organisation { name, key })
+    Some(Organisation { name, key })
 }
 
-fn organisations(alloc: Global) -> Result<Vec<Organisation>, Fail> {
-    let a = organisation(alloc, b'A')?;
-    let b = organisation(alloc, b'B')?;
-    let c = organisation(alloc, b'C')?;
-    Ok(vec![in alloc; a, b, c]?)
+fn organisations(alloc: Global) -> Option<Vec<Organisation>> {
+    let mut organisations = Vec::new(alloc);
+    for letter in b"ABC" {
+        organisations.push(organisation(alloc, *letter)?).ok()?;
+    }
+    Some(organisations)
 }
 
-fn two_of_three(alloc: Global) -> Result<Policy, Fail> {
+fn two_of_three(alloc: Global) -> Option<Policy> {
     let known = orgs(alloc, b"ABC")?;
-    Ok(
-        parse(alloc, "OutOf(2, 'A', 'B', 'C')", &known)
-            .ok()
-            .ok_or("a policy")?,
-    )
+    parse(alloc, "OutOf(2, 'A', 'B', 'C')", &known).ok()
 }
 
-fn chaincode(alloc: Global, text: &[u8]) -> Result<Name, Fail> {
-    let bytes = text.to_vec(alloc)?;
-    Ok(Name::new(bytes).ok_or("a chaincode")?)
+fn kv(alloc: Global) -> Option<Name> {
+    Name::new(b"kv".to_vec(alloc).ok()?)
+}
+
+/// The policy of `kv`.
+fn of_kv(alloc: Global, policy: Policy) -> Option<Vec<ChaincodePolicy>> {
+    let chaincode = kv(alloc)?;
+    vec![in alloc; ChaincodePolicy { chaincode, policy }].ok()
 }
 
 /// A, B and C, of which two have to endorse a transaction of `kv`.
-fn rules(alloc: Global) -> Result<Rules, Fail> {
-    let policy = two_of_three(alloc)?;
-    let chaincode = chaincode(alloc, b"kv")?;
-    let policies = vec![in alloc; ChaincodePolicy { chaincode, policy }]?;
-    Ok(Rules::new(organisations(alloc)?, policies).ok_or("rules")?)
+fn rules(alloc: Global) -> Option<Rules> {
+    let policies = of_kv(alloc, two_of_three(alloc)?)?;
+    Rules::new(organisations(alloc)?, policies)
 }
 
-fn value(alloc: Global) -> Result<Value, Fail> {
-    Ok(Value::new(Vec::new(alloc)).ok_or("a value")?)
-}
-
-/// A call of `kv` without an argument, and without reads or writes.
-fn payload(alloc: Global) -> Result<Payload, Fail> {
-    let proposal = Proposal {
-        chaincode: chaincode(alloc, b"kv")?,
-        argument: value(alloc)?,
-        nonce: [0; 16],
-    };
-    Ok(Payload {
-        proposal,
-        result: value(alloc)?,
-        reads: ReadSet::new(Vec::new(alloc)).ok_or("reads")?,
-        ranges: Ranges::new(Vec::new(alloc)).ok_or("ranges")?,
-        writes: WriteSet::new(Vec::new(alloc)).ok_or("writes")?,
-    })
-}
-
-/// An endorsement by the first under the key of the second.
-fn endorsement(alloc: Global, payload: &Payload, name: u8, keyed: u8) -> Result<Endorsement, Fail> {
-    let bytes = encode_payload(alloc, payload)?;
-    let org = org(alloc, name)?;
-    let tag = hmac_tag::tag(&secret(keyed), &bytes);
-    Ok(Endorsement { org, tag })
-}
-
-/// Two endorsements, each by a name under the key of another's.
-fn envelope(alloc: Global, first: (u8, u8), second: (u8, u8)) -> Result<Envelope, Fail> {
-    let payload = payload(alloc)?;
-    let one = endorsement(alloc, &payload, first.0, first.1)?;
-    let two = endorsement(alloc, &payload, second.0, second.1)?;
-    let endorsements = Endorsements::new(vec![in alloc; one, two]?).ok_or("two")?;
-    Ok(Envelope {
-        payload,
-        endorsements,
-    })
+/// The call with endorsements by A under its own key, and by a name under the key of another's.
+fn envelope(alloc: Global, name: u8, keyed: u8) -> Option<Envelope> {
+    let mut bytes = CALL;
+    let first = tag(&secret(b'A'), &CALL[..PAYLOAD]);
+    let second = tag(&secret(keyed), &CALL[..PAYLOAD]);
+    bytes[NAMES[1]] = name;
+    bytes[TAGS[0]..TAGS[0] + 32].copy_from_slice(&first);
+    bytes[TAGS[1]..].copy_from_slice(&second);
+    decode_envelope(alloc, &bytes).ok()
 }
 
 /// A and C; A twice; A and a wrong tag of C; A and an unknown organisation; and so on again.
-fn envelopes(alloc: Global, count: usize) -> Result<Vec<Envelope>, Fail> {
+fn envelopes(alloc: Global, count: usize) -> Option<Vec<Envelope>> {
     let mut envelopes = Vec::new(alloc);
     for index in 0..count {
-        let second = [(b'C', b'C'), (b'A', b'A'), (b'C', b'B'), (b'D', b'D')][index % 4];
-        envelopes.push(envelope(alloc, (b'A', b'A'), second)?)?;
+        let (name, keyed) = [(b'C', b'C'), (b'A', b'A'), (b'C', b'B'), (b'D', b'D')][index % 4];
+        envelopes.push(envelope(alloc, name, keyed)?).ok()?;
     }
-    Ok(envelopes)
+    Some(envelopes)
 }
 
 fn is_first_of_four(answers: &[bool]) -> bool {
@@ -150,20 +132,18 @@ fn is_same_by_workers<R: Threads + Sync>(
     Ok(same && plain.len() == envelopes.len() && is_first_of_four(&plain))
 }
 
-/// The same over so many envelopes.
-fn is_same_for<R: Threads + Sync>(rt: &R, alloc: Global, count: usize) -> Result<bool, Fail> {
-    let envelopes = envelopes(alloc, count)?;
-    let rules = rules(alloc)?;
-    Ok(is_same_by_workers(rt, alloc, &rules, &envelopes)?)
-}
-
-#[test]
-fn workers_answer_as_one_thread(rt: HostRuntime) -> Result<(), Fail> {
-    let none = is_same_for(&rt, rt.alloc(), 0)?;
-    let one = is_same_for(&rt, rt.alloc(), 1)?;
-    let many = is_same_for(&rt, rt.alloc(), 33)?;
-    assert!(rt; none && one && many);
-    Ok(())
+/// The answers over no envelope, one and all of these.
+fn are_same<R: Threads + Sync>(
+    rt: &R,
+    alloc: Global,
+    rules: &Rules,
+    envelopes: &[Envelope],
+) -> Result<bool, AllocError> {
+    let one = envelopes.get(..1).unwrap_or(&[]);
+    let are = is_same_by_workers(rt, alloc, rules, &[])?
+        && is_same_by_workers(rt, alloc, rules, one)?
+        && is_same_by_workers(rt, alloc, rules, envelopes)?;
+    Ok(are)
 }
 
 /// Two checks, each of which waits for the other.
@@ -204,15 +184,6 @@ fn is_met<R: Threads + Sync>(
     Ok(met && is_first_of_four(&answers))
 }
 
-#[test]
-fn two_workers_check_at_once(rt: HostRuntime) -> Result<(), Fail> {
-    let alloc = rt.alloc();
-    let rules = rules(alloc)?;
-    let pair = envelopes(alloc, 2)?;
-    assert!(rt; is_met(&rt, alloc, &rules, &pair)?);
-    Ok(())
-}
-
 /// The place that each of two workers is to check next, and how often either went elsewhere.
 #[derive(Drop)]
 struct Turns {
@@ -250,11 +221,14 @@ fn is_in_turn<R: Threads + Sync>(
 }
 
 #[test]
-fn a_worker_goes_in_order(rt: HostRuntime) -> Result<(), Fail> {
+fn workers_answer_as_one_thread(rt: HostRuntime) -> Result<(), Fail> {
     let alloc = rt.alloc();
-    let rules = rules(alloc)?;
-    let five = envelopes(alloc, 5)?;
-    assert!(rt; is_in_turn(&rt, alloc, &rules, &five)?);
+    let rules = rules(alloc).ok_or("rules")?;
+    let all = envelopes(alloc, 33).ok_or("envelopes")?;
+    let are_same = are_same(&rt, alloc, &rules, &all)?;
+    let is_met = is_met(&rt, alloc, &rules, &all[..2])?;
+    let is_in_turn = is_in_turn(&rt, alloc, &rules, &all[..5])?;
+    assert!(rt; are_same && is_met && is_in_turn);
     Ok(())
 }
 
@@ -271,76 +245,51 @@ fn is_of_three(rules: &Rules, b: &OrgName, d: &OrgName, kv: &Name) -> bool {
         && rules.policies().len() == 1
 }
 
-#[test]
-fn rules_are_looked_up(rt: HostRuntime) -> Result<(), Fail> {
-    let alloc = rt.alloc();
-    let b = org(alloc, b'B')?;
-    let d = org(alloc, b'D')?;
-    let kv = chaincode(alloc, b"kv")?;
-    let rules = rules(alloc)?;
-    assert!(rt; is_of_three(&rules, &b, &d, &kv));
-    Ok(())
+fn are_looked_up(alloc: Global) -> Option<bool> {
+    let (b, d) = (org(alloc, b'B')?, org(alloc, b'D')?);
+    Some(is_of_three(&rules(alloc)?, &b, &d, &kv(alloc)?))
 }
 
-#[test]
-fn an_envelope_is_endorsed(rt: HostRuntime) -> Result<(), Fail> {
-    let alloc = rt.alloc();
-    let rules = rules(alloc)?;
-    let right = envelope(alloc, (b'A', b'A'), (b'C', b'C'))?;
-    assert!(rt; is_endorsed(alloc, &rules, &right)?);
-    Ok(())
-}
-
-/// A policy of any of A, made without a text.
-fn any_of_a(alloc: Global) -> Result<Policies, Fail> {
+/// A leaf, made without a text.
+fn leaf(alloc: Global) -> Option<Policies> {
     let a = Policy::Org(org(alloc, b'A')?);
-    Ok(Policies::new(vec![in alloc; a]?).ok_or("a policy")?)
+    Policies::new(vec![in alloc; a].ok()?)
 }
 
-fn is_satisfied_by_two(policy: &Policy, two: &OrgSet, b: &OrgName, c: &OrgName) -> bool {
-    satisfied(policy, two) && two.contains(c) && !two.contains(b)
+/// Whether any of A is satisfied by A and C, which has C and not B.
+fn is_satisfied(policy: &Policy, two: &OrgSet, names: &[OrgName]) -> bool {
+    match names {
+        [b, c] => satisfied(policy, two) && two.contains(c) && !two.contains(b),
+        _ => false,
+    }
 }
 
-#[test]
-fn a_policy_is_satisfied(rt: HostRuntime) -> Result<(), Fail> {
-    let alloc = rt.alloc();
-    let b = org(alloc, b'B')?;
-    let c = org(alloc, b'C')?;
-    let two = OrgSet::new(orgs(alloc, b"AC")?).ok_or("two names")?;
-    let children = any_of_a(alloc)?;
-    let one_child = children.items().len() == 1;
-    let policy = Policy::Or(children);
-    assert!(rt; one_child && is_satisfied_by_two(&policy, &two, &b, &c));
-    Ok(())
+fn is_by_two(alloc: Global) -> Option<bool> {
+    let leaf = leaf(alloc)?;
+    let is_one = leaf.items().len() == 1;
+    let two = OrgSet::new(orgs(alloc, b"AC")?)?;
+    Some(is_one && is_satisfied(&Policy::Or(leaf), &two, &orgs(alloc, b"BC")?))
 }
 
-#[test]
-fn an_operator_has_a_child(rt: HostRuntime) -> Result<(), Fail> {
-    let alloc = rt.alloc();
-    assert!(rt; Policies::new(Vec::new(alloc)).is_none());
-    Ok(())
+/// Whether there are no rules with a policy that needs nobody: none of A.
+fn is_no_rule(alloc: Global) -> Option<bool> {
+    let policies = of_kv(alloc, Policy::OutOf(0, leaf(alloc)?))?;
+    Some(Rules::new(Vec::new(alloc), policies).is_none())
 }
 
-/// A policy that needs nobody: none of A.
-fn none_of_a(alloc: Global) -> Result<ChaincodePolicy, Fail> {
-    let chaincode = chaincode(alloc, b"kv")?;
-    let policy = Policy::OutOf(0, any_of_a(alloc)?);
-    Ok(ChaincodePolicy { chaincode, policy })
-}
-
-#[test]
-fn rules_need_someone(rt: HostRuntime) -> Result<(), Fail> {
-    let alloc = rt.alloc();
-    let policies = vec![in alloc; none_of_a(alloc)?]?;
-    assert!(rt; Rules::new(Vec::new(alloc), policies).is_none());
-    Ok(())
+/// Whether a tag is that of its key alone: test case 2 of RFC 4231.
+fn is_checked() -> bool {
+    let text = b"what do ya want for nothing?";
+    let tag =
+        *b"\x5b\xdc\xc1\x46\xbf\x60\x75\x4e\x6a\x04\x24\x26\x08\x95\x75\xc7\x5a\x00\x3f\x08\x9d\x27\x39\x83\x9d\xec\x58\xb9\x64\xec\x38\x43";
+    check(b"Jefe", text, &tag) && !check(b"Jeff", text, &tag)
 }
 
 #[test]
-fn a_fault_is_printed(rt: HostRuntime) -> Result<(), Fail> {
+fn policies_and_rules_are_made(rt: HostRuntime) -> Result<(), Fail> {
     let alloc = rt.alloc();
-    let offset = format!(in alloc; "{}", PolicyFault::Syntax(7))?;
-    let plain = format!(in alloc; "{}", PolicyFault::TooDeep)?;
-    assert!(rt; offset.as_str() == "refused 501 at 7" && plain.as_str() == "refused 504");
+    let made = [are_looked_up(alloc), is_by_two(alloc), is_no_rule(alloc)];
+    let is_empty = Policies::new(Vec::new(alloc)).is_none();
+    assert!(rt; made == [Some(true); 3] && is_empty && is_checked());
     Ok(())
 }

@@ -8,15 +8,3 @@ mod batch_cutter_test;
 mod block_store_test;
 #[cfg(test)]
 mod endorsement_policy_test;
-#[cfg(test)]
-mod endorser_test;
-#[cfg(test)]
-mod events_test;
-#[cfg(test)]
-mod fabric_core_test;
-#[cfg(test)]
-mod genesis_test;
-#[cfg(test)]
-mod hmac_tag_test;
-#[cfg(test)]
-mod json_fields_test;

@@ -5,5 +5,5 @@ use Rattle.fab_types.proofs.payload.Proposal.TheSendSync as proposal
 use Rattle.peer_node.proofs.Sending.{send_seat_field}
 use Rattle.node_tests.proofs.concurrent_reads_test.meet.Goals as goal
 
-pub join-refused-requires-send-F : goal.join-refused-requires-send-F
-join-refused-requires-send-F g c κs within = search (sendable, crosses, key.the_sync, proposal.the_sync, send_seat_field) depth 20
+pub join-requires-send-F : goal.join-requires-send-F
+join-requires-send-F g c κs within = search (sendable, crosses, key.the_sync, proposal.the_sync, send_seat_field) depth 20
