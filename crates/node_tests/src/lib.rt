@@ -25,3 +25,5 @@ mod seat_threads_test;
 mod simulator_test;
 #[cfg(test)]
 mod snapshot_cell_test;
+#[cfg(test)]
+mod world_state_test;

@@ -2,16 +2,18 @@
 
 use crate::peer_node_test::commit;
 use crate::samples::{GET_PUT_A, opening};
+use crate::world_state_test::after;
 use block_store::{append, load};
 use counted::Counted;
-use fab_types::{Block, Flag};
+use fab_types::{Block, CommittedBlock, Flag, Key, Value, Version};
 use ledger_setting::Genesis;
 use orderer::Orderer;
 use peer_node::{Peer, PeerWriter};
 use std::alloc::{AllocError, Global};
-use std::sync::Wait;
+use std::sync::{Arc, Wait};
 use std::test::Fail;
 use std::thread::Threads;
+use world_state::Snapshot;
 
 /// Appends a block of one transaction with this flag. Whether that was done.
 fn is_appended(alloc: Global, device: &mut Counted<Vec<u8>>, block: &Block, flag: Flag) -> bool {
@@ -45,51 +47,90 @@ fn store(alloc: Global, blocks: &[Block], other: u32) -> Result<Vec<u8>, Fail> {
     Ok(device.into_inner())
 }
 
-/// The heights of a peer before and after it takes blocks 4 and 5.
-fn heights<R: Threads + Wait + Sync>(
+/// Whether blocks have the same flags as others.
+fn are_flagged_alike(one: &[Arc<CommittedBlock>], other: &[Arc<CommittedBlock>]) -> bool {
+    let mut same = one.len() == other.len();
+    for (committed, expected) in one.iter().zip(other.iter()) {
+        same = same && committed.flags() == expected.flags();
+    }
+    same
+}
+
+/// Whether entries of a state are the same as others.
+fn are_same(one: &[(&Key, &(Value, Version))], other: &[(&Key, &(Value, Version))]) -> bool {
+    let mut same = one.len() == other.len();
+    for (entry, expected) in one.iter().zip(other.iter()) {
+        let keys = entry.0.as_slice() == expected.0.as_slice();
+        let values = entry.1.0.as_slice() == expected.1.0.as_slice();
+        same = same && keys && values && entry.1.1 == expected.1.1;
+    }
+    same
+}
+
+/// Whether a chain has the flags and the state of another.
+fn are_alike(alloc: Global, one: &Snapshot, other: &Snapshot) -> Result<bool, AllocError> {
+    let (entries, expected) = (one.entries(alloc)?, other.entries(alloc)?);
+    Ok(are_flagged_alike(one.blocks(), other.blocks()) && are_same(&entries, &expected))
+}
+
+/// The height of a peer, and whether it is like a whole chain once it has taken blocks 4 and 5.
+fn caught_up<R: Threads + Wait + Sync>(
     rt: &R,
+    alloc: Global,
     writer: &mut PeerWriter,
     chain: &Orderer,
-) -> (usize, usize) {
+    whole: &Snapshot,
+) -> Result<(usize, bool), AllocError> {
     let before = writer.newest().height();
     commit(rt, writer, chain, 4);
     commit(rt, writer, chain, 5);
-    (before, writer.newest().height())
+    Ok((before, are_alike(alloc, writer.newest(), whole)?))
 }
 
-/// The heights of a peer that comes back with a store, before and after it takes blocks 4 and 5; or
-/// the number of the refusal.
+/// What becomes of a peer that comes back with a store, or the number of the refusal.
 fn reopened<R: Threads + Wait + Sync>(
     rt: &R,
     alloc: Global,
     genesis: &Genesis,
     chain: &Orderer,
+    whole: &Snapshot,
     bytes: &[u8],
-) -> Result<Result<(usize, usize), u16>, AllocError> {
+) -> Result<Result<(usize, bool), u16>, AllocError> {
     let loaded = load(alloc, &mut Counted::new(bytes))?;
     let Some(org) = genesis.peers.first() else {
         return Ok(Err(0));
     };
     match Peer::reopen(rt, alloc, genesis, org, 1, loaded) {
         Ok((mut writer, _seats)) => {
-            let heights = heights(rt, &mut writer, chain);
+            let caught_up = caught_up(rt, alloc, &mut writer, chain, whole);
             writer.close(rt);
-            Ok(Ok(heights))
+            Ok(Ok(caught_up?))
         }
         Err(refusal) => Ok(Err(refusal.number())),
     }
 }
 
-/// Whether the bytes of a store, but for ten of the end of its fourth record, give three blocks.
+/// The chain of all blocks.
+fn whole(alloc: Global, genesis: &Genesis, chain: &Orderer) -> Result<Snapshot, Fail> {
+    let [first, rest @ ..] = chain.blocks() else {
+        return Err("blocks".into());
+    };
+    after(alloc, genesis, &Snapshot::empty(alloc), first, rest)
+}
+
+/// Whether the bytes of a store, but for ten of the end of its fourth record, give three blocks, and
+/// with blocks 4 and 5 the flags and the state of all five.
 fn is_back<R: Threads + Wait + Sync>(
     rt: &R,
     alloc: Global,
     genesis: &Genesis,
     chain: &Orderer,
+    whole: &Snapshot,
 ) -> Result<bool, Fail> {
     let store = store(alloc, chain.blocks(), 0)?;
-    let cut = store.get(..store.len() / 5 * 4 - 10).unwrap_or(&[]);
-    Ok(reopened(rt, alloc, genesis, chain, cut)? == Ok((3, 5)))
+    let end = (store.len() / 5 * 4).saturating_sub(10);
+    let cut = store.get(..end).unwrap_or(&[]);
+    Ok(reopened(rt, alloc, genesis, chain, whole, cut)? == Ok((3, true)))
 }
 
 /// Whether a store with another flag of its second block is refused.
@@ -98,17 +139,19 @@ fn is_refused<R: Threads + Wait + Sync>(
     alloc: Global,
     genesis: &Genesis,
     chain: &Orderer,
+    whole: &Snapshot,
 ) -> Result<bool, Fail> {
     let store = store(alloc, chain.blocks(), 2)?;
-    Ok(reopened(rt, alloc, genesis, chain, &store)? == Err(711))
+    Ok(reopened(rt, alloc, genesis, chain, whole, &store)? == Err(711))
 }
 
 #[test]
 fn a_peer_comes_back_with_its_store(rt: HostRuntime) -> Result<(), Fail> {
     let alloc = rt.alloc();
     let setup = opening(alloc, GET_PUT_A, 5)?;
-    let is_back = is_back(&rt, alloc, &setup.genesis, &setup.chain)?;
-    let is_refused = is_refused(&rt, alloc, &setup.genesis, &setup.chain)?;
+    let whole = whole(alloc, &setup.genesis, &setup.chain)?;
+    let is_back = is_back(&rt, alloc, &setup.genesis, &setup.chain, &whole)?;
+    let is_refused = is_refused(&rt, alloc, &setup.genesis, &setup.chain, &whole)?;
     assert!(rt; is_back && is_refused);
     Ok(())
 }
