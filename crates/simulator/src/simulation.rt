@@ -14,8 +14,8 @@ ghost use Rattle.simulator.specs.declared.refusal.SimRefusal.TheVariants.{Unknow
 use crate::book::Book;
 use crate::refusal::SimRefusal;
 use fab_types::{Payload, Proposal};
-use flat_interp::{Outcome, run};
 use host_api::{Parts, PlainMap, Recorder, View};
+use interp::{Outcome, run};
 use std::alloc::Global;
 use world_state::Snapshot;
 

@@ -7,4 +7,5 @@ pub mod Code
 pub mod View
 pub mod Laws
 pub mod Functions
+pub mod Sizes
 pub mod HostTypes

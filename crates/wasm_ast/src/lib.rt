@@ -7,6 +7,7 @@
 #![tactic(auto)]
 
 mod body;
+mod functions;
 mod host_call;
 mod module;
 mod name;
@@ -16,6 +17,7 @@ mod trap;
 mod types;
 
 pub use body::{Block, Body, BranchTable, Conditional, Instr, MemoryArgument};
+pub use functions::{Functions, Parameters};
 pub use host_call::{HostAnswer, HostCall, arity};
 pub use module::{
     DataSegment, ElementSegment, Export, ExternalKind, Func, Global, Import, ImportKind, Module,

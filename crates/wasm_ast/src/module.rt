@@ -1,6 +1,7 @@
 //! Modules and their parts (Core 1.0, section 2.5).
 
 use crate::body::Body;
+use crate::functions::Functions;
 use crate::name::Name;
 use crate::types::{FuncType, GlobalType, Limits, ValueType};
 use seq::Seq;
@@ -82,7 +83,7 @@ pub struct DataSegment {
 pub struct Module {
     pub types: Seq<FuncType>,
     pub imports: Seq<Import>,
-    pub functions: Seq<Func>,
+    pub functions: Functions,
     pub tables: Seq<Limits>,
     pub memories: Seq<Limits>,
     pub globals: Seq<Global>,

@@ -1,6 +1,6 @@
 //! Types (Core 1.0, section 2.3).
 
-use seq::Seq;
+use crate::functions::Parameters;
 
 /// A type of values: words of 32 or of 64 bits. Floats are not in the profile.
 #[derive(Clone, Copy, Debug, PartialEq, Eq)]
@@ -15,7 +15,7 @@ pub type BlockType = Option<ValueType>;
 /// The type of a function. A function of Core 1.0 has at most one result.
 #[derive(Debug, Drop)]
 pub struct FuncType {
-    pub params: Seq<ValueType>,
+    pub params: Parameters,
     pub result: Option<ValueType>,
 }
 

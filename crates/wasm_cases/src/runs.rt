@@ -6,7 +6,7 @@ use crate::modules::valid_module;
 use crate::steps::step_through;
 use fab_types::{Value, WriteItem, WriteSet};
 use host_api::{PlainMap, Recorder};
-use interp::Outcome;
+use interp::{Outcome, run};
 use std::alloc::{AllocError, Global};
 use wasm_trace::run_by_reduction;
 use wasm_validate::ValidModule;
@@ -14,9 +14,7 @@ use wasm_validate::ValidModule;
 /// What runs a module.
 #[derive(Clone, Copy)]
 pub enum Runner {
-    /// `run` of `interp`, on the tree.
-    Tree,
-    /// `run` of `flat_interp`.
+    /// `run`, by flat code.
     Flat,
     /// `run_by_reduction`.
     Reduction,
@@ -60,10 +58,9 @@ fn compared(alloc: Global, valid: &ValidModule, last: u64) -> Result<String, All
 /// Whether all runners answer the same with this fuel.
 fn is_same(alloc: Global, valid: &ValidModule, fuel: u64) -> Result<bool, AllocError> {
     let wanted = run_invoke(alloc, valid, fuel, Runner::Flat)?;
-    let on_tree = run_invoke(alloc, valid, fuel, Runner::Tree)?;
     let reduced = run_invoke(alloc, valid, fuel, Runner::Reduction)?;
     let stepped = run_invoke(alloc, valid, fuel, Runner::Stepper)?;
-    Ok(on_tree == wanted && reduced == wanted && stepped == wanted)
+    Ok(reduced == wanted && stepped == wanted)
 }
 
 /// The run of `invoke` without an argument on a state without keys.
@@ -77,8 +74,7 @@ fn run_invoke(
     let argument = Value::new(Vec::new(alloc)).unwrap();
     let mut recorder = Recorder::new(alloc, &state, &argument);
     let outcome = match runner {
-        Runner::Tree => interp::run(alloc, valid, &mut recorder, fuel)?,
-        Runner::Flat => flat_interp::run(alloc, valid, &mut recorder, fuel)?,
+        Runner::Flat => run(alloc, valid, &mut recorder, fuel)?,
         Runner::Reduction => run_by_reduction(alloc, valid, &mut recorder, fuel)?,
         Runner::Stepper => step_through(alloc, valid, &mut recorder, fuel, &mut Vec::new(alloc))?,
     };

@@ -102,7 +102,7 @@ code_reads i =
       again = λ f text rest known h. p.again f text rest tt (h.0, (known, h.1), h.2);
     }
 
-codes_take : (is : List ℕ) (bytes : List ℕ) (fs : List Func) (rest : List ℕ) → codes_at is bytes ≡ Some (fs, rest)
+pub codes_take : (is : List ℕ) (bytes : List ℕ) (fs : List Func) (rest : List ℕ) → codes_at is bytes ≡ Some (fs, rest)
     → (map (λ f. f.type_index) fs ≡ is) × (text : List ℕ) × Repeats IsFunctionCode fs text × (bytes ≡ text ++ rest)
 unfolding codes_at
 codes_take [] bytes fs rest e =

@@ -10,6 +10,7 @@ pub mod OpLaws
 pub mod CodeTakes
 pub mod CodeAgain
 pub mod FunctionLaws
+pub mod Weights
 pub mod Built
 pub mod Order
 pub mod Sequence

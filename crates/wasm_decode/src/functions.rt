@@ -1,7 +1,7 @@
 //! Globals, the code of functions, and segments (WebAssembly Core 1.0, sections 5.5.9 and 5.5.12 to
 //! 5.5.14).
 
-ghost use Rattle.std.specs.Prelude.{◌≡◌, ◌^◌, ◌-◌, ◌++◌, ℕ, List, Option, Some, IfOk, replicate, length};
+ghost use Rattle.std.specs.Prelude.{◌≡◌, ◌^◌, ◌-◌, ◌≤◌, ◌++◌, ℕ, List, Option, Some, IfOk, replicate, length};
 ghost use Rattle.wasm_decode.specs.Parses.{Parses};
 ghost use Rattle.wasm_decode.specs.Faults.{Tells};
 ghost use Rattle.wasm_decode.specs.FunctionReading.{groups_at, locals_at, code_parts_at, code_at, codes_at, functions_at, global_at, element_at, data_at};
@@ -9,11 +9,11 @@ ghost use Rattle.wasm_decode.specs.FunctionReading.{groups_at, locals_at, code_p
 use crate::code::expression;
 use crate::fault::{DecodeFault, FaultKind, refuse};
 use crate::item::{Item, list, number};
-use crate::limits::{MOST_ENTRIES, MOST_FUNCTIONS, MOST_LOCALS};
+use crate::limits::{MODULE_BYTES, MOST_ENTRIES, MOST_FUNCTIONS, MOST_LOCALS};
 use crate::types::{global_type, value_type};
 use seq::Seq;
 use std::alloc::{AllocError, Global};
-use wasm_ast::{DataSegment, ElementSegment, Func, ValueType};
+use wasm_ast::{DataSegment, ElementSegment, Func, Functions, ValueType};
 use wasm_bytes::Cursor;
 
 fn push_locals(
@@ -108,7 +108,8 @@ pub(crate) fn functions(
     alloc: Global,
     cursor: &mut Cursor<'_>,
     type_indices: &[u32],
-) -> Result<Seq<Func>, DecodeFault>
+) -> Result<Functions, DecodeFault>
+    requires { length cursor.old.rest ≤ MODULE_BYTES }
     ensures read { Parses (λ x. x) result cursor.new
         (functions_at type_indices.now cursor.old.rest) }
     ensures tells { Tells result cursor.old cursor.new }
@@ -118,7 +119,7 @@ pub(crate) fn functions(
     if count as usize != type_indices.len() {
         return refuse(FaultKind::CountsDiffer, offset);
     }
-    codes(alloc, cursor, type_indices)
+    Ok(Functions::new(codes(alloc, cursor, type_indices)?))
 }
 
 impl Item for wasm_ast::Global {

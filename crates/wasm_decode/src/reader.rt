@@ -15,7 +15,7 @@ use crate::limits::MODULE_BYTES;
 use crate::sections::{Parts, sections};
 use seq::Seq;
 use std::alloc::Global;
-use wasm_ast::Module;
+use wasm_ast::{Functions, Module};
 use wasm_bytes::Cursor;
 
 /// What each module begins with: four bytes by which it is known, and the version.
@@ -51,7 +51,7 @@ fn nothing(alloc: Global) -> Parts
         module: Module {
             types: Seq::empty(alloc),
             imports: Seq::empty(alloc),
-            functions: Seq::empty(alloc),
+            functions: Functions::empty(alloc),
             tables: Seq::empty(alloc),
             memories: Seq::empty(alloc),
             globals: Seq::empty(alloc),

@@ -11,7 +11,7 @@ ghost use Rattle.wasm_decode.specs.SectionReading.{section_rows, custom_at, fill
 use crate::fault::{DecodeFault, FaultKind, refuse};
 use crate::functions::functions;
 use crate::item::list;
-use crate::limits::{MOST_FUNCTIONS, MOST_PARTS, MOST_TYPES};
+use crate::limits::{MODULE_BYTES, MOST_FUNCTIONS, MOST_PARTS, MOST_TYPES};
 use crate::types::{MemoryType, TableType};
 use seq::Seq;
 use std::alloc::Global;
@@ -77,6 +77,7 @@ fn fill(
     kind: Kind,
     parts: &mut Parts,
 ) -> Result<(), DecodeFault>
+    requires { length cursor.old.rest ≤ MODULE_BYTES }
     ensures read { Parses (λ _. parts.new) result cursor.new
         (fill_at kind parts.old cursor.old.rest) }
     ensures tells { Tells result cursor.old cursor.new }
@@ -126,6 +127,7 @@ fn known(
     kind: Kind,
     parts: &mut Parts,
 ) -> Result<(), DecodeFault>
+    requires { length cursor.old.rest ≤ MODULE_BYTES }
     ensures read { Parses (λ _. parts.new) result cursor.new
         (sized_at (whole_at (fill_at kind parts.old)) cursor.old.rest) }
     ensures tells { Tells result cursor.old cursor.new }
@@ -151,6 +153,7 @@ fn section(
     last: u8,
     parts: &mut Parts,
 ) -> Result<u8, DecodeFault>
+    requires { length cursor.old.rest ≤ MODULE_BYTES }
     ensures read { Parses (λ id. (id, parts.new)) result cursor.new
         (section_at last parts.old cursor.old.rest) }
     ensures tells { Tells result cursor.old cursor.new }
@@ -178,6 +181,7 @@ pub(crate) fn sections(
     cursor: &mut Cursor<'_>,
     parts: &mut Parts,
 ) -> Result<(), DecodeFault>
+    requires { length cursor.old.rest ≤ MODULE_BYTES }
     ensures read { Makes (λ _. parts.new) result
         (sections_at (length cursor.old.rest) 0 parts.old cursor.old.rest) }
     ensures tells { Tells result cursor.old cursor.new }

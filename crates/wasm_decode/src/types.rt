@@ -12,7 +12,7 @@ use crate::fault::{DecodeFault, FaultKind, refuse};
 use crate::item::{Item, list, number};
 use crate::limits::{MOST_ENTRIES, MOST_PAGES, MOST_PARAMETERS};
 use std::alloc::Global;
-use wasm_ast::{BlockType, FuncType, GlobalType, Limits, ValueType};
+use wasm_ast::{BlockType, FuncType, GlobalType, Limits, Parameters, ValueType};
 use wasm_bytes::Cursor;
 
 fn value_type_of(byte: u8) -> Option<ValueType>
@@ -100,13 +100,13 @@ impl Item for FuncType {
 
     ghost reads = { func_type_at };
 
-    #[tactic(auto, unfolding(crate::specs::TypeReading::func_type_at))]
+    #[tactic(auto, using(crate::proofs::Weights::parameters_few), unfolding(crate::specs::TypeReading::func_type_at))]
     fn read(alloc: Global, cursor: &mut Cursor<'_>) -> Result<FuncType, DecodeFault> {
         let offset = cursor.offset();
         if cursor.byte()? != 0x60 {
             return refuse(FaultKind::TypeByte, offset);
         }
-        let params = list::<ValueType>(alloc, cursor, MOST_PARAMETERS)?;
+        let params = Parameters::new(list::<ValueType>(alloc, cursor, MOST_PARAMETERS)?);
         let result = result_type(cursor)?;
         Ok(FuncType { params, result })
     }

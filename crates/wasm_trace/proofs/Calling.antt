@@ -19,7 +19,7 @@ use Rattle.wasm_meaning.specs.Program.{function_of, program_of, fresh_world}
 use Rattle.wasm_meaning.specs.Meaning.{greatest_depth, with_some, call_function, meaning}
 use Rattle.wasm_meaning.specs.Fine.{IsEnding}
 use Rattle.wasm_meaning.specs.Laws.NeverStuck.{invocation_ends}
-use Rattle.interp.specs.Reading.{type_in}
+use Rattle.interp.specs.Settings.{type_in}
 use Rattle.wasm_meaning.specs.Values.{Val, World, Answer, Answering, Program, Function, zeros}
 use Rattle.wasm_trace.specs.declared.parts.Value.{Value}
 use Rattle.wasm_trace.specs.Reduction.{Seq, Nil, FreeBlock, Frame, Traps, values, conf, at, Step, To, Stuck, with_last, invoke_step}

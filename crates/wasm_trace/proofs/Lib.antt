@@ -2,6 +2,7 @@ pub mod Sim
 pub mod Forms
 pub mod Tree
 pub mod Whole
+pub mod Running
 pub mod Stepping
 pub mod Leaving
 pub mod Taking

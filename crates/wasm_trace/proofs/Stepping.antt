@@ -11,14 +11,13 @@ use Rattle.wasm_ast.specs.declared.trap.Trap.{Trap}
 use Rattle.wasm_ast.specs.Code.{BlockType, Code}
 use Rattle.wasm_ast.specs.View.{then_code, code_of}
 use Rattle.wasm_meaning.specs.Values.{Val, World, Program, all_of, top_of}
-use Rattle.interp.specs.Reading.{arity_of}
 use Rattle.wasm_trace.specs.declared.parts.Value.{Value}
 use Rattle.wasm_trace.specs.declared.parts.Front.{Front}
 use Rattle.wasm_trace.specs.declared.parts.Front.TheVariants as front
 use Rattle.wasm_trace.specs.declared.parts.Level.{Level}
 use Rattle.wasm_trace.specs.Reduction.{Seq, Nil, Traps, plain, values, Config, conf, at, Step, To, Ends, Trapped, Spent, Stuck, paid, with_found, in_label, in_frame, trap_step, reduce, reduce_in}
 use Rattle.wasm_trace.specs.Context.{Layer, InLabel, InFrame, frames, wrap, plug}
-use Rattle.wasm_trace.specs.View.{val_of, stack_of, plain_of, before, layer_of, layers, out_of, Kept}
+use Rattle.wasm_trace.specs.View.{val_of, stack_of, plain_of, before, layer_of, layers, out_of, Kept, arity_of}
 use Rattle.wasm_trace.specs.Ending.{IsStuck}
 use Rattle.wasm_trace.proofs.Sim.{values_append, step_start}
 

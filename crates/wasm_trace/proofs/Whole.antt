@@ -31,13 +31,13 @@ kind_of (Trapped why) = 4
 kind_of Spent = 5
 kind_of Stuck = 6
 
-ends_not_to : {R : Type 0} {s : List Val} {z : Config R} → Ends s ≡ To z → ⊥
+pub ends_not_to : {R : Type 0} {s : List Val} {z : Config R} → Ends s ≡ To z → ⊥
 ends_not_to e = let h = ap kind_of e in absurd (omega (arith, h))
 
-trapped_not_to : {R : Type 0} {why : Trap} {z : Config R} → Trapped why ≡ To z → ⊥
+pub trapped_not_to : {R : Type 0} {why : Trap} {z : Config R} → Trapped why ≡ To z → ⊥
 trapped_not_to e = let h = ap kind_of e in absurd (omega (arith, h))
 
-spent_not_to : {R : Type 0} {z : Config R} → Spent ≡ To z → ⊥
+pub spent_not_to : {R : Type 0} {z : Config R} → Spent ≡ To z → ⊥
 spent_not_to e = let h = ap kind_of e in absurd (omega (arith, h))
 
 abbrev word_in : {R : Type 0} → Step R → ℕ
@@ -75,7 +75,7 @@ module _ {R : Type 0} (p : Program R) where
   end_of x (meant.Spent w) given outcome.Spent after i h e = (conf h.0 h.1 w h.2, h.3, (h.4, e))
   end_of x meant.Stuck given o after i h e = absurd h
 
-  same_next : (x y z : Config R) → reduce p x ≡ To y → reduce p x ≡ To z → y ≡ z
+  pub same_next : (x y z : Config R) → reduce p x ≡ To y → reduce p x ≡ To z → y ≡ z
   same_next x y z e q = ap (next y) (sym e ∙ q)
     where
       next : Config R → Step R → Config R

@@ -45,6 +45,11 @@ val_of (val.I64 n) = value type.I64 n
 abbrev pub vals : List Value → List Val
 vals vs = map val_of vs
 
+-- how many values a block leaves
+abbrev pub arity_of : BlockType → ℕ
+arity_of None = 0
+arity_of (Some t) = 1
+
 -- values in a sequence, the last first
 abbrev pub stack_of : List Value → List Val
 stack_of vs = reverse (map val_of vs)

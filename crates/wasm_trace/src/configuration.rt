@@ -3,9 +3,8 @@
 ghost use Rattle.std.specs.Prelude.{◌≡◌, ◌≤◌, ◌++◌, ◌∷◌, [], ℕ, List, length, IfOk, OnOk};
 ghost use Rattle.wasm_meaning.specs.Values.{value, zeros};
 ghost use Rattle.wasm_trace.specs.Context.{frames};
-ghost use Rattle.wasm_trace.specs.View.{layers, layer_of, stack_of, vals, val_of, Within, IsGoing, SameFuel, Spends, flow_of, EndsIn, Ended, Broken, Left, Trapping, Invoked, Acted, Became, Kept, BlockEntered, LoopEntered};
+ghost use Rattle.wasm_trace.specs.View.{layers, layer_of, stack_of, vals, val_of, Within, IsGoing, SameFuel, Spends, flow_of, EndsIn, Ended, Broken, Left, Trapping, Invoked, Acted, Became, Kept, BlockEntered, LoopEntered, arity_of};
 ghost use Rattle.wasm_trace.specs.declared.parts.Front.TheVariants as front;
-ghost use Rattle.interp.specs.Reading.{arity_of};
 ghost use Rattle.wasm_ast.specs.View.{code_of};
 
 use crate::names::Mnemonic;

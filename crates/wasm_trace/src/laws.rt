@@ -8,6 +8,7 @@ ghost use Rattle.wasm_meaning.specs.Values.{Val, World, Answering, Program};
 ghost use Rattle.wasm_meaning.specs.Meaning.{meaning};
 ghost use Rattle.wasm_meaning.specs.Program.{program_of, invocation};
 ghost use Rattle.interp.specs.declared.outcome.Outcome.{Outcome};
+ghost use Rattle.interp.specs.Ended.{Ended};
 ghost use Rattle.wasm_trace.specs.Reduction.{Seq, Config, conf, values, plain, reduce, Reaches};
 ghost use Rattle.wasm_trace.specs.Context.{Layer, frames, Shows};
 ghost use Rattle.wasm_trace.specs.Ending.{IsStart, EndsAs, IsStuck, ReductionEnds};
@@ -27,6 +28,14 @@ pub fn ends_as_meant<R>()
     ensures { (m : Module) (host : Answering R) (records : R) (fuel : ℕ) → IsValid m →
         (x : Config R) × IsStart m records fuel x ×
         EndsAs (program_of m host) x (invocation m host records fuel) }
+{}
+
+/// A run of a valid module that ended as the contract of `interp::run` says ended as its reduction
+/// does.
+pub fn ends_as_run<R>()
+    ensures { (m : Module) (host : Answering R) (records : R) (fuel : ℕ) (o : Outcome)
+        (after : R) → IsValid m → Ended (invocation m host records fuel) fuel o after →
+        ReductionEnds m host records fuel o after }
 {}
 
 /// A reduction ends in one way.

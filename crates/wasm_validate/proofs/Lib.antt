@@ -5,6 +5,7 @@ pub mod Sound
 pub mod Complete
 pub mod Instructions
 pub mod Untyped
+pub mod WellFormed
 pub mod Fronts
 pub mod Functions
 pub mod Modules

@@ -29,12 +29,12 @@ pub struct ValidModule {
     calls: Vec<HostCall>,
     // The index of the function that is exported as `invoke`.
     invoke: u32,
-    // The flat code of the functions, where there is one.
-    flat: Option<FlatText>,
+    // The flat code of the functions.
+    flat: FlatText,
 }
 
 impl Model for ValidModule {
-    ghost use Rattle.std.specs.Prelude.{◌≡◌, IfSome, Some};
+    ghost use Rattle.std.specs.Prelude.{◌≡◌, Some};
     ghost use Rattle.flat_text.specs.Spelling.{Spells};
     ghost use Rattle.wasm_validate.specs.Flat.{context_of};
     ghost use Rattle.wasm_ast.specs.declared.module.Module.{Module};
@@ -49,8 +49,7 @@ impl Model for ValidModule {
     ghost view = { λ v. v.module };
 
     ghost invariant = { λ v. IsValid v.module × (v.calls.items ≡ host_calls v.module.imports) ×
-        (invoke_of v.module ≡ Some v.invoke) ×
-        IfSome v.flat (λ t. Spells t (context_of v.module)) };
+        (invoke_of v.module ≡ Some v.invoke) × Spells v.flat (context_of v.module) };
 }
 
 impl ValidModule {
@@ -77,11 +76,11 @@ impl ValidModule {
         self.invoke
     }
 
-    /// The flat code of the module's functions, where there is one.
-    pub fn flat(&self) -> Option<&FlatText>
-        ensures { IfSome result (λ t. Spells t.now (context_of self.now)) }
+    /// The flat code of the module's functions.
+    pub fn flat(&self) -> &FlatText
+        ensures { Spells result.now (context_of self.now) }
     {
-        self.flat.as_ref()
+        &self.flat
     }
 }
 
@@ -115,22 +114,23 @@ pub fn validate(alloc: Global, given: Module) -> Result<ValidModule, ValidateFau
     })
 }
 
-// The flat code of a module with these host calls, where there is one.
+// The flat code of a valid module with these host calls. Its branches name labels, so there is one.
 fn flatten_module(
     alloc: Global,
     given: &Module,
     calls: &[HostCall],
-) -> Result<Option<FlatText>, ValidateFault>
-    requires { calls.now ≡ host_calls given.now.imports }
-    ensures spelled { IfOk result (λ r. IfSome r (λ t. Spells t (context_of given.now))) }
+) -> Result<FlatText, ValidateFault>
+    requires valid { IsValid given.now }
+    requires calls { calls.now ≡ host_calls given.now.imports }
+    ensures spelled { IfOk result (λ t. Spells t (context_of given.now)) }
     ensures fault { IfErr result (λ e. e ≡ ValidateFault.Memory) }
 {
     let source = Source {
         imports: calls,
         types: given.types.as_slice(),
-        defined: given.functions.as_slice(),
+        defined: &given.functions,
     };
-    Ok(flatten(alloc, &source)?)
+    Ok(flatten(alloc, &source)?.unwrap())
 }
 
 // The host calls and the index of `invoke` of a module that is valid.

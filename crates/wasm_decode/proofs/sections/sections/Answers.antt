@@ -19,7 +19,8 @@ sections-preserved c =
     let n = l.invariant.0 in
     let after = c.section.new.cursor.rest in
     let less : length after < length l.cursor.rest = c.in_ok-last.ensures.shorter in
-    (n - 1, omega (arith, l.invariant.1), sym (another n l.last l.parts l.cursor.rest c.in_ok-last.last c.section.new.parts after less l.invariant.1 c.in_ok-last.ensures.read) ∙ l.invariant.2, search rules)
+    let same = another n l.last l.parts l.cursor.rest c.in_ok-last.last c.section.new.parts after less l.invariant.1 c.in_ok-last.ensures.read in
+    (n - 1, omega (arith, l.invariant.1), sym same ∙ l.invariant.2, search rules, omega (arith, less, l.invariant.4))
 
 pub returns-clause-read : goal.returns-clause-read
 returns-clause-read c =
