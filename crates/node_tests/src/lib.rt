@@ -22,8 +22,4 @@ mod samples;
 #[cfg(test)]
 mod seat_threads_test;
 #[cfg(test)]
-mod simulator_test;
-#[cfg(test)]
 mod snapshot_cell_test;
-#[cfg(test)]
-mod world_state_test;

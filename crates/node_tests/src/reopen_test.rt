@@ -2,11 +2,10 @@
 
 use crate::peer_node_test::commit;
 use crate::samples::{GET_PUT_A, opening};
-use crate::world_state_test::after;
 use block_store::{append, load};
 use counted::Counted;
 use fab_types::{Block, CommittedBlock, Flag, Key, Value, Version};
-use ledger_setting::Genesis;
+use ledger_setting::{Genesis, commit_checked};
 use orderer::Orderer;
 use peer_node::{Peer, PeerWriter};
 use std::alloc::{AllocError, Global};
@@ -110,12 +109,26 @@ fn reopened<R: Threads + Wait + Sync>(
     }
 }
 
+/// The snapshot after one block more.
+fn next(
+    alloc: Global,
+    genesis: &Genesis,
+    before: &Snapshot,
+    block: &Block,
+) -> Result<Snapshot, Fail> {
+    match commit_checked(alloc, &genesis.rules, before, block.clone()?) {
+        Ok(snapshot) => Ok(snapshot),
+        Err(_) => Err("a block".into()),
+    }
+}
+
 /// The chain of all blocks.
 fn whole(alloc: Global, genesis: &Genesis, chain: &Orderer) -> Result<Snapshot, Fail> {
-    let [first, rest @ ..] = chain.blocks() else {
-        return Err("blocks".into());
-    };
-    after(alloc, genesis, &Snapshot::empty(alloc), first, rest)
+    let mut newest = Snapshot::empty(alloc);
+    for block in chain.blocks() {
+        newest = next(alloc, genesis, &newest, block)?;
+    }
+    Ok(newest)
 }
 
 /// Whether the bytes of a store, but for ten of the end of its fourth record, give three blocks, and
