@@ -2,7 +2,7 @@
 
 ghost use Rattle.std.specs.Prelude.{◌≡◌, ℕ, List, Option, None, IfSome, IfOk, take};
 
-use std::alloc::Global;
+use std::alloc::{AllocError, Global};
 use std::io::{self, ErrorKind, Read, Write};
 
 /// Where the program's files are.
@@ -18,15 +18,37 @@ pub trait Files {
     fn open(&mut self, name: &str) -> Option<Self::Reader>
         ensures { IfSome result (λ r. Self.Reader.remaining r ≡ bytes self.old name.now) };
 
-    /// Makes a file, or empties the one of that name, for writing. None where that cannot be done.
+    /// Where that goes which is written under a name.
+    ///
+    /// A fault where the name is a folder's or no file can have it, where it is that of a link that
+    /// leads nowhere, and where it cannot be looked at.
+    fn target(&mut self, alloc: Global, name: &str) -> Result<Target, FileFault>;
+
+    /// Makes a file for writing, in the place of a file of that name. None where that cannot be
+    /// done, and where anything but a file has the name.
     fn create(&mut self, name: &str) -> Option<Self::Writer>;
+
+    /// Opens a device or a pipe for writing. None where that cannot be done.
+    fn open_device(&mut self, name: &str) -> Option<Self::Writer>;
 
     /// Gives a file another name, in the place of a file that has it. Answers whether that was
     /// done.
     fn rename(&mut self, from: &str, to: &str) -> bool;
+
+    /// Takes a file away, where that can be done.
+    fn remove(&mut self, name: &str);
 }
 
-/// Why a file gave no bytes.
+/// Where that goes which is written under a name. A link stands for what it leads to.
+#[derive(Drop)]
+pub enum Target {
+    /// A file of this name, which may not be there yet. A new one takes its place.
+    File(String),
+    /// A device or a pipe of this name. It takes what is written, and stays what it is.
+    Device(String),
+}
+
+/// Why a file was not opened, read or written.
 #[derive(Clone, Copy, Debug, PartialEq, Eq)]
 pub enum FileFault {
     Memory,
@@ -41,6 +63,12 @@ impl From<io::Error> for FileFault {
         } else {
             FileFault::Device
         }
+    }
+}
+
+impl From<AllocError> for FileFault {
+    fn from(_refused: AllocError) -> FileFault {
+        FileFault::Memory
     }
 }
 

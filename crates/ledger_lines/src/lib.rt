@@ -13,7 +13,7 @@ mod opening;
 mod printer;
 
 pub use failure::Failure;
-pub use files::{FileFault, Files, read_all, read_at_most};
+pub use files::{FileFault, Files, Target, read_all, read_at_most};
 pub use lines::{hex_of, id_of, print_payload, version_of};
 pub use opening::{genesis_in, system_genesis};
 pub use printer::Printer;

@@ -1,7 +1,10 @@
 //! The files of the machine.
 
-use ledger_lines::Files;
+use ledger_lines::{FileFault, Files, Target};
+use std::alloc::Global;
 use std::fs::{self, File};
+use std::io::ErrorKind;
+use std::path::Path;
 
 /// The files of the machine that the program runs on.
 #[derive(Drop)]
@@ -11,6 +14,17 @@ impl<'a> Disk<'a> {
     /// The files of this machine.
     pub fn new(machine: &'a HostRuntime) -> Disk<'a> {
         Disk(machine)
+    }
+
+    /// Where that goes which is written under a name that leads to nothing: to a new file, if there
+    /// is a folder for it. A link that leads nowhere is no name of a file.
+    fn new_file(&self, alloc: Global, name: &str) -> Result<Target, FileFault> {
+        let path = Path::new(".").join(alloc, name)?;
+        let has_folder = path.parent().is_some_and(|folder| folder.is_dir(self.0));
+        if !has_folder || name.ends_with('/') || path.is_symlink(self.0) {
+            return Err(FileFault::Device);
+        }
+        Ok(Target::File(String::from_str(alloc, name)?))
     }
 }
 
@@ -23,11 +37,36 @@ impl Files for Disk<'_> {
         fs::open(self.0, name).ok()
     }
 
+    fn target(&mut self, alloc: Global, name: &str) -> Result<Target, FileFault> {
+        match fs::metadata(self.0, name) {
+            Ok(found) if found.is_dir() => Err(FileFault::Device),
+            Ok(found) if found.is_file() => {
+                let path = fs::canonicalize(self.0, name)?;
+                Ok(Target::File(path.into_string()))
+            }
+            Ok(_) => Ok(Target::Device(String::from_str(alloc, name)?)),
+            Err(error) if error.kind() == ErrorKind::NotFound => self.new_file(alloc, name),
+            Err(error) => Err(FileFault::from(error)),
+        }
+    }
+
     fn create(&mut self, name: &str) -> Option<File> {
-        fs::create(self.0, name).ok()
+        if Path::new(name).is_file(self.0) && !Path::new(name).is_symlink(self.0) {
+            fs::remove_file(self.0, name).ok()?;
+        }
+        let mut options = File::options();
+        options.write(true).create_new(true).open(self.0, name).ok()
+    }
+
+    fn open_device(&mut self, name: &str) -> Option<File> {
+        File::options().write(true).open(self.0, name).ok()
     }
 
     fn rename(&mut self, from: &str, to: &str) -> bool {
         fs::rename(self.0, from, to).is_ok()
+    }
+
+    fn remove(&mut self, name: &str) {
+        let _ = fs::remove_file(self.0, name);
     }
 }

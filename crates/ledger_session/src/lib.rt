@@ -6,6 +6,7 @@
 #![tactic(auto)]
 
 mod lines;
+mod reading;
 mod session;
 mod storing;
 

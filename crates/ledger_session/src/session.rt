@@ -6,14 +6,15 @@ ghost use Rattle.ledger_setting.specs.Setting.{limits_of};
 ghost use Rattle.ledger_lines.specs.Told.{IsSilent, Tells};
 
 use crate::lines::{print_audit, print_reply, print_state};
+use crate::reading::{Next, next_line};
 use crate::storing::write_store;
 use events::{Action, BadLine, Bindings, read_event};
 use fab_types::{Endorsement, Payload, Proposal};
 use fabric_core::{Event, Reply, System, audit};
-use ledger_lines::{Failure, Files, Printer, id_of, read_all};
+use ledger_lines::{Failure, Files, Printer, Target, id_of};
 use ledger_setting::Genesis;
 use std::alloc::Global;
-use std::io::{BufRead, Write};
+use std::io::{BufRead, BufReader, Write};
 use wire::{WireFault, decode_envelope};
 
 /// A system at work, and the endorsements that have a name.
@@ -28,7 +29,8 @@ struct Session {
 /// to, the state of the first peer after them and the audit of its chain, and writes that chain to a
 /// store if there is one.
 ///
-/// A line that stands for nothing ends the run, and then no store is written.
+/// The file is read as the run goes. A line that stands for nothing ends the run, and then no store
+/// is written. The store's name is looked at before the first line is read.
 pub fn run<F: Files, W: Write>(
     alloc: Global,
     files: &mut F,
@@ -40,9 +42,16 @@ pub fn run<F: Files, W: Write>(
     requires { AreLimits (limits_of genesis.now) }
     ensures tells { Tells out.old out.new result }
 {
-    let lines = read_all(alloc, files, events)?;
+    let Some(events) = files.open(events) else {
+        return Err(Failure::File);
+    };
+    let mut lines = BufReader::new(alloc, events)?;
+    let target = match store {
+        Some(name) => Some(files.target(alloc, name)?),
+        None => None,
+    };
     let mut session = Session::open(alloc, genesis)?;
-    session.run_to_end(files, genesis, &lines, store, out)
+    session.run_to_end(files, genesis, &mut lines, target.as_ref(), out)
 }
 
 impl Session {
@@ -61,20 +70,20 @@ impl Session {
 
     /// Runs the lines, prints how the first peer stands then, and writes its chain to a store if
     /// there is one.
-    fn run_to_end<F: Files, W: Write>(
+    fn run_to_end<F: Files, B: BufRead, W: Write>(
         &mut self,
         files: &mut F,
         genesis: &Genesis,
-        lines: &[u8],
-        store: Option<&str>,
+        lines: &mut B,
+        store: Option<&Target>,
         out: &mut Printer<'_, W>,
     ) -> Result<(), Failure>
         ensures tells { Tells out.old out.new result }
     {
         self.run_lines(lines, out)?;
         let is_good = self.print_end(genesis, out)?;
-        if let (Some(name), Some(snapshot)) = (store, self.system.snapshot(0)) {
-            write_store(self.alloc, files, name, snapshot)?;
+        if let (Some(target), Some(snapshot)) = (store, self.system.snapshot(0)) {
+            write_store(self.alloc, files, target, snapshot)?;
         }
         if is_good {
             Ok(())
@@ -84,12 +93,19 @@ impl Session {
     }
 
     /// Does what each line stands for, in order, and prints what it comes to.
-    fn run_lines<W: Write>(&mut self, lines: &[u8], out: &mut Printer<'_, W>) -> Result<(), Failure>
+    fn run_lines<B: BufRead, W: Write>(
+        &mut self,
+        lines: &mut B,
+        out: &mut Printer<'_, W>,
+    ) -> Result<(), Failure>
         ensures tells { Tells out.old out.new result }
     {
-        for (index, line) in BufRead::split(lines, self.alloc, b'\n').enumerate() {
-            let line = line?;
-            self.take_line(&line, index.saturating_add(1), out)?;
+        for number in 1..usize::MAX {
+            match next_line(self.alloc, lines)? {
+                Next::Line(line) => self.take_line(&line, number, out)?,
+                Next::TooLong => return Err(Failure::BadLine(number)),
+                Next::End => return Ok(()),
+            }
         }
         Ok(())
     }
