@@ -59,7 +59,19 @@ module _ (n : ℕ) (c : Committed) (k : ℕ) (is : IsRecord n c) (short : k < le
         part = take (k - length front) tail;
         is_block = is.block;
         bytes_are = ap (take k) (append_assoc front marks digest) ∙ take_behind front tail k (omega (arith, some, many, front_len));
-        short = omega (arith, some, many, short, front_len, marks_len, one_each, digest_len, length-take (k - length front) tail, length-append (digest_input c) digest, length-append front marks);
+        short = omega (
+          arith,
+          some,
+          many,
+          short,
+          front_len,
+          marks_len,
+          one_each,
+          digest_len,
+          length-take (k - length front) tail,
+          length-append (digest_input c) digest,
+          length-append front marks,
+        );
       }))
 
   cut_record : IsBeginning n (take k (record_bytes c))
@@ -72,12 +84,18 @@ module _ (n : ℕ) (c : Committed) (k : ℕ) (is : IsRecord n c) (short : k < le
 some_taken : (k : ℕ) (bytes : List ℕ) → 0 < k → k < length bytes → take k bytes ≡ [] → ⊥
 some_taken k bytes some short e = let none = ap length e in absurd (omega (arith, some, short, none, length-take k bytes))
 
-cut_loads : (n m : ℕ) (cs : List Committed) (c : Committed) (k : ℕ) → m ≡ n + length cs → AreRecords n cs → IsRecord m c → 0 < k → k < length (record_bytes c) → Loads n (flat_map record_bytes cs ++ take k (record_bytes c)) cs Torn
+cut_loads : (n m : ℕ) (cs : List Committed) (c : Committed) (k : ℕ) → m ≡ n + length cs → AreRecords n cs → IsRecord m c → 0 < k → k < length (record_bytes c) →
+    Loads n (flat_map record_bytes cs ++ take k (record_bytes c)) cs Torn
 cut_loads n m [] c k e are is some short =
     let here : m ≡ n = omega (arith, e) in
     (some_taken k (record_bytes c) some short, cut_record n c k (subst (λ (i : ℕ). IsRecord i c) here is) short)
-cut_loads n m (d ∷ cs) c k e are is some short =
-    (flat_map record_bytes cs ++ take k (record_bytes c), are.0, append_assoc (record_bytes d) (flat_map record_bytes cs) (take k (record_bytes c)), cut_loads (suc n) m cs c k (omega (arith, e)) are.1 is some short)
+cut_loads n m (d ∷ cs) c k e are is some short = (
+  flat_map record_bytes cs ++ take k (record_bytes c),
+  are.0,
+  append_assoc (record_bytes d) (flat_map record_bytes cs) (take k (record_bytes c)),
+  cut_loads (suc n) m cs c k (omega (arith, e)) are.1 is some short,
+)
 
-pub beginning_loads : (cs : List Committed) (c : Committed) (k : ℕ) → AreRecords 1 cs → IsRecord (suc (length cs)) c → 0 < k → k < length (record_bytes c) → Loads 1 (flat_map record_bytes cs ++ take k (record_bytes c)) cs Torn
+pub beginning_loads : (cs : List Committed) (c : Committed) (k : ℕ) → AreRecords 1 cs → IsRecord (suc (length cs)) c → 0 < k → k < length (record_bytes c) →
+    Loads 1 (flat_map record_bytes cs ++ take k (record_bytes c)) cs Torn
 beginning_loads cs c k = cut_loads 1 (suc (length cs)) cs c k (omega arith)

@@ -1,5 +1,6 @@
 -- Each list of bytes is a store: it has records and an end.
-use Rattle.std.proofs.Common.{◌≡◌, ◌≢◌, ℕ, zero, suc, ◌^◌, ◌+◌, ◌<◌, ◌≤◌, ◌⊎◌, inl, inr, List, [], ◌∷◌, ◌++◌, length, take, drop, map, get_or, Option, Some, None, refl, sym, ap, ap₂, subst, ◌∙◌, append_assoc, arith}
+use Rattle.std.proofs.Common.{◌≡◌, ◌≢◌, ℕ, zero, suc, ◌^◌, ◌+◌, ◌<◌, ◌≤◌, ◌⊎◌, inl, inr, List, [], ◌∷◌, ◌++◌, length, take, drop, map, get_or, Option, Some}
+use Rattle.std.proofs.Common.{None, refl, sym, ap, ap₂, subst, ◌∙◌, append_assoc, arith}
 use Rattle.std.specs.List.{AllByRecursion}
 use Rattle.std.specs.Int.{w32, to_be_bytes, from_be_bytes}
 use Rattle.std.proofs.lemmas.List.{length-append, length-drop, length-map, length-take, take-append-drop}
@@ -62,7 +63,10 @@ flags_or_not [] = inl refl
 flags_or_not (m ∷ marks) =
     elim (less_or_not 4 m) [
       | inl big ↦ inr (λ h. let small = h 0 0 (omega arith) in absurd (omega (arith, big, small)))
-      | inr small ↦ elim (flags_or_not marks) [ inl more ↦ inl (ap₂ (λ (a : ℕ) (l : List ℕ). a ∷ l) (flag_there m small) more) | inr none ↦ inr (λ h. none (λ k d l. h (suc k) d (omega (arith, l)))) ]
+      | inr small ↦ elim (flags_or_not marks) [
+        | inl more ↦ inl (ap₂ (λ (a : ℕ) (l : List ℕ). a ∷ l) (flag_there m small) more)
+        | inr none ↦ inr (λ h. none (λ k d l. h (suc k) d (omega (arith, l))))
+      ]
     ]
 
 abbrev HasBlock : ℕ → List ℕ → Type 0
@@ -75,7 +79,8 @@ block_read n text (Some b) e =
     let k = whole_known IsBlock block_bytes block_at block text b e in
     elim (number_or_not b.header.number n) [
       | inl same ↦ inl (b, record { block = k.0; number = same }, k.1)
-      | inr other ↦ inr (λ d l same. other (ap (λ (x : Block). x.header.number) (is_one IsBlock block_bytes block_at block b d k.0 l.block (k.1 ∙ sym same)) ∙ l.number))
+      | inr other ↦ inr (λ d l same.
+          other (ap (λ (x : Block). x.header.number) (is_one IsBlock block_bytes block_at block b d k.0 l.block (k.1 ∙ sym same)) ∙ l.number))
     ]
 
 -- ---- a front
@@ -89,51 +94,55 @@ record HasRecord (n : ℕ) (bytes : List ℕ) : Type 0 where
 abbrev Front : ℕ → List ℕ → Type 0
 Front n bytes = IsBeginning n bytes ⊎ (IsDamaged n bytes ⊎ HasRecord n bytes)
 
-module _ (n : ℕ) (b : Block) (bytes rest : List ℕ) (is : IsBlockAt n b) (are : bytes ≡ framed_bytes b ++ rest) (enough : length b.envelopes + 32 ≤ length rest) where
-  abbrev marks : List ℕ
-  marks = take (length b.envelopes) rest
+module _ (n : ℕ) (b : Block) (bytes rest : List ℕ) (is : IsBlockAt n b) (are : bytes ≡ framed_bytes b ++ rest) (enough : length b.envelopes + 32 ≤ length rest)
+  where
+    abbrev marks : List ℕ
+    marks = take (length b.envelopes) rest
 
-  abbrev after : List ℕ
-  after = drop (length b.envelopes) rest
+    abbrev after : List ℕ
+    after = drop (length b.envelopes) rest
 
-  abbrev digest : List ℕ
-  digest = take 32 after
+    abbrev digest : List ℕ
+    digest = take 32 after
 
-  abbrev left : List ℕ
-  left = drop 32 after
+    abbrev left : List ℕ
+    left = drop 32 after
 
-  one_each : length marks ≡ length b.envelopes
-  one_each = marks_len n b bytes rest b.envelopes is are refl enough marks after digest left refl refl refl refl
+    one_each : length marks ≡ length b.envelopes
+    one_each = marks_len n b bytes rest b.envelopes is are refl enough marks after digest left refl refl refl refl
 
-  digest_fits : length digest ≡ 32
-  digest_fits = digest_len n b bytes rest b.envelopes is are refl enough marks after digest left refl refl refl refl
+    digest_fits : length digest ≡ 32
+    digest_fits = digest_len n b bytes rest b.envelopes is are refl enough marks after digest left refl refl refl refl
 
-  parts : bytes ≡ framed_bytes b ++ marks ++ digest ++ left
-  parts = split n b bytes rest b.envelopes is are refl enough marks after digest left refl refl refl refl ∙ sym (append_assoc (framed_bytes b ++ marks) digest left)
+    parts : bytes ≡ framed_bytes b ++ marks ++ digest ++ left
+    parts = split n b bytes rest b.envelopes is are refl enough marks after digest left refl refl refl refl ∙
+        sym (append_assoc (framed_bytes b ++ marks) digest left)
 
-  bad : ((¬ AreFlags marks) ⊎ (digest ≢ sha256 (framed_bytes b ++ marks))) → IsDamaged n bytes
-  bad h = inr (inr (record { block = b; marks = marks; digest = digest; rest = left; is_block = is; one_each = one_each; digest_len = digest_fits; bad = h; bytes_are = parts }))
+    bad : ((¬ AreFlags marks) ⊎ (digest ≢ sha256 (framed_bytes b ++ marks))) → IsDamaged n bytes
+    bad h = inr (inr (record
+        { block = b; marks = marks; digest = digest; rest = left; is_block = is; one_each = one_each; digest_len = digest_fits; bad = h; bytes_are = parts }))
 
-  abbrev committed_of : Committed
-  committed_of = record { block = b; flags = map flag_of marks }
+    abbrev committed_of : Committed
+    committed_of = record { block = b; flags = map flag_of marks }
 
-  good : map flag_number (map flag_of marks) ≡ marks → digest ≡ sha256 (framed_bytes b ++ marks) → HasRecord n bytes
-  good flags same =
-      let before : digest_input committed_of ≡ framed_bytes b ++ marks = ap (λ (l : List ℕ). framed_bytes b ++ l) flags in
-      let all : record_bytes committed_of ≡ framed_bytes b ++ marks ++ digest = ap₂ (λ (x y : List ℕ). x ++ y) before (ap sha256 before ∙ sym same) in
-      record {
-        committed = committed_of;
-        rest = left;
-        is_record = record { block = is; flags = length-map marks flag_of ∙ one_each };
-        bytes_are = parts ∙ ap (λ (l : List ℕ). l ++ left) (sym all);
-      }
+    good : map flag_number (map flag_of marks) ≡ marks → digest ≡ sha256 (framed_bytes b ++ marks) → HasRecord n bytes
+    good flags same =
+        let before : digest_input committed_of ≡ framed_bytes b ++ marks = ap (λ (l : List ℕ). framed_bytes b ++ l) flags in
+        let all : record_bytes committed_of ≡ framed_bytes b ++ marks ++ digest = ap₂ (λ (x y : List ℕ). x ++ y) before (ap sha256 before ∙ sym same) in
+        record {
+          committed = committed_of;
+          rest = left;
+          is_record = record { block = is; flags = length-map marks flag_of ∙ one_each };
+          bytes_are = parts ∙ ap (λ (l : List ℕ). l ++ left) (sym all);
+        }
 
-  sealed_front : Front n bytes
-  sealed_front =
-      elim (flags_or_not marks) [
-        | inr none ↦ inr (inl (bad (inl none)))
-        | inl flags ↦ elim (same_or_not digest (sha256 (framed_bytes b ++ marks))) [ inl same ↦ inr (inr (good flags same)) | inr other ↦ inr (inl (bad (inr other))) ]
-      ]
+    sealed_front : Front n bytes
+    sealed_front =
+        elim (flags_or_not marks) [
+          | inr none ↦ inr (inl (bad (inl none)))
+          | inl flags ↦ elim (same_or_not digest (sha256 (framed_bytes b ++ marks)))
+              [ inl same ↦ inr (inr (good flags same)) | inr other ↦ inr (inl (bad (inr other))) ]
+        ]
 
 behind_front : (n : ℕ) (b : Block) (bytes rest : List ℕ) → IsBlockAt n b → bytes ≡ framed_bytes b ++ rest → Front n bytes
 behind_front n b bytes rest is are =
@@ -159,7 +168,8 @@ length_front n len bytes rest fits are =
         | inl short ↦ inl (inr (inl (record { len = len; part = rest; is_length = is; bytes_are = are; short = short })))
         | inr enough ↦
             let same : length (take len rest) ≡ len = omega (arith, enough, length-take len rest) in
-            text_front n bytes (take len rest) (drop len rest) (subst IsLength (sym same) is) (are ∙ ap₂ (λ (m : ℕ) (t : List ℕ). to_be_bytes w32 m ++ t) (sym same) (sym (take-append-drop len rest)))
+            text_front n bytes (take len rest) (drop len rest) (subst IsLength (sym same) is)
+            (are ∙ ap₂ (λ (m : ℕ) (t : List ℕ). to_be_bytes w32 m ++ t) (sym same) (sym (take-append-drop len rest)))
       ]
     ]
 
@@ -185,7 +195,8 @@ front_of n bytes all =
           let fits = take_fits 4 bytes (byte_at bytes all) in
           let small : from_be_bytes w32 (take 4 bytes) < 2 ^ 32 = omega (arith, fits 0, fits 1, fits 2, fits 3) in
           length_front n (from_be_bytes w32 (take 4 bytes)) bytes (drop 4 bytes) small
-          (length_split bytes (take 4 bytes) (drop 4 bytes) (from_be_bytes w32 (take 4 bytes)) refl refl (omega (arith, some, length-drop 4 bytes)) (byte_at bytes all) refl)
+          (length_split bytes (take 4 bytes) (drop 4 bytes) (from_be_bytes w32 (take 4 bytes)) refl refl (omega (arith, some, length-drop 4 bytes))
+          (byte_at bytes all) refl)
     ]
 
 -- ---- the whole store

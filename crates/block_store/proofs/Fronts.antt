@@ -1,5 +1,6 @@
 -- What the pieces of some bytes are.
-use Rattle.std.proofs.Common.{◌≡◌, ◌≢◌, ℕ, zero, suc, ◌+◌, ◌-◌, ◌<◌, ◌≤◌, ◌⊎◌, inr, List, [], ◌∷◌, ◌++◌, length, take, drop, get_or, Option, Some, None, refl, sym, ap, ap₂, subst, ◌∙◌, append_assoc, arith}
+use Rattle.std.proofs.Common.{◌≡◌, ◌≢◌, ℕ, zero, suc, ◌+◌, ◌-◌, ◌<◌, ◌≤◌, ◌⊎◌, inr, List, [], ◌∷◌, ◌++◌, length, take, drop, get_or, Option, Some, None, refl}
+use Rattle.std.proofs.Common.{sym, ap, ap₂, subst, ◌∙◌, append_assoc, arith}
 use Rattle.std.specs.Int.{w32, to_be_bytes, from_be_bytes}
 use Rattle.std.proofs.lemmas.Nat.{be_bytes_4}
 use Rattle.std.proofs.lemmas.List.{take-append-drop, length-append, length-take, length-drop, take_at, drop_at}
@@ -18,7 +19,8 @@ take_fits (suc n) (x ∷ xs) h zero = h 0
 take_fits (suc n) (x ∷ xs) h (suc i) = take_fits n xs (λ j. h (suc j)) i
 
 -- the length in front
-pub length_split : (bytes front rest : List ℕ) (n : ℕ) → front ≡ take 4 bytes → rest ≡ drop 4 bytes → length rest + 4 ≡ length bytes → ((i : ℕ) → get_or bytes i 0 < 256) → n ≡ from_be_bytes w32 front → bytes ≡ to_be_bytes w32 n ++ rest
+pub length_split : (bytes front rest : List ℕ) (n : ℕ) → front ≡ take 4 bytes → rest ≡ drop 4 bytes → length rest + 4 ≡ length bytes →
+    ((i : ℕ) → get_or bytes i 0 < 256) → n ≡ from_be_bytes w32 front → bytes ≡ to_be_bytes w32 n ++ rest
 length_split bytes front rest n a b all fits e =
     let len : length front ≡ 4 = ap length a ∙ omega (arith, all, length-take 4 bytes) in
     let small : (i : ℕ) → get_or front i 0 < 256 = λ i. subst (λ (t : List ℕ). get_or t i 0 < 256) (sym a) (take_fits 4 bytes fits i) in
@@ -29,8 +31,10 @@ length_split bytes front rest n a b all fits e =
 four : (a b c d : List ℕ) → a ++ (b ++ (c ++ d)) ≡ (a ++ b) ++ (c ++ d)
 four a b c d = simp append_assoc
 
-module _ (n : ℕ) (b : Block) (bytes rest : List ℕ) (envelopes : List Envelope) (is_block : IsBlockAt n b) (bytes_are : bytes ≡ framed_bytes b ++ rest) (same : envelopes ≡ b.envelopes) (enough : length envelopes + 32 ≤ length rest)
-    (marks after digest left : List ℕ) (m : marks ≡ take (length envelopes) rest) (a : after ≡ drop (length envelopes) rest) (d : digest ≡ take 32 after) (l : left ≡ drop 32 after) where
+module _ (n : ℕ) (b : Block) (bytes rest : List ℕ) (envelopes : List Envelope) (is_block : IsBlockAt n b) (bytes_are : bytes ≡ framed_bytes b ++ rest)
+    (same : envelopes ≡ b.envelopes) (enough : length envelopes + 32 ≤ length rest)
+    (marks after digest left : List ℕ) (m : marks ≡ take (length envelopes) rest) (a : after ≡ drop (length envelopes) rest) (d : digest ≡ take 32 after)
+    (l : left ≡ drop 32 after) where
   front : List ℕ
   front = framed_bytes b ++ marks
 
@@ -59,14 +63,16 @@ module _ (n : ℕ) (b : Block) (bytes rest : List ℕ) (envelopes : List Envelop
   before_is =
       let t = taken_is in
       let k : (length bytes - length left) - 32 ≡ length (framed_bytes b ++ marks) = omega (arith, t) in
-      ap (λ (x : ℕ). take x bytes) k ∙ ap (λ (x : List ℕ). take (length (framed_bytes b ++ marks)) x) split ∙ take_at (framed_bytes b ++ marks) (digest ++ left) (length (framed_bytes b ++ marks)) refl
+      ap (λ (x : ℕ). take x bytes) k ∙ ap (λ (x : List ℕ). take (length (framed_bytes b ++ marks)) x) split ∙
+      take_at (framed_bytes b ++ marks) (digest ++ left) (length (framed_bytes b ++ marks)) refl
 
   dropped : drop (length bytes - length left) bytes ≡ left
   dropped =
       let f = framed_bytes b ++ marks in
       let h = digest_len in
       let len : length (f ++ digest) ≡ length bytes - length left = omega (arith, length-append f digest, h) ∙ sym taken_is in
-      ap (λ (x : List ℕ). drop (length bytes - length left) x) (split ∙ sym (append_assoc f digest left)) ∙ drop_at (f ++ digest) left (length bytes - length left) len
+      ap (λ (x : List ℕ). drop (length bytes - length left) x) (split ∙ sym (append_assoc f digest left)) ∙
+      drop_at (f ++ digest) left (length bytes - length left) len
 
   whole_of : (c : Committed) → Seals b (take ((length bytes - length left) - 32) bytes) marks digest (Some c) → IsWhole n bytes c (length bytes - length left)
   whole_of c h =
@@ -84,7 +90,8 @@ module _ (n : ℕ) (b : Block) (bytes rest : List ℕ) (envelopes : List Envelop
         bytes_are = split ∙ sym (append_assoc f digest left) ∙ ap₂ (λ (x y : List ℕ). x ++ y) (sym record_is) (sym dropped);
       }
 
-  pub whole_front : (o : Option Committed) (c : Committed) → o ≡ Some c → Seals b (take ((length bytes - length left) - 32) bytes) marks digest o → IsWhole n bytes c (length bytes - length left)
+  pub whole_front : (o : Option Committed) (c : Committed) → o ≡ Some c → Seals b (take ((length bytes - length left) - 32) bytes) marks digest o →
+      IsWhole n bytes c (length bytes - length left)
   whole_front o c e h = whole_of c (subst (λ (o : Option Committed). Seals b (take ((length bytes - length left) - 32) bytes) marks digest o) e h)
 
   bad_of : Seals b (take ((length bytes - length left) - 32) bytes) marks digest None → HasBadEnd n bytes

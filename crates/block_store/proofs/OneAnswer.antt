@@ -1,5 +1,6 @@
 -- A store has one list of records and one end.
-use Rattle.std.proofs.Common.{◌≡◌, ℕ, zero, suc, ◌^◌, ◌+◌, ◌<◌, ◌≤◌, inl, inr, List, [], ◌∷◌, ◌++◌, length, take, drop, map, refl, sym, ap, ap₂, subst, ◌∙◌, append_assoc, arith}
+use Rattle.std.proofs.Common.{◌≡◌, ℕ, zero, suc, ◌^◌, ◌+◌, ◌<◌, ◌≤◌, inl, inr, List, [], ◌∷◌, ◌++◌, length, take, drop, map, refl, sym, ap, ap₂, subst, ◌∙◌}
+use Rattle.std.proofs.Common.{append_assoc, arith}
 use Rattle.std.proofs.lemmas.List.Elements.{All-map}
 use Rattle.std.specs.Int.{w32, to_be_bytes}
 use Rattle.std.proofs.Math.Seq.{take-append_seam, drop-append_seam}
@@ -48,7 +49,8 @@ module _ (n : ℕ) (bytes : List ℕ) (b : Block) (tail : List ℕ) (is : IsBloc
 
   front : (len : ℕ) (rest : List ℕ) → len < 2 ^ 32 → bytes ≡ to_be_bytes w32 len ++ rest → (len ≡ length text) × (rest ≡ text ++ tail)
   front len rest fits e =
-      same_length len (length text) rest (text ++ tail) fits (length_small (length text) text_length) (sym e ∙ are ∙ append_assoc (to_be_bytes w32 (length text)) text tail)
+      same_length len (length text) rest (text ++ tail) fits (length_small (length text) text_length)
+      (sym e ∙ are ∙ append_assoc (to_be_bytes w32 (length text)) text tail)
 
   has_length : EndsInLength bytes → ⊥
   has_length h =
@@ -68,23 +70,27 @@ module _ (n : ℕ) (bytes : List ℕ) (b : Block) (tail : List ℕ) (is : IsBloc
 
   is_spelled : HasNoBlock n bytes → ⊥
   is_spelled h =
-      let same = front (length h.text) (h.text ++ h.rest) (length_small (length h.text) h.is_length) (h.bytes_are ∙ append_assoc (to_be_bytes w32 (length h.text)) h.text h.rest) in
+      let same = front (length h.text) (h.text ++ h.rest) (length_small (length h.text) h.is_length)
+      (h.bytes_are ∙ append_assoc (to_be_bytes w32 (length h.text)) h.text h.rest) in
       h.no_block b is (sym (same_front h.text text h.rest tail same.0 same.1).0)
 
   same_block : (d : Block) (left : List ℕ) → IsBlockAt n d → bytes ≡ framed_bytes d ++ left → (b ≡ d) × (tail ≡ left)
   same_block d left k e =
-      let same = front (length (block_bytes d)) (block_bytes d ++ left) (length_small (length (block_bytes d)) (block_length d k.block)) (e ∙ append_assoc (to_be_bytes w32 (length (block_bytes d))) (block_bytes d) left) in
+      let same = front (length (block_bytes d)) (block_bytes d ++ left) (length_small (length (block_bytes d)) (block_length d k.block))
+      (e ∙ append_assoc (to_be_bytes w32 (length (block_bytes d))) (block_bytes d) left) in
       let parts = same_front (block_bytes d) text left tail same.0 same.1 in
       (is_one IsBlock block_bytes block_at block b d is.block k.block (sym parts.0), sym parts.1)
 
 -- ---- bytes with the flags and the digest behind the block
 
-too_short : (part marks digest rest : List ℕ) (count : ℕ) → part ≡ marks ++ (digest ++ rest) → length marks ≡ count → length digest ≡ 32 → length part < count + 32 → ⊥
+too_short : (part marks digest rest : List ℕ) (count : ℕ) → part ≡ marks ++ (digest ++ rest) → length marks ≡ count → length digest ≡ 32 →
+    length part < count + 32 → ⊥
 too_short part marks digest rest count e m d short =
     let all = ap length e in
     absurd (omega (arith, all, m, d, short, length-append marks (digest ++ rest), length-append digest rest))
 
-sealed_is_whole : (n : ℕ) (bytes : List ℕ) (b : Block) (marks digest rest : List ℕ) → IsBlockAt n b → bytes ≡ framed_bytes b ++ (marks ++ (digest ++ rest)) → length marks ≡ length b.envelopes → length digest ≡ 32 → IsBeginning n bytes → ⊥
+sealed_is_whole : (n : ℕ) (bytes : List ℕ) (b : Block) (marks digest rest : List ℕ) → IsBlockAt n b → bytes ≡ framed_bytes b ++ (marks ++ (digest ++ rest)) →
+    length marks ≡ length b.envelopes → length digest ≡ 32 → IsBeginning n bytes → ⊥
 sealed_is_whole n bytes b marks digest rest is are m d (inl h) = has_length n bytes b (marks ++ (digest ++ rest)) is are h
 sealed_is_whole n bytes b marks digest rest is are m d (inr (inl h)) = is_whole n bytes b (marks ++ (digest ++ rest)) is are h
 sealed_is_whole n bytes b marks digest rest is are m d (inr (inr h)) =
@@ -115,7 +121,8 @@ module _ (n : ℕ) (bytes : List ℕ) (c : Committed) (rest : List ℕ) (is : Is
   not_beginning : IsBeginning n bytes → ⊥
   not_beginning = sealed_is_whole n bytes c.block marks (sealing c) rest is.block split one_each (length-sha256 (digest_input c))
 
-  same_parts : (b : Block) (others digest left : List ℕ) → IsBlockAt n b → length others ≡ length b.envelopes → length digest ≡ 32 → bytes ≡ framed_bytes b ++ (others ++ (digest ++ left))
+  same_parts : (b : Block) (others digest left : List ℕ) → IsBlockAt n b → length others ≡ length b.envelopes → length digest ≡ 32 →
+      bytes ≡ framed_bytes b ++ (others ++ (digest ++ left))
       → (c.block ≡ b) × (marks ≡ others) × (sealing c ≡ digest) × (rest ≡ left)
   same_parts b others digest left k len d e =
       let same = same_block n bytes c.block behind is.block split b (others ++ (digest ++ left)) k e in
@@ -137,7 +144,8 @@ not_damaged : (n : ℕ) (bytes : List ℕ) (c : Committed) (rest : List ℕ) →
 not_damaged n bytes c rest is are (inl h) = has_right_length n bytes c.block (behind n bytes c rest is are) is.block (split n bytes c rest is are) h
 not_damaged n bytes c rest is are (inr (inl h)) = is_spelled n bytes c.block (behind n bytes c rest is are) is.block (split n bytes c rest is are) h
 not_damaged n bytes c rest is are (inr (inr h)) =
-    let same = same_parts n bytes c rest is are h.block h.marks h.digest h.rest h.is_block h.one_each h.digest_len (h.bytes_are ∙ four (framed_bytes h.block) h.marks h.digest h.rest) in
+    let same = same_parts n bytes c rest is are h.block h.marks h.digest h.rest h.is_block h.one_each h.digest_len
+    (h.bytes_are ∙ four (framed_bytes h.block) h.marks h.digest h.rest) in
     elim h.bad [
       | inl wrong ↦ wrong (subst AreFlags same.1 (are_flags c.flags))
       | inr other ↦ other (sym same.2 ∙ ap₂ (λ (x : Block) (y : List ℕ). sha256 (framed_bytes x ++ y)) same.0 same.1)
@@ -161,9 +169,11 @@ flags_back : (fs : List Flag) → map flag_of (map flag_number fs) ≡ fs
 flags_back [] = refl
 flags_back (f ∷ fs) = ap₂ (λ (x : Flag) (xs : List Flag). x ∷ xs) (flag_back f) (flags_back fs)
 
-same_record : (n : ℕ) (bytes : List ℕ) (c d : Committed) (rest left : List ℕ) → IsRecord n c → IsRecord n d → bytes ≡ record_bytes c ++ rest → bytes ≡ record_bytes d ++ left → (c ≡ d) × (rest ≡ left)
+same_record : (n : ℕ) (bytes : List ℕ) (c d : Committed) (rest left : List ℕ) → IsRecord n c → IsRecord n d → bytes ≡ record_bytes c ++ rest →
+    bytes ≡ record_bytes d ++ left → (c ≡ d) × (rest ≡ left)
 same_record n bytes c d rest left is other are same =
-    let parts = same_parts n bytes c rest is are d.block (map flag_number d.flags) (sealing d) left other.block (one_each n bytes d left other same) (length-sha256 (digest_input d)) (split n bytes d left other same) in
+    let parts = same_parts n bytes c rest is are d.block (map flag_number d.flags) (sealing d) left other.block (one_each n bytes d left other same)
+    (length-sha256 (digest_input d)) (split n bytes d left other same) in
     let flags : c.flags ≡ d.flags = sym (flags_back c.flags) ∙ ap (map flag_of) parts.1 ∙ flags_back d.flags in
     (ap₂ (λ (b : Block) (fs : List Flag). let made : Committed = record { block = b; flags = fs } in made) parts.0 flags, parts.3)
 
@@ -176,16 +186,20 @@ begins_or_damaged n bytes (inl h) (inl k) =
 begins_or_damaged n bytes (inl h) (inr (inl k)) =
     let all = ap length k.bytes_are in
     absurd (omega (arith, h, all, length-append (to_be_bytes w32 (length k.text) ++ k.text) k.rest, length-append (to_be_bytes w32 (length k.text)) k.text))
-begins_or_damaged n bytes (inr (inl h)) (inl k) = k.no_length (subst IsLength (same_length h.len k.len h.part k.rest (length_small h.len h.is_length) k.fits (sym h.bytes_are ∙ k.bytes_are)).0 h.is_length)
+begins_or_damaged n bytes (inr (inl h)) (inl k) =
+    k.no_length (subst IsLength (same_length h.len k.len h.part k.rest (length_small h.len h.is_length) k.fits (sym h.bytes_are ∙ k.bytes_are)).0 h.is_length)
 begins_or_damaged n bytes (inr (inl h)) (inr (inl k)) =
-    let same = same_length h.len (length k.text) h.part (k.text ++ k.rest) (length_small h.len h.is_length) (length_small (length k.text) k.is_length) (sym h.bytes_are ∙ k.bytes_are ∙ append_assoc (to_be_bytes w32 (length k.text)) k.text k.rest) in
+    let same = same_length h.len (length k.text) h.part (k.text ++ k.rest) (length_small h.len h.is_length) (length_small (length k.text) k.is_length)
+    (sym h.bytes_are ∙ k.bytes_are ∙ append_assoc (to_be_bytes w32 (length k.text)) k.text k.rest) in
     let len = same.0 in
     let all = ap length same.1 in
     let short = h.short in
     absurd (omega (arith, len, all, short, length-append k.text k.rest))
 begins_or_damaged n bytes (inr (inr h)) (inl k) = has_right_length n bytes h.block h.part h.is_block h.bytes_are k
 begins_or_damaged n bytes (inr (inr h)) (inr (inl k)) = is_spelled n bytes h.block h.part h.is_block h.bytes_are k
-begins_or_damaged n bytes h (inr (inr k)) = sealed_is_whole n bytes k.block k.marks k.digest k.rest k.is_block (k.bytes_are ∙ four (framed_bytes k.block) k.marks k.digest k.rest) k.one_each k.digest_len h
+begins_or_damaged n bytes h (inr (inr k)) =
+    sealed_is_whole n bytes k.block k.marks k.digest k.rest k.is_block (k.bytes_are ∙ four (framed_bytes k.block) k.marks k.digest k.rest) k.one_each
+    k.digest_len h
 
 nothing_begins : (n : ℕ) → IsBeginning n []
 nothing_begins n = inl (omega arith)

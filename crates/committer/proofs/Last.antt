@@ -26,7 +26,8 @@ only_memory DataHash blocks block fits why = absurd (why.3 fits.data_hash)
 only_memory OutOfMemory blocks block fits why = refl
 
 -- one flag for each
-pub length-told : (id : Proposal → Bytes) (earlier : List Placed) (block place : ℕ) (es : List Envelope) (endorsed : List Bool) → length endorsed ≡ length es → length (flags_told id earlier block place es endorsed) ≡ length es
+pub length-told : (id : Proposal → Bytes) (earlier : List Placed) (block place : ℕ) (es : List Envelope) (endorsed : List Bool) → length endorsed ≡ length es →
+    length (flags_told id earlier block place es endorsed) ≡ length es
 length-told id earlier block place [] endorsed same = refl
 length-told id earlier block place (e ∷ es) [] same = absurd omega (arith, same)
 length-told id earlier block place (e ∷ es) (b ∷ bs) same =

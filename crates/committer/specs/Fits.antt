@@ -26,5 +26,6 @@ IsRefused Number blocks block = (length blocks < 65535) × (block.header.number 
 IsRefused PreviousHash blocks block =
     (length blocks < 65535) × (block.header.number ≡ next_number blocks) × (block.header.previous_hash ≢ next_link blocks)
 IsRefused DataHash blocks block =
-    (length blocks < 65535) × (block.header.number ≡ next_number blocks) × (block.header.previous_hash ≡ next_link blocks) × (block.header.data_hash ≢ sha256 (data_bytes block.envelopes))
+    (length blocks < 65535) × (block.header.number ≡ next_number blocks) × (block.header.previous_hash ≡ next_link blocks) ×
+    (block.header.data_hash ≢ sha256 (data_bytes block.envelopes))
 IsRefused OutOfMemory blocks block = Unit {0}

@@ -1,5 +1,6 @@
 -- Reading children one after another, as a loop does.
-use Rattle.std.proofs.Common.{◌≡◌, ℕ, zero, suc, ◌-◌, ◌+◌, ◌≤◌, ◌<◌, Bool, true, false, cond, List, [], ◌∷◌, ◌++◌, length, Option, Some, None, refl, sym, ap, subst, ◌∙◌, append_assoc, arith}
+use Rattle.std.proofs.Common.{◌≡◌, ℕ, zero, suc, ◌-◌, ◌+◌, ◌≤◌, ◌<◌, Bool, true, false, cond, List, [], ◌∷◌, ◌++◌, length, Option, Some, None, refl, sym, ap}
+use Rattle.std.proofs.Common.{subst, ◌∙◌, append_assoc, arith}
 use Rattle.std.proofs.lemmas.Option.{some_pair_parts}
 use Rattle.grammar.specs.Reading.{◌>>=◌}
 use Rattle.grammar.specs.Laws.Steps.{bind_some}
@@ -20,7 +21,8 @@ Fails-weaker UnknownOrganisation P Q f h = f h
 Fails-weaker Threshold P Q f h = f h
 Fails-weaker TooDeep P Q f h = f h
 
-regroup : (front : List Policy) (p : Policy) (read : Option (List Policy × List ℕ)) → with_front front (read >>= λ x. Some (p ∷ x.0, x.1)) ≡ with_front (front ++ p ∷ []) read
+regroup : (front : List Policy) (p : Policy) (read : Option (List Policy × List ℕ)) →
+    with_front front (read >>= λ x. Some (p ∷ x.0, x.1)) ≡ with_front (front ++ p ∷ []) read
 regroup front p (Some x) = ap (λ (ps : List Policy). Some (ps, x.1)) (simp append_assoc)
 regroup front p None = refl
 
@@ -28,17 +30,21 @@ pub nothing_before : (read : Option (List Policy × List ℕ)) → with_front []
 nothing_before (Some x) = refl
 nothing_before None = refl
 
-module _ (read : List ℕ → Option (Policy × List ℕ)) (front : List Policy) (i : ℕ) (bytes : List ℕ) (total : Option (List Policy × List ℕ)) (lt : i < 1024) (so_far : with_front front (children_at read (1024 - i) bytes) ≡ total) where
+module _ (read : List ℕ → Option (Policy × List ℕ)) (front : List Policy) (i : ℕ) (bytes : List ℕ) (total : Option (List Policy × List ℕ)) (lt : i < 1024)
+    (so_far : with_front front (children_at read (1024 - i) bytes) ≡ total) where
   one : 1024 - i ≡ suc (1024 - (i + 1))
   one = omega arith
 
-  pub goes_on : (p : Policy) (middle after : List ℕ) → read (after_spaces bytes) ≡ Some (p, middle) → comma_at middle ≡ Some (true, after) → with_front (front ++ p ∷ []) (children_at read (1024 - (i + 1)) after) ≡ total
+  pub goes_on : (p : Policy) (middle after : List ℕ) → read (after_spaces bytes) ≡ Some (p, middle) → comma_at middle ≡ Some (true, after) →
+      with_front (front ++ p ∷ []) (children_at read (1024 - (i + 1)) after) ≡ total
   unfolding children_at
   goes_on p middle after first more =
-      let e : with_front front (children_at read (1024 - i) bytes) ≡ with_front (front ++ p ∷ []) (children_at read (1024 - (i + 1)) after) = rw (one, first, more) (regroup front p (children_at read (1024 - (i + 1)) after)) in
+      let e : with_front front (children_at read (1024 - i) bytes) ≡ with_front (front ++ p ∷ []) (children_at read (1024 - (i + 1)) after) =
+      rw (one, first, more) (regroup front p (children_at read (1024 - (i + 1)) after)) in
       sym e ∙ so_far
 
-  pub ends : (p : Policy) (middle after : List ℕ) → read (after_spaces bytes) ≡ Some (p, middle) → comma_at middle ≡ Some (false, after) → total ≡ Some (front ++ p ∷ [], after)
+  pub ends : (p : Policy) (middle after : List ℕ) → read (after_spaces bytes) ≡ Some (p, middle) → comma_at middle ≡ Some (false, after) →
+      total ≡ Some (front ++ p ∷ [], after)
   unfolding children_at
   ends p middle after first more =
       let e : with_front front (children_at read (1024 - i) bytes) ≡ Some (front ++ p ∷ [], after) = rw (one, first, more) refl in
@@ -56,7 +62,8 @@ module _ (read : List ℕ → Option (Policy × List ℕ)) (front : List Policy)
       let e : with_front front (children_at read (1024 - i) bytes) ≡ None = rw (one, first, more) refl in
       sym so_far ∙ e
 
-pub too_many : (read : List ℕ → Option (Policy × List ℕ)) (front : List Policy) (i : ℕ) (bytes : List ℕ) (total : Option (List Policy × List ℕ)) → 1024 ≤ i → with_front front (children_at read (1024 - i) bytes) ≡ total → total ≡ None
+pub too_many : (read : List ℕ → Option (Policy × List ℕ)) (front : List Policy) (i : ℕ) (bytes : List ℕ) (total : Option (List Policy × List ℕ)) → 1024 ≤ i →
+    with_front front (children_at read (1024 - i) bytes) ≡ total → total ≡ None
 unfolding children_at
 too_many read front i bytes total le so_far =
     let none : 1024 - i ≡ 0 = omega arith in
@@ -76,7 +83,8 @@ not_empty p (Some qs) ps rest e = subst (λ (all : List Policy). 1 ≤ length al
 not_empty p None ps rest e = absurd cc
 
 -- where children are read, there is one or more
-pub some_child : (read : List ℕ → Option (Policy × List ℕ)) (n : ℕ) (bytes rest : List ℕ) (ps : List Policy) → children_at read n bytes ≡ Some (ps, rest) → 1 ≤ length ps
+pub some_child : (read : List ℕ → Option (Policy × List ℕ)) (n : ℕ) (bytes rest : List ℕ) (ps : List Policy) → children_at read n bytes ≡ Some (ps, rest) →
+    1 ≤ length ps
 unfolding children_at
 some_child read zero bytes rest ps e = absurd cc
 some_child read (suc n) bytes rest ps e =

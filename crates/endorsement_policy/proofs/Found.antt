@@ -1,5 +1,6 @@
 -- What reading gives is spelled by the text, within the limits.
-use Rattle.std.proofs.Common.{◌≡◌, ℕ, zero, suc, ◌≤◌, max, Bool, true, false, cond, List, [], ◌∷◌, ◌++◌, length, Option, Some, refl, sym, ap, subst, ◌∙◌, append_assoc, arith}
+use Rattle.std.proofs.Common.{◌≡◌, ℕ, zero, suc, ◌≤◌, max, Bool, true, false, cond, List, [], ◌∷◌, ◌++◌, length, Option, Some, refl, sym, ap, subst, ◌∙◌}
+use Rattle.std.proofs.Common.{append_assoc, arith}
 use Rattle.std.specs.Prelude.{◌&&◌, nat_le}
 use Rattle.std.proofs.Math.Nat.{max-le, le-max_left}
 use Rattle.std.proofs.lemmas.Bool.{leb-true}
@@ -13,7 +14,8 @@ use Rattle.endorsement_policy.specs.GoodSets.{Names, is_among}
 use Rattle.endorsement_policy.specs.Evaluation.{count}
 use Rattle.endorsement_policy.specs.Spelling.{IsSpaces, ◌⋯◌, IsLeaf, IsOpening, IsBefore, IsEach, IsSpelled}
 use Rattle.endorsement_policy.specs.Limits.{IsRule, HasRules, HasKnown, depth}
-use Rattle.endorsement_policy.specs.Reading.{after_spaces, comma_at, before, children_at, made, made_at, is_threshold, operator_at, is_quoted, leaf_at, policy_at, opening_at}
+use Rattle.endorsement_policy.specs.Reading.{after_spaces, comma_at, before, children_at, made, made_at, is_threshold, operator_at, is_quoted, leaf_at}
+use Rattle.endorsement_policy.specs.Reading.{policy_at, opening_at}
 use Rattle.endorsement_policy.specs.declared.policy.Policy.{Policy}
 use Rattle.endorsement_policy.specs.declared.policy.Policy.TheVariants as policy
 use Rattle.endorsement_policy.proofs.Evaluates.{count_is}
@@ -46,17 +48,21 @@ pub record FoundAll (orgs : Names) (levels : ℕ) (ps : Policies) (bytes rest : 
 
 -- ---- one policy before others
 
-before_more : (IsFirst : List ℕ → Type 0) (after : Policies) (text spaces lead u : List ℕ) → IsFirst text → IsSpaces spaces → IsSpaces lead → IsEach after u → IsBefore IsFirst after (IsEach after) (text ++ (spaces ++ ((44 ∷ []) ++ (lead ++ u))))
+before_more : (IsFirst : List ℕ → Type 0) (after : Policies) (text spaces lead u : List ℕ) → IsFirst text → IsSpaces spaces → IsSpaces lead → IsEach after u →
+    IsBefore IsFirst after (IsEach after) (text ++ (spaces ++ ((44 ∷ []) ++ (lead ++ u))))
 before_more IsFirst End text spaces lead u f s l h = absurd h
 before_more IsFirst (Org name after) text spaces lead u f s l h =
-    seq IsFirst (IsByte 44 ⋯ IsEach (Org name after)) text spaces ((44 ∷ []) ++ (lead ++ u)) f s (seq (IsByte 44) (IsEach (Org name after)) (44 ∷ []) lead u refl l h)
+    seq IsFirst (IsByte 44 ⋯ IsEach (Org name after)) text spaces ((44 ∷ []) ++ (lead ++ u)) f s
+    (seq (IsByte 44) (IsEach (Org name after)) (44 ∷ []) lead u refl l h)
 before_more IsFirst (Of rule children after) text spaces lead u f s l h =
-    seq IsFirst (IsByte 44 ⋯ IsEach (Of rule children after)) text spaces ((44 ∷ []) ++ (lead ++ u)) f s (seq (IsByte 44) (IsEach (Of rule children after)) (44 ∷ []) lead u refl l h)
+    seq IsFirst (IsByte 44 ⋯ IsEach (Of rule children after)) text spaces ((44 ∷ []) ++ (lead ++ u)) f s
+    (seq (IsByte 44) (IsEach (Of rule children after)) (44 ∷ []) lead u refl l h)
 
 abbrev Operator : Rule → Policies → List ℕ → Type 0
 Operator rule children = IsOpening rule ⋯ IsEach children ⋯ IsByte 41
 
-each_then : (p : Policy) (after : Policies) (text spaces lead u : List ℕ) → IsSpelled p text → IsSpaces spaces → IsSpaces lead → IsEach after u → IsEach (then_policy p after) (text ++ (spaces ++ ((44 ∷ []) ++ (lead ++ u))))
+each_then : (p : Policy) (after : Policies) (text spaces lead u : List ℕ) → IsSpelled p text → IsSpaces spaces → IsSpaces lead → IsEach after u →
+    IsEach (then_policy p after) (text ++ (spaces ++ ((44 ∷ []) ++ (lead ++ u))))
 each_then (policy.Org name) after = before_more (IsLeaf name) after
 each_then (policy.And children) after = before_more (Operator And children) after
 each_then (policy.Or children) after = before_more (Operator Or children) after
@@ -65,23 +71,32 @@ each_then (policy.OutOf n children) after = before_more (Operator (OutOf n) chil
 deeper : (a levels : ℕ) → max a 0 ≤ levels → a ≤ levels
 deeper a levels h = let l = le-max_left a 0 in omega arith
 
-within_then : (orgs : Names) (levels : ℕ) (p : Policy) (after : Policies) → IsWithin orgs levels (alone p) → IsWithin orgs levels after → IsWithin orgs levels (then_policy p after)
+within_then : (orgs : Names) (levels : ℕ) (p : Policy) (after : Policies) → IsWithin orgs levels (alone p) → IsWithin orgs levels after →
+    IsWithin orgs levels (then_policy p after)
 within_then orgs levels (policy.Org name) after h k = record { known = (h.known.0, k.known); rules = k.rules; deep = k.deep }
-within_then orgs levels (policy.And children) after h k = record { known = (h.known.0, k.known); rules = (h.rules.0, h.rules.1, k.rules); deep = max-le (deeper (suc (depth children)) levels h.deep) k.deep }
-within_then orgs levels (policy.Or children) after h k = record { known = (h.known.0, k.known); rules = (h.rules.0, h.rules.1, k.rules); deep = max-le (deeper (suc (depth children)) levels h.deep) k.deep }
-within_then orgs levels (policy.OutOf n children) after h k = record { known = (h.known.0, k.known); rules = (h.rules.0, h.rules.1, k.rules); deep = max-le (deeper (suc (depth children)) levels h.deep) k.deep }
+within_then orgs levels (policy.And children) after h k =
+    record { known = (h.known.0, k.known); rules = (h.rules.0, h.rules.1, k.rules); deep = max-le (deeper (suc (depth children)) levels h.deep) k.deep }
+within_then orgs levels (policy.Or children) after h k =
+    record { known = (h.known.0, k.known); rules = (h.rules.0, h.rules.1, k.rules); deep = max-le (deeper (suc (depth children)) levels h.deep) k.deep }
+within_then orgs levels (policy.OutOf n children) after h k =
+    record { known = (h.known.0, k.known); rules = (h.rules.0, h.rules.1, k.rules); deep = max-le (deeper (suc (depth children)) levels h.deep) k.deep }
 
 spelled_of_rule : (rule : Rule) (children : Policies) (text : List ℕ) → Operator rule children text → IsSpelled (of_rule rule children) text
 spelled_of_rule And children text h = h
 spelled_of_rule Or children text h = h
 spelled_of_rule (OutOf n) children text h = h
 
-within_of_rule : (orgs : Names) (levels : ℕ) (rule : Rule) (children : Policies) → IsRule rule (count children) → IsWithin orgs levels children → IsWithin orgs (suc levels) (alone (of_rule rule children))
-within_of_rule orgs levels And children r h = record { known = (h.known, tt); rules = (r, h.rules, tt); deep = max-le (let d = h.deep in omega arith) (omega arith) }
-within_of_rule orgs levels Or children r h = record { known = (h.known, tt); rules = (r, h.rules, tt); deep = max-le (let d = h.deep in omega arith) (omega arith) }
-within_of_rule orgs levels (OutOf n) children r h = record { known = (h.known, tt); rules = (r, h.rules, tt); deep = max-le (let d = h.deep in omega arith) (omega arith) }
+within_of_rule : (orgs : Names) (levels : ℕ) (rule : Rule) (children : Policies) → IsRule rule (count children) → IsWithin orgs levels children →
+    IsWithin orgs (suc levels) (alone (of_rule rule children))
+within_of_rule orgs levels And children r h =
+    record { known = (h.known, tt); rules = (r, h.rules, tt); deep = max-le (let d = h.deep in omega arith) (omega arith) }
+within_of_rule orgs levels Or children r h =
+    record { known = (h.known, tt); rules = (r, h.rules, tt); deep = max-le (let d = h.deep in omega arith) (omega arith) }
+within_of_rule orgs levels (OutOf n) children r h =
+    record { known = (h.known, tt); rules = (r, h.rules, tt); deep = max-le (let d = h.deep in omega arith) (omega arith) }
 
-made_taken : (rule : Rule) (ps : List Policy) (p : Policy) → made is_threshold rule ps ≡ Some p → (p ≡ of_rule rule (policies_of ps)) × IsRule rule (count (policies_of ps))
+made_taken : (rule : Rule) (ps : List Policy) (p : Policy) → made is_threshold rule ps ≡ Some p →
+    (p ≡ of_rule rule (policies_of ps)) × IsRule rule (count (policies_of ps))
 made_taken And ps p e = (sym (same_Some (policy.And (policies_of ps)) p e), tt)
 made_taken Or ps p e = (sym (same_Some (policy.Or (policies_of ps)) p e), tt)
 made_taken (OutOf n) ps p e =
@@ -91,9 +106,11 @@ made_taken (OutOf n) ps p e =
 
 -- ---- children
 
-module _ (orgs : Names) (levels : ℕ) (read : List ℕ → Option (Policy × List ℕ)) (reads : (bytes rest : List ℕ) (p : Policy) → read bytes ≡ Some (p, rest) → Found orgs levels p bytes rest) where
+module _ (orgs : Names) (levels : ℕ) (read : List ℕ → Option (Policy × List ℕ))
+    (reads : (bytes rest : List ℕ) (p : Policy) → read bytes ≡ Some (p, rest) → Found orgs levels p bytes rest) where
   -- the last child
-  last_found : (p : Policy) (bytes middle rest : List ℕ) → read (after_spaces bytes) ≡ Some (p, middle) → comma_at middle ≡ Some (false, rest) → FoundAll orgs levels (alone p) bytes rest
+  last_found : (p : Policy) (bytes middle rest : List ℕ) → read (after_spaces bytes) ≡ Some (p, middle) → comma_at middle ≡ Some (false, rest) →
+      FoundAll orgs levels (alone p) bytes rest
   last_found p bytes middle rest first ends =
       let l = spaces_taken bytes in
       let f = reads (after_spaces bytes) middle p first in
@@ -113,7 +130,8 @@ module _ (orgs : Names) (levels : ℕ) (read : List ℕ → Option (Policy × Li
   regroup a b c d e rest = simp append_assoc
 
   -- a child before others
-  more_found : (p : Policy) (ps : Policies) (bytes middle behind rest : List ℕ) → read (after_spaces bytes) ≡ Some (p, middle) → comma_at middle ≡ Some (true, behind) → FoundAll orgs levels ps behind rest → FoundAll orgs levels (then_policy p ps) bytes rest
+  more_found : (p : Policy) (ps : Policies) (bytes middle behind rest : List ℕ) → read (after_spaces bytes) ≡ Some (p, middle) →
+      comma_at middle ≡ Some (true, behind) → FoundAll orgs levels ps behind rest → FoundAll orgs levels (then_policy p ps) bytes rest
   more_found p ps bytes middle behind rest first goes_on others =
       let l = spaces_taken bytes in
       let f = reads (after_spaces bytes) middle p first in
@@ -125,11 +143,14 @@ module _ (orgs : Names) (levels : ℕ) (read : List ℕ → Option (Policy × Li
         lead_is = l.1;
         spelled = each_then p ps f.text c.0 others.lead others.text f.spelled c.1 others.lead_is others.spelled;
         spaces_is = others.spaces_is;
-        is = l.2 ∙ ap (λ (x : List ℕ). l.0 ++ x) (f.is ∙ ap (λ (x : List ℕ). f.text ++ x) (c.2 ∙ ap (λ (x : List ℕ). c.0 ++ 44 ∷ x) others.is) ∙ sym (regroup f.text c.0 (44 ∷ []) others.lead others.text (others.spaces ++ 41 ∷ rest)));
+        is = l.2 ∙ ap (λ (x : List ℕ). l.0 ++ x)
+            (f.is ∙ ap (λ (x : List ℕ). f.text ++ x) (c.2 ∙ ap (λ (x : List ℕ). c.0 ++ 44 ∷ x) others.is) ∙
+            sym (regroup f.text c.0 (44 ∷ []) others.lead others.text (others.spaces ++ 41 ∷ rest)));
         within = within_then orgs levels p ps f.within others.within;
       }
 
-  pub children_found : (n : ℕ) (bytes rest : List ℕ) (ps : List Policy) → children_at read n bytes ≡ Some (ps, rest) → FoundAll orgs levels (policies_of ps) bytes rest
+  pub children_found : (n : ℕ) (bytes rest : List ℕ) (ps : List Policy) → children_at read n bytes ≡ Some (ps, rest) →
+      FoundAll orgs levels (policies_of ps) bytes rest
   unfolding children_at
   children_found zero bytes rest ps e = absurd cc
   children_found (suc n) bytes rest ps e =
@@ -141,8 +162,11 @@ module _ (orgs : Names) (levels : ℕ) (read : List ℕ → Option (Policy × Li
       (subst (λ (r : List ℕ). FoundAll orgs levels (policies_of (s.0.0 ∷ u.0.0)) bytes r) parts.1
       (by_comma t.0.0 s.0.0 s.0.1 t.0.1 u.0.0 u.0.1 s.1 t.1 u.1 (children_found n t.0.1 u.0.1 u.0.0)))
     where
-      by_comma : (more : Bool) (p : Policy) (middle behind : List ℕ) (qs : List Policy) (after : List ℕ) → read (after_spaces bytes) ≡ Some (p, middle) → comma_at middle ≡ Some (more, behind)
-          → cond more (children_at read n behind) (Some ([], behind)) ≡ Some (qs, after) → (children_at read n behind ≡ Some (qs, after) → FoundAll orgs levels (policies_of qs) behind after) → FoundAll orgs levels (policies_of (p ∷ qs)) bytes after
+      by_comma : (more : Bool) (p : Policy) (middle behind : List ℕ) (qs : List Policy) (after : List ℕ) → read (after_spaces bytes) ≡ Some (p, middle) →
+          comma_at middle ≡ Some (more, behind)
+          → cond more (children_at read n behind) (Some ([], behind)) ≡ Some (qs, after) →
+          (children_at read n behind ≡ Some (qs, after) → FoundAll orgs levels (policies_of qs) behind after) →
+          FoundAll orgs levels (policies_of (p ∷ qs)) bytes after
       by_comma true p middle behind qs after first c o more = more_found p (policies_of qs) bytes middle behind after first c (more o)
       by_comma false p middle behind qs after first c o more =
           let parts = some_pair_parts [] qs behind after o in
@@ -167,7 +191,8 @@ module _ (orgs : Names) (levels : ℕ) (read : List ℕ → Option (Policy × Li
         spelled = spelled_of_rule s.0.0 ps text
             (seq (IsOpening s.0.0) (IsEach ps ⋯ IsByte 41) o.0 c.lead (c.text ++ (c.spaces ++ 41 ∷ [])) o.1 c.lead_is
             (seq (IsEach ps) (IsByte 41) c.text c.spaces (41 ∷ []) c.spelled c.spaces_is refl));
-        is = o.2 ∙ ap (λ (x : List ℕ). o.0 ++ x) (c.is ∙ ap (λ (x : List ℕ). c.lead ++ (c.text ++ (c.spaces ++ 41 ∷ x))) parts.1) ∙ sym (regroup o.0 c.lead c.text c.spaces (41 ∷ []) rest);
+        is = o.2 ∙ ap (λ (x : List ℕ). o.0 ++ x) (c.is ∙ ap (λ (x : List ℕ). c.lead ++ (c.text ++ (c.spaces ++ 41 ∷ x))) parts.1) ∙
+            sym (regroup o.0 c.lead c.text c.spaces (41 ∷ []) rest);
         within = within_of_rule orgs levels s.0.0 ps m.1 c.within;
       })
 
@@ -179,10 +204,12 @@ leaf_found orgs levels bytes rest p e =
     subst (λ (q : Policy). Found orgs levels q bytes rest) (sym l.1)
     (record { text = l.3; spelled = l.4; is = l.5; within = record { known = (l.2, tt); rules = tt; deep = omega arith } })
 
-pub policy_found : (orgs : Names) (levels : ℕ) (bytes rest : List ℕ) (p : Policy) → policy_at (is_among orgs) is_threshold levels bytes ≡ Some (p, rest) → Found orgs levels p bytes rest
+pub policy_found : (orgs : Names) (levels : ℕ) (bytes rest : List ℕ) (p : Policy) → policy_at (is_among orgs) is_threshold levels bytes ≡ Some (p, rest) →
+    Found orgs levels p bytes rest
 unfolding policy_at
 policy_found orgs zero bytes rest p e = leaf_found orgs 0 bytes rest p e
 policy_found orgs (suc levels) bytes rest p e =
-    either (is_quoted bytes) (leaf_at (is_among orgs) bytes) (operator_at is_threshold (policy_at (is_among orgs) is_threshold levels) bytes) (p, rest) (Found orgs (suc levels) p bytes rest)
+    either (is_quoted bytes) (leaf_at (is_among orgs) bytes) (operator_at is_threshold (policy_at (is_among orgs) is_threshold levels) bytes) (p, rest)
+    (Found orgs (suc levels) p bytes rest)
     (λ q. leaf_found orgs (suc levels) bytes rest p)
     (λ q. operator_found orgs levels (policy_at (is_among orgs) is_threshold levels) (policy_found orgs levels) bytes rest p) e

@@ -21,7 +21,8 @@ module _ (p : ℕ → Bool) where
   front_len [] y zs all stops = rw stops refl
   front_len (x ∷ xs) y zs all stops = decided (p x) refl all (λ rest. front_len xs y zs rest stops)
     where
-      decided : (t : Bool) → p x ≡ t → (t && list_all p xs) ≡ true → (list_all p xs ≡ true → prefix_len p (xs ++ y ∷ zs) ≡ length xs) → cond t (1 + prefix_len p (xs ++ y ∷ zs)) 0 ≡ length (x ∷ xs)
+      decided : (t : Bool) → p x ≡ t → (t && list_all p xs) ≡ true → (list_all p xs ≡ true → prefix_len p (xs ++ y ∷ zs) ≡ length xs) →
+          cond t (1 + prefix_len p (xs ++ y ∷ zs)) 0 ≡ length (x ∷ xs)
       decided true e rest more = rw (more rest) (one_more (length xs))
       decided false e rest more = absurd cc
 

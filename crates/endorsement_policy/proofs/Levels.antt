@@ -9,7 +9,8 @@ use Rattle.endorsement_policy.specs.Tree.{Rule, And, Or, OutOf}
 use Rattle.endorsement_policy.specs.View.{policies_of}
 use Rattle.endorsement_policy.specs.GoodSets.{Name, Names, is_among}
 use Rattle.endorsement_policy.specs.Leniency.{Leniency}
-use Rattle.endorsement_policy.specs.Reading.{leaf_at, quoted_at, is_org_name, is_known_by, fits_by, is_threshold, opening_at, children_at, operator_at, made, is_quoted, policy_at}
+use Rattle.endorsement_policy.specs.Reading.{leaf_at, quoted_at, is_org_name, is_known_by, fits_by, is_threshold, opening_at, children_at, operator_at, made}
+use Rattle.endorsement_policy.specs.Reading.{is_quoted, policy_at}
 use Rattle.endorsement_policy.specs.declared.policy.Policy.{Policy}
 use Rattle.endorsement_policy.specs.declared.policy.Policy.TheVariants as policy
 
@@ -34,15 +35,18 @@ module _ (is_known : Name → Bool) (fits : ℕ → ℕ → Bool) where
   at_bottom zero bytes q e = no_leaf bytes q
   at_bottom (suc levels) bytes q e = absurd (omega arith)
 
-  pub operated : (levels inner : ℕ) (bytes : List ℕ) → is_quoted bytes ≡ false → levels ≡ suc inner → policy_at is_known fits levels bytes ≡ operator_at fits (policy_at is_known fits inner) bytes
+  pub operated : (levels inner : ℕ) (bytes : List ℕ) → is_quoted bytes ≡ false → levels ≡ suc inner →
+      policy_at is_known fits levels bytes ≡ operator_at fits (policy_at is_known fits inner) bytes
   unfolding policy_at
   operated levels inner bytes q e = rw (e, q) refl
 
-  module _ (levels inner : ℕ) (bytes : List ℕ) (q : is_quoted bytes ≡ false) (one : levels ≡ suc inner) (rule : Rule) (rest : List ℕ) (opened : opening_at bytes ≡ Some (rule, rest)) where
+  module _ (levels inner : ℕ) (bytes : List ℕ) (q : is_quoted bytes ≡ false) (one : levels ≡ suc inner) (rule : Rule) (rest : List ℕ)
+      (opened : opening_at bytes ≡ Some (rule, rest)) where
     pub unfed : children_at (policy_at is_known fits inner) 1024 rest ≡ None → policy_at is_known fits levels bytes ≡ None
     unfed none = operated levels inner bytes q one ∙ rw (opened, none) refl
 
-    pub fed : (children : List Policy) (after : List ℕ) → children_at (policy_at is_known fits inner) 1024 rest ≡ Some (children, after) → policy_at is_known fits levels bytes ≡ (made fits rule children >>= λ p. Some (p, after))
+    pub fed : (children : List Policy) (after : List ℕ) → children_at (policy_at is_known fits inner) 1024 rest ≡ Some (children, after) →
+        policy_at is_known fits levels bytes ≡ (made fits rule children >>= λ p. Some (p, after))
     fed children after some = operated levels inner bytes q one ∙ rw (opened, some) refl
 
 -- ---- names
@@ -83,17 +87,20 @@ module _ (orgs : Names) (m : Leniency) (bytes name rest : List ℕ) (some : quot
 
 -- ---- operators
 
-pub made_by : (m : Leniency) (rule : Rule) (children : List Policy) (p : Policy) → made is_threshold rule children ≡ Some p → made (fits_by m) rule children ≡ Some p
+pub made_by : (m : Leniency) (rule : Rule) (children : List Policy) (p : Policy) → made is_threshold rule children ≡ Some p →
+    made (fits_by m) rule children ≡ Some p
 made_by m And children p e = e
 made_by m Or children p e = e
 made_by m (OutOf n) children p e = decided m.any_threshold (is_threshold n (length children)) e
   where
-    decided : (any b : Bool) → cond b (Some (policy.OutOf n (policies_of children))) None ≡ Some p → cond (any || b) (Some (policy.OutOf n (policies_of children))) None ≡ Some p
+    decided : (any b : Bool) → cond b (Some (policy.OutOf n (policies_of children))) None ≡ Some p →
+        cond (any || b) (Some (policy.OutOf n (policies_of children))) None ≡ Some p
     decided true true e = e
     decided true false e = absurd cc
     decided false b e = e
 
-pub not_made : (m : Leniency) (rule : Rule) (children : List Policy) → made is_threshold rule children ≡ None → m.any_threshold ≡ false → made (fits_by m) rule children ≡ None
+pub not_made : (m : Leniency) (rule : Rule) (children : List Policy) → made is_threshold rule children ≡ None → m.any_threshold ≡ false →
+    made (fits_by m) rule children ≡ None
 not_made m And children e none = absurd cc
 not_made m Or children e none = absurd cc
 not_made m (OutOf n) children e none = rw none e

@@ -22,7 +22,8 @@ first_of IsFirst End text h = (text, h)
 first_of IsFirst (Org name after) text h = first IsFirst (IsByte 44 ⋯ IsEach (Org name after)) text h
 first_of IsFirst (Of rule children after) text h = first IsFirst (IsByte 44 ⋯ IsEach (Of rule children after)) text h
 
-none_after : (IsFirst : List ℕ → Type 0) (after : Policies) (text : List ℕ) → IsBefore IsFirst after (IsEach after) text → ((t : List ℕ) → IsEach after t → count_satisfied [] after ≡ 0) → count_satisfied [] after ≡ 0
+none_after : (IsFirst : List ℕ → Type 0) (after : Policies) (text : List ℕ) → IsBefore IsFirst after (IsEach after) text →
+    ((t : List ℕ) → IsEach after t → count_satisfied [] after ≡ 0) → count_satisfied [] after ≡ 0
 none_after IsFirst End text h none = refl
 none_after IsFirst (Org name after) text h none =
     let rest = second IsFirst (IsByte 44 ⋯ IsEach (Org name after)) text h in

@@ -1,5 +1,6 @@
 -- An endorsed envelope carries a right tag.
-use Rattle.std.proofs.Common.{◌≡◌, ℕ, suc, Bool, true, false, not, cond, ◌&&◌, List, [], ◌∷◌, map, filter, Option, Some, None, slice_get, refl, sym, ap, ◌∙◌, subst, ◌⊎◌, inl, inr}
+use Rattle.std.proofs.Common.{◌≡◌, ℕ, suc, Bool, true, false, not, cond, ◌&&◌, List, [], ◌∷◌, map, filter, Option, Some, None, slice_get, refl, sym, ap, ◌∙◌}
+use Rattle.std.proofs.Common.{subst, ◌⊎◌, inl, inr}
 use Rattle.std.specs.List.{find, list_all}
 use Rattle.fab_types.specs.declared.envelope.Envelope.{Envelope}
 use Rattle.endorsement_policy.specs.GoodSets.{Name, Names, is_satisfied}
@@ -41,14 +42,17 @@ not_both : (b : Bool) → b ≡ true → not b ≡ true → ⊥
 not_both true e f = absurd cc
 not_both false e f = absurd cc
 
-met_by_someone : (policies : List ChaincodePolicy) (chaincode : Name) (names : Names) (o : Option ChaincodePolicy) → find (is_policy_of chaincode) policies ≡ o → do_need_someone policies ≡ true → is_met_by names o ≡ true → names ≡ [] → ⊥
+met_by_someone : (policies : List ChaincodePolicy) (chaincode : Name) (names : Names) (o : Option ChaincodePolicy) →
+    find (is_policy_of chaincode) policies ≡ o → do_need_someone policies ≡ true → is_met_by names o ≡ true → names ≡ [] → ⊥
 met_by_someone policies chaincode names None is need met none = absurd cc
 met_by_someone policies chaincode names (Some p) is need met none =
-    not_both (is_satisfied p.policy []) (ap (is_satisfied p.policy) (sym none) ∙ met) (found_passes (is_policy_of chaincode) (λ q. needs_someone q.policy) policies p need is)
+    not_both (is_satisfied p.policy []) (ap (is_satisfied p.policy) (sym none) ∙ met)
+    (found_passes (is_policy_of chaincode) (λ q. needs_someone q.policy) policies p need is)
 
 pub carries : (r : Listed) (e : Envelope) → do_need_someone r.policies ≡ true → is_endorsed r e ≡ true → CarriesRight r.orgs e
 carries r e need met =
     elim (none_or_one (is_right r.orgs e.payload) e.endorsements) [
-      | inl h ↦ absurd (met_by_someone r.policies e.payload.proposal.chaincode (right_orgs r.orgs e) (find (is_policy_of e.payload.proposal.chaincode) r.policies) refl need met (ap (map (λ x. x.org)) h))
+      | inl h ↦ absurd (met_by_someone r.policies e.payload.proposal.chaincode (right_orgs r.orgs e)
+          (find (is_policy_of e.payload.proposal.chaincode) r.policies) refl need met (ap (map (λ x. x.org)) h))
       | inr h ↦ record { place = h.place; endorsement = h.one; stands = h.there; right = h.passes }
     ]

@@ -22,7 +22,8 @@ module _ (all done : List Bool) (worker workers index : ℕ) (answer : Bool) (pl
             ∙ ap (λ (i : ℕ). get_or all i false) (place ∙ ap (λ (t : ℕ). worker + workers * t) (sym here)))
       ]
 
-  pub next_within : (count : ℕ) → index < count → ((turn : ℕ) → turn < length done → worker + workers * turn < count) → (turn : ℕ) → turn < length (done ++ answer ∷ []) → worker + workers * turn < count
+  pub next_within : (count : ℕ) → index < count → ((turn : ℕ) → turn < length done → worker + workers * turn < count) → (turn : ℕ) →
+      turn < length (done ++ answer ∷ []) → worker + workers * turn < count
   next_within count here before turn lt =
       elim (cases_lt turn (length done)) [
         | inl below ↦ before turn below

@@ -1,5 +1,6 @@
 -- Reading gives the policy that a text spells within the limits.
-use Rattle.std.proofs.Common.{◌≡◌, ℕ, zero, suc, ◌+◌, ◌-◌, ◌≤◌, Bool, true, false, eqb, List, [], ◌∷◌, ◌++◌, length, Option, Some, refl, ap, ◌∙◌, append_assoc, arith}
+use Rattle.std.proofs.Common.{◌≡◌, ℕ, zero, suc, ◌+◌, ◌-◌, ◌≤◌, Bool, true, false, eqb, List, [], ◌∷◌, ◌++◌, length, Option, Some, refl, ap, ◌∙◌, append_assoc}
+use Rattle.std.proofs.Common.{arith}
 use Rattle.std.proofs.Math.Nat.{le-max_left, le-max_right}
 use Rattle.std.proofs.lemmas.List.{length-append}
 use Rattle.grammar.specs.Spelling.{IsByte}
@@ -59,7 +60,8 @@ KnowsAll is_known End = Unit {0}
 KnowsAll is_known (Org name after) = (is_known name ≡ true) × KnowsAll is_known after
 KnowsAll is_known (Of rule children after) = KnowsAll is_known children × KnowsAll is_known after
 
-pub is_made : (fits : ℕ → ℕ → Bool) (rule : Rule) (children : Policies) → FitsRule fits rule (count children) → made fits rule (list_of children) ≡ Some (of_rule rule children)
+pub is_made : (fits : ℕ → ℕ → Bool) (rule : Rule) (children : Policies) → FitsRule fits rule (count children) →
+    made fits rule (list_of children) ≡ Some (of_rule rule children)
 is_made fits And children r = ap (λ (c : Policies). Some (policy.And c)) (same_tree children)
 is_made fits Or children r = ap (λ (c : Policies). Some (policy.Or c)) (same_tree children)
 is_made fits (OutOf n) children r = rw (same_count children, r) (ap (λ (c : Policies). Some (policy.OutOf n c)) (same_tree children))
@@ -100,7 +102,8 @@ begun quote text h = rw h.2 (omega arith)
 operator_begins : (rule : Rule) (children : Policies) (text : List ℕ) → Operator rule children text → Begins false text
 operator_begins rule children text h = begins_longer false h.0 h.1 text (opening_begins rule h.0 h.2) h.4
 
-first_counts : (IsFirst IsAfter : List ℕ → Type 0) (after : Policies) → ((text : List ℕ) → IsFirst text → 1 ≤ length text) → ((text : List ℕ) → IsAfter text → count after ≤ length text) → (text : List ℕ) → IsBefore IsFirst after IsAfter text → 1 + count after ≤ length text
+first_counts : (IsFirst IsAfter : List ℕ → Type 0) (after : Policies) → ((text : List ℕ) → IsFirst text → 1 ≤ length text) →
+    ((text : List ℕ) → IsAfter text → count after ≤ length text) → (text : List ℕ) → IsBefore IsFirst after IsAfter text → 1 + count after ≤ length text
 first_counts IsFirst IsAfter End f a text h = omega (arith, f text h)
 first_counts IsFirst IsAfter (Org name after) f a text h = more_counts text h
   where
@@ -118,7 +121,8 @@ first_counts IsFirst IsAfter (Of rule children after) f a text h = more_counts t
 pub each_counts : (ps : Policies) (text : List ℕ) → IsEach ps text → count ps ≤ length text
 each_counts End text h = absurd h
 each_counts (Org name after) text h = first_counts (IsLeaf name) (IsEach after) after (λ t l. begun true t (leaf_begins name t l)) (each_counts after) text h
-each_counts (Of rule children after) text h = first_counts (Operator rule children) (IsEach after) after (λ t l. begun false t (operator_begins rule children t l)) (each_counts after) text h
+each_counts (Of rule children after) text h =
+    first_counts (Operator rule children) (IsEach after) after (λ t l. begun false t (operator_begins rule children t l)) (each_counts after) text h
 
 -- ---- children are read
 
@@ -150,7 +154,13 @@ module _ (read : List ℕ → Option (Policy × List ℕ)) (p : Policy) (quote :
         let after_few : length u.3.1 ≤ 1024 = omega arith in
         let regrouped : text ++ (spaces ++ 41 ∷ rest) ≡ h.0 ++ behind =
         rw (text_is, u.2) (regroup h.0 h.3.0 (44 ∷ []) u.3.0 u.3.1 (spaces ++ 41 ∷ rest)) in
-        rw (regrouped, begin_left quote lead h.0 behind l (begins h.0 h.2), reads h.0 behind h.2 first_few, comma_more h.3.0 (u.3.0 ++ tail) h.3.2, more n (omega arith) u.3.0 u.3.1 spaces rest u.3.2 u.3.3 s after_few) refl
+        rw (
+          regrouped,
+          begin_left quote lead h.0 behind l (begins h.0 h.2),
+          reads h.0 behind h.2 first_few,
+          comma_more h.3.0 (u.3.0 ++ tail) h.3.2,
+          more n (omega arith) u.3.0 u.3.1 spaces rest u.3.2 u.3.3 s after_few,
+        ) refl
       where
         regroup : (a b c d e rest : List ℕ) → (a ++ (b ++ (c ++ (d ++ e)))) ++ rest ≡ a ++ (b ++ (c ++ (d ++ (e ++ rest))))
         regroup a b c d e rest = simp append_assoc
@@ -161,11 +171,15 @@ module _ (read : List ℕ → Option (Policy × List ℕ)) (p : Policy) (quote :
     before_read (Of rule children after) more = more_read (IsEach (Of rule children after)) (list_of (Of rule children after)) more
 
 module _ (is_known : Name → Bool) (fits : ℕ → ℕ → Bool) where
-  named_read : (levels : ℕ) (name text rest : List ℕ) → is_known name ≡ true → IsLeaf name text → policy_at is_known fits levels (text ++ rest) ≡ Some (policy.Org name, rest)
-  named_read levels name text rest known h = quoted is_known fits levels (text ++ rest) (quote_is true text rest (leaf_begins name text h)) ∙ leaf_read is_known name text rest h known
+  named_read : (levels : ℕ) (name text rest : List ℕ) → is_known name ≡ true → IsLeaf name text →
+      policy_at is_known fits levels (text ++ rest) ≡ Some (policy.Org name, rest)
+  named_read levels name text rest known h =
+      quoted is_known fits levels (text ++ rest) (quote_is true text rest (leaf_begins name text h)) ∙ leaf_read is_known name text rest h known
 
-  operator_read : (levels inner : ℕ) (rule : Rule) (children : Policies) → levels ≡ suc inner → FitsRule fits rule (count children) → ReadsAll (policy_at is_known fits inner) (IsEach children) (list_of children)
-      → (text rest : List ℕ) → Operator rule children text → length text ≤ 1024 → policy_at is_known fits levels (text ++ rest) ≡ Some (of_rule rule children, rest)
+  operator_read : (levels inner : ℕ) (rule : Rule) (children : Policies) → levels ≡ suc inner → FitsRule fits rule (count children) →
+      ReadsAll (policy_at is_known fits inner) (IsEach children) (list_of children)
+      → (text rest : List ℕ) → Operator rule children text → length text ≤ 1024 →
+      policy_at is_known fits levels (text ++ rest) ≡ Some (of_rule rule children, rest)
   operator_read levels inner rule children one r all text rest h few =
       let u = h.3.3 in
       let behind = h.3.0 ++ (u.0 ++ (u.3.0 ++ 41 ∷ rest)) in
@@ -176,15 +190,18 @@ module _ (is_known : Name → Bool) (fits : ℕ → ℕ → Bool) where
       let listed : length (list_of children) ≡ count children = same_count children in
       let regrouped : text ++ rest ≡ h.0 ++ behind = rw (text_is, u.3.3) (regroup h.0 h.3.0 u.0 u.3.0 (41 ∷ []) rest) in
       operated is_known fits levels inner (text ++ rest) (quote_is false text rest (operator_begins rule children text h)) one
-      ∙ rw (regrouped, opening_read rule h.0 behind h.2, all 1024 (omega arith) h.3.0 u.0 u.3.0 rest h.3.2 u.2 u.3.2 inner_few, is_made fits rule children r) refl
+      ∙ rw (regrouped, opening_read rule h.0 behind h.2, all 1024 (omega arith) h.3.0 u.0 u.3.0 rest h.3.2 u.2 u.3.2 inner_few, is_made fits rule children r)
+      refl
     where
       regroup : (a b c d e rest : List ℕ) → (a ++ (b ++ (c ++ (d ++ e)))) ++ rest ≡ a ++ (b ++ (c ++ (d ++ (e ++ rest))))
       regroup a b c d e rest = simp append_assoc
 
-  pub each_read : (ps : Policies) (levels : ℕ) → depth ps ≤ levels → KnowsAll is_known ps → FitsAll fits ps → ReadsAll (policy_at is_known fits levels) (IsEach ps) (list_of ps)
+  pub each_read : (ps : Policies) (levels : ℕ) → depth ps ≤ levels → KnowsAll is_known ps → FitsAll fits ps →
+      ReadsAll (policy_at is_known fits levels) (IsEach ps) (list_of ps)
   each_read End levels d k r = λ n le lead text spaces rest l h s few. absurd h
   each_read (Org name after) levels d k r =
-      before_read (policy_at is_known fits levels) (policy.Org name) true (IsLeaf name) (λ text rest h few. named_read levels name text rest k.0 h) (leaf_begins name) after (each_read after levels d k.1 r)
+      before_read (policy_at is_known fits levels) (policy.Org name) true (IsLeaf name) (λ text rest h few. named_read levels name text rest k.0 h)
+      (leaf_begins name) after (each_read after levels d k.1 r)
   each_read (Of rule children after) levels d k r =
       let left = le-max_left (suc (depth children)) (depth after) in
       let right = le-max_right (suc (depth children)) (depth after) in
@@ -195,15 +212,18 @@ module _ (is_known : Name → Bool) (fits : ℕ → ℕ → Bool) where
       (operator_read levels (levels - 1) rule children one r.0 (each_read children (levels - 1) inner k.0 r.1))
       (operator_begins rule children) after (each_read after levels outer k.1 r.2)
 
-  alone_read : (levels : ℕ) (rule : Rule) (children : Policies) → depth (Of rule children End) ≤ levels → KnowsAll is_known (Of rule children End) → FitsAll fits (Of rule children End)
-      → (text rest : List ℕ) → Operator rule children text → length text ≤ 1024 → policy_at is_known fits levels (text ++ rest) ≡ Some (of_rule rule children, rest)
+  alone_read : (levels : ℕ) (rule : Rule) (children : Policies) → depth (Of rule children End) ≤ levels → KnowsAll is_known (Of rule children End) →
+      FitsAll fits (Of rule children End)
+      → (text rest : List ℕ) → Operator rule children text → length text ≤ 1024 →
+      policy_at is_known fits levels (text ++ rest) ≡ Some (of_rule rule children, rest)
   alone_read levels rule children d k r =
       let left = le-max_left (suc (depth children)) 0 in
       let one : levels ≡ suc (levels - 1) = omega arith in
       let inner : depth children ≤ levels - 1 = omega arith in
       operator_read levels (levels - 1) rule children one r.0 (each_read children (levels - 1) inner k.0 r.1)
 
-  pub policy_read : (p : Policy) (levels : ℕ) (text rest : List ℕ) → IsSpelled p text → depth (alone p) ≤ levels → KnowsAll is_known (alone p) → FitsAll fits (alone p) → length text ≤ 1024
+  pub policy_read : (p : Policy) (levels : ℕ) (text rest : List ℕ) → IsSpelled p text → depth (alone p) ≤ levels → KnowsAll is_known (alone p) →
+      FitsAll fits (alone p) → length text ≤ 1024
       → policy_at is_known fits levels (text ++ rest) ≡ Some (p, rest)
   policy_read (policy.Org name) levels text rest h d k r few = named_read levels name text rest k.0 h
   policy_read (policy.And children) levels text rest h d k r few = alone_read levels And children d k r text rest h few

@@ -1,5 +1,6 @@
 -- Reading each token gives what its text spells, and nothing else.
-use Rattle.std.proofs.Common.{◌≡◌, ℕ, take, drop, Bool, true, false, cond, eqb, List, [], ◌∷◌, ◌++◌, length, Option, Some, None, refl, sym, ap, ap₂, ◌∙◌, subst, append_assoc, arith}
+use Rattle.std.proofs.Common.{◌≡◌, ℕ, take, drop, Bool, true, false, cond, eqb, List, [], ◌∷◌, ◌++◌, length, Option, Some, None, refl, sym, ap, ap₂, ◌∙◌, subst}
+use Rattle.std.proofs.Common.{append_assoc, arith}
 use Rattle.std.specs.Prelude.{◌&&◌, nat_eq, nat_le, not, codes}
 use Rattle.std.specs.List.{list_all, prefix_len}
 use Rattle.std.specs.Cmp.Lexicographic.{pointwise}
@@ -13,7 +14,8 @@ use Rattle.grammar.specs.Laws.Steps.{bind_some, guarded, byte_taken}
 use Rattle.endorsement_policy.specs.Tree.{Rule, And, Or, OutOf}
 use Rattle.endorsement_policy.specs.GoodSets.{Name}
 use Rattle.endorsement_policy.specs.Spelling.{IsSpaces, ◌⋯◌, IsLeaf, IsThreshold, decimal_after, leads_with_zero, IsOpening}
-use Rattle.endorsement_policy.specs.Reading.{after_spaces, tag_at, token_at, quoted_at, is_org_name, leaf_at, threshold_at, bracket_at, out_of_at, opening_at, by_mark, comma_at}
+use Rattle.endorsement_policy.specs.Reading.{after_spaces, tag_at, token_at, quoted_at, is_org_name, leaf_at, threshold_at, bracket_at, out_of_at, opening_at}
+use Rattle.endorsement_policy.specs.Reading.{by_mark, comma_at}
 use Rattle.endorsement_policy.specs.declared.policy.Policy.{Policy}
 use Rattle.endorsement_policy.specs.declared.policy.Policy.TheVariants as policy
 use Rattle.std.proofs.lemmas.List.Folds.{length-prefix_len}
@@ -38,7 +40,8 @@ spaces_taken bytes =
 
 pub tag_taken : (b : ℕ) (bytes rest : List ℕ) → tag_at b bytes ≡ Some rest → bytes ≡ b ∷ rest
 tag_taken b [] rest e = absurd cc
-tag_taken b (c ∷ bytes) rest e = let g = guarded (eqb c b) (Some bytes) rest e in let same : bytes ≡ rest = cc in ap₂ (λ (x : ℕ) (xs : List ℕ). x ∷ xs) (eqb-true c b g.0) same
+tag_taken b (c ∷ bytes) rest e = let g = guarded (eqb c b) (Some bytes) rest e in let same : bytes ≡ rest =
+    cc in ap₂ (λ (x : ℕ) (xs : List ℕ). x ∷ xs) (eqb-true c b g.0) same
 
 pub tag_passed : (b : ℕ) (rest : List ℕ) → tag_at b (b ∷ rest) ≡ Some rest
 tag_passed b rest = rw (eq-eqb b b refl) refl
@@ -71,13 +74,15 @@ quoted_taken bytes name rest e =
     let t = bind_some (tag_at 39 (drop n s.0)) (λ s₁. Some (take n s.0, s₁)) (name, rest) s.2 in
     let parts = some_pair_parts (take n s.0) name t.0 rest t.2 in
     tag_taken 39 bytes s.0 s.1
-    ∙ ap (λ (x : List ℕ). 39 ∷ x) (sym (take-append-drop n s.0) ∙ ap₂ (λ (x y : List ℕ). x ++ y) parts.0 (tag_taken 39 (drop n s.0) t.0 t.1 ∙ ap (λ (y : List ℕ). 39 ∷ y) parts.1))
+    ∙ ap (λ (x : List ℕ). 39 ∷ x)
+    (sym (take-append-drop n s.0) ∙ ap₂ (λ (x y : List ℕ). x ++ y) parts.0 (tag_taken 39 (drop n s.0) t.0 t.1 ∙ ap (λ (y : List ℕ). 39 ∷ y) parts.1))
 
 module _ (is_known : Name → Bool) where
   pub leaf_read : (name text rest : List ℕ) → IsLeaf name text → is_known name ≡ true → leaf_at is_known (text ++ rest) ≡ Some (policy.Org name, rest)
   unfolding leaf_at
   leaf_read name text rest h known =
-      let front : text ++ rest ≡ 39 ∷ (name ++ 39 ∷ rest) = ap (λ (x : List ℕ). x ++ rest) h.1 ∙ ap (λ (x : List ℕ). 39 ∷ x) (append_assoc name (39 ∷ []) rest) in
+      let front : text ++ rest ≡ 39 ∷ (name ++ 39 ∷ rest) =
+      ap (λ (x : List ℕ). x ++ rest) h.1 ∙ ap (λ (x : List ℕ). 39 ∷ x) (append_assoc name (39 ∷ []) rest) in
       rw (front, quoted_read name rest h.0.2, le-leb 1 (length name) h.0.0, le-leb (length name) 32 h.0.1, h.0.2, known) refl
 
   pub leaf_taken : (bytes rest : List ℕ) (p : Policy) → leaf_at is_known bytes ≡ Some (p, rest)
@@ -96,15 +101,25 @@ module _ (is_known : Name → Bool) where
         tests.1,
         39 ∷ (name ++ 39 ∷ []),
         ((leb-true _ _ bounds.0, leb-true _ _ bounds.1, more.1), refl),
-        quoted_taken bytes name s.0.1 s.1 ∙ ap (λ (x : List ℕ). 39 ∷ (name ++ 39 ∷ x)) parts.1 ∙ ap (λ (x : List ℕ). 39 ∷ x) (sym (append_assoc name (39 ∷ []) rest)),
+        quoted_taken bytes name s.0.1 s.1 ∙ ap (λ (x : List ℕ). 39 ∷ (name ++ 39 ∷ x)) parts.1 ∙
+            ap (λ (x : List ℕ). 39 ∷ x) (sym (append_assoc name (39 ∷ []) rest)),
       )
 
 -- ---- thresholds
 
-pub threshold_read : (n : ℕ) (text : List ℕ) (b : ℕ) (rest : List ℕ) → IsThreshold n text → is_digit b ≡ false → threshold_at (text ++ b ∷ rest) ≡ Some (n, b ∷ rest)
+pub threshold_read : (n : ℕ) (text : List ℕ) (b : ℕ) (rest : List ℕ) → IsThreshold n text → is_digit b ≡ false →
+    threshold_at (text ++ b ∷ rest) ≡ Some (n, b ∷ rest)
 unfolding threshold_at
 threshold_read n text b rest h stops =
-    rw (front_len is_digit text b rest h.digits stops, take_at text (b ∷ rest) (length text) refl, drop_at text (b ∷ rest) (length text) refl, le-leb 1 (length text) h.least, le-leb (length text) 4 h.greatest, h.plain, h.value) refl
+    rw (
+      front_len is_digit text b rest h.digits stops,
+      take_at text (b ∷ rest) (length text) refl,
+      drop_at text (b ∷ rest) (length text) refl,
+      le-leb 1 (length text) h.least,
+      le-leb (length text) 4 h.greatest,
+      h.plain,
+      h.value,
+    ) refl
 
 is_false : (b : Bool) → not b ≡ true → b ≡ false
 is_false true e = absurd cc
@@ -167,9 +182,11 @@ digits_left n spaces (d ∷ ds) rest s h = spaces_left spaces d (ds ++ rest) s (
     digit_is_no_space d e = grind (arith, nat_tests)
 
 -- what follows a threshold begins with no digit
-threshold_before : (n : ℕ) (text spaces rest : List ℕ) → IsThreshold n text → IsSpaces spaces → threshold_at (text ++ (spaces ++ 44 ∷ rest)) ≡ Some (n, spaces ++ 44 ∷ rest)
+threshold_before : (n : ℕ) (text spaces rest : List ℕ) → IsThreshold n text → IsSpaces spaces →
+    threshold_at (text ++ (spaces ++ 44 ∷ rest)) ≡ Some (n, spaces ++ 44 ∷ rest)
 threshold_before n text [] rest h s = threshold_read n text 44 rest h refl
-threshold_before n text (b ∷ spaces) rest h s = threshold_read n text b (spaces ++ 44 ∷ rest) h (space_is_no_digit b (both (eqb b 32) (list_all (λ b. eqb b 32) spaces) s).0)
+threshold_before n text (b ∷ spaces) rest h s =
+    threshold_read n text b (spaces ++ 44 ∷ rest) h (space_is_no_digit b (both (eqb b 32) (list_all (λ b. eqb b 32) spaces) s).0)
   where
     space_is_no_digit : (b : ℕ) → eqb b 32 ≡ true → is_digit b ≡ false
     space_is_no_digit b e = rw (eqb-true b 32 e) refl
@@ -178,7 +195,12 @@ out_of_read : (n : ℕ) (one two text three rest : List ℕ) → IsSpaces one �
     → opening_at (codes "OutOf" ++ (one ++ 40 ∷ (two ++ (text ++ (three ++ 44 ∷ rest))))) ≡ Some (OutOf n, rest)
 unfolding opening_at
 out_of_read n one two text three rest s t h u =
-    rw (token_passed one 40 (two ++ (text ++ (three ++ 44 ∷ rest))) s refl, digits_left n two text (three ++ 44 ∷ rest) t h, threshold_before n text three rest h u, token_passed three 44 rest u refl) refl
+    rw (
+      token_passed one 40 (two ++ (text ++ (three ++ 44 ∷ rest))) s refl,
+      digits_left n two text (three ++ 44 ∷ rest) t h,
+      threshold_before n text three rest h u,
+      token_passed three 44 rest u refl,
+    ) refl
 
 pub opening_read : (rule : Rule) (text rest : List ℕ) → IsOpening rule text → opening_at (text ++ rest) ≡ Some (rule, rest)
 opening_read And text rest h =
@@ -198,14 +220,16 @@ opening_read (OutOf n) text rest h =
 pub seq : (P Q : List ℕ → Type 0) (front spaces back : List ℕ) → P front → IsSpaces spaces → Q back → (P ⋯ Q) (front ++ (spaces ++ back))
 seq P Q front spaces back p s q = (front, spaces ++ back, p, (spaces, back, s, q, refl), refl)
 
-plain_taken : (rule found : Rule) (word bytes rest : List ℕ) → ((text : List ℕ) → (IsText word ⋯ IsByte 40) text → IsOpening rule text) → pointwise nat_eq (take (length word) bytes) word ≡ true
+plain_taken : (rule found : Rule) (word bytes rest : List ℕ) → ((text : List ℕ) → (IsText word ⋯ IsByte 40) text → IsOpening rule text) →
+    pointwise nat_eq (take (length word) bytes) word ≡ true
     → bracket_at rule (drop (length word) bytes) ≡ Some (found, rest) → (text : List ℕ) × IsOpening found text × (bytes ≡ text ++ rest)
 plain_taken rule found word bytes rest opens is e =
     let s = bind_some (token_at 40 (drop (length word) bytes)) (λ r. Some (rule, r)) (found, rest) e in
     let parts = some_pair_parts rule found s.0 rest s.2 in
     let t = token_taken 40 (drop (length word) bytes) s.0 s.1 in (
       word ++ (t.0 ++ 40 ∷ []),
-      subst (λ r. IsOpening r (word ++ (t.0 ++ 40 ∷ []))) parts.0 (opens (word ++ (t.0 ++ 40 ∷ [])) (seq (IsText word) (IsByte 40) word t.0 (40 ∷ []) refl t.1 refl)),
+      subst (λ r. IsOpening r (word ++ (t.0 ++ 40 ∷ []))) parts.0
+          (opens (word ++ (t.0 ++ 40 ∷ [])) (seq (IsText word) (IsByte 40) word t.0 (40 ∷ []) refl t.1 refl)),
       word_taken word bytes is ∙ ap (λ (x : List ℕ). word ++ x) (t.2 ∙ ap (λ (x : List ℕ). t.0 ++ 40 ∷ x) parts.1) ∙ sym (joined word t.0 (40 ∷ []) rest),
     )
 
@@ -214,7 +238,8 @@ out_of_taken : (found : Rule) (bytes rest : List ℕ) → pointwise nat_eq (take
     → (text : List ℕ) × IsOpening found text × (bytes ≡ text ++ rest)
 out_of_taken found bytes rest is e =
     let word = codes "OutOf" in
-    let s = bind_some (token_at 40 (drop 5 bytes)) (λ r. threshold_at (after_spaces r) >>= λ n. (token_at 44 n.1 >>= λ s. Some (OutOf n.0, s))) (found, rest) e in
+    let s = bind_some (token_at 40 (drop 5 bytes)) (λ r. threshold_at (after_spaces r) >>= λ n. (token_at 44 n.1 >>= λ s. Some (OutOf n.0, s))) (found, rest) e
+    in
     let t = bind_some (threshold_at (after_spaces s.0)) (λ n. token_at 44 n.1 >>= λ s. Some (OutOf n.0, s)) (found, rest) s.2 in
     let u = bind_some (token_at 44 t.0.1) (λ s. Some (OutOf t.0.0, s)) (found, rest) t.2 in
     let parts = some_pair_parts (OutOf t.0.0) found u.0 rest u.2 in
@@ -228,14 +253,22 @@ out_of_taken found bytes rest is e =
     (seq (IsByte 40) (IsThreshold t.0.0 ⋯ IsByte 44) (40 ∷ []) two.0 (digits.0 ++ (three.0 ++ 44 ∷ [])) refl two.1
     (seq (IsThreshold t.0.0) (IsByte 44) digits.0 three.0 (44 ∷ []) digits.1 three.1 refl)) in
     let left : drop 5 bytes ≡ one.0 ++ 40 ∷ (two.0 ++ (digits.0 ++ (three.0 ++ 44 ∷ rest))) =
-    one.2 ∙ ap (λ (x : List ℕ). one.0 ++ 40 ∷ x) (two.2 ∙ ap (λ (x : List ℕ). two.0 ++ x) (digits.2 ∙ ap (λ (x : List ℕ). digits.0 ++ x) (three.2 ∙ ap (λ (x : List ℕ). three.0 ++ 44 ∷ x) parts.1))) in
-    (text, subst (λ r. IsOpening r text) parts.0 opens, word_taken word bytes is ∙ ap (λ (x : List ℕ). word ++ x) left ∙ sym (regroup word one.0 (40 ∷ []) two.0 digits.0 three.0 (44 ∷ []) rest))
+    one.2 ∙ ap (λ (x : List ℕ). one.0 ++ 40 ∷ x)
+    (two.2 ∙ ap (λ (x : List ℕ). two.0 ++ x) (digits.2 ∙ ap (λ (x : List ℕ). digits.0 ++ x) (three.2 ∙ ap (λ (x : List ℕ). three.0 ++ 44 ∷ x) parts.1))) in (
+      text,
+      subst (λ r. IsOpening r text) parts.0 opens,
+      word_taken word bytes is ∙ ap (λ (x : List ℕ). word ++ x) left ∙
+          sym (regroup word one.0 (40 ∷ []) two.0 digits.0 three.0 (44 ∷ []) rest),
+    )
 
 pub opening_taken : (bytes rest : List ℕ) (rule : Rule) → opening_at bytes ≡ Some (rule, rest) → (text : List ℕ) × IsOpening rule text × (bytes ≡ text ++ rest)
 unfolding opening_at
-opening_taken bytes rest rule e = first (pointwise nat_eq (take 3 bytes) (codes "AND")) (pointwise nat_eq (take 2 bytes) (codes "OR")) (pointwise nat_eq (take 5 bytes) (codes "OutOf")) refl refl refl e
+opening_taken bytes rest rule e =
+    first (pointwise nat_eq (take 3 bytes) (codes "AND")) (pointwise nat_eq (take 2 bytes) (codes "OR"))
+    (pointwise nat_eq (take 5 bytes) (codes "OutOf")) refl refl refl e
   where
-    first : (a o n : Bool) → pointwise nat_eq (take 3 bytes) (codes "AND") ≡ a → pointwise nat_eq (take 2 bytes) (codes "OR") ≡ o → pointwise nat_eq (take 5 bytes) (codes "OutOf") ≡ n
+    first : (a o n : Bool) → pointwise nat_eq (take 3 bytes) (codes "AND") ≡ a → pointwise nat_eq (take 2 bytes) (codes "OR") ≡ o →
+        pointwise nat_eq (take 5 bytes) (codes "OutOf") ≡ n
         → cond a (bracket_at And (drop 3 bytes)) (cond o (bracket_at Or (drop 2 bytes)) (cond n (out_of_at (drop 5 bytes)) None)) ≡ Some (rule, rest)
         → (text : List ℕ) × IsOpening rule text × (bytes ≡ text ++ rest)
     first true o n a_is o_is n_is e = plain_taken And rule (codes "AND") bytes rest (λ text h. h) a_is e
@@ -260,14 +293,21 @@ mark false = 41
 abbrev chosen : Bool → Bool → List ℕ → Option (Bool × List ℕ)
 chosen c d left = cond c (Some (true, left)) (cond d (Some (false, left)) None)
 
-pub comma_taken : (bytes rest : List ℕ) (more : Bool) → comma_at bytes ≡ Some (more, rest) → (spaces : List ℕ) × IsSpaces spaces × (bytes ≡ spaces ++ mark more ∷ rest)
+pub comma_taken : (bytes rest : List ℕ) (more : Bool) → comma_at bytes ≡ Some (more, rest) →
+    (spaces : List ℕ) × IsSpaces spaces × (bytes ≡ spaces ++ mark more ∷ rest)
 unfolding comma_at
 comma_taken bytes rest more e =
     let s = spaces_taken bytes in
-    let t = bind_some (byte_at (after_spaces bytes)) (λ t. by_mark t.0 t.1) (more, rest) e in
-    (s.0, s.1, s.2 ∙ ap (λ (x : List ℕ). s.0 ++ x) (byte_taken (after_spaces bytes) t.0.0 t.0.1 t.1 ∙ marked t.0.0 t.0.1 (eqb t.0.0 44) (eqb t.0.0 41) refl refl t.2))
+    let t = bind_some (byte_at (after_spaces bytes)) (λ t. by_mark t.0 t.1) (more, rest) e in (
+      s.0,
+      s.1,
+      s.2 ∙ ap (λ (x : List ℕ). s.0 ++ x)
+          (byte_taken (after_spaces bytes) t.0.0 t.0.1 t.1 ∙ marked t.0.0 t.0.1 (eqb t.0.0 44) (eqb t.0.0 41) refl refl t.2),
+    )
   where
     marked : (b : ℕ) (left : List ℕ) (c d : Bool) → eqb b 44 ≡ c → eqb b 41 ≡ d → chosen c d left ≡ Some (more, rest) → b ∷ left ≡ mark more ∷ rest
-    marked b left true d c_is d_is e = let parts = some_pair_parts true more left rest e in ap₂ (λ (x : ℕ) (xs : List ℕ). x ∷ xs) (eqb-true b 44 c_is ∙ ap mark parts.0) parts.1
-    marked b left false true c_is d_is e = let parts = some_pair_parts false more left rest e in ap₂ (λ (x : ℕ) (xs : List ℕ). x ∷ xs) (eqb-true b 41 d_is ∙ ap mark parts.0) parts.1
+    marked b left true d c_is d_is e = let parts =
+        some_pair_parts true more left rest e in ap₂ (λ (x : ℕ) (xs : List ℕ). x ∷ xs) (eqb-true b 44 c_is ∙ ap mark parts.0) parts.1
+    marked b left false true c_is d_is e = let parts =
+        some_pair_parts false more left rest e in ap₂ (λ (x : ℕ) (xs : List ℕ). x ∷ xs) (eqb-true b 41 d_is ∙ ap mark parts.0) parts.1
     marked b left false false c_is d_is e = absurd cc

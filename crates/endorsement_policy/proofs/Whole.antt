@@ -1,5 +1,6 @@
 -- Reading the whole of a text gives the policy that it spells, and no other.
-use Rattle.std.proofs.Common.{◌≡◌, ℕ, ◌+◌, ◌≤◌, Bool, true, false, cond, eqb, List, [], ◌++◌, length, Some, None, inl, inr, refl, sym, ap, subst, ◌∙◌, arith, Result, Ok, Err}
+use Rattle.std.proofs.Common.{◌≡◌, ℕ, ◌+◌, ◌≤◌, Bool, true, false, cond, eqb, List, [], ◌++◌, length, Some, None, inl, inr, refl, sym, ap, subst, ◌∙◌, arith}
+use Rattle.std.proofs.Common.{Result, Ok, Err}
 use Rattle.std.specs.Prelude.{IfOk, IfErr}
 use Rattle.std.proofs.lemmas.Bool.{eqb-true, le-leb, cases_lt}
 use Rattle.std.proofs.lemmas.Option.{same_Some}
@@ -31,7 +32,8 @@ all_known is_known any End = tt
 all_known is_known any (Org name after) = (any name, all_known is_known any after)
 all_known is_known any (Of rule children after) = (all_known is_known any children, all_known is_known any after)
 
-known_by : (orgs : Names) (is_known : Name → Bool) → ((name : Name) → is_among orgs name ≡ true → is_known name ≡ true) → (ps : Policies) → HasKnown orgs ps → KnowsAll is_known ps
+known_by : (orgs : Names) (is_known : Name → Bool) → ((name : Name) → is_among orgs name ≡ true → is_known name ≡ true) → (ps : Policies) → HasKnown orgs ps →
+    KnowsAll is_known ps
 known_by orgs is_known f End h = tt
 known_by orgs is_known f (Org name after) h = (f name h.0, known_by orgs is_known f after h.1)
 known_by orgs is_known f (Of rule children after) h = (known_by orgs is_known f children h.0, known_by orgs is_known f after h.1)
@@ -74,12 +76,15 @@ module _ (orgs : Names) where
       })
 
   module _ (text : List ℕ) (p : Policy) (spelled : IsSpelled p text) (few : length text ≤ 1024) where
-    whole_read : (m : Leniency) → KnowsAll (is_known_by orgs m) (alone p) → FitsAll (fits_by m) (alone p) → depth (alone p) ≤ 8 + m.more → whole_at (policy_by orgs m 8) text ≡ Some p
+    whole_read : (m : Leniency) → KnowsAll (is_known_by orgs m) (alone p) → FitsAll (fits_by m) (alone p) → depth (alone p) ≤ 8 + m.more →
+        whole_at (policy_by orgs m 8) text ≡ Some p
     whole_read m known fit deep =
-        let all : policy_by orgs m 8 text ≡ Some (p, []) = ap (policy_by orgs m 8) (sym (append-nil text)) ∙ policy_read (is_known_by orgs m) (fits_by m) p (8 + m.more) text [] spelled deep known fit few in
+        let all : policy_by orgs m 8 text ≡ Some (p, []) =
+        ap (policy_by orgs m 8) (sym (append-nil text)) ∙ policy_read (is_known_by orgs m) (fits_by m) p (8 + m.more) text [] spelled deep known fit few in
         rw all refl
 
-    read_anyway : (m : Leniency) → KnowsAll (is_known_by orgs m) (alone p) → FitsAll (fits_by m) (alone p) → depth (alone p) ≤ 8 + m.more → whole_at (policy_by orgs m 8) text ≡ None → ⊥
+    read_anyway : (m : Leniency) → KnowsAll (is_known_by orgs m) (alone p) → FitsAll (fits_by m) (alone p) → depth (alone p) ≤ 8 + m.more →
+        whole_at (policy_by orgs m 8) text ≡ None → ⊥
     read_anyway m known fit deep none = let some = whole_read m known fit deep in let clash : Some p ≡ None = sym some ∙ none in cc
 
     -- a fault says what is at fault in the policy that the text spells
@@ -102,7 +107,8 @@ module _ (orgs : Names) where
         ]
 
   strictly : (text : List ℕ) (p : Policy) → IsText orgs p text → whole_at (policy_by orgs strict 8) text ≡ Some p
-  strictly text p h = whole_read text p h.spelled h.length strict (known_by orgs _ (λ name k. k) (alone p) h.organisations) (rules_kept (alone p) h.thresholds) h.depth
+  strictly text p h = whole_read text p h.spelled h.length strict (known_by orgs _ (λ name k. k) (alone p) h.organisations) (rules_kept (alone p) h.thresholds)
+      h.depth
 
   pub same : (text : List ℕ) (p q : Policy) → IsText orgs p text → IsText orgs q text → p ≡ q
   same text p q h k = same_Some p q (sym (strictly text p h) ∙ strictly text q k)
@@ -129,7 +135,8 @@ module _ (orgs : Names) (text : List ℕ) (few : length text ≤ 1024) where
   is_only (Ok q) read p h = same orgs text q p (whole_found orgs text q few (read strict)) h
   is_only (Err e) read p h = refused orgs e text p (blamed orgs text p h.spelled few e read) h
 
-  pub is_caused : (result : Result Policy PolicyFault) → IsRead result → IfErr result (λ e. (p : Policy) → IsSpelled p text → length text ≤ 1024 → HasCause orgs e p)
+  pub is_caused : (result : Result Policy PolicyFault) → IsRead result →
+      IfErr result (λ e. (p : Policy) → IsSpelled p text → length text ≤ 1024 → HasCause orgs e p)
   is_caused (Ok p) read = tt
   is_caused (Err e) read = λ p spelled within. blamed orgs text p spelled within e read
 

@@ -9,7 +9,8 @@ use Rattle.events.specs.Spelling.{AreTexts}
 abbrev IsText : Data → String Global → Type 0
 IsText d x = d ≡ string (string_bytes x)
 
-pub no_texts : (vs : List Value) (i : ℕ) (v : Value) → i < length vs → v ≡ get_or vs i v → ((s : List ℕ) → ¬ (view v ≡ string s)) → (xs : List (String Global)) → ¬ AreTexts (items_view vs) xs
+pub no_texts : (vs : List Value) (i : ℕ) (v : Value) → i < length vs → v ≡ get_or vs i v → ((s : List ℕ) → ¬ (view v ≡ string s)) →
+    (xs : List (String Global)) → ¬ AreTexts (items_view vs) xs
 no_texts vs i v less is none xs spelled =
     let found = AreItems-at IsText vs xs i v spelled less in
     none (string_bytes found.0) (subst (λ w. view w ≡ string (string_bytes found.0)) (sym is) found.1)

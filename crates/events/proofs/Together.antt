@@ -1,5 +1,6 @@
 -- The endorsements of several names, name by name.
-use Rattle.std.proofs.Common.{◌≡◌, ℕ, suc, ◌+◌, ◌<◌, List, [], ◌∷◌, ◌++◌, length, get_or, drop, map, Option, Some, None, option_map, String, Global, string_bytes, refl, sym, ap, ◌∙◌, append_assoc, add-one, drop-cons, append-nil}
+use Rattle.std.proofs.Common.{◌≡◌, ℕ, suc, ◌+◌, ◌<◌, List, [], ◌∷◌, ◌++◌, length, get_or, drop, map, Option, Some, None, option_map, String, Global}
+use Rattle.std.proofs.Common.{string_bytes, refl, sym, ap, ◌∙◌, append_assoc, add-one, drop-cons, append-nil}
 use Rattle.std.proofs.Math.Seq.{drop-length}
 use Rattle.fab_types.specs.declared.envelope.Endorsement.{Endorsement}
 use Rattle.events.specs.Bound.{endorsements_of}

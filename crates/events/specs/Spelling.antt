@@ -64,7 +64,8 @@ commit_object peer = object (member (codes "do") (string (codes "commit")) (memb
 
 -- the action that the data of a line spells
 abbrev pub IsAction : Data → Action → Type 0
-IsAction d (Begin peer seat p) = (arg : List ℕ) × (chaincode : List ℕ) × (nonce : List ℕ) × (d ≡ begin_object arg chaincode nonce peer seat) × IsProposal arg chaincode nonce p
+IsAction d (Begin peer seat p) =
+    (arg : List ℕ) × (chaincode : List ℕ) × (nonce : List ℕ) × (d ≡ begin_object arg chaincode nonce peer seat) × IsProposal arg chaincode nonce p
 IsAction d (Finish peer seat name) = d ≡ finish_object (string_bytes name) peer seat
 IsAction d (SubmitEndorsed names) = (ds : Items) × (d ≡ use_object ds) × AreNames ds names.items
 IsAction d (SubmitBytes bytes) = (hex : List ℕ) × (d ≡ hex_object hex) × IsHex hex bytes.items

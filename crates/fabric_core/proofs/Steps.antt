@@ -1,5 +1,6 @@
 -- The steps of the definitions, on the fields of a system.
-use Rattle.std.proofs.Common.{◌≡◌, ℕ, zero, suc, ◌+◌, ◌<◌, ◌≤◌, List, [], ◌∷◌, ◌++◌, map, length, length-append, Option, Some, None, Result, Ok, Err, IfOk, OnErr, option_map, replicate, refl, sym, ap, ◌∙◌, subst, slice_get, slice_set, get_or, take, arith}
+use Rattle.std.proofs.Common.{◌≡◌, ℕ, zero, suc, ◌+◌, ◌<◌, ◌≤◌, List, [], ◌∷◌, ◌++◌, map, length, length-append, Option, Some, None, Result, Ok, Err, IfOk}
+use Rattle.std.proofs.Common.{OnErr, option_map, replicate, refl, sym, ap, ◌∙◌, subst, slice_get, slice_set, get_or, take, arith}
 use Rattle.std.proofs.lemmas.List.{map-append}
 use Rattle.std.specs.List.{AllByRecursion}
 use Rattle.fab_types.specs.declared.payload.Payload.{Payload}
@@ -20,7 +21,8 @@ use Rattle.orderer.proofs.Refusing.{takes_begins}
 use Rattle.ledger_setting.specs.Rule.{table_of, seal_of}
 use Rattle.simulator.specs.declared.refusal.SimRefusal.{SimRefusal}
 use Rattle.simulator.specs.Answers.{payload_or_refusal}
-use Rattle.fabric_core.specs.System.{PeerState, World, Reply, Begun as IsBegun, Nothing, IsCommitted, fresh, chain_of_first, begin_seat, begin, finish_reply, finish_seat, finish, commit_next, commit, at_peer}
+use Rattle.fabric_core.specs.System.{PeerState, World, Reply, Begun as IsBegun, Nothing, IsCommitted, fresh, chain_of_first, begin_seat, begin, finish_reply}
+use Rattle.fabric_core.specs.System.{finish_seat, finish, commit_next, commit, at_peer}
 use Rattle.fabric_core.specs.Inside.{State, noted, seats_of, peer_of, world_of, IsFirst, IsSeatRight, IsPeerRight, IsRight}
 use Rattle.simulator.specs.declared.book.Chaincode.{Chaincode}
 use Rattle.fabric_core.specs.declared.peer.Begun.{Begun}
@@ -29,35 +31,48 @@ use Rattle.fabric_core.proofs.Lists.{slice_get_map, slice_set_map, slice_set_sam
 use Rattle.fabric_core.proofs.Blocks.{stays, next_chain, past_end}
 
 -- what a peer has at a seat
-pub seat_at : (seats now : List (Option Begun)) (i : ℕ) (x o : Option Begun) → now ≡ seats → i < length now → ((d : Option Begun) → x ≡ get_or now i d) → x ≡ o → slice_get seats i ≡ Some o
+pub seat_at : (seats now : List (Option Begun)) (i : ℕ) (x o : Option Begun) → now ≡ seats → i < length now → ((d : Option Begun) → x ≡ get_or now i d) →
+    x ≡ o → slice_get seats i ≡ Some o
 seat_at seats now i x o same h f is = sym (ap (λ xs. slice_get xs i) same) ∙ at_place now i x h f ∙ ap Some is
 
 shown_at : (seats : List (Option Begun)) (i : ℕ) (o : Option Begun) → slice_get seats i ≡ Some o → slice_get (seats_of seats) i ≡ Some (option_map noted o)
 shown_at seats i o e = slice_get_map (option_map noted) seats i ∙ ap (option_map (option_map noted)) e
 
-pub begin_free : (p : Peer) (s : ℕ) (b : Begun) (height : ℕ) → slice_get p.seats.items s ≡ Some None → b.snapshot.value ≡ p.snapshot.value → height ≡ length b.snapshot.value → begin (peer_of p) s b.proposal ≡ (IsBegun height, record { org = p.org; height = length p.snapshot.value; seats = seats_of (slice_set p.seats.items s (Some b)) })
+pub begin_free : (p : Peer) (s : ℕ) (b : Begun) (height : ℕ) → slice_get p.seats.items s ≡ Some None → b.snapshot.value ≡ p.snapshot.value →
+    height ≡ length b.snapshot.value →
+    begin (peer_of p) s b.proposal ≡
+    (IsBegun height, record { org = p.org; height = length p.snapshot.value; seats = seats_of (slice_set p.seats.items s (Some b)) })
 begin_free p s b height free same tall =
     let q : length p.snapshot.value ≡ height = sym (tall ∙ ap (λ c. length c) same) in
-    let r : slice_set (seats_of p.seats.items) s (Some (record { proposal = b.proposal; height = length p.snapshot.value })) ≡ seats_of (slice_set p.seats.items s (Some b)) =
+    let r : slice_set (seats_of p.seats.items) s (Some (record { proposal = b.proposal; height = length p.snapshot.value })) ≡
+    seats_of (slice_set p.seats.items s (Some b)) =
     ap (λ c. slice_set (seats_of p.seats.items) s (Some (record { proposal = b.proposal; height = length c }))) (sym same)
     ∙ sym (slice_set_map (option_map noted) p.seats.items s (Some b))
     in
     ap (begin_seat (peer_of p) s b.proposal) (shown_at p.seats.items s None free)
     ∙ (λ i. (IsBegun (q i), record { org = p.org; height = length p.snapshot.value; seats = r i }))
 
-pub finish_held : (exec : Exec) (seal : Bytes → Payload → Endorsement) (chain : ℕ → Chain) (p : Peer) (s : ℕ) (b : Begun) (answer : Result Payload SimRefusal) (reply : Reply) → IsPeerRight chain p → slice_get p.seats.items s ≡ Some (Some b) → payload_or_refusal exec b.proposal b.snapshot.value ≡ answer → finish_reply (state (history p.snapshot.value)) (seal p.org) answer ≡ reply → finish exec seal chain (peer_of p) s ≡ (reply, record { org = p.org; height = length p.snapshot.value; seats = seats_of (slice_set p.seats.items s None) })
+pub finish_held : (exec : Exec) (seal : Bytes → Payload → Endorsement) (chain : ℕ → Chain) (p : Peer) (s : ℕ) (b : Begun) (answer : Result Payload SimRefusal)
+    (reply : Reply) → IsPeerRight chain p → slice_get p.seats.items s ≡ Some (Some b) → payload_or_refusal exec b.proposal b.snapshot.value ≡ answer →
+    finish_reply (state (history p.snapshot.value)) (seal p.org) answer ≡ reply →
+    finish exec seal chain (peer_of p) s ≡ (reply, record { org = p.org; height = length p.snapshot.value; seats = seats_of (slice_set p.seats.items s None) })
 finish_held exec seal chain p s b answer reply right held told is =
     let of : IsFirst chain b.snapshot.value = all_get (IsSeatRight chain) p.seats.items s (Some b) right.seats held in
     let now = state (history p.snapshot.value) in
-    let q : finish_reply (state (history (chain (length p.snapshot.value)))) (seal p.org) (payload_or_refusal exec b.proposal (chain (length b.snapshot.value))) ≡ reply =
-    (λ i. finish_reply (state (history (sym right.kept i))) (seal p.org) (payload_or_refusal exec b.proposal (sym of i))) ∙ ap (finish_reply now (seal p.org)) told ∙ is
+    let q : finish_reply (state (history (chain (length p.snapshot.value)))) (seal p.org)
+    (payload_or_refusal exec b.proposal (chain (length b.snapshot.value))) ≡ reply =
+    (λ i. finish_reply (state (history (sym right.kept i))) (seal p.org) (payload_or_refusal exec b.proposal (sym of i))) ∙
+    ap (finish_reply now (seal p.org)) told ∙ is
     in
-    let r : slice_set (seats_of p.seats.items) s None ≡ seats_of (slice_set p.seats.items s None) = sym (slice_set_map (option_map noted) p.seats.items s None) in
+    let r : slice_set (seats_of p.seats.items) s None ≡ seats_of (slice_set p.seats.items s None) =
+    sym (slice_set_map (option_map noted) p.seats.items s None) in
     ap (finish_seat exec seal chain (peer_of p) s) (shown_at p.seats.items s (Some b) held)
     ∙ (λ i. (q i, record { org = p.org; height = length p.snapshot.value; seats = r i }))
 
 -- what happens at a peer happens in the world
-pub in_world : (peers : List Peer) (queue : List Envelope) (orderer : Ordering) (f : PeerState → Reply × PeerState) (p : ℕ) (old new : Peer) (reply : Reply) → slice_get peers p ≡ Some old → f (peer_of old) ≡ (reply, peer_of new) → at_peer (world_of peers queue orderer) p (option_map f (slice_get (map peer_of peers) p)) ≡ (reply, world_of (slice_set peers p new) queue orderer)
+pub in_world : (peers : List Peer) (queue : List Envelope) (orderer : Ordering) (f : PeerState → Reply × PeerState) (p : ℕ) (old new : Peer) (reply : Reply) →
+    slice_get peers p ≡ Some old → f (peer_of old) ≡ (reply, peer_of new) →
+    at_peer (world_of peers queue orderer) p (option_map f (slice_get (map peer_of peers) p)) ≡ (reply, world_of (slice_set peers p new) queue orderer)
 in_world peers queue orderer f p old new reply there told =
     let w = world_of peers queue orderer in
     ap (λ o. at_peer w p (option_map f o)) (slice_get_map peer_of peers p ∙ ap (option_map peer_of) there)
@@ -65,7 +80,8 @@ in_world peers queue orderer f p old new reply there told =
     ∙ (λ i. (reply, record w { peers = sym (slice_set_map peer_of peers p new) i }))
 
 -- a peer that is right where it was
-pub peer_set : (listed : Listed) (peers : List Peer) (blocks : List Block) (p : ℕ) (old new : Peer) → IsRight listed peers blocks → slice_get peers p ≡ Some old → ((chain : ℕ → Chain) → IsPeerRight chain old → IsPeerRight chain new) → IsRight listed (slice_set peers p new) blocks
+pub peer_set : (listed : Listed) (peers : List Peer) (blocks : List Block) (p : ℕ) (old new : Peer) → IsRight listed peers blocks →
+    slice_get peers p ≡ Some old → ((chain : ℕ → Chain) → IsPeerRight chain old → IsPeerRight chain new) → IsRight listed (slice_set peers p new) blocks
 peer_set listed peers blocks p old new right there kept =
     let chain = chain_of_first (table_of listed) blocks in
     let P = IsPeerRight chain in
@@ -75,7 +91,9 @@ peer_set listed peers blocks p old new right there kept =
 abbrev pub shown : List Chaincode → Listed → ℕ → List Peer → List Envelope → Ordering → State
 shown book listed capacity peers queue orderer = record { book = book; rules = listed; capacity = capacity; world = world_of peers queue orderer }
 
-pub unchanged : (book : List Chaincode) (listed : Listed) (capacity : ℕ) (peers : List Peer) (queue : List Envelope) (orderer : Ordering) (p : ℕ) (old new : Peer) → slice_get peers p ≡ Some old → new ≡ old → shown book listed capacity (slice_set peers p new) queue orderer ≡ shown book listed capacity peers queue orderer
+pub unchanged : (book : List Chaincode) (listed : Listed) (capacity : ℕ) (peers : List Peer) (queue : List Envelope) (orderer : Ordering) (p : ℕ)
+    (old new : Peer) → slice_get peers p ≡ Some old → new ≡ old →
+    shown book listed capacity (slice_set peers p new) queue orderer ≡ shown book listed capacity peers queue orderer
 unchanged book listed capacity peers queue orderer p old new there same =
     ap (λ ps. shown book listed capacity ps queue orderer) (ap (slice_set peers p) same ∙ slice_set_same peers p old there)
 
@@ -105,16 +123,24 @@ blocks_more listed peers blocks more right =
     }) right
 
 -- as the orderer takes a mark
-pub mark_right : (listed : Listed) (peers : List Peer) (old : Ordering) (mark : Mark Envelope) (reports : List BatchReport) (new : Ordering) → IsRight listed peers old.chain → Takes old mark reports new → IsRight listed peers new.chain
+pub mark_right : (listed : Listed) (peers : List Peer) (old : Ordering) (mark : Mark Envelope) (reports : List BatchReport) (new : Ordering) →
+    IsRight listed peers old.chain → Takes old mark reports new → IsRight listed peers new.chain
 mark_right listed peers old mark reports new right takes =
     let begins = takes_begins old mark reports new takes in
     subst (IsRight listed peers) (sym begins.1) (blocks_more listed peers old.chain begins.0 right)
 
-pub timed_right : (listed : Listed) (peers : List Peer) (old : Ordering) (report : Option BatchReport) (new : Ordering) → IsRight listed peers old.chain → Takes old timeout (option_to_list report) new → IsRight listed peers new.chain
+pub timed_right : (listed : Listed) (peers : List Peer) (old : Ordering) (report : Option BatchReport) (new : Ordering) → IsRight listed peers old.chain →
+    Takes old timeout (option_to_list report) new → IsRight listed peers new.chain
 timed_right listed peers old report new right takes = mark_right listed peers old timeout (option_to_list report) new right takes
 
 -- a peer with the next block
-pub committed : (rule : FlagRule) (blocks : List Block) (old new : Peer) (b : Block) (reply : Reply) → IsPeerRight (chain_of_first rule blocks) old → slice_get blocks (length old.snapshot.value) ≡ Some b → reply ≡ IsCommitted (length old.snapshot.value + 1) (judge rule (history old.snapshot.value) (length old.snapshot.value + 1) 0 b.envelopes) → new.snapshot.value ≡ old.snapshot.value ++ record { block = b; flags = judge rule (history old.snapshot.value) (length old.snapshot.value + 1) 0 b.envelopes } ∷ [] → new.seats.items ≡ old.seats.items → new.org ≡ old.org → (commit (chain_of_first rule blocks) (peer_of old) ≡ (reply, peer_of new)) × IsPeerRight (chain_of_first rule blocks) new
+pub committed : (rule : FlagRule) (blocks : List Block) (old new : Peer) (b : Block) (reply : Reply) → IsPeerRight (chain_of_first rule blocks) old →
+    slice_get blocks (length old.snapshot.value) ≡ Some b →
+    reply ≡ IsCommitted (length old.snapshot.value + 1) (judge rule (history old.snapshot.value) (length old.snapshot.value + 1) 0 b.envelopes) →
+    new.snapshot.value ≡ old.snapshot.value ++
+    record { block = b; flags = judge rule (history old.snapshot.value) (length old.snapshot.value + 1) 0 b.envelopes } ∷ [] →
+    new.seats.items ≡ old.seats.items → new.org ≡ old.org →
+    (commit (chain_of_first rule blocks) (peer_of old) ≡ (reply, peer_of new)) × IsPeerRight (chain_of_first rule blocks) new
 committed rule blocks old new b reply right there told made seats org =
     let c = old.snapshot.value in
     let next : Committed = record { block = b; flags = judge rule (history c) (length c + 1) 0 b.envelopes } in
@@ -141,7 +167,14 @@ free_right chain zero = tt
 free_right chain (suc n) = (tt, free_right chain n)
 
 -- what committing at a peer leaves, whether memory was refused or not
-pub commit_all : {E : Type 0} (rule : FlagRule) (blocks : List Block) (old new : Peer) (b : Block) (r : Result Reply E) → IsPeerRight (chain_of_first rule blocks) old → slice_get blocks (length old.snapshot.value) ≡ Some b → IfOk r (λ reply. reply ≡ IsCommitted (length old.snapshot.value + 1) (judge rule (history old.snapshot.value) (length old.snapshot.value + 1) 0 b.envelopes)) → IfOk r (λ reply. new.snapshot.value ≡ old.snapshot.value ++ record { block = b; flags = judge rule (history old.snapshot.value) (length old.snapshot.value + 1) 0 b.envelopes } ∷ []) → new.seats.items ≡ old.seats.items → new.org ≡ old.org → OnErr r (new ≡ old) → IfOk r (λ reply. commit (chain_of_first rule blocks) (peer_of old) ≡ (reply, peer_of new)) × IsPeerRight (chain_of_first rule blocks) new
+pub commit_all : {E : Type 0} (rule : FlagRule) (blocks : List Block) (old new : Peer) (b : Block) (r : Result Reply E) →
+    IsPeerRight (chain_of_first rule blocks) old → slice_get blocks (length old.snapshot.value) ≡ Some b →
+    IfOk r (λ reply. reply ≡
+    IsCommitted (length old.snapshot.value + 1) (judge rule (history old.snapshot.value) (length old.snapshot.value + 1) 0 b.envelopes)) →
+    IfOk r (λ reply. new.snapshot.value ≡ old.snapshot.value ++
+    record { block = b; flags = judge rule (history old.snapshot.value) (length old.snapshot.value + 1) 0 b.envelopes } ∷ []) →
+    new.seats.items ≡ old.seats.items → new.org ≡ old.org → OnErr r (new ≡ old) →
+    IfOk r (λ reply. commit (chain_of_first rule blocks) (peer_of old) ≡ (reply, peer_of new)) × IsPeerRight (chain_of_first rule blocks) new
 commit_all rule blocks old new b (Ok reply) right there told made seats org same = committed rule blocks old new b reply right there told made seats org
 commit_all rule blocks old new b (Err x) right there told made seats org same = (tt, subst (IsPeerRight (chain_of_first rule blocks)) (sym same) right)
 
@@ -149,10 +182,12 @@ pub some_same : {X : Type 0} (x y : X) → Some x ≡ Some y → x ≡ y
 some_same x y e = cc
 
 -- one peer more
-pub opened_more : (seats : ℕ) (orgs : List Bytes) (i : ℕ) (org item : Bytes) (old new : List PeerState) → i < length orgs → item ≡ get_or orgs i item → org ≡ item → old ≡ map (fresh seats) (take i orgs) → new ≡ old ++ fresh seats org ∷ [] → new ≡ map (fresh seats) (take (i + 1) orgs)
+pub opened_more : (seats : ℕ) (orgs : List Bytes) (i : ℕ) (org item : Bytes) (old new : List PeerState) → i < length orgs → item ≡ get_or orgs i item →
+    org ≡ item → old ≡ map (fresh seats) (take i orgs) → new ≡ old ++ fresh seats org ∷ [] → new ≡ map (fresh seats) (take (i + 1) orgs)
 opened_more seats orgs i org item old new h there same is grown =
     let one : suc i ≡ i + 1 = omega arith in
-    let next : take (i + 1) orgs ≡ take i orgs ++ item ∷ [] = ap (λ k. take k orgs) (sym one) ∙ take_next orgs i item (get_here orgs i item h ∙ ap Some (sym there)) in
+    let next : take (i + 1) orgs ≡ take i orgs ++ item ∷ [] =
+    ap (λ k. take k orgs) (sym one) ∙ take_next orgs i item (get_here orgs i item h ∙ ap Some (sym there)) in
     grown ∙ (λ j. is j ++ fresh seats (same j) ∷ []) ∙ sym (map-append (fresh seats) (take i orgs) (item ∷ [])) ∙ ap (map (fresh seats)) (sym next)
 
 pub all_push : {X : Type 0} (P : X → Type 0) (xs : List X) (x : X) → AllByRecursion P xs → P x → AllByRecursion P (xs ++ x ∷ [])

@@ -48,7 +48,8 @@ marks_of queue (e ∷ es) (r ∷ rs) = marks_in e queue r ++ marks_of (queue_aft
 
 -- The events `done` were steps, from the opening on, and the rest were none. There is a rest exactly
 -- where memory was refused. The orderer's blocks are those of the batches into which the marks are cut.
-pub record IsRun (r : Rules) (orgs : List Bytes) (seats : ℕ) (limits : Limits) (reorder : Bool) (events : List Event) (replies : List Reply) (world : World) (refused : Bool) : Type 0 where
+pub record IsRun (r : Rules) (orgs : List Bytes) (seats : ℕ) (limits : Limits) (reorder : Bool) (events : List Event) (replies : List Reply) (world : World)
+    (refused : Bool) : Type 0 where
   pub done : List Event
   pub rest : List Event
   pub order : done ++ rest ≡ events
@@ -75,7 +76,8 @@ IsGenuine is_right replies (t ∷ ts) = (t.flag ≡ Valid → IsHandedOutBy is_r
 abbrev pub IsUnforged : (Payload → Endorsement → Bool) → List Reply → List Placed → Type 0
 IsUnforged is_right replies [] = Unit {0}
 IsUnforged is_right replies (t ∷ ts) =
-    (t.flag ≡ Valid → (x : Endorsement) → IsAmong x t.envelope.endorsements → is_right t.envelope.payload x ≡ true → IsAmong (Endorsed t.envelope.payload x) replies)
+    (t.flag ≡ Valid → (x : Endorsement) → IsAmong x t.envelope.endorsements → is_right t.envelope.payload x ≡ true →
+    IsAmong (Endorsed t.envelope.payload x) replies)
     × IsUnforged is_right replies ts
 
 -- Each VALID transaction, executed again alone on the plain state just before its place, agrees with its
@@ -97,4 +99,5 @@ pub record IsHonest (exec : Exec) (rule : FlagRule) (is_right : Payload → Endo
 -- block.
 abbrev pub ConflictsAreOlder : Chain → Type 0
 ConflictsAreOlder chain =
-    (place : ℕ) (c : Committed) → slice_get chain place ≡ Some c → AllByRecursion (DiffersBefore (state (history (take place chain)))) (transactions_from (place + 1) 0 c.block.envelopes c.flags)
+    (place : ℕ) (c : Committed) → slice_get chain place ≡ Some c →
+    AllByRecursion (DiffersBefore (state (history (take place chain)))) (transactions_from (place + 1) 0 c.block.envelopes c.flags)

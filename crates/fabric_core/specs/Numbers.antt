@@ -1,7 +1,8 @@
 -- The numbers of refusals.
 use Rattle.std.specs.Prelude.{ℕ, Option, Some, None}
 use Rattle.simulator.specs.RefusalNumber.{refusal_number}
-use Rattle.fabric_core.specs.System.{Reply, NoSuchPeer, NoSuchSeat, SeatBusy, Begun, NothingBegun, Refused, Endorsed, Queued, QueueFull, Nothing, Ordered, Cut, TooLarge, NoBlockLeft, IsCommitted}
+use Rattle.fabric_core.specs.System.{Reply, NoSuchPeer, NoSuchSeat, SeatBusy, Begun, NothingBegun, Refused, Endorsed, Queued, QueueFull, Nothing, Ordered, Cut}
+use Rattle.fabric_core.specs.System.{TooLarge, NoBlockLeft, IsCommitted}
 
 -- a reply that refuses has a number, and no other one
 abbrev pub reply_number : Reply → Option ℕ

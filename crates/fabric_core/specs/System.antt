@@ -1,5 +1,6 @@
 -- The system: peers with seats, a queue, an orderer, and what each event replies and leaves.
-use Rattle.std.specs.Prelude.{◌≡◌, ℕ, ◌≤◌, ◌<◌, Bool, List, [], ◌∷◌, ◌++◌, Option, Some, None, Result, Ok, Err, ◌+◌, option_map, map, take, length, nat_lt, slice_get, slice_set, if◌then◌else◌, replicate}
+use Rattle.std.specs.Prelude.{◌≡◌, ℕ, ◌≤◌, ◌<◌, Bool, List, [], ◌∷◌, ◌++◌, Option, Some, None, Result, Ok, Err, ◌+◌, option_map, map, take, length, nat_lt}
+use Rattle.std.specs.Prelude.{slice_get, slice_set, if◌then◌else◌, replicate}
 use Rattle.std.specs.Option.{option_to_list}
 use Rattle.fab_types.specs.declared.payload.Proposal.{Proposal}
 use Rattle.fab_types.specs.declared.payload.Payload.{Payload}
@@ -18,7 +19,8 @@ use Rattle.ledger_model.specs.Judged.{FlagRule, judged_chain}
 pub use Rattle.fabric_core.specs.declared.event.Event.{Event}
 pub use Rattle.fabric_core.specs.declared.event.Event.TheVariants.{Begin, Finish, Submit, Take, Tick, Commit}
 pub use Rattle.fabric_core.specs.declared.event.Reply.{Reply}
-pub use Rattle.fabric_core.specs.declared.event.Reply.TheVariants.{NoSuchPeer, NoSuchSeat, SeatBusy, Begun, NothingBegun, Refused, Endorsed, Queued, QueueFull, Nothing, Ordered, Cut, TooLarge, NoBlockLeft, Committed as IsCommitted}
+pub use Rattle.fabric_core.specs.declared.event.Reply.TheVariants.{NoSuchPeer, NoSuchSeat, SeatBusy, Begun, NothingBegun, Refused, Endorsed, Queued, QueueFull}
+pub use Rattle.fabric_core.specs.declared.event.Reply.TheVariants.{Nothing, Ordered, Cut, TooLarge, NoBlockLeft, Committed as IsCommitted}
 use Rattle.simulator.specs.declared.refusal.SimRefusal.{SimRefusal}
 use Rattle.simulator.specs.declared.refusal.SimRefusal.TheVariants as refusal
 use Rattle.simulator.specs.Answers.{payload_or_refusal}
@@ -89,8 +91,10 @@ finish_reply now seal (Err r) = Refused r
 abbrev pub finish_seat : Exec → (Bytes → Payload → Endorsement) → (ℕ → Chain) → PeerState → ℕ → Option (Option Noted) → Reply × PeerState
 finish_seat exec seal chain peer seat None = (NoSuchSeat, peer)
 finish_seat exec seal chain peer seat (Some None) = (NothingBegun, peer)
-finish_seat exec seal chain peer seat (Some (Some noted)) =
-    (finish_reply (state (history (chain peer.height))) (seal peer.org) (payload_or_refusal exec noted.proposal (chain noted.height)), record peer { seats = slice_set peer.seats seat None })
+finish_seat exec seal chain peer seat (Some (Some noted)) = (
+  finish_reply (state (history (chain peer.height))) (seal peer.org) (payload_or_refusal exec noted.proposal (chain noted.height)),
+  record peer { seats = slice_set peer.seats seat None },
+)
 
 abbrev pub finish : Exec → (Bytes → Payload → Endorsement) → (ℕ → Chain) → PeerState → ℕ → Reply × PeerState
 finish exec seal chain peer seat = finish_seat exec seal chain peer seat (slice_get peer.seats seat)
@@ -116,7 +120,8 @@ submit r w e = if nat_lt (length w.queue) r.capacity then (Queued, record w { qu
 -- number
 abbrev pub IsTakenIn : World → Envelope → List Envelope → Reply → World → Type 0
 IsTakenIn w e es (Ordered reports) new =
-    (orderer : Ordering) × Takes w.orderer (message e) reports orderer × (envelope_size e ≤ w.orderer.limits.absolute) × (length orderer.chain ≤ 65535) × (new ≡ record w { queue = es; orderer = orderer })
+    (orderer : Ordering) × Takes w.orderer (message e) reports orderer × (envelope_size e ≤ w.orderer.limits.absolute) × (length orderer.chain ≤ 65535) ×
+    (new ≡ record w { queue = es; orderer = orderer })
 IsTakenIn w e es (TooLarge given) new =
     (given ≡ e) × (w.orderer.limits.absolute < envelope_size e) × (new ≡ record w { queue = es })
 IsTakenIn w e es (NoBlockLeft given) new =

@@ -53,8 +53,10 @@ same_fields p a b h k =
     let those = names_of a.rules.orgs in
     let peers = subst (λ ns. IsListOf (IsPeer ns) 8 p.peers b.peers.items) names k.peers in
     let definitions = subst (λ ns. IsListOf (IsDefinition ns) 16 p.chaincodes k.definitions.0) names k.definitions.1 in
-    let books = IsListOf-same (IsDefinition those) (λ (c : Definition). c.chaincode) (same_chaincode those) 16 p.chaincodes h.definitions.0 k.definitions.0 h.definitions.1 definitions in
-    let policies = IsListOf-same (IsDefinition those) (λ (c : Definition). c.policy) (same_policy those) 16 p.chaincodes h.definitions.0 k.definitions.0 h.definitions.1 definitions in
+    let books = IsListOf-same (IsDefinition those) (λ (c : Definition). c.chaincode) (same_chaincode those) 16 p.chaincodes h.definitions.0 k.definitions.0
+    h.definitions.1 definitions in
+    let policies = IsListOf-same (IsDefinition those) (λ (c : Definition). c.policy) (same_policy those) 16 p.chaincodes h.definitions.0 k.definitions.0
+    h.definitions.1 definitions in
     let truth : boolean a.reorder ≡ boolean b.reorder = sym h.reorder ∙ k.reorder in
     record {
       book = h.definitions.3 ∙ books ∙ sym k.definitions.3;

@@ -43,7 +43,8 @@ NoneIs-policy orgs d fuel hex name policy r is none = (
 )
 
 -- where the bytes of a hex text spell no valid module, the text has none
-pub NoneIs-hex : (hex bytes : List ℕ) (r : GenesisRefusal) → IsHex hex bytes → NoneIs (λ (m : Module). IsModule m bytes × IsValid m) r → NoneIs (IsHexModule hex) r
+pub NoneIs-hex : (hex bytes : List ℕ) (r : GenesisRefusal) → IsHex hex bytes → NoneIs (λ (m : Module). IsModule m bytes × IsValid m) r →
+    NoneIs (IsHexModule hex) r
 NoneIs-hex hex bytes r is none = (
   none.0,
   λ real m spelled.

@@ -44,7 +44,8 @@ IsPeer orgs d name = (d ≡ string name) × IsOrgName name × (is_among orgs nam
 -- {"fuel":71,"module":"..","name":"kv","policy":"'A'"}
 abbrev pub chaincode_object : Data → List ℕ → List ℕ → List ℕ → Data
 chaincode_object fuel hex name policy =
-    object (member (codes "fuel") fuel (member (codes "module") (string hex) (member (codes "name") (string name) (member (codes "policy") (string policy) no_members))))
+    object (member (codes "fuel") fuel (member (codes "module") (string hex)
+    (member (codes "name") (string name) (member (codes "policy") (string policy) no_members))))
 
 -- the hex is of bytes that spell this module, which is valid
 abbrev pub IsHexModule : List ℕ → Module → Type 0

@@ -21,7 +21,8 @@ use Rattle.ledger_model.proofs.Keys.{tie_same}
 use Rattle.host_api.specs.declared.refusal.Refusal.{Refusal}
 use Rattle.host_api.specs.declared.refusal.Refusal.TheVariants as refusal
 use Rattle.host_api.specs.Recorded.{Asked, Recorded, nothing_recorded, key_seen, range_seen, seen_on}
-use Rattle.host_api.specs.HostStep.{with_key, with_write, says, or_trap, span_bytes, is_key, is_bound, is_value, is_limit, value_reply, read_key, write, ask_range, replies, reply_range_bytes, refuses, get_state, put_state, del_state, range_state, set_result, nth, host_step}
+use Rattle.host_api.specs.HostStep.{with_key, with_write, says, or_trap, span_bytes, is_key, is_bound, is_value, is_limit, value_reply, read_key, write}
+use Rattle.host_api.specs.HostStep.{ask_range, replies, reply_range_bytes, refuses, get_state, put_state, del_state, range_state, set_result, nth, host_step}
 use Rattle.host_api.specs.Executing.{ending_of, outcome_of, execution, outcome, ReadsAlone}
 
 abbrev SameKey : Plain → Plain → Bytes → Type 0
@@ -47,12 +48,14 @@ all_last P (x ∷ xs) y h = all_last P xs y h.1
 recorded : (P : Bytes → Type 0) (key : Bytes) (keys : List Bytes) → AllByRecursion P (with_key key keys) → AllByRecursion P keys × P key
 recorded P key [] h = (tt, h.0)
 recorded P key (k ∷ ks) h =
-    elim (is_before k key) as (λ b. AllByRecursion P (cond b (k ∷ with_key key ks) (cond (eq_by_cmp key_cmp k key) (key ∷ ks) (key ∷ k ∷ ks))) → AllByRecursion P (k ∷ ks) × P key) [
+    elim (is_before k key)
+    as (λ b. AllByRecursion P (cond b (k ∷ with_key key ks) (cond (eq_by_cmp key_cmp k key) (key ∷ ks) (key ∷ k ∷ ks))) → AllByRecursion P (k ∷ ks) × P key) [
       | true ↦ λ h. let rest = recorded P key ks h.1 in ((h.0, rest.0), rest.1)
-      | false ↦ elim (eq_by_cmp key_cmp k key) as (λ b. eq_by_cmp key_cmp k key ≡ b → AllByRecursion P (cond b (key ∷ ks) (key ∷ k ∷ ks)) → AllByRecursion P (k ∷ ks) × P key) [
-        | true ↦ λ e h. ((subst P (sym (tie_same k key e)) h.0, h.1), h.0)
-        | false ↦ λ e h. (h.1, h.0)
-      ] refl
+      | false ↦ elim (eq_by_cmp key_cmp k key)
+          as (λ b. eq_by_cmp key_cmp k key ≡ b → AllByRecursion P (cond b (key ∷ ks) (key ∷ k ∷ ks)) → AllByRecursion P (k ∷ ks) × P key) [
+            | true ↦ λ e h. ((subst P (sym (tie_same k key e)) h.0, h.1), h.0)
+            | false ↦ λ e h. (h.1, h.0)
+          ] refl
     ] h
 
 abbrev Good : Plain → Plain → Recorded → Reply Recorded → Reply Recorded → Type 0
@@ -67,7 +70,8 @@ module _ (m n : Plain) where
   cond_good s true r q r' q' h k = h
   cond_good s false r q r' q' h k = k
 
-  given_good : (bytes : Option Bytes) (memory : List ℕ) (s : Recorded) (r q : Bytes → Reply Recorded) → ((b : Bytes) → Good m n s (r b) (q b)) → Good m n s (or_trap bytes memory s r) (or_trap bytes memory s q)
+  given_good : (bytes : Option Bytes) (memory : List ℕ) (s : Recorded) (r q : Bytes → Reply Recorded) → ((b : Bytes) → Good m n s (r b) (q b)) →
+      Good m n s (or_trap bytes memory s r) (or_trap bytes memory s q)
   given_good None memory s r q h = λ a. (a, refl)
   given_good (Some b) memory s r q h = h b
 
@@ -75,7 +79,8 @@ module _ (m n : Plain) where
   value_records None target capacity memory s = refl
   value_records (Some v) target capacity memory s = refl
 
-  read_good : (key : Bytes) (target capacity : ℕ) (memory : List ℕ) (s : Recorded) → Good m n s (read_key m key target capacity memory s) (read_key n key target capacity memory s)
+  read_good : (key : Bytes) (target capacity : ℕ) (memory : List ℕ) (s : Recorded) →
+      Good m n s (read_key m key target capacity memory s) (read_key n key target capacity memory s)
   read_good key target capacity memory s =
       let after : Recorded = record s { reads = with_key key s.reads } in
       cond_good s (nat_le (length (with_key key s.reads)) 256) _ _ _ _ (λ a.
@@ -83,17 +88,21 @@ module _ (m n : Plain) where
       let both = recorded (SameKey m n) key s.reads agree.reads in
       (record { reads = both.0; ranges = agree.ranges }, ap (λ v. value_reply v target capacity memory after) both.1)) (λ a. (a, refl))
 
-  range_good : (asked : Asked) (target capacity : ℕ) (memory : List ℕ) (s : Recorded) → Good m n s (ask_range m asked target capacity memory s) (ask_range n asked target capacity memory s)
+  range_good : (asked : Asked) (target capacity : ℕ) (memory : List ℕ) (s : Recorded) →
+      Good m n s (ask_range m asked target capacity memory s) (ask_range n asked target capacity memory s)
   range_good asked target capacity memory s =
       let after : Recorded = record s { ranges = s.ranges ++ asked ∷ [] } in
-      cond_good s (nat_le (length (s.ranges ++ asked ∷ [])) 16) _ _ _ _ (λ a.
-      (record { reads = a.reads; ranges = all_front (SameRange m n) s.ranges asked a.ranges }, ap (λ es. replies (reply_range_bytes es) target capacity memory after) (all_last (SameRange m n) s.ranges asked a.ranges))) (λ a. (a, refl))
+      cond_good s (nat_le (length (s.ranges ++ asked ∷ [])) 16) _ _ _ _ (λ a. (
+        record { reads = a.reads; ranges = all_front (SameRange m n) s.ranges asked a.ranges },
+        ap (λ es. replies (reply_range_bytes es) target capacity memory after) (all_last (SameRange m n) s.ranges asked a.ranges),
+      )) (λ a. (a, refl))
 
   write_good : (w : WriteItem) (memory : List ℕ) (s : Recorded) → Good m n s (write w memory s) (write w memory s)
   write_good w memory s =
       let writes = with_write w s.writes in
       let after = says 0 memory (record s { writes = writes }) in
-      cond_good s (nat_le (length writes) 64) after (refuses refusal.NoRoom memory s) after (refuses refusal.NoRoom memory s) (λ a. (record { reads = a.reads; ranges = a.ranges }, refl)) (λ a. (a, refl))
+      cond_good s (nat_le (length writes) 64) after (refuses refusal.NoRoom memory s) after (refuses refusal.NoRoom memory s)
+      (λ a. (record { reads = a.reads; ranges = a.ranges }, refl)) (λ a. (a, refl))
 
   result_good : (bytes memory : List ℕ) (s : Recorded) → Good m n s (set_result bytes memory s) (set_result bytes memory s)
   result_good bytes memory s =
@@ -102,36 +111,50 @@ module _ (m n : Plain) where
   refused : (why : Refusal) (memory : List ℕ) (s : Recorded) → Good m n s (refuses why memory s) (refuses why memory s)
   refused why memory s = still s (refuses why memory s) refl
 
-  get_good : (key : Bytes) (target capacity : ℕ) (memory : List ℕ) (s : Recorded) → Good m n s (get_state m key target capacity memory s) (get_state n key target capacity memory s)
+  get_good : (key : Bytes) (target capacity : ℕ) (memory : List ℕ) (s : Recorded) →
+      Good m n s (get_state m key target capacity memory s) (get_state n key target capacity memory s)
   get_good key target capacity memory s =
-      cond_good s (is_key key) (read_key m key target capacity memory s) (refuses refusal.KeyLength memory s) (read_key n key target capacity memory s) (refuses refusal.KeyLength memory s) (read_good key target capacity memory s) (refused refusal.KeyLength memory s)
+      cond_good s (is_key key) (read_key m key target capacity memory s) (refuses refusal.KeyLength memory s) (read_key n key target capacity memory s)
+      (refuses refusal.KeyLength memory s) (read_good key target capacity memory s) (refused refusal.KeyLength memory s)
 
   put_good : (key bytes memory : List ℕ) (s : Recorded) → Good m n s (put_state key bytes memory s) (put_state key bytes memory s)
   put_good key bytes memory s =
       let w : WriteItem = record { key = key; value = Some bytes } in
       let put = cond (is_value bytes) (write w memory s) (refuses refusal.ValueLength memory s) in
-      cond_good s (is_key key) put (refuses refusal.KeyLength memory s) put (refuses refusal.KeyLength memory s) (cond_good s (is_value bytes) (write w memory s) (refuses refusal.ValueLength memory s) (write w memory s) (refuses refusal.ValueLength memory s) (write_good w memory s) (refused refusal.ValueLength memory s)) (refused refusal.KeyLength memory s)
+      cond_good s (is_key key) put (refuses refusal.KeyLength memory s) put (refuses refusal.KeyLength memory s)
+      (cond_good s (is_value bytes) (write w memory s) (refuses refusal.ValueLength memory s) (write w memory s) (refuses refusal.ValueLength memory s)
+      (write_good w memory s) (refused refusal.ValueLength memory s)) (refused refusal.KeyLength memory s)
 
   del_good : (key memory : List ℕ) (s : Recorded) → Good m n s (del_state key memory s) (del_state key memory s)
   del_good key memory s =
       let w : WriteItem = record { key = key; value = None } in
-      cond_good s (is_key key) (write w memory s) (refuses refusal.KeyLength memory s) (write w memory s) (refuses refusal.KeyLength memory s) (write_good w memory s) (refused refusal.KeyLength memory s)
+      cond_good s (is_key key) (write w memory s) (refuses refusal.KeyLength memory s) (write w memory s) (refuses refusal.KeyLength memory s)
+      (write_good w memory s) (refused refusal.KeyLength memory s)
 
-  asked_good : (a : Asked) (target capacity : ℕ) (memory : List ℕ) (s : Recorded) → Good m n s (range_state m a target capacity memory s) (range_state n a target capacity memory s)
+  asked_good : (a : Asked) (target capacity : ℕ) (memory : List ℕ) (s : Recorded) →
+      Good m n s (range_state m a target capacity memory s) (range_state n a target capacity memory s)
   asked_good a target capacity memory s =
       let one = ask_range m a target capacity memory s in
       let other = ask_range n a target capacity memory s in
-      cond_good s (is_bound a.start && is_bound a.end) (cond (is_limit a.limit) one (refuses refusal.Limit memory s)) (refuses refusal.KeyLength memory s) (cond (is_limit a.limit) other (refuses refusal.Limit memory s)) (refuses refusal.KeyLength memory s) (cond_good s (is_limit a.limit) one (refuses refusal.Limit memory s) other (refuses refusal.Limit memory s) (range_good a target capacity memory s) (refused refusal.Limit memory s)) (refused refusal.KeyLength memory s)
+      cond_good s (is_bound a.start && is_bound a.end) (cond (is_limit a.limit) one (refuses refusal.Limit memory s)) (refuses refusal.KeyLength memory s)
+      (cond (is_limit a.limit) other (refuses refusal.Limit memory s)) (refuses refusal.KeyLength memory s)
+      (cond_good s (is_limit a.limit) one (refuses refusal.Limit memory s) other (refuses refusal.Limit memory s) (range_good a target capacity memory s)
+      (refused refusal.Limit memory s)) (refused refusal.KeyLength memory s)
 
   pub host_follows : (argument : Bytes) → Follows (host_step m argument) (host_step n argument) (Agree m n)
   host_follows argument call.GetState args memory s =
-      given_good (span_bytes (nth args 0) (nth args 1) memory) memory s _ _ (λ key. given_good (span_bytes (nth args 2) (nth args 3) memory) memory s _ _ (λ room. get_good key (nth args 2) (nth args 3) memory s))
+      given_good (span_bytes (nth args 0) (nth args 1) memory) memory s _ _
+      (λ key. given_good (span_bytes (nth args 2) (nth args 3) memory) memory s _ _ (λ room. get_good key (nth args 2) (nth args 3) memory s))
   host_follows argument call.PutState args memory s =
-      given_good (span_bytes (nth args 0) (nth args 1) memory) memory s _ _ (λ key. given_good (span_bytes (nth args 2) (nth args 3) memory) memory s _ _ (λ bytes. put_good key bytes memory s))
+      given_good (span_bytes (nth args 0) (nth args 1) memory) memory s _ _
+      (λ key. given_good (span_bytes (nth args 2) (nth args 3) memory) memory s _ _ (λ bytes. put_good key bytes memory s))
   host_follows argument call.DelState args memory s =
       given_good (span_bytes (nth args 0) (nth args 1) memory) memory s _ _ (λ key. del_good key memory s)
   host_follows argument call.RangeState args memory s =
-      given_good (span_bytes (nth args 0) (nth args 1) memory) memory s _ _ (λ start. given_good (span_bytes (nth args 2) (nth args 3) memory) memory s _ _ (λ end. given_good (span_bytes (nth args 5) (nth args 6) memory) memory s _ _ (λ room. asked_good (record { start = start; end = end; limit = nth args 4 }) (nth args 5) (nth args 6) memory s)))
+      given_good (span_bytes (nth args 0) (nth args 1) memory) memory s _ _
+      (λ start. given_good (span_bytes (nth args 2) (nth args 3) memory) memory s _ _
+      (λ end. given_good (span_bytes (nth args 5) (nth args 6) memory) memory s _ _
+      (λ room. asked_good (record { start = start; end = end; limit = nth args 4 }) (nth args 5) (nth args 6) memory s)))
   host_follows argument call.GetArg args memory s =
       given_good (span_bytes (nth args 0) (nth args 1) memory) memory s _ _ (λ room. still s (replies argument (nth args 0) (nth args 1) memory s) refl)
   host_follows argument call.SetResult args memory s =
@@ -163,7 +186,8 @@ module _ (m n : Plain) where
       λ i. record { reads = reads_same s.reads a.reads i; ranges = ranges_same s.ranges a.ranges i; result = s.result; writes = s.writes }
 
   -- how it ended on the states that agree at its end
-  ended_same : (fuel : ℕ) (a : Answer Recorded) → IsEnding a → ledger.Answers n (outcome_of fuel m a).seen → Ends (Agree m n) a × (outcome_of fuel n a ≡ outcome_of fuel m a)
+  ended_same : (fuel : ℕ) (a : Answer Recorded) → IsEnding a → ledger.Answers n (outcome_of fuel m a).seen →
+      Ends (Agree m n) a × (outcome_of fuel n a ≡ outcome_of fuel m a)
   ended_same fuel (Next left (v ∷ []) l w) is h =
       let e = agreed w.records h in (e, ap (λ s. record { ending = ending_of v.word; seen = s }) (seen_same w.records e))
   ended_same fuel (Trapped why left w) is h =
@@ -176,7 +200,8 @@ module _ (m n : Plain) where
   ended_same fuel (Returns left s l w) is h = absurd is
   ended_same fuel Stuck is h = absurd is
 
-  only : (wasm : Module) (fuel : ℕ) (argument : Bytes) → IsValid wasm → ledger.Answers n (outcome wasm fuel argument m).seen → outcome wasm fuel argument n ≡ outcome wasm fuel argument m
+  only : (wasm : Module) (fuel : ℕ) (argument : Bytes) → IsValid wasm → ledger.Answers n (outcome wasm fuel argument m).seen →
+      outcome wasm fuel argument n ≡ outcome wasm fuel argument m
   only wasm fuel argument valid h =
       let is = invocation_ends wasm (host_step m argument) nothing_recorded fuel valid in
       let i = ended_same fuel (execution wasm fuel argument m) is h in

@@ -4,7 +4,8 @@ use Rattle.std.specs.Prelude.{slice_set}
 use Rattle.std.proofs.lemmas.Grind.{common_steps}
 use Rattle.wasm_meaning.specs.Memory.{with_bytes}
 
-pub written_next : (m bytes : List ℕ) (p i b : ℕ) → drop i bytes ≡ b ∷ drop (i + 1) bytes → with_bytes (slice_set m (p + i) b) (p + (i + 1)) (drop (i + 1) bytes) ≡ with_bytes m (p + i) (drop i bytes)
+pub written_next : (m bytes : List ℕ) (p i b : ℕ) → drop i bytes ≡ b ∷ drop (i + 1) bytes →
+    with_bytes (slice_set m (p + i) b) (p + (i + 1)) (drop (i + 1) bytes) ≡ with_bytes m (p + i) (drop i bytes)
 written_next m bytes p i b e =
     let k : p + (i + 1) ≡ (p + i) + 1 = omega arith in
     ap (λ k. with_bytes (slice_set m (p + i) b) k (drop (i + 1) bytes)) k ∙ sym (ap (with_bytes m (p + i)) e)
@@ -28,7 +29,9 @@ length-written m [] p = refl
 length-written m (b ∷ bytes) p = length-written (slice_set m p b) bytes (p + 1) ∙ length-set m p b
 
 -- an entry that is written part by part: the key's length and bytes, the value's length in two bytes, its bytes
-pub entry_written : (m n key bytes : List ℕ) (p a b : ℕ) → n ≡ with_bytes (slice_set m p (length key)) (p + 1) key → with_bytes (slice_set (slice_set n (p + 1 + length key) a) (p + 1 + length key + 1) b) (p + 1 + length key + 2) bytes ≡ with_bytes m p (length key ∷ key ++ a ∷ b ∷ bytes)
+pub entry_written : (m n key bytes : List ℕ) (p a b : ℕ) → n ≡ with_bytes (slice_set m p (length key)) (p + 1) key →
+    with_bytes (slice_set (slice_set n (p + 1 + length key) a) (p + 1 + length key + 1) b) (p + 1 + length key + 2) bytes ≡
+    with_bytes m p (length key ∷ key ++ a ∷ b ∷ bytes)
 entry_written m n key bytes p a b e =
     let k : p + 1 + length key + 2 ≡ p + 1 + length key + 1 + 1 = omega arith in
     ap (λ k. with_bytes (slice_set (slice_set n (p + 1 + length key) a) (p + 1 + length key + 1) b) k bytes) k

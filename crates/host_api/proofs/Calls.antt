@@ -12,7 +12,8 @@ module _ (memory : List ℕ) (s : Recorded) where
   here p b e r = ap (λ (q : Option (List ℕ)). or_trap q memory s r) (sym e)
 
   -- a target that lies there
-  pub room : (o : Option (Bor (List ℕ))) (p : Option (List ℕ)) → option_map (λ b. b.now) o ≡ p → is_some o ≡ true → (r : Reply Recorded) → or_trap p memory s (λ _. r) ≡ r
+  pub room : (o : Option (Bor (List ℕ))) (p : Option (List ℕ)) → option_map (λ b. b.now) o ≡ p → is_some o ≡ true → (r : Reply Recorded) →
+      or_trap p memory s (λ _. r) ≡ r
   room None p e h r = cc
   room (Some b) p e h r = ap (λ (q : Option (List ℕ)). or_trap q memory s (λ _. r)) (sym e)
 

@@ -44,20 +44,26 @@ length-first zero es = omega arith
 length-first (suc n) [] = omega arith
 length-first (suc n) (e ∷ es) = let i = length-first n es in omega (arith, i)
 
-held-filter : (start end : Bytes) (n : ℕ) (es : List Entry) → list_all (λ (e : RangeEntry). is_within start end e.key) (map entry_of (take n (entries_within start end es))) ≡ true
+held-filter : (start end : Bytes) (n : ℕ) (es : List Entry) →
+    list_all (λ (e : RangeEntry). is_within start end e.key) (map entry_of (take n (entries_within start end es))) ≡ true
 held-filter start end zero es = refl
 held-filter start end (suc n) [] = refl
 held-filter start end (suc n) (e ∷ es) =
-    elim (is_within start end e.0) as (λ b. is_within start end e.0 ≡ b → list_all (λ (e : RangeEntry). is_within start end e.key) (map entry_of (take (suc n) (cond b (e ∷ entries_within start end es) (entries_within start end es)))) ≡ true) [
+    elim (is_within start end e.0)
+    as (λ b. is_within start end e.0 ≡ b →
+    list_all (λ (e : RangeEntry). is_within start end e.key)
+    (map entry_of (take (suc n) (cond b (e ∷ entries_within start end es) (entries_within start end es)))) ≡ true) [
       | true ↦ λ is. join (is_within start end e.0) _ is (held-filter start end n es)
       | false ↦ λ _. held-filter start end (suc n) es
     ] refl
 
-pub is_range : (m : Versioned) (start end : Bytes) (n : ℕ) → 1 ≤ n → n ≤ 64 → IsRange (record { start = start; end = end; limit = n; entries = entries_at m start end n })
+pub is_range : (m : Versioned) (start end : Bytes) (n : ℕ) → 1 ≤ n → n ≤ 64 →
+    IsRange (record { start = start; end = end; limit = n; entries = entries_at m start end n })
 is_range m start end n lo hi = record {
   least = lo;
   greatest = hi;
   count = length-first n (entries_within start end (entries m));
-  order = ascends (take n (entries_within start end (entries m))) (sorted-take n _ (sorted_filter (λ (e : Entry). is_within start end e.0) (entries m) (entries_sorted m)));
+  order = ascends (take n (entries_within start end (entries m)))
+      (sorted-take n _ (sorted_filter (λ (e : Entry). is_within start end e.0) (entries m) (entries_sorted m)));
   held = held-filter start end n (entries m);
 }

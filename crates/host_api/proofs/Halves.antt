@@ -27,7 +27,8 @@ module _ {X : Type 0} (key_of : X → Bytes) (key : Bytes) where
   comes_before x = is_before (key_of x) key
 
   -- a first item comes before the key if any does
-  first_before : (x : X) (xs : List X) → are_ascending (map key_of (x ∷ xs)) ≡ true → (j : ℕ) (d : X) → j < length (x ∷ xs) → comes_before (get_or (x ∷ xs) j d) ≡ true → comes_before x ≡ true
+  first_before : (x : X) (xs : List X) → are_ascending (map key_of (x ∷ xs)) ≡ true → (j : ℕ) (d : X) → j < length (x ∷ xs) →
+      comes_before (get_or (x ∷ xs) j d) ≡ true → comes_before x ≡ true
   first_before x xs h zero d k e = e
   first_before x [] h (suc j) d k e = absurd (omega arith)
   first_before x (y ∷ ys) h (suc j) d k e =
@@ -44,7 +45,8 @@ module _ {X : Type 0} (key_of : X → Bytes) (key : Bytes) where
   parted (x ∷ xs) h (suc i) zero d le lt e = absurd (omega arith)
   parted (x ∷ xs) h (suc i) (suc j) d le lt e = parted xs (rest_ascend x xs h) i j d (omega arith) (omega arith) e
 
-  pub place_is : (xs : List X) (n : ℕ) → n ≤ length xs → IsPartitionPoint (λ x. comes_before x ≡ true) (λ x. comes_before x ≡ false) xs n → n ≡ place_of key_of key xs
+  pub place_is : (xs : List X) (n : ℕ) → n ≤ length xs → IsPartitionPoint (λ x. comes_before x ≡ true) (λ x. comes_before x ≡ false) xs n →
+      n ≡ place_of key_of key xs
   place_is [] n h p = omega arith
   place_is (x ∷ xs) n h p =
       sym (prefix_len_is comes_before (x ∷ xs) n x h (λ k lt. p.0 k x (omega arith) lt) (λ lt. p.1 n x (omega arith) lt))

@@ -1,5 +1,6 @@
 -- An item takes its place among items in key order: it replaces the item of its key, or stands before the first greater key.
-use Rattle.std.proofs.Common.{◌≡◌, ℕ, zero, suc, ◌+◌, ◌<◌, ◌≤◌, Bool, true, false, cond, ◌&&◌, List, [], ◌∷◌, length, map, Option, Some, Ok, Err, refl, sym, ap, ◌∙◌, subst, arith, is_eq, length-set}
+use Rattle.std.proofs.Common.{◌≡◌, ℕ, zero, suc, ◌+◌, ◌<◌, ◌≤◌, Bool, true, false, cond, ◌&&◌, List, [], ◌∷◌, length, map, Option, Some, Ok, Err, refl, sym, ap}
+use Rattle.std.proofs.Common.{◌∙◌, subst, arith, is_eq, length-set}
 use Rattle.std.specs.Prelude.{slice_get, slice_set}
 use Rattle.std.specs.List.{insert}
 use Rattle.std.specs.Ordering.{is_lt, ordering_reverse}
@@ -18,13 +19,15 @@ use Rattle.host_api.specs.Places.{place_of, has_key, found_at}
 abbrev joined : {X : Type 0} → Ordering → (x y : X) → (ys rest : List X) → List X
 joined o x y ys rest = cond (is_lt o) (y ∷ rest) (cond (is_eq o) (x ∷ ys) (x ∷ y ∷ ys))
 
-map-joined : {X Y : Type 0} (f : X → Y) (o : Ordering) (x y : X) (ys rest : List X) → map f (joined o x y ys rest) ≡ joined o (f x) (f y) (map f ys) (map f rest)
+map-joined : {X Y : Type 0} (f : X → Y) (o : Ordering) (x y : X) (ys rest : List X) →
+    map f (joined o x y ys rest) ≡ joined o (f x) (f y) (map f ys) (map f rest)
 map-joined f Less x y ys rest = refl
 map-joined f Equal x y ys rest = refl
 map-joined f Greater x y ys rest = refl
 
 -- what keeps the keys keeps the places
-pub map-with_item : {X Y : Type 0} (f : X → Y) (key : X → Bytes) (key' : Y → Bytes) → ((x : X) → key' (f x) ≡ key x) → (x : X) (xs : List X) → map f (with_item key x xs) ≡ with_item key' (f x) (map f xs)
+pub map-with_item : {X Y : Type 0} (f : X → Y) (key : X → Bytes) (key' : Y → Bytes) → ((x : X) → key' (f x) ≡ key x) → (x : X) (xs : List X) →
+    map f (with_item key x xs) ≡ with_item key' (f x) (map f xs)
 map-with_item f key key' e x [] = refl
 map-with_item f key key' e x (y ∷ ys) =
     map-joined f (key_cmp (key y) (key x)) x y ys (with_item key x ys)
@@ -52,31 +55,38 @@ module _ {X : Type 0} (key_of : X → Bytes) where
   place o key xs = cond (is_lt o) (1 + place_of key_of key xs) 0
 
   abbrev Set : X → X → List X → Ordering → Type 0
-  Set w x xs o = has_key key_of (key_of w) (slice_get (x ∷ xs) (place o (key_of w) xs)) ≡ true → slice_set (x ∷ xs) (place o (key_of w) xs) w ≡ joined o w x xs (with_item key_of w xs)
+  Set w x xs o = has_key key_of (key_of w) (slice_get (x ∷ xs) (place o (key_of w) xs)) ≡ true →
+      slice_set (x ∷ xs) (place o (key_of w) xs) w ≡ joined o w x xs (with_item key_of w xs)
 
-  set_is : (w : X) (xs : List X) → has_key key_of (key_of w) (slice_get xs (place_of key_of (key_of w) xs)) ≡ true → slice_set xs (place_of key_of (key_of w) xs) w ≡ with_item key_of w xs
+  set_is : (w : X) (xs : List X) → has_key key_of (key_of w) (slice_get xs (place_of key_of (key_of w) xs)) ≡ true →
+      slice_set xs (place_of key_of (key_of w) xs) w ≡ with_item key_of w xs
   set_is w [] h = cc
   set_is w (x ∷ xs) h =
       elim (key_cmp (key_of x) (key_of w)) as (λ o. key_cmp (key_of x) (key_of w) ≡ o → Set w x xs o) [
-        | Less ↦ λ e h. let n : 1 + place_of key_of (key_of w) xs ≡ suc (place_of key_of (key_of w) xs) = omega arith in ap (λ k. slice_set (x ∷ xs) k w) n ∙ ap (λ z. x ∷ z) (set_is w xs (rw n at h))
+        | Less ↦ λ e h. let n : 1 + place_of key_of (key_of w) xs ≡ suc (place_of key_of (key_of w) xs) =
+            omega arith in ap (λ k. slice_set (x ∷ xs) k w) n ∙ ap (λ z. x ∷ z) (set_is w xs (rw n at h))
         | Equal ↦ λ e h. refl
         | Greater ↦ λ e h. cc (ap is_eq e)
       ] refl h
 
   abbrev Inserted : X → X → List X → Ordering → Type 0
-  Inserted w x xs o = has_key key_of (key_of w) (slice_get (x ∷ xs) (place o (key_of w) xs)) ≡ false → insert (x ∷ xs) (place o (key_of w) xs) w ≡ joined o w x xs (with_item key_of w xs)
+  Inserted w x xs o = has_key key_of (key_of w) (slice_get (x ∷ xs) (place o (key_of w) xs)) ≡ false →
+      insert (x ∷ xs) (place o (key_of w) xs) w ≡ joined o w x xs (with_item key_of w xs)
 
-  insert_is : (w : X) (xs : List X) → has_key key_of (key_of w) (slice_get xs (place_of key_of (key_of w) xs)) ≡ false → insert xs (place_of key_of (key_of w) xs) w ≡ with_item key_of w xs
+  insert_is : (w : X) (xs : List X) → has_key key_of (key_of w) (slice_get xs (place_of key_of (key_of w) xs)) ≡ false →
+      insert xs (place_of key_of (key_of w) xs) w ≡ with_item key_of w xs
   insert_is w [] h = refl
   insert_is w (x ∷ xs) h =
       elim (key_cmp (key_of x) (key_of w)) as (λ o. key_cmp (key_of x) (key_of w) ≡ o → Inserted w x xs o) [
-        | Less ↦ λ e h. let n : 1 + place_of key_of (key_of w) xs ≡ suc (place_of key_of (key_of w) xs) = omega arith in ap (λ k. insert (x ∷ xs) k w) n ∙ ap (λ z. x ∷ z) (insert_is w xs (rw n at h))
+        | Less ↦ λ e h. let n : 1 + place_of key_of (key_of w) xs ≡ suc (place_of key_of (key_of w) xs) =
+            omega arith in ap (λ k. insert (x ∷ xs) k w) n ∙ ap (λ z. x ∷ z) (insert_is w xs (rw n at h))
         | Equal ↦ λ e h. cc (ap is_eq e)
         | Greater ↦ λ e h. refl
       ] refl h
 
   abbrev Kept : Bytes → X → List X → Ordering → Type 0
-  Kept key x xs o = has_key key_of key (slice_get (x ∷ xs) (place o key xs)) ≡ true → joined o key (key_of x) (map key_of xs) (with_key key (map key_of xs)) ≡ key_of x ∷ map key_of xs
+  Kept key x xs o = has_key key_of key (slice_get (x ∷ xs) (place o key xs)) ≡ true →
+      joined o key (key_of x) (map key_of xs) (with_key key (map key_of xs)) ≡ key_of x ∷ map key_of xs
 
   -- a key that is there is there once
   keys_is : (key : Bytes) (xs : List X) → has_key key_of key (slice_get xs (place_of key_of key xs)) ≡ true → with_key key (map key_of xs) ≡ map key_of xs
@@ -142,7 +152,8 @@ module _ {X : Type 0} (key_of : X → Bytes) where
       let t = told_ok (has_key key_of key (slice_get xs n)) n at e in
       record {
         within = subst (λ k. k < length xs) (sym t.1) (below n key xs t.0);
-        set = λ x same. ap (λ k. slice_set xs k x) (t.1 ∙ ap (λ k. place_of key_of k xs) (sym same)) ∙ set_is x xs (subst (λ k. has_key key_of k (slice_get xs (place_of key_of k xs)) ≡ true) (sym same) t.0);
+        set = λ x same. ap (λ k. slice_set xs k x) (t.1 ∙ ap (λ k. place_of key_of k xs) (sym same)) ∙
+            set_is x xs (subst (λ k. has_key key_of k (slice_get xs (place_of key_of k xs)) ≡ true) (sym same) t.0);
         same = λ x is. same_at key (slice_get xs n) x (ap (slice_get xs) (sym t.1) ∙ is) t.0;
         keys = keys_is key xs t.0;
       }
@@ -158,7 +169,8 @@ module _ {X : Type 0} (key_of : X → Bytes) where
       let t = told_err (has_key key_of key (slice_get xs n)) n at e in
       record {
         within = omega (arith, t.1, prefix_len-le-length (λ (x : X). is_before (key_of x) key) xs);
-        put = λ x same. ap (λ k. insert xs k x) (t.1 ∙ ap (λ k. place_of key_of k xs) (sym same)) ∙ insert_is x xs (subst (λ k. has_key key_of k (slice_get xs (place_of key_of k xs)) ≡ false) (sym same) t.0);
+        put = λ x same. ap (λ k. insert xs k x) (t.1 ∙ ap (λ k. place_of key_of k xs) (sym same)) ∙
+            insert_is x xs (subst (λ k. has_key key_of k (slice_get xs (place_of key_of k xs)) ≡ false) (sym same) t.0);
       }
 
   pub grown : (key : Bytes) (xs : List X) (at : ℕ) → IsGap key xs at → (x : X) → key_of x ≡ key → length (with_item key_of x xs) ≡ length xs + 1

@@ -64,9 +64,12 @@ module _ (es : List Lent) (i : ℕ) (e : Lent) (lt : i < length es) (is : e ≡ 
 
   pub length_next : length (bytes_of (drop i es)) ≡ 3 + length e.0.now + length e.1.now.0 + length (bytes_of (drop (i + 1) es))
   length_next =
-      ap length bytes_next ∙ length-both (reply_entry_bytes (e.0.now, e.1.now.0)) (bytes_of (drop (i + 1) es)) ∙ ap (λ n. n + length (bytes_of (drop (i + 1) es))) (length-entry e.0.now e.1.now.0)
+      ap length bytes_next ∙ length-both (reply_entry_bytes (e.0.now, e.1.now.0)) (bytes_of (drop (i + 1) es)) ∙
+      ap (λ n. n + length (bytes_of (drop (i + 1) es))) (length-entry e.0.now e.1.now.0)
 
   -- the bytes from the i-th entry on, once that entry is written
-  pub written_entry : (m : List ℕ) (p : ℕ) → with_bytes (with_bytes m p (reply_entry_bytes (e.0.now, e.1.now.0))) (p + length (reply_entry_bytes (e.0.now, e.1.now.0))) (bytes_of (drop (i + 1) es)) ≡ with_bytes m p (bytes_of (drop i es))
+  pub written_entry : (m : List ℕ) (p : ℕ) →
+      with_bytes (with_bytes m p (reply_entry_bytes (e.0.now, e.1.now.0))) (p + length (reply_entry_bytes (e.0.now, e.1.now.0))) (bytes_of (drop (i + 1) es)) ≡
+      with_bytes m p (bytes_of (drop i es))
   written_entry m p =
       written-append m (reply_entry_bytes (e.0.now, e.1.now.0)) (bytes_of (drop (i + 1) es)) p ∙ ap (with_bytes m p) (sym bytes_next)

@@ -1,5 +1,6 @@
 -- What the host of chaincode answers and records, by cases on its six calls. A negative answer -k is the word 2 ^ 32 - k.
-use Rattle.std.specs.Prelude.{ℕ, ◌+◌, ◌-◌, ◌/◌, ◌%◌, ◌^◌, List, [], ◌∷◌, ◌++◌, Bool, if◌then◌else◌, ◌&&◌, nat_le, Option, Some, None, length, take, drop, get_or}
+use Rattle.std.specs.Prelude.{ℕ, ◌+◌, ◌-◌, ◌/◌, ◌%◌, ◌^◌, List, [], ◌∷◌, ◌++◌, Bool, if◌then◌else◌, ◌&&◌, nat_le, Option, Some, None, length, take, drop}
+use Rattle.std.specs.Prelude.{get_or}
 use Rattle.std.specs.List.{flat_map}
 use Rattle.std.specs.Ordering.{eq_by_cmp}
 use Rattle.std.specs.FinMap.{get}
@@ -99,7 +100,8 @@ reply_range_bytes es = length es ∷ flat_map reply_entry_bytes es
 abbrev pub ask_range : Plain → Asked → (target capacity : ℕ) → (memory : List ℕ) → Recorded → Reply Recorded
 ask_range m a target capacity memory s =
     let ranges = s.ranges ++ a ∷ [] in
-    if nat_le (length ranges) 16 then replies (reply_range_bytes (first m a.start a.end a.limit)) target capacity memory (record s { ranges = ranges }) else refuses refusal.NoRoom memory s
+    if nat_le (length ranges) 16 then replies (reply_range_bytes (first m a.start a.end a.limit)) target capacity memory (record s { ranges = ranges }) else
+    refuses refusal.NoRoom memory s
 
 abbrev pub get_state : Plain → (key : Bytes) → (target capacity : ℕ) → (memory : List ℕ) → Recorded → Reply Recorded
 get_state m key target capacity memory s =
@@ -107,7 +109,8 @@ get_state m key target capacity memory s =
 
 abbrev pub put_state : (key bytes memory : List ℕ) → Recorded → Reply Recorded
 put_state key bytes memory s =
-    if is_key key then (if is_value bytes then write (record { key = key; value = Some bytes }) memory s else refuses refusal.ValueLength memory s) else refuses refusal.KeyLength memory s
+    if is_key key then (if is_value bytes then write (record { key = key; value = Some bytes }) memory s else refuses refusal.ValueLength memory s) else
+    refuses refusal.KeyLength memory s
 
 abbrev pub del_state : (key memory : List ℕ) → Recorded → Reply Recorded
 del_state key memory s =
@@ -115,7 +118,8 @@ del_state key memory s =
 
 abbrev pub range_state : Plain → Asked → (target capacity : ℕ) → (memory : List ℕ) → Recorded → Reply Recorded
 range_state m a target capacity memory s =
-    if (is_bound a.start && is_bound a.end) then (if is_limit a.limit then ask_range m a target capacity memory s else refuses refusal.Limit memory s) else refuses refusal.KeyLength memory s
+    if (is_bound a.start && is_bound a.end) then (if is_limit a.limit then ask_range m a target capacity memory s else refuses refusal.Limit memory s) else
+    refuses refusal.KeyLength memory s
 
 abbrev pub set_result : (bytes memory : List ℕ) → Recorded → Reply Recorded
 set_result bytes memory s =
@@ -128,13 +132,18 @@ nth args i = get_or args i 0
 -- pointer and a length is tested first, that of a target and its capacity too.
 abbrev pub host_step : Plain → (argument : Bytes) → Answering Recorded
 host_step m argument call.GetState args memory s =
-    or_trap (span_bytes (nth args 0) (nth args 1) memory) memory s (λ key. or_trap (span_bytes (nth args 2) (nth args 3) memory) memory s (λ room. get_state m key (nth args 2) (nth args 3) memory s))
+    or_trap (span_bytes (nth args 0) (nth args 1) memory) memory s
+    (λ key. or_trap (span_bytes (nth args 2) (nth args 3) memory) memory s (λ room. get_state m key (nth args 2) (nth args 3) memory s))
 host_step m argument call.PutState args memory s =
-    or_trap (span_bytes (nth args 0) (nth args 1) memory) memory s (λ key. or_trap (span_bytes (nth args 2) (nth args 3) memory) memory s (λ bytes. put_state key bytes memory s))
+    or_trap (span_bytes (nth args 0) (nth args 1) memory) memory s
+    (λ key. or_trap (span_bytes (nth args 2) (nth args 3) memory) memory s (λ bytes. put_state key bytes memory s))
 host_step m argument call.DelState args memory s =
     or_trap (span_bytes (nth args 0) (nth args 1) memory) memory s (λ key. del_state key memory s)
 host_step m argument call.RangeState args memory s =
-    or_trap (span_bytes (nth args 0) (nth args 1) memory) memory s (λ start. or_trap (span_bytes (nth args 2) (nth args 3) memory) memory s (λ end. or_trap (span_bytes (nth args 5) (nth args 6) memory) memory s (λ room. range_state m (record { start = start; end = end; limit = nth args 4 }) (nth args 5) (nth args 6) memory s)))
+    or_trap (span_bytes (nth args 0) (nth args 1) memory) memory s
+    (λ start. or_trap (span_bytes (nth args 2) (nth args 3) memory) memory s
+    (λ end. or_trap (span_bytes (nth args 5) (nth args 6) memory) memory s
+    (λ room. range_state m (record { start = start; end = end; limit = nth args 4 }) (nth args 5) (nth args 6) memory s)))
 host_step m argument call.GetArg args memory s =
     or_trap (span_bytes (nth args 0) (nth args 1) memory) memory s (λ room. replies argument (nth args 0) (nth args 1) memory s)
 host_step m argument call.SetResult args memory s =

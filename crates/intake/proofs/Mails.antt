@@ -1,6 +1,7 @@
 -- Each move keeps the rule of the mail.
 use Rattle.std.specs.List.{All as Each}
-use Rattle.std.proofs.Common.{◌≡◌, ◌≢◌, ◌⊎◌, ℕ, zero, suc, ◌<◌, ◌≤◌, ◌+◌, ◌==◌, Bool, true, false, true≢false, List, [], ◌∷◌, ◌++◌, length, set, sym, refl, ap, ◌∙◌, subst, inl, inr, ⊎_elim, append_assoc, eq-eqb, ne_eqb, lt_of_not-le, le_refl, arith, slice_get, Some}
+use Rattle.std.proofs.Common.{◌≡◌, ◌≢◌, ◌⊎◌, ℕ, zero, suc, ◌<◌, ◌≤◌, ◌+◌, ◌==◌, Bool, true, false, true≢false, List, [], ◌∷◌, ◌++◌, length, set, sym, refl, ap}
+use Rattle.std.proofs.Common.{◌∙◌, subst, inl, inr, ⊎_elim, append_assoc, eq-eqb, ne_eqb, lt_of_not-le, le_refl, arith, slice_get, Some}
 use Rattle.std.specs.Prelude.{if◌then◌else◌}
 use Rattle.std.proofs.lemmas.List.{append-nil}
 use mathlib.Core.Option.{Option, some, none, some-ne-none, some-injective}
@@ -68,7 +69,8 @@ Fits reader senders seat sent got pass v = FitsSender senders seat sent pass v �
 abbrev All : (ℕ → View → Type 0) → List View → Type 0
 All F views = (port : ℕ) (v : View) → get_elem? views port ≡ some v → F port v
 
-all_set : (F : ℕ → View → Type 0) (views : List View) (port : ℕ) (w : View) → F port w → ((j : ℕ) (u : View) → j ≢ port → get_elem? views j ≡ some u → F j u) → All F (set views port w)
+all_set : (F : ℕ → View → Type 0) (views : List View) (port : ℕ) (w : View) → F port w → ((j : ℕ) (u : View) → j ≢ port → get_elem? views j ≡ some u → F j u) →
+    All F (set views port w)
 all_set F views port w mine others j u e = ⊎_elim (λ (x : (j ≡ port) × (w ≡ u)). subst (λ (y : ℕ × View). F y.0 y.1) (λ i. (sym x.0 i, x.1 i)) mine)
     (λ (x : (j ≢ port) × (get_elem? views j ≡ some u)). others j u x.0 x.1) (at_set views port j w u e)
 
@@ -90,11 +92,14 @@ begins =
       (λ p. refl),
       (λ p _. (refl, refl)),
       λ j v e. ⊎_elim (λ (x : get_elem? [] j ≡ some v). absurd (some-ne-none v (sym x)))
-          (λ (x : (j ≡ 0) × (r ≡ v)). subst (λ (y : View). F j y) x.1 ((λ s. absurd (true≢false (sym s))), λ _. (x.0, refl, refl, (λ p _. (refl, refl)), λ k p all at. absurd (some-ne-none (p, all) (sym at)))))
+          (λ (x : (j ≡ 0) × (r ≡ v)).
+          subst (λ (y : View). F j y) x.1
+          ((λ s. absurd (true≢false (sym s))), λ _. (x.0, refl, refl, (λ p _. (refl, refl)), λ k p all at. absurd (some-ne-none (p, all) (sym at)))))
           (at_new [] r v j e),
     )
 
-pub submits : (n pass : ℕ) (v : View) (x : Parcel) → v.sends ≡ true → x.from ≡ v.from → Pushes Delivers n pass v x (λ w. w ≡ sender v.senders v.from (v.put ++ x.envelope ∷ []))
+pub submits : (n pass : ℕ) (v : View) (x : Parcel) → v.sends ≡ true → x.from ≡ v.from →
+    Pushes Delivers n pass v x (λ w. w ≡ sender v.senders v.from (v.put ++ x.envelope ∷ []))
 submits n pass v x may is items views _ h at =
     let w : View = sender v.senders v.from (v.put ++ x.envelope ∷ []) in let mine = (h.7 pass v at).0 may in let sent = bump h.3 v.from x.envelope in
     let else_same : (p : ℕ) → h.2 p ≡ none → sent p ≡ h.3 p = λ p e. bump_else h.3 v.from x.envelope p (free h.2 p v.from pass e mine.1) in (
@@ -108,7 +113,8 @@ submits n pass v x may is items views _ h at =
         (λ p. ap (of p) (sym (append_assoc h.4 items (x ∷ []))) ∙ (of-append p (h.4 ++ items) (x ∷ []) ∙ (ap (λ l. l ++ of p (x ∷ [])) (h.5 p)
             ∙ (ap (λ (k : ℕ). h.3 p ++ (if p == k then x.envelope ∷ [] else [])) is ∙ joined (p == v.from) (h.3 p) x.envelope)))),
         (λ p le. let t = h.6 p le in (t.0, else_same p t.0 ∙ t.1)),
-        all_set (Fits h.0 h.1 h.2 sent h.4) views pass w ((λ _. (mine.0, mine.1, ap (λ l. l ++ x.envelope ∷ []) mine.2 ∙ sym (bump_here h.3 v.from x.envelope))), λ g. absurd (true≢false (sym g)))
+        all_set (Fits h.0 h.1 h.2 sent h.4) views pass w
+            ((λ _. (mine.0, mine.1, ap (λ l. l ++ x.envelope ∷ []) mine.2 ∙ sym (bump_here h.3 v.from x.envelope))), λ g. absurd (true≢false (sym g)))
             (λ j u other e. let old = h.7 j u e in (
               (λ s. let o = old.0 s in (o.0, o.1, o.2 ∙ sym (bump_else h.3 v.from x.envelope u.from (apart h.2 u.from v.from j pass o.1 mine.1 other)))),
               λ g. let o = old.1 g in (
@@ -124,21 +130,23 @@ submits n pass v x may is items views _ h at =
     )
 
 pub takes : (pass : ℕ) (v : View) → v.gets ≡ true → Pops Delivers pass v (λ x w. w ≡ receiver v.senders v.made (v.got ++ x ∷ []) v.known)
-takes pass v may x items views h at = let w : View = receiver v.senders v.made (v.got ++ x ∷ []) v.known in let mine = (h.7 pass v at).1 may in let got = h.4 ++ x ∷ [] in (
-  w,
-  (
-    h.0,
-    h.1,
-    h.2,
-    h.3,
-    got,
-    (λ p. ap (of p) (append_assoc h.4 (x ∷ []) items) ∙ h.5 p),
-    h.6,
-    all_set (Fits h.0 h.1 h.2 h.3 got) views pass w ((λ s. absurd (true≢false (sym s))), λ _. (mine.0, mine.1, ap (λ l. l ++ x ∷ []) mine.2, mine.3, mine.4))
-        (λ j u other e. ((h.7 j u e).0, λ g. absurd (other (((h.7 j u e).1 g).0 ∙ sym mine.0)))),
-  ),
-  refl,
-)
+takes pass v may x items views h at = let w : View = receiver v.senders v.made (v.got ++ x ∷ []) v.known in let mine = (h.7 pass v at).1 may in let got =
+    h.4 ++ x ∷ [] in (
+      w,
+      (
+        h.0,
+        h.1,
+        h.2,
+        h.3,
+        got,
+        (λ p. ap (of p) (append_assoc h.4 (x ∷ []) items) ∙ h.5 p),
+        h.6,
+        all_set (Fits h.0 h.1 h.2 h.3 got) views pass w
+            ((λ s. absurd (true≢false (sym s))), λ _. (mine.0, mine.1, ap (λ l. l ++ x ∷ []) mine.2, mine.3, mine.4))
+            (λ j u other e. ((h.7 j u e).0, λ g. absurd (other (((h.7 j u e).1 g).0 ∙ sym mine.0)))),
+      ),
+      refl,
+    )
 
 -- before any seat is made, one sender more is counted
 pub counts : (pass : ℕ) (v : View) → v.gets ≡ true → v.made ≡ 0 → Forks Delivers pass v (receiver (v.senders + 1) v.made v.got v.known) idle
@@ -166,7 +174,8 @@ counts pass v may new items views h at =
 pub hires : (pass : ℕ) (v : View) → v.gets ≡ true → v.made < v.senders
     → Forks Delivers pass v (receiver v.senders (v.made + 1) v.got v.known) (sender v.senders v.made [])
 hires pass v may room items views h at =
-    let l : View = receiver v.senders (v.made + 1) v.got v.known in let r : View = sender v.senders v.made [] in let mine = (h.7 pass v at).1 may in let vs : List View = set views pass l in
+    let l : View = receiver v.senders (v.made + 1) v.got v.known in let r : View = sender v.senders v.made [] in let mine =
+    (h.7 pass v at).1 may in let vs : List View = set views pass l in
     let new = mine.3 v.made (le_refl v.made) in
     let within : v.made < h.1 = omega (arith, mine.1) in
     let seat : ℕ → Option ℕ = put_at h.2 v.made (some (length vs)) in
@@ -194,7 +203,9 @@ hires pass v may room items views h at =
       h.5,
       (λ p le. let t = h.6 p le in (same p (λ e. omega (arith, within)) ∙ t.0, t.1)),
       λ j u e. ⊎_elim (λ (x : get_elem? vs j ≡ some u). old j u x)
-          (λ (x : (j ≡ length vs) × (r ≡ u)). subst (λ (y : View). F j y) x.1 ((λ _. (mine.1, put_here h.2 v.made (some (length vs)) ∙ ap some (sym x.0), sym new.1)), λ g. absurd (true≢false (sym g))))
+          (λ (x : (j ≡ length vs) × (r ≡ u)).
+          subst (λ (y : View). F j y) x.1
+          ((λ _. (mine.1, put_here h.2 v.made (some (length vs)) ∙ ap some (sym x.0), sym new.1)), λ g. absurd (true≢false (sym g))))
           (at_new vs r u j e),
     )
 
@@ -204,7 +215,8 @@ below_made seat made p i none_there at = lt_of_not-le (λ le. some-ne-none i (sy
 pub retires : (pass : ℕ) (v : View) (other : ℕ) (u : View) → v.gets ≡ true → u.sends ≡ true
     → Merges Delivers pass v other u (receiver v.senders v.made v.got (v.known ++ (u.from, u.put) ∷ [])) idle
 retires pass v other u a b items views h at two at' =
-    let both : View = receiver v.senders v.made v.got (v.known ++ (u.from, u.put) ∷ []) in let mine = (h.7 pass v at).1 a in let vs : List View = set views pass both in
+    let both : View = receiver v.senders v.made v.got (v.known ++ (u.from, u.put) ∷ []) in let mine = (h.7 pass v at).1 a in let vs : List View =
+    set views pass both in
     let was : get_elem? views other ≡ some u = ⊎_elim (λ x. absurd (two x.0)) (λ x. x.1) (at_set views pass other both u at') in
     let theirs = (h.7 other u was).0 b in
     let seat : ℕ → Option ℕ = put_at h.2 u.from none in
@@ -220,7 +232,8 @@ retires pass v other u a b items views h at two at' =
         mine.2,
         (λ p le. let t = mine.3 p le in (empty p t.0, t.1)),
         λ k p all k_at. ⊎_elim (λ (x : get_elem? v.known k ≡ some (p, all)). let t = mine.4 k p all x in (t.0, empty p t.1, t.2))
-            (λ (x : (k ≡ length v.known) × ((u.from, u.put) ≡ (p, all))). subst (λ (y : ℕ × List Envelope). (y.0 < v.made) × (seat y.0 ≡ none) × (y.1 ≡ h.3 y.0)) x.1
+            (λ (x : (k ≡ length v.known) × ((u.from, u.put) ≡ (p, all))).
+            subst (λ (y : ℕ × List Envelope). (y.0 < v.made) × (seat y.0 ≡ none) × (y.1 ≡ h.3 y.0)) x.1
             (below_made h.2 v.made u.from other (λ q le. (mine.3 q le).0) theirs.1, put_here h.2 u.from none, theirs.2))
             (at_new v.known (u.from, u.put) (p, all) k k_at),
       ),
@@ -228,8 +241,16 @@ retires pass v other u a b items views h at two at' =
     (λ j y away e not_other. (
       (λ s. let o = (h.7 j y e).0 s in (o.0, put_else h.2 u.from none y.from (apart h.2 y.from u.from j other o.1 theirs.1 not_other) ∙ o.1, o.2)),
       λ g. absurd (away (((h.7 j y e).1 g).0 ∙ sym mine.0)),
-    )) in
-    (h.0, h.1, seat, h.3, h.4, h.5, (λ p le. let t = h.6 p le in (empty p t.0, t.1)), all_set F vs other idle ((λ s. absurd (true≢false (sym s))), λ g. absurd (true≢false (sym g))) (λ j y not_other e. now j y e not_other))
+    )) in (
+      h.0,
+      h.1,
+      seat,
+      h.3,
+      h.4,
+      h.5,
+      (λ p le. let t = h.6 p le in (empty p t.0, t.1)),
+      all_set F vs other idle ((λ s. absurd (true≢false (sym s))), λ g. absurd (true≢false (sym g))) (λ j y not_other e. now j y e not_other),
+    )
 
 pub learns_mine : (pass : ℕ) (v : View) → v.sends ≡ true → Learns Delivers pass v (HoldsMine v)
 learns_mine pass v may items views h at = let mine = (h.7 pass v at).0 may in

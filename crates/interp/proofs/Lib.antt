@@ -23,6 +23,6 @@ pub mod Dispatch
 pub mod Start
 pub mod Groups
 pub mod Pairs
-pub mod Tests
+pub mod Conditions
 pub mod Ends
 pub mod Bases

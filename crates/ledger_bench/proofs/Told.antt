@@ -5,7 +5,8 @@ use Rattle.ledger_model.specs.Chain.{Bytes, Envelope, Placed}
 use Rattle.ledger_model.specs.Flags.{flag_at, flags_told}
 
 -- there is one for each envelope
-pub told_length : (id : Proposal → Bytes) (earlier : List Placed) (block place : ℕ) (es : List Envelope) (bs : List Bool) → length bs ≡ length es → length (flags_told id earlier block place es bs) ≡ length es
+pub told_length : (id : Proposal → Bytes) (earlier : List Placed) (block place : ℕ) (es : List Envelope) (bs : List Bool) → length bs ≡ length es →
+    length (flags_told id earlier block place es bs) ≡ length es
 told_length id earlier block place [] bs h = refl
 told_length id earlier block place (e ∷ es) [] h = absurd (omega arith)
 told_length id earlier block place (e ∷ es) (b ∷ bs) h =

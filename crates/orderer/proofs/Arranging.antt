@@ -1,5 +1,6 @@
 -- A batch has one plan, its places are the batch's, and the survivors stand in a legal order.
-use Rattle.std.proofs.Common.{◌≡◌, ℕ, zero, suc, ◌+◌, ◌<◌, ◌≤◌, ◌++◌, ◌&&◌, not, Bool, true, false, cond, eqb, ltb, List, [], ◌∷◌, Some, None, length, refl, sym, ap, subst, ◌∙◌, arith}
+use Rattle.std.proofs.Common.{◌≡◌, ℕ, zero, suc, ◌+◌, ◌<◌, ◌≤◌, ◌++◌, ◌&&◌, not, Bool, true, false, cond, eqb, ltb, List, [], ◌∷◌, Some, None, length, refl}
+use Rattle.std.proofs.Common.{sym, ap, subst, ◌∙◌, arith}
 use Rattle.std.specs.Prelude.{if◌then◌else◌}
 use Rattle.std.specs.List.{AllByRecursion, filter, count_by, range_with_len, slice_get}
 use Rattle.std.specs.Option.{option_to_list}
@@ -24,7 +25,8 @@ use Rattle.orderer.proofs.Picking.{range_more}
 use Rattle.orderer.specs.Blocks.{AddsEach, AreLegal, next_block, with_batch}
 use Rattle.orderer.proofs.Cutting.{all_joined}
 
-pub one_plan : (reorder : Bool) (batch : List Envelope) (order others : List ℕ) (aborted left : List (ℕ × AbortCause)) → plans_of reorder batch order aborted → plans_of reorder batch others left → (order ≡ others) × (aborted ≡ left)
+pub one_plan : (reorder : Bool) (batch : List Envelope) (order others : List ℕ) (aborted left : List (ℕ × AbortCause)) → plans_of reorder batch order aborted →
+    plans_of reorder batch others left → (order ≡ others) × (aborted ≡ left)
 one_plan true batch order others aborted left a b =
     let same = planned_one (length batch) (edge_of batch) (all_but (stale batch) (length batch)) order others a.dropped b.dropped a.planned b.planned in
     (same.0, a.aborts_are ∙ ap (λ (d : List ℕ). aborts (stale batch) d (indices batch)) same.1 ∙ sym b.aborts_are)
@@ -44,7 +46,8 @@ planned_places n edge gone order dropped p place =
     let once = planned_once n edge (all_but gone n) order dropped p place in
     let split = sum_by-append (λ y. cond {A = ℕ} (eqb y place) 1 0) order dropped in
     let fits = part_fits n place (waits (all_but gone n) place) (part_within gone n place) in
-    less_of (count_by (λ x. eqb x place) (order ++ dropped)) (count_by (λ x. eqb x place) order) (count_by (λ x. eqb x place) dropped) (if ltb place n then 1 else 0) split
+    less_of (count_by (λ x. eqb x place) (order ++ dropped)) (count_by (λ x. eqb x place) order) (count_by (λ x. eqb x place) dropped)
+    (if ltb place n then 1 else 0) split
     (subst (λ (m : ℕ). m ≤ (if ltb place n then 1 else 0)) (sym once) fits)
 
 -- ---- stale ones are of the batch
@@ -76,11 +79,13 @@ EachUnseen (e ∷ es) = IsUnseen e es × EachUnseen es
 push_one : {A : Type 0} (P : A → Type 0) (xs : List A) (x : A) → AllByRecursion P xs → P x → AllByRecursion P (xs ++ x ∷ [])
 push_one P xs x h p = all_joined P xs (x ∷ []) h (p, tt)
 
-heads : (earlier : List Envelope) (e : Envelope) (es : List Envelope) → AllByRecursion (λ d. IsUnseen d (e ∷ es)) earlier → AllByRecursion (λ d. sees_write_of e.payload d.payload ≡ false) earlier
+heads : (earlier : List Envelope) (e : Envelope) (es : List Envelope) → AllByRecursion (λ d. IsUnseen d (e ∷ es)) earlier →
+    AllByRecursion (λ d. sees_write_of e.payload d.payload ≡ false) earlier
 heads [] e es h = tt
 heads (d ∷ earlier) e es h = (h.0.0, heads earlier e es h.1)
 
-tails : (earlier : List Envelope) (e : Envelope) (es : List Envelope) → AllByRecursion (λ d. IsUnseen d (e ∷ es)) earlier → AllByRecursion (λ d. IsUnseen d es) earlier
+tails : (earlier : List Envelope) (e : Envelope) (es : List Envelope) → AllByRecursion (λ d. IsUnseen d (e ∷ es)) earlier →
+    AllByRecursion (λ d. IsUnseen d es) earlier
 tails [] e es h = tt
 tails (d ∷ earlier) e es h = (h.0.1, tails earlier e es h.1)
 
@@ -92,7 +97,8 @@ legal_of earlier (e ∷ es) before after =
 not_and : (same there : Bool) → same ≡ false → (not same && there) ≡ false → there ≡ false
 not_and same there other e = subst (λ (b : Bool). (not b && there) ≡ false) other e
 
-no_edge : (batch : List Envelope) (j i : ℕ) (d e : Envelope) → slice_get batch j ≡ Some d → slice_get batch i ≡ Some e → eqb j i ≡ false → edge_of batch j i ≡ false → sees_write_of d.payload e.payload ≡ false
+no_edge : (batch : List Envelope) (j i : ℕ) (d e : Envelope) → slice_get batch j ≡ Some d → slice_get batch i ≡ Some e → eqb j i ≡ false →
+    edge_of batch j i ≡ false → sees_write_of d.payload e.payload ≡ false
 unfolding apart
 no_edge batch j i d e at_j at_i other none =
     let whole : (not (eqb j i) && both_there sees_write_of (slice_get batch j) (slice_get batch i)) ≡ false = none in
@@ -106,7 +112,8 @@ none_same i j js none =
       | false ↦ λ is. (refl, omega (arith, none, split))
     ] refl
 
-later_unseen : (batch : List Envelope) (i : ℕ) (e : Envelope) (js : List ℕ) → slice_get batch i ≡ Some e → count_by (λ x. eqb x i) js ≡ 0 → AllAfter (edge_of batch) i js → IsUnseen e (envelopes_at batch js)
+later_unseen : (batch : List Envelope) (i : ℕ) (e : Envelope) (js : List ℕ) → slice_get batch i ≡ Some e → count_by (λ x. eqb x i) js ≡ 0 →
+    AllAfter (edge_of batch) i js → IsUnseen e (envelopes_at batch js)
 later_unseen batch i e [] at none after = tt
 later_unseen batch i e (j ∷ js) at none after =
     let apart = none_same i j js none in
@@ -124,7 +131,8 @@ none_again i is once =
 once_less : (i : ℕ) (is : List ℕ) → ((place : ℕ) → count_by (λ x. eqb x place) (i ∷ is) ≤ 1) → (place : ℕ) → count_by (λ x. eqb x place) is ≤ 1
 once_less i is once place = omega (arith, once place, sum_by-cons (λ y. cond {A = ℕ} (eqb y place) 1 0) i is)
 
-picked_unseen : (batch : List Envelope) (order : List ℕ) → ((place : ℕ) → count_by (λ x. eqb x place) order ≤ 1) → plan.IsLegal (edge_of batch) order → EachUnseen (envelopes_at batch order)
+picked_unseen : (batch : List Envelope) (order : List ℕ) → ((place : ℕ) → count_by (λ x. eqb x place) order ≤ 1) → plan.IsLegal (edge_of batch) order →
+    EachUnseen (envelopes_at batch order)
 picked_unseen batch [] once legal = tt
 picked_unseen batch (i ∷ is) once legal =
     let rest = picked_unseen batch is (once_less i is once) legal.1 in
@@ -138,7 +146,8 @@ at_most_one true count most = most
 at_most_one false count most = omega (arith, most)
 
 -- the survivors of an arranged batch stand in a legal order
-pub arranged_legal : (batch : List Envelope) (order : List ℕ) (aborted : List (ℕ × AbortCause)) → IsArranged batch order aborted → IsLegal [] (envelopes_at batch order)
+pub arranged_legal : (batch : List Envelope) (order : List ℕ) (aborted : List (ℕ × AbortCause)) → IsArranged batch order aborted →
+    IsLegal [] (envelopes_at batch order)
 arranged_legal batch order aborted a =
     let n = length batch in
     let left = all_but (stale batch) n in
@@ -151,33 +160,40 @@ with_batch_legal old [] are legal = are
 with_batch_legal old (e ∷ es) are legal = push_one (λ (b : Block). IsLegal [] b.envelopes) old (next_block old (e ∷ es)) are legal
 
 -- blocks of arranged batches are of legal order
-pub takes_legal : (old : List Block) (batches : List (List Envelope)) (reports : List BatchReport) (new : List Block) → AddsEach (plans_of true) old batches reports new → AreLegal old → AreLegal new
+pub takes_legal : (old : List Block) (batches : List (List Envelope)) (reports : List BatchReport) (new : List Block) →
+    AddsEach (plans_of true) old batches reports new → AreLegal old → AreLegal new
 takes_legal old [] reports new adds are = subst AreLegal (sym adds.1) are
 takes_legal old (batch ∷ batches) reports new adds are =
     let a = adds.4 in
-    let next : AreLegal adds.2 = subst AreLegal (sym a.chain) (with_batch_legal old (envelopes_at batch a.order) are (arranged_legal batch a.order adds.0.aborted a.planned)) in
+    let next : AreLegal adds.2 =
+    subst AreLegal (sym a.chain) (with_batch_legal old (envelopes_at batch a.order) are (arranged_legal batch a.order adds.0.aborted a.planned)) in
     takes_legal adds.2 batches adds.1 new adds.5 next
 
 -- ---- why each is aborted
 
-aborts_more : (outdated dropped : List ℕ) (n : ℕ) → aborts outdated dropped (range_with_len 0 (n + 1)) ≡ aborts outdated dropped (range_with_len 0 n) ++ abort_at outdated dropped n
+aborts_more : (outdated dropped : List ℕ) (n : ℕ) →
+    aborts outdated dropped (range_with_len 0 (n + 1)) ≡ aborts outdated dropped (range_with_len 0 n) ++ abort_at outdated dropped n
 aborts_more outdated dropped n =
     let last : 0 + n ≡ n = omega arith in
     ap (aborts outdated dropped) (range_more 0 n ∙ ap (λ m. range_with_len 0 n ++ m ∷ []) last)
     ∙ flat_map-append (abort_at outdated dropped) (range_with_len 0 n) (n ∷ [])
     ∙ ap (λ (xs : List (ℕ × AbortCause)). aborts outdated dropped (range_with_len 0 n) ++ xs) (append-nil (abort_at outdated dropped n))
 
-pub outdated_more : (outdated dropped : List ℕ) (n : ℕ) → is_among outdated n ≡ true → aborts outdated dropped (range_with_len 0 (n + 1)) ≡ aborts outdated dropped (range_with_len 0 n) ++ (n, Outdated) ∷ []
+pub outdated_more : (outdated dropped : List ℕ) (n : ℕ) → is_among outdated n ≡ true →
+    aborts outdated dropped (range_with_len 0 (n + 1)) ≡ aborts outdated dropped (range_with_len 0 n) ++ (n, Outdated) ∷ []
 outdated_more outdated dropped n is =
     aborts_more outdated dropped n
-    ∙ ap (λ (b : Bool). aborts outdated dropped (range_with_len 0 n) ++ (if b then (n, Outdated) ∷ [] else if is_among dropped n then (n, Conflict) ∷ [] else [])) is
+    ∙ ap (λ (b : Bool). aborts outdated dropped (range_with_len 0 n) ++
+    (if b then (n, Outdated) ∷ [] else if is_among dropped n then (n, Conflict) ∷ [] else [])) is
 
-pub dropped_more : (outdated dropped : List ℕ) (n : ℕ) → is_among outdated n ≡ false → is_among dropped n ≡ true → aborts outdated dropped (range_with_len 0 (n + 1)) ≡ aborts outdated dropped (range_with_len 0 n) ++ (n, Conflict) ∷ []
+pub dropped_more : (outdated dropped : List ℕ) (n : ℕ) → is_among outdated n ≡ false → is_among dropped n ≡ true →
+    aborts outdated dropped (range_with_len 0 (n + 1)) ≡ aborts outdated dropped (range_with_len 0 n) ++ (n, Conflict) ∷ []
 dropped_more outdated dropped n other is =
     aborts_more outdated dropped n
     ∙ (λ i. aborts outdated dropped (range_with_len 0 n) ++ (if other i then (n, Outdated) ∷ [] else if is i then (n, Conflict) ∷ [] else []))
 
-pub none_more : (outdated dropped : List ℕ) (n : ℕ) → is_among outdated n ≡ false → is_among dropped n ≡ false → aborts outdated dropped (range_with_len 0 (n + 1)) ≡ aborts outdated dropped (range_with_len 0 n)
+pub none_more : (outdated dropped : List ℕ) (n : ℕ) → is_among outdated n ≡ false → is_among dropped n ≡ false →
+    aborts outdated dropped (range_with_len 0 (n + 1)) ≡ aborts outdated dropped (range_with_len 0 n)
 none_more outdated dropped n other is =
     aborts_more outdated dropped n
     ∙ (λ i. aborts outdated dropped (range_with_len 0 n) ++ (if other i then (n, Outdated) ∷ [] else if is i then (n, Conflict) ∷ [] else []))

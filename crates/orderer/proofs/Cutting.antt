@@ -45,7 +45,8 @@ alone_fits e small = record {
   size = omega (arith, small, sum_by-cons envelope_size e []);
 }
 
-batch_fits : (limits : Limits) (batch : List Envelope) (after : List (Mark Envelope)) → AreLimits limits → AllByRecursion IsSmall batch → IsBatch envelope_size limits batch after → IsBlockData batch
+batch_fits : (limits : Limits) (batch : List Envelope) (after : List (Mark Envelope)) → AreLimits limits → AllByRecursion IsSmall batch →
+    IsBatch envelope_size limits batch after → IsBlockData batch
 batch_fits limits batch after bounds small (inl alone) =
     subst IsBlockData (sym alone.1) (alone_fits alone.0 (subst (AllByRecursion IsSmall) alone.1 small).0)
 batch_fits limits batch after bounds small (inr ordinary) = record {
@@ -54,7 +55,8 @@ batch_fits limits batch after bounds small (inr ordinary) = record {
   size = omega (arith, ordinary.together, bounds.preferred);
 }
 
-pub batches_fit : (limits : Limits) (marks : List (Mark Envelope)) (batches : List (List Envelope)) (pending : List Envelope) → AreLimits limits → AllByRecursion IsSmall (messages marks)
+pub batches_fit : (limits : Limits) (marks : List (Mark Envelope)) (batches : List (List Envelope)) (pending : List Envelope) → AreLimits limits →
+    AllByRecursion IsSmall (messages marks)
     → IsDivision envelope_size limits marks batches pending → AllByRecursion IsBlockData batches
 batches_fit limits marks [] pending bounds small cut = tt
 batches_fit limits marks (batch ∷ batches) pending bounds small cut =
@@ -66,7 +68,8 @@ batches_fit limits marks (batch ∷ batches) pending bounds small cut =
     )
 
 -- an envelope more than what waited
-pub offered_fit : (limits : Limits) (waiting : List Envelope) (e : Envelope) (batches : List (List Envelope)) (pending : List Envelope) → AreLimits limits → IsPending envelope_size limits waiting → envelope_size e ≤ limits.absolute
+pub offered_fit : (limits : Limits) (waiting : List Envelope) (e : Envelope) (batches : List (List Envelope)) (pending : List Envelope) → AreLimits limits →
+    IsPending envelope_size limits waiting → envelope_size e ≤ limits.absolute
     → IsDivision envelope_size limits (map message waiting ++ message e ∷ []) batches pending → AllByRecursion IsBlockData batches
 offered_fit limits waiting e batches pending bounds waits small cut =
     let one : IsSmall e = omega (arith, small, bounds.absolute) in
@@ -76,7 +79,8 @@ offered_fit limits waiting e batches pending bounds waits small cut =
     cut
 
 -- a timeout after what waited
-pub timed_fit : (limits : Limits) (waiting : List Envelope) (batches : List (List Envelope)) (pending : List Envelope) → AreLimits limits → IsPending envelope_size limits waiting
+pub timed_fit : (limits : Limits) (waiting : List Envelope) (batches : List (List Envelope)) (pending : List Envelope) → AreLimits limits →
+    IsPending envelope_size limits waiting
     → IsDivision envelope_size limits (map message waiting ++ timeout ∷ []) batches pending → AllByRecursion IsBlockData batches
 timed_fit limits waiting batches pending bounds waits cut =
     batches_fit limits (map message waiting ++ timeout ∷ []) batches pending bounds

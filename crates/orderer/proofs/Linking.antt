@@ -10,17 +10,22 @@ use Rattle.orderer.specs.declared.report.BatchReport.{BatchReport}
 
 linked_more : (before blocks : List Block) (es : List Envelope) → AreLinked before blocks → AreLinked before (blocks ++ next_block (before ++ blocks) es ∷ [])
 linked_more before [] es are = (ap (λ (bs : List Block). next_header bs es) (append-nil before), tt)
-linked_more before (b ∷ blocks) es are =
-    (are.0, subst (λ (bs : List Block). AreLinked (before ++ b ∷ []) (blocks ++ next_block bs es ∷ [])) (append_assoc before (b ∷ []) blocks) (linked_more (before ++ b ∷ []) blocks es are.1))
+linked_more before (b ∷ blocks) es are = (
+  are.0,
+  subst (λ (bs : List Block). AreLinked (before ++ b ∷ []) (blocks ++ next_block bs es ∷ [])) (append_assoc before (b ∷ []) blocks)
+      (linked_more (before ++ b ∷ []) blocks es are.1),
+)
 
 with_batch_linked : (old : List Block) (es : List Envelope) → AreLinked [] old → AreLinked [] (with_batch old es)
 with_batch_linked old [] are = are
 with_batch_linked old (e ∷ es) are = linked_more [] old (e ∷ es) are
 
-pub adds_linked : (plans : List Envelope → List ℕ → List (ℕ × AbortCause) → Type 0) (old : List Block) (batch : List Envelope) (report : BatchReport) (new : List Block) → Adds plans old batch report new → AreLinked [] old → AreLinked [] new
+pub adds_linked : (plans : List Envelope → List ℕ → List (ℕ × AbortCause) → Type 0) (old : List Block) (batch : List Envelope) (report : BatchReport)
+    (new : List Block) → Adds plans old batch report new → AreLinked [] old → AreLinked [] new
 adds_linked plans old batch report new adds are = subst (AreLinked []) (sym adds.chain) (with_batch_linked old (envelopes_at batch adds.order) are)
 
-pub each_linked : (plans : List Envelope → List ℕ → List (ℕ × AbortCause) → Type 0) (old : List Block) (batches : List (List Envelope)) (reports : List BatchReport) (new : List Block) → AddsEach plans old batches reports new → AreLinked [] old → AreLinked [] new
+pub each_linked : (plans : List Envelope → List ℕ → List (ℕ × AbortCause) → Type 0) (old : List Block) (batches : List (List Envelope))
+    (reports : List BatchReport) (new : List Block) → AddsEach plans old batches reports new → AreLinked [] old → AreLinked [] new
 each_linked plans old [] reports new adds are = subst (AreLinked []) (sym adds.1) are
 each_linked plans old (batch ∷ batches) reports new adds are =
     each_linked plans adds.2 batches adds.1 new adds.5 (adds_linked plans old batch adds.0 adds.2 adds.4 are)
@@ -33,10 +38,12 @@ linked_numbered before (b ∷ blocks) are =
     (ap (λ h. h.number) are.0, subst (λ (n : ℕ). AreNumbered n blocks) more (linked_numbered (before ++ b ∷ []) blocks are.1))
 
 -- the header of the block at a place
-pub linked_at : (before blocks : List Block) (i : ℕ) (b : Block) → AreLinked before blocks → slice_get blocks i ≡ Some b → b.header ≡ next_header (before ++ take i blocks) b.envelopes
+pub linked_at : (before blocks : List Block) (i : ℕ) (b : Block) → AreLinked before blocks → slice_get blocks i ≡ Some b →
+    b.header ≡ next_header (before ++ take i blocks) b.envelopes
 linked_at before [] i b are at = absurd (cc)
 linked_at before (x ∷ blocks) zero b are at =
     let same : x ≡ b = cc in
-    subst (λ (y : Block). y.header ≡ next_header (before ++ []) y.envelopes) same (are.0 ∙ ap (λ (bs : List Block). next_header bs x.envelopes) (sym (append-nil before)))
+    subst (λ (y : Block). y.header ≡ next_header (before ++ []) y.envelopes) same
+    (are.0 ∙ ap (λ (bs : List Block). next_header bs x.envelopes) (sym (append-nil before)))
 linked_at before (x ∷ blocks) (suc i) b are at =
     linked_at (before ++ x ∷ []) blocks i b are.1 at ∙ ap (λ (bs : List Block). next_header bs b.envelopes) (append_assoc before (x ∷ []) (take i blocks))

@@ -7,7 +7,8 @@ use Rattle.std.proofs.lemmas.List.{length-drop}
 use Rattle.fab_types.specs.declared.block.Block.{Block}
 use Rattle.orderer.specs.Blocks.{AreNumbered, from_number}
 
-kept_or_not : (n k : ℕ) (b : Block) (blocks : List Block) (test : Bool) → leb n b.header.number ≡ test → b.header.number ≡ k → from_number n blocks ≡ drop (n - suc k) blocks
+kept_or_not : (n k : ℕ) (b : Block) (blocks : List Block) (test : Bool) → leb n b.header.number ≡ test → b.header.number ≡ k →
+    from_number n blocks ≡ drop (n - suc k) blocks
     → cond test (b ∷ from_number n blocks) (from_number n blocks) ≡ drop (n - k) (b ∷ blocks)
 kept_or_not n k b blocks true passes number later =
     let below = leb-true n b.header.number passes in
@@ -27,6 +28,8 @@ numbered_from n k (b ∷ blocks) are = kept_or_not n k b blocks (leb n b.header.
 pub none_from : (n start : ℕ) (blocks : List Block) → AreNumbered 1 blocks → start ≡ n - 1 → length blocks ≤ start → [] ≡ from_number n blocks
 none_from n start blocks are at past = sym (numbered_from n 1 blocks are ∙ drop_of_length-le blocks (omega (arith, at, past)))
 
-pub rest_from : (n start : ℕ) (blocks : List Block) → AreNumbered 1 blocks → start ≡ n - 1 → take (length blocks - start) (drop start blocks) ≡ from_number n blocks
+pub rest_from : (n start : ℕ) (blocks : List Block) → AreNumbered 1 blocks → start ≡ n - 1 →
+    take (length blocks - start) (drop start blocks) ≡ from_number n blocks
 rest_from n start blocks are at =
-    ap (λ m. take m (drop start blocks)) (sym (length-drop start blocks)) ∙ take-length (drop start blocks) ∙ ap (λ m. drop m blocks) at ∙ sym (numbered_from n 1 blocks are)
+    ap (λ m. take m (drop start blocks)) (sym (length-drop start blocks)) ∙ take-length (drop start blocks) ∙ ap (λ m. drop m blocks) at ∙
+    sym (numbered_from n 1 blocks are)

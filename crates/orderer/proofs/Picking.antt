@@ -1,5 +1,6 @@
 -- What survives of a batch takes no more room than the batch.
-use Rattle.std.proofs.Common.{◌≡◌, ℕ, zero, suc, ◌+◌, ◌<◌, ◌≤◌, ◌++◌, take, get_or, Bool, true, false, cond, eqb, ltb, List, [], ◌∷◌, length, refl, sym, ap, subst, ◌∙◌, arith}
+use Rattle.std.proofs.Common.{◌≡◌, ℕ, zero, suc, ◌+◌, ◌<◌, ◌≤◌, ◌++◌, take, get_or, Bool, true, false, cond, eqb, ltb, List, [], ◌∷◌, length, refl, sym, ap}
+use Rattle.std.proofs.Common.{subst, ◌∙◌, arith}
 use Rattle.std.specs.Prelude.{if◌then◌else◌}
 use Rattle.std.specs.List.{flat_map, sum_by, count_by, range_with_len, slice_get}
 use Rattle.std.specs.Option.{option_to_list}
@@ -82,7 +83,8 @@ none_at v n [] none = omega arith
 none_at v n (x ∷ xs) none = none_more v n x xs (eqb x n) refl none (none_at v n xs)
 
 once_more : (v : ℕ → ℕ) (n x : ℕ) (xs : List ℕ) (test : Bool) → eqb x n ≡ test → count_by (λ y. eqb y n) (x ∷ xs) ≤ 1
-    → (count_by (λ y. eqb y n) xs ≤ 1 → sum_by (below v (suc n)) xs ≤ sum_by (below v n) xs + v n) → sum_by (below v (suc n)) (x ∷ xs) ≤ sum_by (below v n) (x ∷ xs) + v n
+    → (count_by (λ y. eqb y n) xs ≤ 1 → sum_by (below v (suc n)) xs ≤ sum_by (below v n) xs + v n) →
+    sum_by (below v (suc n)) (x ∷ xs) ≤ sum_by (below v n) (x ∷ xs) + v n
 once_more v n x xs true is once later =
     let same = eqb-true x n is in
     let rest = none_at v n xs (omega (arith, once, sum_by-cons (λ y. cond (eqb y n) 1 0) x xs, is_one (eqb x n) is)) in
@@ -121,7 +123,8 @@ less_count whole one rest most le split = omega (arith, le, split)
 
 one_less : (n x : ℕ) (xs : List ℕ) → ArePlaces n (x ∷ xs) → ArePlaces n xs
 one_less n x xs are place =
-    less_count (count_by (λ y. eqb y place) (x ∷ xs)) (cond (eqb x place) 1 0) (count_by (λ y. eqb y place) xs) (if ltb place n then 1 else 0) (are place) (sum_by-cons (λ y. cond (eqb y place) 1 0) x xs)
+    less_count (count_by (λ y. eqb y place) (x ∷ xs)) (cond (eqb x place) 1 0) (count_by (λ y. eqb y place) xs) (if ltb place n then 1 else 0) (are place)
+    (sum_by-cons (λ y. cond (eqb y place) 1 0) x xs)
 
 all_below : (v : ℕ → ℕ) (n : ℕ) (xs : List ℕ) → ArePlaces n xs → sum_by v xs ≤ sum_by (below v n) xs
 all_below v n [] are = omega arith
@@ -134,7 +137,8 @@ at_most_one : (test : Bool) (count : ℕ) → count ≤ (if test then 1 else 0) 
 at_most_one true count most = most
 at_most_one false count most = omega (arith, most)
 
-pub sum_picked : (w : Envelope → ℕ) (batch : List Envelope) (order : List ℕ) → ArePlaces (length batch) order → sum_by w (envelopes_at batch order) ≤ sum_by w batch
+pub sum_picked : (w : Envelope → ℕ) (batch : List Envelope) (order : List ℕ) → ArePlaces (length batch) order →
+    sum_by w (envelopes_at batch order) ≤ sum_by w batch
 sum_picked w batch order places =
     let f = λ (place : ℕ). option_to_list (slice_get batch place) in
     let v = λ (place : ℕ). sum_by w (f place) in
@@ -144,17 +148,20 @@ sum_picked w batch order places =
     let each = each_once v n order (λ place. at_most_one (ltb place n) (count_by (λ x. eqb x place) order) (places place)) in
     omega (arith, sum_flat w f order, all_below v n order places, each, whole)
 
-place_more : (n place : ℕ) (less same : Bool) → ltb place n ≡ less → eqb n place ≡ same → count_by (λ x. eqb x place) (range_with_len 0 n) ≤ (if less then 1 else 0)
+place_more : (n place : ℕ) (less same : Bool) → ltb place n ≡ less → eqb n place ≡ same →
+    count_by (λ x. eqb x place) (range_with_len 0 n) ≤ (if less then 1 else 0)
     → count_by (λ x. eqb x place) (range_with_len 0 n ++ n ∷ []) ≤ (if ltb place (suc n) then 1 else 0)
 place_more n place true true lt eq most = absurd omega (arith, ltb-true place n lt, eqb-true n place eq)
 place_more n place true false lt eq most =
     let inside = lt-ltb place (suc n) (omega (arith, ltb-true place n lt)) in
     let push = sum_by_push (λ y. cond (eqb y place) 1 0) (range_with_len 0 n) n in
-    subst (λ (b : Bool). count_by (λ x. eqb x place) (range_with_len 0 n ++ n ∷ []) ≤ (if b then 1 else 0)) (sym inside) (omega (arith, most, push, is_zero (eqb n place) eq))
+    subst (λ (b : Bool). count_by (λ x. eqb x place) (range_with_len 0 n ++ n ∷ []) ≤ (if b then 1 else 0)) (sym inside)
+    (omega (arith, most, push, is_zero (eqb n place) eq))
 place_more n place false true lt eq most =
     let inside = lt-ltb place (suc n) (omega (arith, eqb-true n place eq)) in
     let push = sum_by_push (λ y. cond (eqb y place) 1 0) (range_with_len 0 n) n in
-    subst (λ (b : Bool). count_by (λ x. eqb x place) (range_with_len 0 n ++ n ∷ []) ≤ (if b then 1 else 0)) (sym inside) (omega (arith, most, push, is_one (eqb n place) eq))
+    subst (λ (b : Bool). count_by (λ x. eqb x place) (range_with_len 0 n ++ n ∷ []) ≤ (if b then 1 else 0)) (sym inside)
+    (omega (arith, most, push, is_one (eqb n place) eq))
 place_more n place false false lt eq most =
     let push = sum_by_push (λ y. cond (eqb y place) 1 0) (range_with_len 0 n) n in
     let none : count_by (λ x. eqb x place) (range_with_len 0 n ++ n ∷ []) ≡ 0 = omega (arith, most, push, is_zero (eqb n place) eq) in
@@ -172,7 +179,8 @@ counted [] = refl
 counted (x ∷ xs) = omega (arith, sum_by-cons (λ x. 1) x xs, counted xs)
 
 -- survivors of a batch of a block's data are a block's data, unless there are none
-pub survivors_are_data : (batch : List Envelope) (order : List ℕ) → ArePlaces (length batch) order → IsBlockData batch → 1 ≤ length (envelopes_at batch order) → IsBlockData (envelopes_at batch order)
+pub survivors_are_data : (batch : List Envelope) (order : List ℕ) → ArePlaces (length batch) order → IsBlockData batch → 1 ≤ length (envelopes_at batch order) →
+    IsBlockData (envelopes_at batch order)
 survivors_are_data batch order places fits some =
     let size = sum_picked envelope_size batch order places in
     let count = sum_picked (λ e. 1) batch order places in
@@ -183,7 +191,10 @@ survivors_are_data batch order places fits some =
     }
 
 -- one place more
-pub picked_more : (batch : List Envelope) (order : List ℕ) (i d : ℕ) → i < length order → envelopes_at batch (take (i + 1) order) ≡ envelopes_at batch (take i order) ++ option_to_list (slice_get batch (get_or order i d))
+pub picked_more : (batch : List Envelope) (order : List ℕ) (i d : ℕ) → i < length order →
+    envelopes_at batch (take (i + 1) order) ≡ envelopes_at batch (take i order) ++ option_to_list (slice_get batch (get_or order i d))
 picked_more batch order i d below =
     let next : i + 1 ≡ suc i = omega arith in
-    ap (λ m. envelopes_at batch (take m order)) next ∙ ap (envelopes_at batch) (take-suc order i d below) ∙ flat_map-append (λ place. option_to_list (slice_get batch place)) (take i order) (get_or order i d ∷ []) ∙ ap (λ es. envelopes_at batch (take i order) ++ es) (append-nil (option_to_list (slice_get batch (get_or order i d))))
+    ap (λ m. envelopes_at batch (take m order)) next ∙ ap (envelopes_at batch) (take-suc order i d below) ∙
+    flat_map-append (λ place. option_to_list (slice_get batch place)) (take i order) (get_or order i d ∷ []) ∙
+    ap (λ es. envelopes_at batch (take i order) ++ es) (append-nil (option_to_list (slice_get batch (get_or order i d))))

@@ -13,15 +13,21 @@ use Rattle.orderer.specs.Blocks.{next_block, next_number, with_batch, number_of}
 pub nothing : (chain : List Block) (es : List Envelope) → es ≡ [] → (with_batch chain es ≡ chain) × (number_of chain es ≡ None)
 nothing chain es none = rw none (refl, refl)
 
-pub something : (chain : List Block) (es : List Envelope) → 1 ≤ length es → (with_batch chain es ≡ chain ++ next_block chain es ∷ []) × (number_of chain es ≡ Some (next_number chain))
+pub something : (chain : List Block) (es : List Envelope) → 1 ≤ length es →
+    (with_batch chain es ≡ chain ++ next_block chain es ∷ []) × (number_of chain es ≡ Some (next_number chain))
 something chain [] some = absurd omega (arith, some)
 something chain (e ∷ es) some = (refl, refl)
 
 -- a batch that needs a block after the last number
-pub needs_one : (plans : List Envelope → List ℕ → List (ℕ × AbortCause) → Type 0) (old : List Block) (batch : List Envelope) (order : List ℕ) (aborted : List (ℕ × AbortCause))
+pub needs_one : (plans : List Envelope → List ℕ → List (ℕ × AbortCause) → Type 0) (old : List Block) (batch : List Envelope) (order : List ℕ)
+    (aborted : List (ℕ × AbortCause))
     → plans batch order aborted → 1 ≤ length (envelopes_at batch order) → length old ≡ 65535 → IsBatchRefused plans NoNumber old batch
 needs_one plans old batch order aborted planned some full =
     let es = envelopes_at batch order in
     let report : BatchReport = record { block = number_of old es; count = length es; aborted = aborted } in
-    let block = something old es some in
-    (report, with_batch old es, (record { order = order; planned = planned; chain = refl; number = refl; count = refl }), omega (arith, full, ap length block.0, length-append old (next_block old es ∷ [])))
+    let block = something old es some in (
+      report,
+      with_batch old es,
+      (record { order = order; planned = planned; chain = refl; number = refl; count = refl }),
+      omega (arith, full, ap length block.0, length-append old (next_block old es ∷ [])),
+    )

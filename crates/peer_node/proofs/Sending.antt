@@ -40,9 +40,47 @@ use Rattle.endorsement_policy.specs.contracts.rules.Rules as rules_type
 use Rattle.peer_node.specs.contracts.seat.Endorser as endorser_type
 use Rattle.peer_node.specs.contracts.seat.Seat as seat_type
 
-ruleset operators_send = (branch_table.the_send, branch_table.the_field_send, memory_argument.the_send, memory_argument.the_field_send, load.the_send, load.the_field_send, store.the_send, store.the_field_send, compare.the_send, compare.the_field_send, unary.the_send, unary.the_field_send, binary.the_send, binary.the_field_send, convert.the_send, convert.the_field_send, value_type.the_send, value_type.the_field_send)
+ruleset operators_send = (
+  branch_table.the_send,
+  branch_table.the_field_send,
+  memory_argument.the_send,
+  memory_argument.the_field_send,
+  load.the_send,
+  load.the_field_send,
+  store.the_send,
+  store.the_field_send,
+  compare.the_send,
+  compare.the_field_send,
+  unary.the_send,
+  unary.the_field_send,
+  binary.the_send,
+  binary.the_field_send,
+  convert.the_send,
+  convert.the_field_send,
+  value_type.the_send,
+  value_type.the_field_send,
+)
 
-ruleset operators_sync = (branch_table.the_sync, branch_table.the_field_sync, memory_argument.the_sync, memory_argument.the_field_sync, load.the_sync, load.the_field_sync, store.the_sync, store.the_field_sync, compare.the_sync, compare.the_field_sync, unary.the_sync, unary.the_field_sync, binary.the_sync, binary.the_field_sync, convert.the_sync, convert.the_field_sync, value_type.the_sync, value_type.the_field_sync)
+ruleset operators_sync = (
+  branch_table.the_sync,
+  branch_table.the_field_sync,
+  memory_argument.the_sync,
+  memory_argument.the_field_sync,
+  load.the_sync,
+  load.the_field_sync,
+  store.the_sync,
+  store.the_field_sync,
+  compare.the_sync,
+  compare.the_field_sync,
+  unary.the_sync,
+  unary.the_field_sync,
+  binary.the_sync,
+  binary.the_field_sync,
+  convert.the_sync,
+  convert.the_field_sync,
+  value_type.the_sync,
+  value_type.the_field_sync,
+)
 
 send_body : IsSend body_type.the_row
 send_body = search (sendable, crosses, operators_send, code_knot.send-Body) depth 30
@@ -60,7 +98,20 @@ send_segment : IsSend segment_type.the_row
 send_segment = search (sendable, crosses, seq.the_send, send_body) depth 30
 
 send_module_tree_field : IsSend (module_tree_type.the_field).row
-send_module_tree_field = search (sendable, crosses, seq.the_send, signature.the_send, imported.the_send, limits.the_send, exported.the_send, send_func, send_global, send_element, send_segment) depth 30
+send_module_tree_field =
+    search (
+      sendable,
+      crosses,
+      seq.the_send,
+      signature.the_send,
+      imported.the_send,
+      limits.the_send,
+      exported.the_send,
+      send_func,
+      send_global,
+      send_element,
+      send_segment,
+    ) depth 30
 
 send_valid_module : IsSend valid_module_type.the_row
 send_valid_module = search (sendable, crosses, host_call.the_send, flat_text.the_send, send_module_tree_field) depth 30
@@ -96,7 +147,20 @@ sync_segment : IsSync segment_type.the_row
 sync_segment = search (sendable, crosses, seq.the_sync, sync_body) depth 30
 
 sync_module_tree_field : IsSync (module_tree_type.the_field).row
-sync_module_tree_field = search (sendable, crosses, seq.the_sync, signature.the_sync, imported.the_sync, limits.the_sync, exported.the_sync, sync_func, sync_global, sync_element, sync_segment) depth 30
+sync_module_tree_field =
+    search (
+      sendable,
+      crosses,
+      seq.the_sync,
+      signature.the_sync,
+      imported.the_sync,
+      limits.the_sync,
+      exported.the_sync,
+      sync_func,
+      sync_global,
+      sync_element,
+      sync_segment,
+    ) depth 30
 
 sync_valid_module : IsSync valid_module_type.the_row
 sync_valid_module = search (sendable, crosses, host_call.the_sync, flat_text.the_sync, sync_module_tree_field) depth 30

@@ -61,7 +61,8 @@ IsFinishRefused e p first before after (Status n) = (simulate_on e p first ≡ E
 -- begins with all that was seen before and is what is seen afterwards
 abbrev pub FinishesBy : Endorser → Proposal → (first before after : Chain) → Result (Payload × Endorsement) FinishRefusal → Type 0
 FinishesBy e p first before after (Ok answer) =
-    (simulate_on e p first ≡ Ok answer.0) × IsPrefix before after × (is_current (state (history after)) answer.0 ≡ true) × (answer.1 ≡ seal_of (arc_value e.rules) e.org answer.0)
+    (simulate_on e p first ≡ Ok answer.0) × IsPrefix before after × (is_current (state (history after)) answer.0 ≡ true) ×
+    (answer.1 ≡ seal_of (arc_value e.rules) e.org answer.0)
 FinishesBy e p first before after (Err (Simulation r)) = IsFinishRefused e p first before after r
 FinishesBy e p first before after (Err NoEntry) = IsPrefix before after
 

@@ -1,5 +1,6 @@
 -- Entries in key order, on the two sides of a key.
-use Rattle.std.proofs.Common.{◌≡◌, ℕ, zero, suc, ◌+◌, ◌-◌, ◌<◌, true, false, List, [], ◌∷◌, ◌++◌, length, take, drop, get_or, refl, sym, ap, ◌∙◌, subst, arith, true≢false, Some, None, cond}
+use Rattle.std.proofs.Common.{◌≡◌, ℕ, zero, suc, ◌+◌, ◌-◌, ◌<◌, true, false, List, [], ◌∷◌, ◌++◌, length, take, drop, get_or, refl, sym, ap, ◌∙◌, subst, arith}
+use Rattle.std.proofs.Common.{true≢false, Some, None, cond}
 use Rattle.std.proofs.lemmas.List.{drop_more, take_more, take-append-drop, length-drop, get_or-drop}
 use Rattle.std.specs.Ordering.{is_lt, is_gt, is_eq, ordering_reverse, match_ordering}
 use Rattle.std.specs.Cmp.{IsTotalOrder}
@@ -89,7 +90,8 @@ module _ {K X : Type 0} (cmp : K → K → Ordering) where
 
   pub ascend_before : (xs : List (K × X)) (e : K × X) (ys : List (K × X)) → Ascend (xs ++ e ∷ ys) → AllByRecursion (λ x. cmp x.0 e.0 ≡ Less) xs
   ascend_before [] e ys h = tt
-  ascend_before (x ∷ xs) e ys h = ((all_right (λ f. cmp x.0 f.0 ≡ Less) xs (e ∷ ys) (ascend_head x (xs ++ e ∷ ys) h)).0, ascend_before xs e ys (ascend_tail x (xs ++ e ∷ ys) h))
+  ascend_before (x ∷ xs) e ys h =
+      ((all_right (λ f. cmp x.0 f.0 ≡ Less) xs (e ∷ ys) (ascend_head x (xs ++ e ∷ ys) h)).0, ascend_before xs e ys (ascend_tail x (xs ++ e ∷ ys) h))
 
   pub ascend_after : (xs : List (K × X)) (e : K × X) (ys : List (K × X)) → Ascend (xs ++ e ∷ ys) → AllByRecursion (λ y. cmp e.0 y.0 ≡ Less) ys
   ascend_after xs e ys h = ascend_head e ys (ascend_right xs (e ∷ ys) h)
@@ -99,24 +101,29 @@ module _ {K X : Type 0} (cmp : K → K → Ordering) where
   ascend_without [] e ys h = ascend_tail e ys h
   ascend_without (x ∷ xs) e ys h =
       let rest = ascend_head x (xs ++ e ∷ ys) h in
-      ascend_cons x (xs ++ ys) (all_append _ xs ys (all_left _ xs (e ∷ ys) rest) (all_right _ xs (e ∷ ys) rest).1) (ascend_without xs e ys (ascend_tail x (xs ++ e ∷ ys) h))
+      ascend_cons x (xs ++ ys) (all_append _ xs ys (all_left _ xs (e ∷ ys) rest) (all_right _ xs (e ∷ ys) rest).1)
+      (ascend_without xs e ys (ascend_tail x (xs ++ e ∷ ys) h))
 
   module _ (o : IsTotalOrder cmp) (key : K) where
     -- entries before one that is not above the key are below it
     pub all_below : (xs : List (K × X)) (e : K × X) (ys : List (K × X)) → Ascend (xs ++ e ∷ ys) → is_lt (cmp key e.0) ≡ false → AreBelow cmp key xs
-    all_below xs e ys h n = all_mapped (λ x. cmp x.0 e.0 ≡ Less) (λ x. cmp key x.0 ≡ Greater) (λ x. above_by cmp o key (cmp key e.0) e.0 x.0 refl n) xs (ascend_before xs e ys h)
+    all_below xs e ys h n =
+        all_mapped (λ x. cmp x.0 e.0 ≡ Less) (λ x. cmp key x.0 ≡ Greater) (λ x. above_by cmp o key (cmp key e.0) e.0 x.0 refl n) xs (ascend_before xs e ys h)
 
     -- entries after one that is not below the key are above it
     pub all_above : (xs : List (K × X)) (e : K × X) (ys : List (K × X)) → Ascend (xs ++ e ∷ ys) → is_gt (cmp key e.0) ≡ false → AreAbove cmp key ys
-    all_above xs e ys h n = all_mapped (λ y. cmp e.0 y.0 ≡ Less) (λ y. cmp key y.0 ≡ Less) (λ y. below_by cmp o key (cmp key e.0) e.0 y.0 refl n) ys (ascend_after xs e ys h)
+    all_above xs e ys h n =
+        all_mapped (λ y. cmp e.0 y.0 ≡ Less) (λ y. cmp key y.0 ≡ Less) (λ y. below_by cmp o key (cmp key e.0) e.0 y.0 refl n) ys (ascend_after xs e ys h)
 
     at_split : (es : List (K × X)) (n : ℕ) (d : K × X) → n < length es → Ascend es → Ascend (take n es ++ get_or es n d ∷ drop (n + 1) es)
     at_split es n d h k = subst Ascend (split_at es n d h) k
 
-    pub below_place : (es : List (K × X)) (n : ℕ) (d : K × X) → n < length es → Ascend es → is_lt (cmp key (get_or es n d).0) ≡ false → AreBelow cmp key (take n es)
+    pub below_place : (es : List (K × X)) (n : ℕ) (d : K × X) → n < length es → Ascend es → is_lt (cmp key (get_or es n d).0) ≡ false →
+        AreBelow cmp key (take n es)
     below_place es n d h k e = all_below (take n es) (get_or es n d) (drop (n + 1) es) (at_split es n d h k) e
 
-    pub above_place : (es : List (K × X)) (n : ℕ) (d : K × X) → n < length es → Ascend es → is_gt (cmp key (get_or es n d).0) ≡ false → AreAbove cmp key (drop (n + 1) es)
+    pub above_place : (es : List (K × X)) (n : ℕ) (d : K × X) → n < length es → Ascend es → is_gt (cmp key (get_or es n d).0) ≡ false →
+        AreAbove cmp key (drop (n + 1) es)
     above_place es n d h k e = all_above (take n es) (get_or es n d) (drop (n + 1) es) (at_split es n d h k) e
 
     -- on both sides of a gap
@@ -158,7 +165,8 @@ module _ {K X : Type 0} (cmp : K → K → Ordering) where
     get_gap [] ys h k = get_above ys k
     get_gap (x ∷ xs) ys h k = ap (λ r. cond (is_eq r) (Some x.1) (get cmp (xs ++ ys) key)) h.0 ∙ get_gap xs ys h.1 k
 
-    pub put_hit : (xs : List (K × X)) (e : K × X) (ys : List (K × X)) (v : X) → AreBelow cmp key xs → cmp key e.0 ≡ Equal → put cmp (xs ++ e ∷ ys) key v ≡ xs ++ (key, v) ∷ ys
+    pub put_hit : (xs : List (K × X)) (e : K × X) (ys : List (K × X)) (v : X) → AreBelow cmp key xs → cmp key e.0 ≡ Equal →
+        put cmp (xs ++ e ∷ ys) key v ≡ xs ++ (key, v) ∷ ys
     put_hit [] e ys v h k = by_order (cmp key e.0) Equal _ _ _ k
     put_hit (x ∷ xs) e ys v h k = by_order (cmp key x.0) Greater _ _ _ h.0 ∙ ap (λ l. x ∷ l) (put_hit xs e ys v h.1 k)
 
@@ -170,9 +178,11 @@ module _ {K X : Type 0} (cmp : K → K → Ordering) where
     put_gap [] ys v h k = put_above ys v k
     put_gap (x ∷ xs) ys v h k = by_order (cmp key x.0) Greater _ _ _ h.0 ∙ ap (λ l. x ∷ l) (put_gap xs ys v h.1 k)
 
-    pub without_hit : (xs : List (K × X)) (e : K × X) (ys : List (K × X)) → AreBelow cmp key xs → cmp key e.0 ≡ Equal → without cmp (xs ++ e ∷ ys) key ≡ xs ++ ys
+    pub without_hit : (xs : List (K × X)) (e : K × X) (ys : List (K × X)) → AreBelow cmp key xs → cmp key e.0 ≡ Equal →
+        without cmp (xs ++ e ∷ ys) key ≡ xs ++ ys
     without_hit [] e ys h k = ap (λ r. cond (is_eq r) ys (e ∷ without cmp ys key)) k
-    without_hit (x ∷ xs) e ys h k = ap (λ r. cond (is_eq r) (xs ++ e ∷ ys) (x ∷ without cmp (xs ++ e ∷ ys) key)) h.0 ∙ ap (λ l. x ∷ l) (without_hit xs e ys h.1 k)
+    without_hit (x ∷ xs) e ys h k =
+        ap (λ r. cond (is_eq r) (xs ++ e ∷ ys) (x ∷ without cmp (xs ++ e ∷ ys) key)) h.0 ∙ ap (λ l. x ∷ l) (without_hit xs e ys h.1 k)
 
     without_above : (ys : List (K × X)) → AreAbove cmp key ys → without cmp ys key ≡ ys
     without_above [] h = refl
@@ -183,7 +193,8 @@ module _ {K X : Type 0} (cmp : K → K → Ordering) where
     without_gap (x ∷ xs) ys h k = ap (λ r. cond (is_eq r) (xs ++ ys) (x ∷ without cmp (xs ++ ys) key)) h.0 ∙ ap (λ l. x ∷ l) (without_gap xs ys h.1 k)
 
     -- with the key's entry between them
-    pub ascend_put : (o : IsTotalOrder cmp) (xs ys : List (K × X)) (v : X) → AreBelow cmp key xs → AreAbove cmp key ys → Ascend (xs ++ ys) → Ascend (xs ++ (key, v) ∷ ys)
+    pub ascend_put : (o : IsTotalOrder cmp) (xs ys : List (K × X)) (v : X) → AreBelow cmp key xs → AreAbove cmp key ys → Ascend (xs ++ ys) →
+        Ascend (xs ++ (key, v) ∷ ys)
     ascend_put o [] ys v h k s = ascend_cons (key, v) ys k s
     ascend_put o (x ∷ xs) ys v h k s =
         let rest = ascend_head x (xs ++ ys) s in

@@ -1,5 +1,6 @@
 -- What holds of every plan.
-use Rattle.std.proofs.Common.{◌≡◌, ◌≢◌, ℕ, ◌+◌, ◌<◌, ◌≤◌, Bool, true, false, cond, List, [], ◌∷◌, ◌++◌, take, suc, zero, refl, sym, ap, ◌∙◌, subst, inl, inr, ◌⊎◌, arith, set, get_or, length, eqb, zero-add, replicate}
+use Rattle.std.proofs.Common.{◌≡◌, ◌≢◌, ℕ, ◌+◌, ◌<◌, ◌≤◌, Bool, true, false, cond, List, [], ◌∷◌, ◌++◌, take, suc, zero, refl, sym, ap, ◌∙◌, subst, inl, inr}
+use Rattle.std.proofs.Common.{◌⊎◌, arith, set, get_or, length, eqb, zero-add, replicate}
 use Rattle.std.specs.List.{count_by}
 use Rattle.std.proofs.lemmas.List.Sums.{sum_by-cons, sum_by-append}
 use Rattle.std.proofs.lemmas.List.{take_more, get_or-replicate, get_or_past, length-replicate, length-set}
@@ -7,7 +8,8 @@ use Rattle.std.proofs.lemmas.Bool.{cases_lt, eqb-true, eq-eqb}
 use Rattle.std.proofs.Common.{get_or-set_other}
 use Rattle.reorder.specs.declared.pick.Pick.{Pick}
 use Rattle.reorder.specs.declared.pick.Pick.TheVariants.{Place, Abort}
-use Rattle.reorder.specs.Plan.{waits, IsFree, IsPick, IsPlan, index, degree, order_of, aborts_of, AllAfter, IsLegal, IsIn, IsPlanned, times_picked, without, all_but}
+use Rattle.reorder.specs.Plan.{waits, IsFree, IsPick, IsPlan, index, degree, order_of, aborts_of, AllAfter, IsLegal, IsIn, IsPlanned, times_picked, without}
+use Rattle.reorder.specs.Plan.{all_but}
 
 -- what was picked does not wait
 pub picked : (left : List Bool) (i : ℕ) → waits (set left i false) i ≡ false
@@ -30,7 +32,8 @@ unpicked_of n edge left (Place i) p = p.unpicked
 unpicked_of n edge left (Abort i) p = p.1.unpicked
 
 -- what is placed later has no edge into what is free now
-placed_after : (n : ℕ) (edge : ℕ → ℕ → Bool) (left rest : List Bool) (i : ℕ) (picks : List Pick) → IsFree edge left i → ((k : ℕ) → waits rest k ≡ true → waits left k ≡ true) → IsPlan n edge rest picks → AllAfter edge i (order_of picks)
+placed_after : (n : ℕ) (edge : ℕ → ℕ → Bool) (left rest : List Bool) (i : ℕ) (picks : List Pick) → IsFree edge left i →
+    ((k : ℕ) → waits rest k ≡ true → waits left k ≡ true) → IsPlan n edge rest picks → AllAfter edge i (order_of picks)
 placed_after n edge left rest i [] free inside p = tt
 placed_after n edge left rest i (Place j ∷ picks) free inside p =
     (free j (inside j p.0.unpicked), placed_after n edge left (set rest j false) i picks free (λ k h. inside k (others_wait rest j k h)) p.1)
@@ -50,7 +53,8 @@ after_in edge i k (j ∷ js) a (inl e) = ap (λ (x : ℕ). edge x i) e ∙ a.0
 after_in edge i k (j ∷ js) a (inr h) = after_in edge i k js a.1 h
 
 -- the first that waits is free
-free_here : (edge : ℕ → ℕ → Bool) (left : List Bool) (x : ℕ) (xs : List ℕ) → ((k : ℕ) → edge k k ≡ false) → AllAfter edge x xs → ((k : ℕ) → waits left k ≡ true → IsIn k (x ∷ xs)) → IsFree edge left x
+free_here : (edge : ℕ → ℕ → Bool) (left : List Bool) (x : ℕ) (xs : List ℕ) → ((k : ℕ) → edge k k ≡ false) → AllAfter edge x xs →
+    ((k : ℕ) → waits left k ≡ true → IsIn k (x ∷ xs)) → IsFree edge left x
 free_here edge left x xs loops after covers k w =
     elim (covers k w) as (λ _. edge k x ≡ false) [ inl e ↦ ap (λ (y : ℕ). edge y x) e ∙ loops x | inr h ↦ after_in edge x k xs after h ]
 
@@ -62,16 +66,20 @@ cases_bool true = inl refl
 cases_bool false = inr refl
 
 -- in a legal order of all that wait, the first that waits is free
-some_free : (edge : ℕ → ℕ → Bool) (left : List Bool) (order : List ℕ) (j : ℕ) → ((k : ℕ) → edge k k ≡ false) → IsLegal edge order → ((k : ℕ) → waits left k ≡ true → IsIn k order) → waits left j ≡ true → (i : ℕ) × (waits left i ≡ true) × IsFree edge left i
+some_free : (edge : ℕ → ℕ → Bool) (left : List Bool) (order : List ℕ) (j : ℕ) → ((k : ℕ) → edge k k ≡ false) → IsLegal edge order →
+    ((k : ℕ) → waits left k ≡ true → IsIn k order) → waits left j ≡ true → (i : ℕ) × (waits left i ≡ true) × IsFree edge left i
 some_free edge left [] j loops legal covers w = absurd (covers j w)
 some_free edge left (x ∷ xs) j loops legal covers w =
     elim (cases_bool (waits left x)) as (λ _. (i : ℕ) × (waits left i ≡ true) × IsFree edge left i) [
       | inl here ↦ (x, here, free_here edge left x xs loops legal.0 covers)
-      | inr gone ↦ some_free edge left xs j loops legal.1 (λ k h. elim (covers k h) as (λ _. IsIn k xs) [ inl e ↦ absurd (true≢false (waits left x) (ap (λ (y : ℕ). waits left y) (sym e) ∙ h) gone) | inr inside ↦ inside ]) w
+      | inr gone ↦ some_free edge left xs j loops legal.1
+          (λ k h. elim (covers k h) as (λ _. IsIn k xs)
+          [ inl e ↦ absurd (true≢false (waits left x) (ap (λ (y : ℕ). waits left y) (sym e) ∙ h) gone) | inr inside ↦ inside ]) w
     ]
 
 -- nothing is aborted where all have a legal order
-pub none_aborted : (n : ℕ) (edge : ℕ → ℕ → Bool) (left : List Bool) (picks : List Pick) (order : List ℕ) → ((k : ℕ) → edge k k ≡ false) → IsLegal edge order → ((k : ℕ) → waits left k ≡ true → IsIn k order) → IsPlan n edge left picks → aborts_of picks ≡ []
+pub none_aborted : (n : ℕ) (edge : ℕ → ℕ → Bool) (left : List Bool) (picks : List Pick) (order : List ℕ) → ((k : ℕ) → edge k k ≡ false) → IsLegal edge order →
+    ((k : ℕ) → waits left k ≡ true → IsIn k order) → IsPlan n edge left picks → aborts_of picks ≡ []
 none_aborted n edge left [] order loops legal covers p = refl
 none_aborted n edge left (Place i ∷ picks) order loops legal covers p =
     none_aborted n edge (set left i false) picks order loops legal (λ k h. covers k (others_wait left i k h)) p.1
@@ -79,7 +87,8 @@ none_aborted n edge left (Abort i ∷ picks) order loops legal covers p =
     let free = some_free edge left order i loops legal covers p.0.1.unpicked in
     absurd (p.0.0 free.0 free.1 free.2)
 
-picked_once_more : (left : List Bool) (i k rest : ℕ) → waits left i ≡ true → rest ≡ cond (waits (set left i false) k) 1 0 → cond (eqb i k) 1 0 + rest ≡ cond (waits left k) 1 0
+picked_once_more : (left : List Bool) (i k rest : ℕ) → waits left i ≡ true → rest ≡ cond (waits (set left i false) k) 1 0 →
+    cond (eqb i k) 1 0 + rest ≡ cond (waits left k) 1 0
 picked_once_more left i k rest w e =
     elim (cases_bool (eqb i k)) as (λ _. cond (eqb i k) 1 0 + rest ≡ cond (waits left k) 1 0) [
       | inl same ↦
@@ -94,10 +103,12 @@ picked_once_more left i k rest w e =
     ]
 
 -- each that waits is picked once, and no other
-pub picked_once : (n : ℕ) (edge : ℕ → ℕ → Bool) (left : List Bool) (picks : List Pick) (k : ℕ) → IsPlan n edge left picks → times_picked k picks ≡ cond (waits left k) 1 0
+pub picked_once : (n : ℕ) (edge : ℕ → ℕ → Bool) (left : List Bool) (picks : List Pick) (k : ℕ) → IsPlan n edge left picks →
+    times_picked k picks ≡ cond (waits left k) 1 0
 picked_once n edge left [] k p = ap (λ (b : Bool). cond b 1 0) (sym (p k))
 picked_once n edge left (pick ∷ picks) k p =
-    picked_once_more left (index pick) k (times_picked k picks) (unpicked_of n edge left pick p.0) (picked_once n edge (set left (index pick) false) picks k p.1)
+    picked_once_more left (index pick) k (times_picked k picks) (unpicked_of n edge left pick p.0)
+    (picked_once n edge (set left (index pick) false) picks k p.1)
 
 pick_one : (n : ℕ) (edge : ℕ → ℕ → Bool) (left : List Bool) (p q : Pick) → IsPick n edge left p → IsPick n edge left q → p ≡ q
 pick_one n edge left (Place i) (Place j) p q =
@@ -117,7 +128,8 @@ pick_one n edge left (Abort i) (Abort j) p q =
     ap Abort (omega arith)
 
 -- there is at most one plan
-pub plan_one : (n : ℕ) (edge : ℕ → ℕ → Bool) (left : List Bool) (picks others : List Pick) → IsPlan n edge left picks → IsPlan n edge left others → picks ≡ others
+pub plan_one : (n : ℕ) (edge : ℕ → ℕ → Bool) (left : List Bool) (picks others : List Pick) → IsPlan n edge left picks → IsPlan n edge left others →
+    picks ≡ others
 plan_one n edge left [] [] p q = refl
 plan_one n edge left [] (b ∷ bs) p q = absurd (true≢false (waits left (index b)) (unpicked_of n edge left b q.0) (p (index b)))
 plan_one n edge left (a ∷ as_) [] p q = absurd (true≢false (waits left (index a)) (unpicked_of n edge left a p.0) (q (index a)))
@@ -170,7 +182,8 @@ count_picks k (Abort i ∷ picks) =
     let more = sum_by-cons (λ y. cond {A = ℕ} (eqb y k) 1 0) i (aborts_of picks) in
     omega arith
 
-pub planned_once : (n : ℕ) (edge : ℕ → ℕ → Bool) (left : List Bool) (order dropped : List ℕ) → IsPlanned n edge left order dropped → (k : ℕ) → count_by (λ x. eqb x k) (order ++ dropped) ≡ cond (waits left k) 1 0
+pub planned_once : (n : ℕ) (edge : ℕ → ℕ → Bool) (left : List Bool) (order dropped : List ℕ) → IsPlanned n edge left order dropped → (k : ℕ) →
+    count_by (λ x. eqb x k) (order ++ dropped) ≡ cond (waits left k) 1 0
 planned_once n edge left order dropped p k =
     count-append k order dropped
     ∙ ap (λ (xs : List ℕ). count_by (λ x. eqb x k) xs + count_by (λ x. eqb x k) dropped) p.order_is
@@ -182,12 +195,14 @@ pub planned_legal : (n : ℕ) (edge : ℕ → ℕ → Bool) (left : List Bool) (
 planned_legal n edge left order dropped p =
     subst (λ (xs : List ℕ). IsLegal edge xs) (sym p.order_is) (placed_legal n edge left p.picks p.plan)
 
-pub planned_whole : (n : ℕ) (edge : ℕ → ℕ → Bool) (left : List Bool) (order dropped : List ℕ) → ((k : ℕ) → edge k k ≡ false) → IsPlanned n edge left order dropped → (whole : List ℕ) → IsLegal edge whole → ((k : ℕ) → waits left k ≡ true → IsIn k whole) → dropped ≡ []
+pub planned_whole : (n : ℕ) (edge : ℕ → ℕ → Bool) (left : List Bool) (order dropped : List ℕ) → ((k : ℕ) → edge k k ≡ false) →
+    IsPlanned n edge left order dropped → (whole : List ℕ) → IsLegal edge whole → ((k : ℕ) → waits left k ≡ true → IsIn k whole) → dropped ≡ []
 planned_whole n edge left order dropped loops p whole legal covers =
     p.dropped_is ∙ none_aborted n edge left p.picks whole loops legal covers p.plan
 
 -- at most one plan, so one order and one list of aborted ones
-pub planned_one : (n : ℕ) (edge : ℕ → ℕ → Bool) (left : List Bool) (order others dropped rest : List ℕ) → IsPlanned n edge left order dropped → IsPlanned n edge left others rest → (order ≡ others) × (dropped ≡ rest)
+pub planned_one : (n : ℕ) (edge : ℕ → ℕ → Bool) (left : List Bool) (order others dropped rest : List ℕ) → IsPlanned n edge left order dropped →
+    IsPlanned n edge left others rest → (order ≡ others) × (dropped ≡ rest)
 planned_one n edge left order others dropped rest p q =
     let same = plan_one n edge left p.picks q.picks p.plan q.plan in
     (p.order_is ∙ ap order_of same ∙ sym q.order_is, p.dropped_is ∙ ap aborts_of same ∙ sym q.dropped_is)

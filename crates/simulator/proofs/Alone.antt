@@ -20,18 +20,21 @@ all_found {X} P test (x ∷ xs) h =
 
 -- what is known of each valid module
 module _ (alone : (wasm : Module) (fuel : ℕ) (argument : Bytes) → IsValid wasm → host.ReadsAlone wasm fuel argument) where
-  executed_truthful : (found : Option Chaincode) (argument : Bytes) (m : Plain) → IfSome found (λ c. IsValid c.module) → ledger.Answers m (execute found argument m).seen
+  executed_truthful : (found : Option Chaincode) (argument : Bytes) (m : Plain) → IfSome found (λ c. IsValid c.module) →
+      ledger.Answers m (execute found argument m).seen
   executed_truthful None argument m h = record { reads = tt; ranges = tt }
   executed_truthful (Some c) argument m h = (alone c.module c.fuel argument h).truthful m
 
-  executed_only : (found : Option Chaincode) (argument : Bytes) (m n : Plain) → IfSome found (λ c. IsValid c.module) → ledger.Answers n (execute found argument m).seen → execute found argument n ≡ execute found argument m
+  executed_only : (found : Option Chaincode) (argument : Bytes) (m n : Plain) → IfSome found (λ c. IsValid c.module) →
+      ledger.Answers n (execute found argument m).seen → execute found argument n ≡ execute found argument m
   executed_only None argument m n h seen = refl
   executed_only (Some c) argument m n h seen = (alone c.module c.fuel argument h).only m n seen
 
   pub exec_alone : (book : List Chaincode) → AreValid book → ledger.ReadsAlone (exec_of book)
   unfolding exec_of
   exec_alone book valid =
-      let found : (p : Proposal) → IfSome (chaincode_at book p.chaincode) (λ (c : Chaincode). IsValid c.module) = λ p. all_found (λ (c : Chaincode). IsValid c.module) _ book valid in
+      let found : (p : Proposal) → IfSome (chaincode_at book p.chaincode) (λ (c : Chaincode). IsValid c.module) =
+      λ p. all_found (λ (c : Chaincode). IsValid c.module) _ book valid in
       record {
         truthful = λ p m. executed_truthful (chaincode_at book p.chaincode) p.argument m (found p);
         only = λ p m n seen. executed_only (chaincode_at book p.chaincode) p.argument m n (found p) seen;

@@ -54,7 +54,8 @@ abbrev pub with_value : {X : Type 0} → X → Result (Unit {0}) SimRefusal → 
 with_value x (Ok u) = Ok x
 with_value x (Err e) = Err e
 
-of_status : {X : Type 0} (x : X) (status : ℕ) (b : Bool) → done_or_refusal (cond b ledger.Done (ledger.Status status)) x ≡ with_value x (cond b (Ok tt) (Err (refusal.Status status)))
+of_status : {X : Type 0} (x : X) (status : ℕ) (b : Bool) →
+    done_or_refusal (cond b ledger.Done (ledger.Status status)) x ≡ with_value x (cond b (Ok tt) (Err (refusal.Status status)))
 of_status x status true = refl
 of_status x status false = refl
 
@@ -69,17 +70,23 @@ module _ {V : Type 0} (state_of : V → Versioned) (book : List Chaincode) (p : 
   pub record IsRun : Type 0 where
     pub found : Some c ≡ chaincode_at book p.chaincode
     pub start : before ≡ record { opened = record { view = v; argument = p.argument }; records = nothing_recorded }
-    pub ends : Ended (invocation c.module (host_step (values_of (state_of before.opened.view)) before.opened.argument) before.records c.fuel) c.fuel o after.records
+    pub ends : Ended (invocation c.module (host_step (values_of (state_of before.opened.view)) before.opened.argument) before.records c.fuel) c.fuel o
+        after.records
     pub keeps : after.opened ≡ before.opened
 
   module _ (run : IsRun) where
     execution_is : exec_of book p (values_of (state_of v)) ≡ outcome_with (ending_in o) (values_of (state_of v)) after.records
     unfolding exec_of
     execution_is =
-        let ends : Ended (invocation c.module (host_step (values_of (state_of v)) p.argument) nothing_recorded c.fuel) c.fuel o after.records = subst (λ (b : Recording V). Ended (invocation c.module (host_step (values_of (state_of b.opened.view)) b.opened.argument) b.records c.fuel) c.fuel o after.records) run.start run.ends in
+        let ends : Ended (invocation c.module (host_step (values_of (state_of v)) p.argument) nothing_recorded c.fuel) c.fuel o after.records =
+        subst (λ (b : Recording V).
+        Ended (invocation c.module (host_step (values_of (state_of b.opened.view)) b.opened.argument) b.records c.fuel) c.fuel o after.records) run.start
+        run.ends in
         ap (λ found. execute found p.argument (values_of (state_of v))) (sym run.found) ∙ outcome_is c.fuel (values_of (state_of v)) _ o after.records ends
 
-    pub answer_is : (r : Result (Unit {0}) SimRefusal) → r ≡ success_of o → let e = exec_of book p (values_of (state_of v)) in done_or_refusal e.ending (parts_of (state_of v) e.seen) ≡ with_value (parts_of (state_of v) (seen_on (values_of (state_of v)) after.records)) r
+    pub answer_is : (r : Result (Unit {0}) SimRefusal) → r ≡ success_of o → let e =
+        exec_of book p (values_of (state_of v)) in
+        done_or_refusal e.ending (parts_of (state_of v) e.seen) ≡ with_value (parts_of (state_of v) (seen_on (values_of (state_of v)) after.records)) r
     answer_is r is =
         let parts = parts_of (state_of v) (seen_on (values_of (state_of v)) after.records) in
         ap (λ (e : ledger.Outcome). done_or_refusal e.ending (parts_of (state_of v) e.seen)) execution_is ∙ done_is parts o ∙ ap (with_value parts) (sym is)
@@ -87,7 +94,8 @@ module _ {V : Type 0} (state_of : V → Versioned) (book : List Chaincode) (p : 
     view_is : after.opened.view ≡ v
     view_is = ap (λ (b : Opened V). b.view) (run.keeps ∙ ap (λ (b : Recording V). b.opened) run.start)
 
-    pub parts_are : parts_of (state_of after.opened.view) (seen_on (values_of (state_of after.opened.view)) after.records) ≡ parts_of (state_of v) (seen_on (values_of (state_of v)) after.records)
+    pub parts_are : parts_of (state_of after.opened.view) (seen_on (values_of (state_of after.opened.view)) after.records) ≡
+        parts_of (state_of v) (seen_on (values_of (state_of v)) after.records)
     parts_are = ap (λ x. parts_of (state_of x) (seen_on (values_of (state_of x)) after.records)) view_is
 
 -- what is wanted is an answer
@@ -101,7 +109,8 @@ answers wanted (Err (refusal.Status n)) e = e
 answers wanted (Err refusal.Stale) e = e
 
 -- where no chaincode has the name
-pub unknown_is : {X : Type 0} (of : ledger.Outcome → X) (book : List Chaincode) (p : Proposal) (m : Plain) → None ≡ chaincode_at book p.chaincode → let e = exec_of book p m in done_or_refusal e.ending (of e) ≡ Err refusal.UnknownChaincode
+pub unknown_is : {X : Type 0} (of : ledger.Outcome → X) (book : List Chaincode) (p : Proposal) (m : Plain) → None ≡ chaincode_at book p.chaincode → let e =
+    exec_of book p m in done_or_refusal e.ending (of e) ≡ Err refusal.UnknownChaincode
 unfolding exec_of
 unknown_is {X} of book p m h =
     ap (λ found. let e = execute found p.argument m in done_or_refusal e.ending (of e)) (sym h)

@@ -60,7 +60,8 @@ module _ (m : Versioned) where
   reads_told [] = refl
   reads_told (k ∷ ks) = ap₂ (λ (r : Bytes × Bool) rs. r ∷ rs) (read_told k) (reads_told ks)
 
-  entry_keys : (es : List (Bytes × (Bytes × Version))) → map (λ (e : RangeEntry). e.key) (map entry_of es) ≡ map (λ (e : Bytes × Bytes). e.0) (map (λ (e : Bytes × (Bytes × Version)). (e.0, e.1.0)) es)
+  entry_keys : (es : List (Bytes × (Bytes × Version))) →
+      map (λ (e : RangeEntry). e.key) (map entry_of es) ≡ map (λ (e : Bytes × Bytes). e.0) (map (λ (e : Bytes × (Bytes × Version)). (e.0, e.1.0)) es)
   entry_keys [] = refl
   entry_keys (e ∷ es) = ap (λ ks. e.0 ∷ ks) (entry_keys es)
 
@@ -69,15 +70,23 @@ module _ (m : Versioned) where
       let shown : List Bytes → Bytes × Bytes × ℕ × List Bytes = λ keys. (a.start, a.end, a.limit, keys) in
       ap shown (entry_keys (first m a.start a.end a.limit) ∙ ap (map (λ (e : Bytes × Bytes). e.0)) (sym (first-values_of m a.start a.end a.limit)))
 
-  ranges_told : (asked : List Asked) → map range_keys (map (range_item m) (map (range_seen (values_of m)) asked)) ≡ map seen_keys (map (range_seen (values_of m)) asked)
+  ranges_told : (asked : List Asked) →
+      map range_keys (map (range_item m) (map (range_seen (values_of m)) asked)) ≡ map seen_keys (map (range_seen (values_of m)) asked)
   ranges_told [] = refl
   ranges_told (a ∷ asked) =
       ap₂ (λ (r : Bytes × Bytes × ℕ × List Bytes) rs. r ∷ rs) (range_told a) (ranges_told asked)
 
   recorded_told : (s : Recorded) → told_by (parts_of m (seen_on (values_of m) s)) ≡ rerun_of (seen_on (values_of m) s)
   recorded_told s =
-      let with_reads : List (Bytes × Bool) → Rerun = λ reads. record { reads = reads; ranges = map range_keys (map (range_item m) (map (range_seen (values_of m)) s.ranges)); result = s.result; writes = s.writes } in
-      let with_ranges : List (Bytes × Bytes × ℕ × List Bytes) → Rerun = λ ranges. record { reads = map seen_key (map (key_seen (values_of m)) s.reads); ranges = ranges; result = s.result; writes = s.writes } in
+      let with_reads : List (Bytes × Bool) → Rerun =
+      λ reads. record {
+        reads = reads;
+        ranges = map range_keys (map (range_item m) (map (range_seen (values_of m)) s.ranges));
+        result = s.result;
+        writes = s.writes;
+      } in
+      let with_ranges : List (Bytes × Bytes × ℕ × List Bytes) → Rerun =
+      λ ranges. record { reads = map seen_key (map (key_seen (values_of m)) s.reads); ranges = ranges; result = s.result; writes = s.writes } in
       ap with_reads (reads_told s.reads) ∙ ap with_ranges (ranges_told s.ranges)
 
   seen_told : (seen : Seen) → Asks (values_of m) seen → told_by (parts_of m seen) ≡ rerun_of seen
@@ -102,7 +111,8 @@ answers_told wanted (Err refusal.Spent) h = ap told_in h
 answers_told wanted (Err (refusal.Status n)) h = ap told_in h
 answers_told wanted (Err refusal.Stale) h = ap told_in h
 
-pub rerun_answers : (book : List Chaincode) (p : Proposal) (m : Versioned) (result : Result Parts SimRefusal) → let o = exec_of book p (values_of m) in Answers (done_or_refusal o.ending (parts_of m o.seen)) result → Answers (rerun_or_refusal o) (told_in result)
+pub rerun_answers : (book : List Chaincode) (p : Proposal) (m : Versioned) (result : Result Parts SimRefusal) → let o =
+    exec_of book p (values_of m) in Answers (done_or_refusal o.ending (parts_of m o.seen)) result → Answers (rerun_or_refusal o) (told_in result)
 rerun_answers book p m result h =
     let o = exec_of book p (values_of m) in
     let told = told_in-done o.ending (parts_of m o.seen) ∙ ap (done_or_refusal o.ending) (seen_told m o.seen (exec_asks book p (values_of m))) in

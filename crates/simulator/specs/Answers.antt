@@ -18,7 +18,8 @@ use Rattle.simulator.specs.declared.refusal.SimRefusal.TheVariants as refusal
 
 abbrev pub traps : List Trap
 traps =
-    trap.Unreachable ∷ trap.DivideByZero ∷ trap.IntegerOverflow ∷ trap.OutOfBounds ∷ trap.UndefinedElement ∷ trap.UninitializedElement ∷ trap.IndirectCallType ∷ trap.CallDepth ∷ []
+    trap.Unreachable ∷ trap.DivideByZero ∷ trap.IntegerOverflow ∷ trap.OutOfBounds ∷ trap.UndefinedElement ∷ trap.UninitializedElement ∷ trap.IndirectCallType ∷
+    trap.CallDepth ∷ []
 
 -- the trap of a number, 1 to 8
 abbrev pub trap_of : ℕ → Trap

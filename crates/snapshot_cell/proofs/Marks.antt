@@ -24,10 +24,12 @@ unknown_not m e known = let no : false ≡ true = ap (λ (k : Mark). k.knows) e 
 
 set_knows : (b : Book) (marks : List Mark) (seat : ℕ) (v : Mark) → AllKnow b marks → (v.knows ≡ true → v ≡ mark_of b) → AllKnow b (set marks seat v)
 set_knows b marks seat v h low j u e known =
-    ⊎_elim (λ (t : (j ≡ seat) × (v ≡ u)). sym t.1 ∙ low (ap (λ (k : Mark). k.knows) t.1 ∙ known)) (λ (t : (j ≢ seat) × (get_elem? marks j ≡ some u)). h j u t.1 known)
+    ⊎_elim (λ (t : (j ≡ seat) × (v ≡ u)). sym t.1 ∙ low (ap (λ (k : Mark). k.knows) t.1 ∙ known))
+    (λ (t : (j ≢ seat) × (get_elem? marks j ≡ some u)). h j u t.1 known)
     (at_set marks seat j v u e)
 
-snoc_knows : (b : Book) (marks : List Mark) (v : Mark) → AllKnow b marks → (v.knows ≡ true → v ≡ mark_of b) → (j : ℕ) (u : Mark) → (get_elem? marks j ≡ some u) ⊎ (v ≡ u) → u.knows ≡ true → u ≡ mark_of b
+snoc_knows : (b : Book) (marks : List Mark) (v : Mark) → AllKnow b marks → (v.knows ≡ true → v ≡ mark_of b) → (j : ℕ) (u : Mark) →
+    (get_elem? marks j ≡ some u) ⊎ (v ≡ u) → u.knows ≡ true → u ≡ mark_of b
 snoc_knows b marks v h low j u at known =
     ⊎_elim (λ (a : get_elem? marks j ≡ some u). h j u a known) (λ (e : v ≡ u). sym e ∙ low (ap (λ (k : Mark). k.knows) e ∙ known)) at
 
@@ -45,10 +47,12 @@ turns seat v x y same marks h at = (
 
 pub forks : (seat : ℕ) (v : Mark) → Forks holds seat v v v
 forks seat v x marks h at j u e known =
-    snoc_knows x.front.seen.book (set marks seat v) v (set_knows x.front.seen.book marks seat v h (h seat v at)) (h seat v at) j u (at_snoc (set marks seat v) v u j e) known
+    snoc_knows x.front.seen.book (set marks seat v) v (set_knows x.front.seen.book marks seat v h (h seat v at)) (h seat v at) j u
+    (at_snoc (set marks seat v) v u j e) known
 
 pub merges : (seat : ℕ) (v : Mark) (other : ℕ) (w : Mark) → Merges holds seat v other w w unknown
 merges seat v other w x marks h at apart there =
     let b : w.knows ≡ true → w ≡ mark_of x.front.seen.book =
-    ⊎_elim (λ (t : (other ≡ seat) × (w ≡ w)). absurd (apart t.0)) (λ (t : (other ≢ seat) × (get_elem? marks other ≡ some w)). h other w t.1) (at_set marks seat other w w there) in
+    ⊎_elim (λ (t : (other ≡ seat) × (w ≡ w)). absurd (apart t.0)) (λ (t : (other ≢ seat) × (get_elem? marks other ≡ some w)). h other w t.1)
+    (at_set marks seat other w w there) in
     set_knows x.front.seen.book (set marks seat w) other unknown (set_knows x.front.seen.book marks seat w h b) (λ k. unknown_not unknown refl k)

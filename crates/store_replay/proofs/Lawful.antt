@@ -15,7 +15,8 @@ lawful_more rule before [] c done fits flags =
     (subst (λ (x : Chain). Fits (blocks_of x) c.block) same fits, subst (λ (x : Chain). HasTheFlags rule x c true) same flags, tt)
 lawful_more rule before (d ∷ cs) c done fits flags =
     let same : before ++ d ∷ cs ≡ (before ++ d ∷ []) ++ cs = sym (append_assoc before (d ∷ []) cs) in
-    let rest = lawful_more rule (before ++ d ∷ []) cs c done.2 (subst (λ (x : Chain). Fits (blocks_of x) c.block) same fits) (subst (λ (x : Chain). HasTheFlags rule x c true) same flags) in
+    let rest = lawful_more rule (before ++ d ∷ []) cs c done.2 (subst (λ (x : Chain). Fits (blocks_of x) c.block) same fits)
+    (subst (λ (x : Chain). HasTheFlags rule x c true) same flags) in
     (done.0, done.1, rest)
 
 -- a record with the rule's flags is the block as the rule commits it

@@ -1,7 +1,8 @@
 -- The numbers of the traps.
 use Rattle.std.specs.Prelude.{ℕ}
 use Rattle.wasm_ast.specs.declared.trap.Trap.{Trap}
-use Rattle.wasm_ast.specs.declared.trap.Trap.TheVariants.{Unreachable, DivideByZero, IntegerOverflow, OutOfBounds, UndefinedElement, UninitializedElement, IndirectCallType, CallDepth}
+use Rattle.wasm_ast.specs.declared.trap.Trap.TheVariants.{Unreachable, DivideByZero, IntegerOverflow, OutOfBounds, UndefinedElement, UninitializedElement}
+use Rattle.wasm_ast.specs.declared.trap.Trap.TheVariants.{IndirectCallType, CallDepth}
 
 abbrev pub trap_number : Trap → ℕ
 trap_number Unreachable = 1

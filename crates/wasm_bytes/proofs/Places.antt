@@ -1,5 +1,6 @@
 -- What stands at the place of a cursor stands there in all the bytes.
-use Rattle.std.proofs.Common.{◌≡◌, ℕ, zero, suc, slice_get, ◌+◌, ◌-◌, ◌/◌, ◌≤◌, ◌^◌, ◌↔◌, inl, inr, true, false, cond, ltb, List, [], ◌∷◌, ◌++◌, length, take, drop, slice_index_or, Option, Some, None, refl, sym, ap, ◌∙◌, subst, append_assoc, arith}
+use Rattle.std.proofs.Common.{◌≡◌, ℕ, zero, suc, slice_get, ◌+◌, ◌-◌, ◌/◌, ◌≤◌, ◌^◌, ◌↔◌, inl, inr, true, false, cond, ltb, List, [], ◌∷◌, ◌++◌, length, take}
+use Rattle.std.proofs.Common.{drop, slice_index_or, Option, Some, None, refl, sym, ap, ◌∙◌, subst, append_assoc, arith}
 use Rattle.std.specs.Prelude.{◌⊎◌, Bool}
 use Rattle.std.specs.Str.{is_utf8}
 use Rattle.std.proofs.lemmas.List.{drop_at, length-append, length-take, take-append-drop}
@@ -10,7 +11,8 @@ use Rattle.wasm_bytes.specs.declared.fault.FaultKind.{FaultKind}
 use Rattle.wasm_bytes.specs.declared.fault.FaultKind.TheVariants.{EndedEarly, BadNumber, NotUtf8}
 use Rattle.wasm_bytes.specs.Spelling.{IsU32, IsS32, IsS64}
 use Rattle.wasm_bytes.specs.Reading.{u32_at, name_at}
-use Rattle.wasm_bytes.specs.Faults.{InFront, Begins, unsigned_fault, signed_fault, u32_fault, s32_fault, s64_fault, content_fault, name_fault, fault_offset, fault_at}
+use Rattle.wasm_bytes.specs.Faults.{InFront, Begins, unsigned_fault, signed_fault, u32_fault, s32_fault, s64_fault, content_fault, name_fault, fault_offset}
+use Rattle.wasm_bytes.specs.Faults.{fault_at}
 use Rattle.wasm_bytes.specs.Laws.Leb.{unsigned_takes, unsigned_reads}
 use Rattle.wasm_bytes.specs.Refusals.{u32_refusal, s32_refusal, s64_refusal}
 use Rattle.wasm_bytes.proofs.Items.{nothing}
@@ -57,13 +59,21 @@ module _ (whole : List ℕ) (end : ℕ) (rest : List ℕ) (p : IsPlace whole end
       record {
         before = p.before ++ text;
         after = p.after;
-        parts = p.parts ∙ ap (λ r. p.before ++ (r ++ p.after)) e ∙ ap (λ r. p.before ++ r) (append_assoc text left p.after) ∙ sym (append_assoc p.before text (left ++ p.after));
+        parts = p.parts ∙ ap (λ r. p.before ++ (r ++ p.after)) e ∙ ap (λ r. p.before ++ r) (append_assoc text left p.after) ∙
+            sym (append_assoc p.before text (left ++ p.after));
         offset = omega (arith, p.offset, ap (λ (r : List ℕ). length r) e, length-append text left, length-append p.before text);
       }
 
-  pub spanned : {A : Type 0} (Spells : A → List ℕ → Type 0) (x : A) (text left : List ℕ) → Spells x text → rest ≡ text ++ left → Spans Spells x whole (end - length rest) (end - length left)
-  spanned Spells x text left s e =
-      (text, left ++ p.after, s, from_place ∙ ap (λ r. r ++ p.after) e ∙ append_assoc text left p.after, omega (arith, p.offset, ap (λ (r : List ℕ). length r) e, length-append text left))
+  pub spanned : {A : Type 0} (Spells : A → List ℕ → Type 0) (x : A) (text left : List ℕ) → Spells x text → rest ≡ text ++ left →
+      Spans Spells x whole (end - length rest) (end - length left)
+  spanned Spells x text left s e = (
+    text,
+    left ++ p.after,
+    s,
+    from_place ∙ ap (λ r. r ++ p.after) e ∙
+        append_assoc text left p.after,
+    omega (arith, p.offset, ap (λ (r : List ℕ). length r) e, length-append text left),
+  )
 
   pub never_here : {A : Type 0} (Spells : A → List ℕ → Type 0) → Never Spells rest → Never Spells (drop (end - length rest) whole)
   never_here Spells h = subst (Never Spells) (sym from_place) (never_longer Spells rest p.after h)
@@ -82,7 +92,8 @@ fits_after whole end rest text left f e =
 abbrev place_of : List ℕ → ℕ → List ℕ → Place
 place_of whole end rest = record { whole = whole; end = end; rest = rest }
 
-pub spans : {A : Type 0} (Spells : A → List ℕ → Type 0) (x : A) (whole : List ℕ) (end : ℕ) (rest text left : List ℕ) (p : Place) → IsPlace whole end rest → place_of whole end rest ≡ p → Spells x text → rest ≡ text ++ left → Spans Spells x p.whole (offset_of p) (end - length left)
+pub spans : {A : Type 0} (Spells : A → List ℕ → Type 0) (x : A) (whole : List ℕ) (end : ℕ) (rest text left : List ℕ) (p : Place) → IsPlace whole end rest →
+    place_of whole end rest ≡ p → Spells x text → rest ≡ text ++ left → Spans Spells x p.whole (offset_of p) (end - length left)
 spans Spells x whole end rest text left p i v s e =
     subst (λ p. Spans Spells x p.whole (offset_of p) (end - length left)) v (spanned whole end rest i Spells x text left s e)
 
@@ -111,7 +122,8 @@ not_text_signed half (b ∷ rest) e =
     ]
 
 -- a number that is not bytes' beginning and does not begin with them is never spelled
-never_of : {A : Type 0} (Spells : A → List ℕ → Type 0) (bytes : List ℕ) (fault : FaultKind) → ¬ InFront Spells bytes → ((fault ≡ EndedEarly) ↔ Begins Spells bytes) → fault ≡ BadNumber → Never Spells bytes
+never_of : {A : Type 0} (Spells : A → List ℕ → Type 0) (bytes : List ℕ) (fault : FaultKind) → ¬ InFront Spells bytes →
+    ((fault ≡ EndedEarly) ↔ Begins Spells bytes) → fault ≡ BadNumber → Never Spells bytes
 never_of Spells bytes fault none law e = (none, λ b. let ended : fault ≡ EndedEarly = law.1 b in let f : EndedEarly ≡ BadNumber = sym ended ∙ e in cc)
 
 module _ (whole : List ℕ) (end : ℕ) (rest : List ℕ) (i : IsPlace whole end rest) where
@@ -121,7 +133,9 @@ module _ (whole : List ℕ) (end : ℕ) (rest : List ℕ) (i : IsPlace whole end
   abbrev SaysHere : FaultKind → Type 0
   SaysHere kind = Says kind (fault_offset here kind) end whole
 
-  number_says : {A : Type 0} (Spells : A → List ℕ → Type 0) (fault : FaultKind) → ¬ InFront Spells rest → ((fault ≡ EndedEarly) ↔ Begins Spells rest) → (fault ≡ NotUtf8 → ⊥) → (Never Spells (drop (offset_of here) whole) → NoNumber (drop (offset_of here) whole)) → (kind : FaultKind) → kind ≡ fault → SaysHere kind
+  number_says : {A : Type 0} (Spells : A → List ℕ → Type 0) (fault : FaultKind) → ¬ InFront Spells rest → ((fault ≡ EndedEarly) ↔ Begins Spells rest) →
+      (fault ≡ NotUtf8 → ⊥) → (Never Spells (drop (offset_of here) whole) → NoNumber (drop (offset_of here) whole)) → (kind : FaultKind) → kind ≡ fault →
+      SaysHere kind
   number_says Spells fault none law text wrap EndedEarly e = refl
   number_says Spells fault none law text wrap BadNumber e =
       wrap (never_here whole end rest i Spells (never_of Spells rest fault none law (sym e)))
@@ -131,7 +145,8 @@ module _ (whole : List ℕ) (end : ℕ) (rest : List ℕ) (i : IsPlace whole end
   u32_here none kind e =
       number_says IsU32 (u32_fault rest) none (u32_refusal rest none) (not_text (2 ^ 32) rest) (λ n. inl n) kind e
 
-  long_or_not : (b u : Bool) (x : List ℕ × List ℕ) (kind : FaultKind) → kind ≡ cond b EndedEarly NotUtf8 → cond b None (cond u (Some x) None) ≡ None → (kind ≡ EndedEarly) ⊎ ((kind ≡ NotUtf8) × (b ≡ false) × (u ≡ false))
+  long_or_not : (b u : Bool) (x : List ℕ × List ℕ) (kind : FaultKind) → kind ≡ cond b EndedEarly NotUtf8 → cond b None (cond u (Some x) None) ≡ None →
+      (kind ≡ EndedEarly) ⊎ ((kind ≡ NotUtf8) × (b ≡ false) × (u ≡ false))
   long_or_not true u x kind k r = inl k
   long_or_not false true x kind k r = absurd cc
   long_or_not false false x kind k r = inr (k, refl, refl)
@@ -144,8 +159,15 @@ module _ (whole : List ℕ) (end : ℕ) (rest : List ℕ) (i : IsPlace whole end
       let split : n.1 ≡ take n.0 n.1 ++ drop n.0 n.1 = sym (take-append-drop n.0 n.1) in
       let name = take n.0 n.1 in
       let more = drop n.0 n.1 in
-      let all : n.1 ++ i.after ≡ name ++ (more ++ i.after) = ap (λ r. r ++ i.after) split ∙ append_assoc name more i.after in
-      (t.0, name, more ++ i.after, subst (λ n. IsU32 n t.0) len t.1, from_place whole end rest i ∙ ap (λ r. r ++ i.after) t.2 ∙ append_assoc t.0 n.1 i.after ∙ ap (λ r. t.0 ++ r) all, utf)
+      let all : n.1 ++ i.after ≡ name ++ (more ++ i.after) = ap (λ r. r ++ i.after) split ∙ append_assoc name more i.after in (
+        t.0,
+        name,
+        more ++ i.after,
+        subst (λ n. IsU32 n t.0) len t.1,
+        from_place whole end rest i ∙ ap (λ r. r ++ i.after) t.2 ∙ append_assoc t.0 n.1 i.after ∙
+            ap (λ r. t.0 ++ r) all,
+        utf,
+      )
 
   abbrev content : ℕ × List ℕ → Option (List ℕ × List ℕ)
   content n =
@@ -189,6 +211,10 @@ byte_and_rest (b ∷ bytes) le = ap (λ (r : List ℕ). b ∷ r) (sym (take-is (
     take-is n (x ∷ xs) e = rw e (ap (λ (r : List ℕ). x ∷ r) (take-is (length xs) xs refl))
 
 -- the next byte, and the offset behind it
-pub byte_here : (whole : List ℕ) (end : ℕ) (rest : List ℕ) (b : ℕ) (left : List ℕ) (p : Place) → IsPlace whole end rest → place_of whole end rest ≡ p → rest ≡ (b ∷ []) ++ left → (slice_get p.whole (offset_of p) ≡ Some b) × (end - length left ≡ offset_of p + 1)
+pub byte_here : (whole : List ℕ) (end : ℕ) (rest : List ℕ) (b : ℕ) (left : List ℕ) (p : Place) → IsPlace whole end rest → place_of whole end rest ≡ p →
+    rest ≡ (b ∷ []) ++ left → (slice_get p.whole (offset_of p) ≡ Some b) × (end - length left ≡ offset_of p + 1)
 byte_here whole end rest b left p i v e =
-    subst (λ p. (slice_get p.whole (offset_of p) ≡ Some b) × (end - length left ≡ offset_of p + 1)) v (byte_is whole (end - length rest) b (left ++ i.after) (from_place whole end rest i ∙ ap (λ r. r ++ i.after) e), omega (arith, i.offset, ap (λ (r : List ℕ). length r) e))
+    subst (λ p. (slice_get p.whole (offset_of p) ≡ Some b) × (end - length left ≡ offset_of p + 1)) v (
+      byte_is whole (end - length rest) b (left ++ i.after) (from_place whole end rest i ∙ ap (λ r. r ++ i.after) e),
+      omega (arith, i.offset, ap (λ (r : List ℕ). length r) e),
+    )

@@ -10,7 +10,8 @@ use Rattle.wasm_decode.specs.declared.sections.Parts.{Parts}
 use Rattle.wasm_decode.specs.TypeSpelling.{IsFuncType, IsTableType, IsMemoryType}
 use Rattle.wasm_decode.specs.ExternalSpelling.{IsImport, IsExport}
 use Rattle.wasm_decode.specs.FunctionSpelling.{IsGlobal, IsFunctions, IsElementSegment, IsDataSegment}
-use Rattle.wasm_decode.specs.PartsOf.{no_parts, with_types, with_imports, with_type_indices, with_tables, with_memories, with_globals, with_exports, with_elements, with_functions, with_data}
+use Rattle.wasm_decode.specs.PartsOf.{no_parts, with_types, with_imports, with_type_indices, with_tables, with_memories, with_globals, with_exports}
+use Rattle.wasm_decode.specs.PartsOf.{with_elements, with_functions, with_data}
 use Rattle.wasm_decode.specs.SectionReading.{section_rows}
 use Rattle.wasm_decode.specs.ModuleSpelling.{IsSection, IsHeader}
 

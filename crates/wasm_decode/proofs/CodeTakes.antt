@@ -1,5 +1,6 @@
 -- The code that is read is spelled so, and keeps to the limits.
-use Rattle.std.proofs.Common.{◌≡◌, ℕ, zero, suc, ◌+◌, ◌-◌, ◌<◌, ◌≤◌, max, Bool, true, false, cond, ◌||◌, eqb, List, [], ◌∷◌, ◌++◌, ◌⊎◌, inl, inr, Some, None, refl, sym, ap, subst, ◌∙◌, append_assoc, arith}
+use Rattle.std.proofs.Common.{◌≡◌, ℕ, zero, suc, ◌+◌, ◌-◌, ◌<◌, ◌≤◌, max, Bool, true, false, cond, ◌||◌, eqb, List, [], ◌∷◌, ◌++◌, ◌⊎◌, inl, inr, Some, None}
+use Rattle.std.proofs.Common.{refl, sym, ap, subst, ◌∙◌, append_assoc, arith}
 use Rattle.std.proofs.lemmas.Bool.{eqb-true}
 use Rattle.std.proofs.lemmas.Option.{some_pair_parts, cond_some}
 use Rattle.grammar.specs.Spelling.{◌⟫◌, IsByte}
@@ -11,7 +12,8 @@ use Rattle.wasm_decode.specs.Tables.{block_type_rows}
 use Rattle.wasm_decode.specs.TypeSpelling.{IsBlockType}
 use Rattle.wasm_decode.specs.OpReading.{plain_at}
 use Rattle.wasm_decode.specs.CodeSpelling.{nesting, IsEither, IsCode}
-use Rattle.wasm_decode.specs.CodeReading.{Instructions, Step, OneBody, TwoBodies, Inner, append, closed_at, block_at, conditional_at, as_block, as_if, as_step, step_at, before, is_last, code_at, body_at, below}
+use Rattle.wasm_decode.specs.CodeReading.{Instructions, Step, OneBody, TwoBodies, Inner, append, closed_at, block_at, conditional_at, as_block, as_if, as_step}
+use Rattle.wasm_decode.specs.CodeReading.{step_at, before, is_last, code_at, body_at, below}
 use Rattle.wasm_decode.proofs.TypeLaws.{block_type_reads}
 use Rattle.wasm_decode.proofs.OpLaws.{plain_takes}
 use Rattle.wasm_decode.proofs.Turns.{body_is}
@@ -62,7 +64,8 @@ record IsStep (deep op left : ℕ) (bytes : List ℕ) (i : Step) (rest : List �
   used : (c : Code) → code_size (append i.code c) + i.left ≡ code_size c + suc left
 
 module _ (deep : ℕ) (inner : Inner) (takes : TakesBody deep inner) where
-  closed_takes : (left : ℕ) (bytes : List ℕ) (s : Step) (rest : List ℕ) → closed_at inner left bytes ≡ Some (s, rest) → IsBody deep left bytes (record { code = s.code; last = 0x0b; left = s.left }) rest
+  closed_takes : (left : ℕ) (bytes : List ℕ) (s : Step) (rest : List ℕ) → closed_at inner left bytes ≡ Some (s, rest) →
+      IsBody deep left bytes (record { code = s.code; last = 0x0b; left = s.left }) rest
   unfolding closed_at
   closed_takes left bytes s rest e =
       let step = λ (b : Instructions). let made : Step = record { code = b.code; left = b.left } in made in
@@ -84,7 +87,8 @@ module _ (deep : ℕ) (inner : Inner) (takes : TakesBody deep inner) where
   block_takes : (left : ℕ) (bytes : List ℕ) (b : OneBody) (rest : List ℕ) → block_at inner left bytes ≡ Some (b, rest) → IsOneBody deep left bytes b rest
   unfolding block_at
   block_takes left bytes b rest e =
-      let t = bind_some (row_byte_at block_type_rows bytes) (λ t. closed_at inner left t.1 >>= λ b. Some (record { result = t.0; body = b.0.code; left = b.0.left }, b.1)) (b, rest) e in
+      let t = bind_some (row_byte_at block_type_rows bytes)
+      (λ t. closed_at inner left t.1 >>= λ b. Some (record { result = t.0; body = b.0.code; left = b.0.left }, b.1)) (b, rest) e in
       let made = λ (b : Step). let made : OneBody = record { result = t.0.0; body = b.code; left = b.left } in made in
       let s = bind_some (closed_at inner left t.0.1) (λ b. Some (made b.0, b.1)) (b, rest) t.2 in
       let parts = some_pair_parts (made s.0.0) b s.0.1 rest s.2 in
@@ -99,14 +103,17 @@ module _ (deep : ℕ) (inner : Inner) (takes : TakesBody deep inner) where
       } in
       subst (λ (x : List ℕ). IsOneBody deep left bytes b x) parts.1 (subst (λ (x : OneBody). IsOneBody deep left bytes x s.0.1) parts.0 whole)
 
-  conditional_takes : (left : ℕ) (bytes : List ℕ) (b : TwoBodies) (rest : List ℕ) → conditional_at inner left bytes ≡ Some (b, rest) → IsTwoBodies deep left bytes b rest
+  conditional_takes : (left : ℕ) (bytes : List ℕ) (b : TwoBodies) (rest : List ℕ) → conditional_at inner left bytes ≡ Some (b, rest) →
+      IsTwoBodies deep left bytes b rest
   unfolding conditional_at
   conditional_takes left bytes b rest e =
       let alone = λ (t : BlockType) (a : Instructions). let made : TwoBodies = record { result = t; yes = a.code; no = End; left = a.left } in made in
-      let both = λ (t : BlockType) (a : Instructions) (n : Step). let made : TwoBodies = record { result = t; yes = a.code; no = n.code; left = n.left } in made in
+      let both = λ (t : BlockType) (a : Instructions) (n : Step). let made : TwoBodies =
+      record { result = t; yes = a.code; no = n.code; left = n.left } in made in
       let t = bind_some (row_byte_at block_type_rows bytes) (λ t. inner left t.1 >>= λ a.
       cond (eqb a.0.last 0x0b) (Some (alone t.0 a.0, a.1)) (closed_at inner a.0.left a.1 >>= λ n. Some (both t.0 a.0 n.0, n.1))) (b, rest) e in
-      let a = bind_some (inner left t.0.1) (λ a. cond (eqb a.0.last 0x0b) (Some (alone t.0.0 a.0, a.1)) (closed_at inner a.0.left a.1 >>= λ n. Some (both t.0.0 a.0 n.0, n.1))) (b, rest) t.2 in
+      let a = bind_some (inner left t.0.1)
+      (λ a. cond (eqb a.0.last 0x0b) (Some (alone t.0.0 a.0, a.1)) (closed_at inner a.0.left a.1 >>= λ n. Some (both t.0.0 a.0 n.0, n.1))) (b, rest) t.2 in
       let first = a.0.0 in
       let one = block_type_reads.takes bytes t.0.0 t.0.1 t.1 in
       let two = takes left t.0.1 first a.0.1 a.1 in
@@ -146,8 +153,10 @@ module _ (deep : ℕ) (inner : Inner) (takes : TakesBody deep inner) where
 
   -- a block or a loop before other instructions
   one_body_step : (op left : ℕ) (make : BlockType → Code → Code → Code) → ((t : BlockType) (b c : Code) → append (make t b End) c ≡ make t b c)
-      → ((t : BlockType) (b c : Code) (last : ℕ) (text : List ℕ) → (IsByte op ⟫ IsBlockType t ⟫ IsCode 0x0b b ⟫ IsCode last c) text → IsCode last (make t b c) text)
-      → ((t : BlockType) (b c : Code) → nesting (make t b c) ≡ max (suc (nesting b)) (nesting c)) → ((t : BlockType) (b c : Code) → code_size (make t b c) ≡ code_size b + code_size c + 1)
+      → ((t : BlockType) (b c : Code) (last : ℕ) (text : List ℕ) → (IsByte op ⟫ IsBlockType t ⟫ IsCode 0x0b b ⟫ IsCode last c) text →
+      IsCode last (make t b c) text)
+      → ((t : BlockType) (b c : Code) → nesting (make t b c) ≡ max (suc (nesting b)) (nesting c)) →
+      ((t : BlockType) (b c : Code) → code_size (make t b c) ≡ code_size b + code_size c + 1)
       → (bytes : List ℕ) (i : Step) (rest : List ℕ) → as_block make (block_at inner left bytes) ≡ Some (i, rest) → IsStep deep op left bytes i rest
   one_body_step op left make appended spells nests sizes bytes i rest e =
       let step = λ (b : OneBody). let made : Step = record { code = make b.result b.body End; left = b.left } in made in
@@ -162,13 +171,15 @@ module _ (deep : ℕ) (inner : Inner) (takes : TakesBody deep inner) where
         spelled = λ c last back h.
             let split : t.text ++ back ≡ p.0 ++ (p.1 ++ back) = ap (λ (x : List ℕ). x ++ back) p.4 ∙ append_assoc p.0 p.1 back in
             subst (λ (x : Code). IsCode last x ((op ∷ t.text) ++ back)) (sym (appended b.result b.body c))
-            (spells b.result b.body c last ((op ∷ t.text) ++ back) (op ∷ [], t.text ++ back, refl, (p.0, p.1 ++ back, p.2, (p.1, back, p.3, h, refl), split), refl));
+            (spells b.result b.body c last ((op ∷ t.text) ++ back)
+            (op ∷ [], t.text ++ back, refl, (p.0, p.1 ++ back, p.2, (p.1, back, p.3, h, refl), split), refl));
         nested = λ c le. omega (arith, ap nesting (appended b.result b.body c), nests b.result b.body c, t.nested);
         used = λ c. omega (arith, ap code_size (appended b.result b.body c), sizes b.result b.body c, t.used);
       } in
       subst (λ (x : List ℕ). IsStep deep op left bytes i x) parts.1 (subst (λ (x : Step). IsStep deep op left bytes x s.0.1) parts.0 whole)
 
-  two_bodies_step : (left : ℕ) (bytes : List ℕ) (i : Step) (rest : List ℕ) → as_if (conditional_at inner left bytes) ≡ Some (i, rest) → IsStep deep 0x04 left bytes i rest
+  two_bodies_step : (left : ℕ) (bytes : List ℕ) (i : Step) (rest : List ℕ) → as_if (conditional_at inner left bytes) ≡ Some (i, rest) →
+      IsStep deep 0x04 left bytes i rest
   two_bodies_step left bytes i rest e =
       let step = λ (b : TwoBodies). let made : Step = record { code = If b.result b.yes b.no End; left = b.left } in made in
       let s = bind_some (conditional_at inner left bytes) (λ b. Some (step b.0, b.1)) (i, rest) e in
@@ -210,9 +221,11 @@ module _ (deep : ℕ) (inner : Inner) (takes : TakesBody deep inner) where
       let from_if = cond (eqb op 0x04) (as_if (conditional_at inner left bytes)) as_plain in
       let from_loop = cond (eqb op 0x03) (as_block Loop (block_at inner left bytes)) from_if in
       either (eqb op 0x02) (as_block Block (block_at inner left bytes)) from_loop (i, rest) (P op)
-      (λ y b. subst P (sym (eqb-true op 0x02 y)) (one_body_step 0x02 left Block (λ t b c. refl) (λ t b c last text h. h) (λ t b c. refl) (λ t b c. refl) bytes i rest b))
+      (λ y b. subst P (sym (eqb-true op 0x02 y))
+      (one_body_step 0x02 left Block (λ t b c. refl) (λ t b c last text h. h) (λ t b c. refl) (λ t b c. refl) bytes i rest b))
       (λ _ more. either (eqb op 0x03) (as_block Loop (block_at inner left bytes)) from_if (i, rest) (P op)
-      (λ y b. subst P (sym (eqb-true op 0x03 y)) (one_body_step 0x03 left Loop (λ t b c. refl) (λ t b c last text h. h) (λ t b c. refl) (λ t b c. refl) bytes i rest b))
+      (λ y b. subst P (sym (eqb-true op 0x03 y))
+      (one_body_step 0x03 left Loop (λ t b c. refl) (λ t b c last text h. h) (λ t b c. refl) (λ t b c. refl) bytes i rest b))
       (λ _ more. either (eqb op 0x04) (as_if (conditional_at inner left bytes)) as_plain (i, rest) (P op)
       (λ y b. subst P (sym (eqb-true op 0x04 y)) (two_bodies_step left bytes i rest b))
       (λ _ p. plain_step op left bytes i rest p)
@@ -220,7 +233,8 @@ module _ (deep : ℕ) (inner : Inner) (takes : TakesBody deep inner) where
       more)
       e
 
-  code_takes : (n left : ℕ) (bytes : List ℕ) (r : Instructions) (rest : List ℕ) → code_at (step_at inner) n left bytes ≡ Some (r, rest) → IsBody (suc deep) left bytes r rest
+  code_takes : (n left : ℕ) (bytes : List ℕ) (r : Instructions) (rest : List ℕ) → code_at (step_at inner) n left bytes ≡ Some (r, rest) →
+      IsBody (suc deep) left bytes r rest
   unfolding code_at
   code_takes zero left bytes r rest e = absurd cc
   code_takes (suc n) left [] r rest e = absurd cc
@@ -239,7 +253,8 @@ module _ (deep : ℕ) (inner : Inner) (takes : TakesBody deep inner) where
         spelled = refl;
         split = refl;
       } in
-      subst (λ (x : List ℕ). IsBody (suc deep) left (op ∷ bytes) r x) parts.1 (subst (λ (x : Instructions). IsBody (suc deep) left (op ∷ bytes) x bytes) parts.0 whole))
+      subst (λ (x : List ℕ). IsBody (suc deep) left (op ∷ bytes) r x) parts.1
+      (subst (λ (x : Instructions). IsBody (suc deep) left (op ∷ bytes) x bytes) parts.0 whole))
       (λ _ goes_on.
       let g = refused_past (eqb left 0) (step_at inner op (left - 1) bytes >>= next) (r, rest) goes_on in
       let s = bind_some (step_at inner op (left - 1) bytes) next (r, rest) g.1 in
@@ -259,7 +274,8 @@ module _ (deep : ℕ) (inner : Inner) (takes : TakesBody deep inner) where
         spelled = one.spelled c.code c.last two.text two.spelled;
         split = ap (λ (x : List ℕ). op ∷ x) (one.split ∙ ap (λ (x : List ℕ). one.text ++ x) two.split ∙ sym (append_assoc one.text two.text v.0.1));
       } in
-      subst (λ (x : List ℕ). IsBody (suc deep) left (op ∷ bytes) r x) parts.1 (subst (λ (x : Instructions). IsBody (suc deep) left (op ∷ bytes) x v.0.1) parts.0 whole))
+      subst (λ (x : List ℕ). IsBody (suc deep) left (op ∷ bytes) r x) parts.1
+      (subst (λ (x : Instructions). IsBody (suc deep) left (op ∷ bytes) x v.0.1) parts.0 whole))
       e
     where
       some_left : (left : ℕ) → eqb left 0 ≡ false → 0 < left
@@ -270,5 +286,6 @@ pub below_takes : (d : ℕ) → TakesBody d (below d)
 below_takes zero left bytes r rest e = absurd cc
 below_takes (suc d) left bytes r rest e = code_takes d (below d) (below_takes d) (suc left) left bytes r rest (sym (body_is d left bytes) ∙ e)
 
-pub closed_body : (d left : ℕ) (bytes : List ℕ) (s : Step) (rest : List ℕ) → closed_at (body_at d) left bytes ≡ Some (s, rest) → IsBody (suc d) left bytes (record { code = s.code; last = 0x0b; left = s.left }) rest
+pub closed_body : (d left : ℕ) (bytes : List ℕ) (s : Step) (rest : List ℕ) → closed_at (body_at d) left bytes ≡ Some (s, rest) →
+    IsBody (suc d) left bytes (record { code = s.code; last = 0x0b; left = s.left }) rest
 closed_body d = closed_takes (suc d) (body_at d) (below_takes (suc d))

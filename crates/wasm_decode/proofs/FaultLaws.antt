@@ -9,7 +9,8 @@ use Rattle.wasm_bytes.specs.Stands.{Spans, Says as BytesSay}
 use Rattle.wasm_decode.specs.declared.fault.DecodeFault.{DecodeFault}
 use Rattle.wasm_decode.specs.declared.fault.DecodeFault.TheVariants.{Memory, Malformed}
 use Rattle.wasm_decode.specs.declared.fault.FaultKind.{FaultKind}
-use Rattle.wasm_decode.specs.declared.fault.FaultKind.TheVariants.{Magic, Version, EndedEarly, BadNumber, SectionOrder, Length, Opcode, TypeByte, NotUtf8, Float, Limit, CountsDiffer, StartSection}
+use Rattle.wasm_decode.specs.declared.fault.FaultKind.TheVariants.{Magic, Version, EndedEarly, BadNumber, SectionOrder, Length, Opcode, TypeByte, NotUtf8}
+use Rattle.wasm_decode.specs.declared.fault.FaultKind.TheVariants.{Float, Limit, CountsDiffer, StartSection}
 use Rattle.wasm_decode.specs.FaultNumbers.{kind_of}
 use Rattle.wasm_decode.specs.Faults.{HasByte, PartEnds, IsReserved, Stands, Says}
 use Rattle.grammar.specs.Table.{row_at}
@@ -24,10 +25,12 @@ pub has_byte : (P : ℕ → Type 0) (bytes : List ℕ) (offset b : ℕ) → slic
 has_byte P bytes offset b e h = subst (λ o. MatchOption o ⊥ P) (sym e) h
 
 -- a part whose length stands at a place, and ends before that of its content
-pub part_ends : (p mid content : Place) (n : ℕ) → Spans IsU32 n p.whole (offset_of p) (offset_of mid) → content.end ≡ offset_of mid + n → content.end ≤ length p.whole → PartEnds p.whole content.end
+pub part_ends : (p mid content : Place) (n : ℕ) → Spans IsU32 n p.whole (offset_of p) (offset_of mid) → content.end ≡ offset_of mid + n →
+    content.end ≤ length p.whole → PartEnds p.whole content.end
 part_ends p mid content n spans e le = (offset_of p, le, (n, offset_of mid, spans, e))
 
-stands_in_part : (kind : FaultKind) (offset inner end : ℕ) (bytes : List ℕ) → PartEnds bytes inner → Stands kind offset inner bytes → Stands kind offset end bytes
+stands_in_part : (kind : FaultKind) (offset inner end : ℕ) (bytes : List ℕ) → PartEnds bytes inner → Stands kind offset inner bytes →
+    Stands kind offset end bytes
 stands_in_part EndedEarly offset inner end bytes part (inl e) = inr (subst (PartEnds bytes) (sym e) part)
 stands_in_part EndedEarly offset inner end bytes part (inr h) = inr h
 stands_in_part Magic offset inner end bytes part h = h
@@ -44,7 +47,8 @@ stands_in_part CountsDiffer offset inner end bytes part h = h
 stands_in_part StartSection offset inner end bytes part h = h
 
 -- a fault in the content of a part
-pub in_part : (e : DecodeFault) (content p : Place) → content.whole ≡ p.whole → PartEnds p.whole content.end → Says e content.end content.whole → Says e p.end p.whole
+pub in_part : (e : DecodeFault) (content p : Place) → content.whole ≡ p.whole → PartEnds p.whole content.end → Says e content.end content.whole →
+    Says e p.end p.whole
 in_part Memory content p same part h = tt
 in_part (Malformed kind offset) content p same part h =
     stands_in_part kind offset content.end p.end p.whole part (subst (Stands kind offset content.end) same h)
@@ -62,7 +66,8 @@ pub no_operator : (b : ℕ) → None ≡ option_map alone (row_at operator_rows 
 no_operator b e = none_mapped alone (row_at operator_rows b) e
 
 -- a byte that is in no table of opcodes
-pub unlisted : (b : ℕ) → row_at operator_rows b ≡ None → row_at load_rows b ≡ None → row_at store_rows b ≡ None → row_at other_rows b ≡ None → row_at opcodes b ≡ None
+pub unlisted : (b : ℕ) → row_at operator_rows b ≡ None → row_at load_rows b ≡ None → row_at store_rows b ≡ None → row_at other_rows b ≡ None →
+    row_at opcodes b ≡ None
 unfolding opcodes
 unlisted b operator load store other =
     let access_load : LoadOp → Form = λ o. access (load_of o) in
@@ -71,19 +76,24 @@ unlisted b operator load store other =
     let second = row_at-map access_load load_rows b ∙ ap (option_map access_load) load in
     let third = row_at-map access_store store_rows b ∙ ap (option_map access_store) store in
     let last = row_at-append (with_form access_store store_rows) other_rows b ∙ ap (λ o. first_of o (row_at other_rows b)) third ∙ other in
-    let rest = row_at-append (with_form access_load load_rows) (with_form access_store store_rows ++ other_rows) b ∙ ap (λ o. first_of o (row_at (with_form access_store store_rows ++ other_rows) b)) second ∙ last in
-    row_at-append (with_form bare operator_rows) (with_form access_load load_rows ++ (with_form access_store store_rows ++ other_rows)) b ∙ ap (λ o. first_of o (row_at (with_form access_load load_rows ++ (with_form access_store store_rows ++ other_rows)) b)) first ∙ rest
+    let rest = row_at-append (with_form access_load load_rows) (with_form access_store store_rows ++ other_rows) b ∙
+    ap (λ o. first_of o (row_at (with_form access_store store_rows ++ other_rows) b)) second ∙ last in
+    row_at-append (with_form bare operator_rows) (with_form access_load load_rows ++ (with_form access_store store_rows ++ other_rows)) b ∙
+    ap (λ o. first_of o (row_at (with_form access_load load_rows ++ (with_form access_store store_rows ++ other_rows)) b)) first ∙ rest
 
 pub else_unlisted : row_at opcodes 0x05 ≡ None
 unfolding opcodes operator_rows comparison_rows arithmetic_32_rows arithmetic_64_rows conversion_rows load_rows store_rows other_rows
 else_unlisted = refl
 
 -- behind the index of a `call_indirect`
-pub behind_index : (old mid : Place) (n start : ℕ) → HasByte (λ o. o ≡ 0x11) old.whole start → offset_of old ≡ start + 1 → Spans IsU32 n old.whole (offset_of old) (offset_of mid) → mid.whole ≡ old.whole → IsReserved mid.whole (offset_of mid)
+pub behind_index : (old mid : Place) (n start : ℕ) → HasByte (λ o. o ≡ 0x11) old.whole start → offset_of old ≡ start + 1 →
+    Spans IsU32 n old.whole (offset_of old) (offset_of mid) → mid.whole ≡ old.whole → IsReserved mid.whole (offset_of mid)
 behind_index old mid n start op at spans same =
-    subst (λ bytes. IsReserved bytes (offset_of mid)) (sym same) (start, inr (op, (n, offset_of mid, subst (λ k. Spans IsU32 n old.whole k (offset_of mid)) at spans, refl)))
+    subst (λ bytes. IsReserved bytes (offset_of mid)) (sym same)
+    (start, inr (op, (n, offset_of mid, subst (λ k. Spans IsU32 n old.whole k (offset_of mid)) at spans, refl)))
 
 -- behind `memory.size` or `memory.grow`
-pub behind_opcode : (p : Place) (byte offset : ℕ) → slice_get p.whole offset ≡ Some byte → 0x3f ≤ byte → byte ≤ 0x40 → offset_of p ≡ offset + 1 → IsReserved p.whole (offset_of p)
+pub behind_opcode : (p : Place) (byte offset : ℕ) → slice_get p.whole offset ≡ Some byte → 0x3f ≤ byte → byte ≤ 0x40 → offset_of p ≡ offset + 1 →
+    IsReserved p.whole (offset_of p)
 behind_opcode p byte offset here least most behind =
     (offset, inl (has_byte (λ o. (0x3f ≤ o) × (o ≤ 0x40)) p.whole offset byte here (least, most), behind))

@@ -1,5 +1,6 @@
 -- The module that is read is spelled so, and each that is spelled is read.
-use Rattle.std.proofs.Common.{◌≡◌, ℕ, zero, suc, ◌+◌, ◌-◌, ◌<◌, ◌≤◌, false, cond, eqb, ltb, List, [], ◌∷◌, ◌++◌, length, Some, None, refl, sym, ap, subst, ◌∙◌, arith}
+use Rattle.std.proofs.Common.{◌≡◌, ℕ, zero, suc, ◌+◌, ◌-◌, ◌<◌, ◌≤◌, false, cond, eqb, ltb, List, [], ◌∷◌, ◌++◌, length, Some, None, refl, sym, ap, subst, ◌∙◌}
+use Rattle.std.proofs.Common.{arith}
 use Rattle.std.proofs.lemmas.Bool.{eqb-true, eq-eqb, ltb-true, ltb-false, lt-ltb, le-ltb}
 use Rattle.std.proofs.lemmas.Option.{some_pair_parts, cond_some, same_Some}
 use Rattle.std.proofs.lemmas.List.{length-append}
@@ -45,13 +46,15 @@ abbrev Adds : ℕ → Parts → Section → ℕ → Parts → Type 0
 Adds last p (custom content) id new = (name text rest : List ℕ) × IsName name text × (content ≡ text ++ rest) × (last ≡ id) × (p ≡ new)
 Adds last p (known b k content) id new = HasRow section_rows b k × (last < b) × Fills k p new content × (b ≡ id)
 
-builds : (last : ℕ) (p : Parts) (s : Section) (id : ℕ) (new : Parts) (ss : List Section) (end : Parts) → Adds last p s id new → Builds id new ss end → Builds last p (s ∷ ss) end
+builds : (last : ℕ) (p : Parts) (s : Section) (id : ℕ) (new : Parts) (ss : List Section) (end : Parts) → Adds last p s id new → Builds id new ss end →
+    Builds last p (s ∷ ss) end
 builds last p (custom content) id new ss end a b =
     let at_id = subst (λ (i : ℕ). Builds i new ss end) (sym a.5) b in
     (a.0, a.1, a.2, a.3, a.4, subst (λ (q : Parts). Builds last q ss end) (sym a.6) at_id)
 builds last p (known c k content) id new ss end a b = (new, a.0, a.1, a.2, subst (λ (i : ℕ). Builds i new ss end) (sym a.3) b)
 
-adds : (last : ℕ) (p : Parts) (s : Section) (ss : List Section) (end : Parts) → Builds last p (s ∷ ss) end → (id : ℕ) × (new : Parts) × Adds last p s id new × Builds id new ss end
+adds : (last : ℕ) (p : Parts) (s : Section) (ss : List Section) (end : Parts) → Builds last p (s ∷ ss) end →
+    (id : ℕ) × (new : Parts) × Adds last p s id new × Builds id new ss end
 adds last p (custom content) ss end b = (last, p, (b.0, b.1, b.2, b.3, b.4, refl, refl), b.5)
 adds last p (known c k content) ss end b = (c, b.0, (b.1, b.2, b.3, refl), b.4)
 
@@ -63,7 +66,8 @@ record IsNext (last : ℕ) (p : Parts) (bytes : List ℕ) (id : ℕ) (new : Part
   split : bytes ≡ text ++ rest
   added : Adds last p section id new
 
-section_takes : (last : ℕ) (p : Parts) (bytes : List ℕ) (id : ℕ) (new : Parts) (rest : List ℕ) → section_at last p bytes ≡ Some ((id, new), rest) → IsNext last p bytes id new rest
+section_takes : (last : ℕ) (p : Parts) (bytes : List ℕ) (id : ℕ) (new : Parts) (rest : List ℕ) → section_at last p bytes ≡ Some ((id, new), rest) →
+    IsNext last p bytes id new rest
 unfolding section_at
 section_takes last p [] id new rest e = absurd cc
 section_takes last p (b ∷ bytes) id new rest e =
@@ -102,23 +106,37 @@ section_takes last p (b ∷ bytes) id new rest e =
     })
     e
 
-section_again : (last : ℕ) (p : Parts) (s : Section) (text : List ℕ) (id : ℕ) (new : Parts) (rest : List ℕ) → IsOne s text → Adds last p s id new → (0 < length text) × (section_at last p (text ++ rest) ≡ Some ((id, new), rest))
+section_again : (last : ℕ) (p : Parts) (s : Section) (text : List ℕ) (id : ℕ) (new : Parts) (rest : List ℕ) → IsOne s text → Adds last p s id new →
+    (0 < length text) × (section_at last p (text ++ rest) ≡ Some ((id, new), rest))
 unfolding section_at
 section_again last p (custom content) text id new rest h a =
     let c = h.3 in
     let sized = subst (λ (x : List ℕ). (IsU32 (length x) ⟫ IsText x) h.1) c.1 c.2 in
     let whole : text ≡ 0 ∷ h.1 = h.4 ∙ ap (λ (x : List ℕ). x ++ h.1) h.2 in
-    let named : custom_at content ≡ Some tt = ap custom_at a.4 ∙ rw (name_reads.again a.0 a.1 a.2 tt a.3) refl in
-    (rw whole (omega arith), ap (λ (x : List ℕ). section_at last p (x ++ rest)) whole ∙ rw (measured_again IsU32 u32_at u32_reads custom_at content h.1 rest tt named sized, a.5, a.6) refl)
+    let named : custom_at content ≡ Some tt = ap custom_at a.4 ∙ rw (name_reads.again a.0 a.1 a.2 tt a.3) refl in (
+      rw whole (omega arith),
+      ap (λ (x : List ℕ). section_at last p (x ++ rest)) whole ∙
+          rw (measured_again IsU32 u32_at u32_reads custom_at content h.1 rest tt named sized, a.5, a.6) refl,
+    )
 section_again last p (known b k content) text id new rest h a =
     let c = h.3 in
     let sized = subst (λ (x : List ℕ). (IsU32 (length x) ⟫ IsText x) h.1) c.1 c.2 in
     let whole : text ≡ b ∷ h.1 = h.4 ∙ ap (λ (x : List ℕ). x ++ h.1) h.2 in
     let found = row_found section_rows b k refl a.0 in
-    let filled = whole_again (Fills k p) (fill_at k p) (fill_reads k p) content new a.2 in
-    (rw whole (omega arith), ap (λ (x : List ℕ). section_at last p (x ++ rest)) whole ∙ rw (row_is_not section_rows b 0 k refl found, found, lt-ltb last b a.1, measured_again IsU32 u32_at u32_reads (whole_at (fill_at k p)) content h.1 rest new filled sized, a.3) refl)
+    let filled = whole_again (Fills k p) (fill_at k p) (fill_reads k p) content new a.2 in (
+      rw whole (omega arith),
+      ap (λ (x : List ℕ). section_at last p (x ++ rest)) whole ∙
+          rw (
+            row_is_not section_rows b 0 k refl found,
+            found,
+            lt-ltb last b a.1,
+            measured_again IsU32 u32_at u32_reads (whole_at (fill_at k p)) content h.1 rest new filled sized,
+            a.3,
+          ) refl,
+    )
 
-sections_take : (n last : ℕ) (p : Parts) (bytes : List ℕ) (end : Parts) → sections_at n last p bytes ≡ Some end → (ss : List Section) × Repeats IsOne ss bytes × Builds last p ss end
+sections_take : (n last : ℕ) (p : Parts) (bytes : List ℕ) (end : Parts) → sections_at n last p bytes ≡ Some end →
+    (ss : List Section) × Repeats IsOne ss bytes × Builds last p ss end
 unfolding sections_at
 sections_take zero last p [] end e = ([], refl, same_Some p end e)
 sections_take zero last p (b ∷ bytes) end e = absurd cc
@@ -129,7 +147,8 @@ sections_take (suc n) last p (b ∷ bytes) end e =
     let i = sections_take n s.0.0.0 s.0.0.1 s.0.1 end s.2 in
     (t.section ∷ i.0, (t.text, s.0.1, t.spelled, i.1, t.split), builds last p t.section s.0.0.0 s.0.0.1 i.0 end t.added i.2)
 
-sections_again : (ss : List Section) (n last : ℕ) (p : Parts) (bytes : List ℕ) (end : Parts) → Repeats IsOne ss bytes → Builds last p ss end → length bytes ≤ n → sections_at n last p bytes ≡ Some end
+sections_again : (ss : List Section) (n last : ℕ) (p : Parts) (bytes : List ℕ) (end : Parts) → Repeats IsOne ss bytes → Builds last p ss end →
+    length bytes ≤ n → sections_at n last p bytes ≡ Some end
 sections_again [] n last p bytes end h b le = all_read n last p bytes h ∙ ap (λ (x : Parts). Some x) b
 sections_again (s ∷ ss) n last p bytes end h b le =
     let a = adds last p s ss end b in
@@ -170,4 +189,10 @@ module_read bytes m le h =
     let short : ltb 262144 (length bytes) ≡ false = le-ltb 262144 (length bytes) le in
     let whole : bytes ≡ f.0 ++ h.text = f.4 ∙ ap (λ (x : List ℕ). f.0 ++ x) f.3 in
     let header : text_at header_bytes bytes ≡ Some (tt, h.text) = ap (text_at header_bytes) whole ∙ (text_reads header_bytes).again tt f.0 h.text tt f.2 in
-    rw (short, header, sections_again h.sections (length h.text) 0 no_parts h.text (record { type_indices = h.type_indices; «module» = m }) h.spelled h.builds (omega arith), eq-eqb _ _ h.counted) refl
+    rw (
+      short,
+      header,
+      sections_again h.sections (length h.text) 0 no_parts h.text (record { type_indices = h.type_indices; «module» = m }) h.spelled h.builds
+          (omega arith),
+      eq-eqb _ _ h.counted,
+    ) refl

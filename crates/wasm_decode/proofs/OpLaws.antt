@@ -18,7 +18,9 @@ use Rattle.wasm_ast.specs.declared.body.MemoryArgument.{MemoryArgument}
 use Rattle.wasm_ast.specs.Op.{Op, CallIndirect}
 use Rattle.wasm_ast.specs.Code.{Code, Do, End}
 use Rattle.wasm_decode.specs.Operators.{load_rows, store_rows, comparison_rows, arithmetic_32_rows, arithmetic_64_rows, conversion_rows, operator_rows}
-use Rattle.wasm_decode.specs.Opcodes.{Form, bare, indexed, labelled, indirect, reserved, access, constant_32, constant_64, other_rows, with_form, opcodes, load_of, store_of, constant_32_of, constant_64_of, branch_table_of, IsBranchTable, IsMemoryArgument, IsReservedIndex, IsAfter, IsOp}
+use Rattle.wasm_decode.specs.Opcodes.{Form, bare, indexed, labelled, indirect, reserved, access, constant_32, constant_64, other_rows, with_form, opcodes}
+use Rattle.wasm_decode.specs.Opcodes.{load_of, store_of, constant_32_of, constant_64_of, branch_table_of, IsBranchTable, IsMemoryArgument, IsReservedIndex}
+use Rattle.wasm_decode.specs.Opcodes.{IsAfter, IsOp}
 use Rattle.wasm_decode.specs.OpReading.{alone, reserved_at, branch_table_at, argument_at, reserved_index_at, op_after, other_at, or_else, plain_at}
 use Rattle.wasm_decode.specs.CodeReading.{is_last}
 use Rattle.wasm_decode.proofs.TypeLaws.{u32_reads, list_reads}
@@ -27,14 +29,18 @@ use Rattle.wasm_decode.proofs.Rows.{first_of, row_at-append, row_at-map}
 branch_table_reads : Reads IsBranchTable branch_table_at
 unfolding branch_table_at
 branch_table_reads =
-    then_reads Any (IsList 1024 IsU32) (list_at 1024 u32_at) (λ (t : List ℕ × ℕ). t.0) (λ t. IsU32 t.1) (λ ls bytes. u32_at bytes >>= λ d. Some ((ls, d.0), d.1)) (list_reads 1024 IsU32 u32_at u32_reads)
-    (λ ls. last_reads (λ (t : List ℕ × ℕ). Any t × (t.0 ≡ ls)) IsU32 u32_at (λ t. t.1) (λ d. (ls, d)) u32_reads (λ d. ((tt, refl), refl)) (λ t k. ap (λ (ls : List ℕ). let made : List ℕ × ℕ = (ls, t.1) in made) (sym k.1)))
+    then_reads Any (IsList 1024 IsU32) (list_at 1024 u32_at) (λ (t : List ℕ × ℕ). t.0) (λ t. IsU32 t.1)
+    (λ ls bytes. u32_at bytes >>= λ d. Some ((ls, d.0), d.1)) (list_reads 1024 IsU32 u32_at u32_reads)
+    (λ ls. last_reads (λ (t : List ℕ × ℕ). Any t × (t.0 ≡ ls)) IsU32 u32_at (λ t. t.1) (λ d. (ls, d)) u32_reads (λ d. ((tt, refl), refl))
+    (λ t k. ap (λ (ls : List ℕ). let made : List ℕ × ℕ = (ls, t.1) in made) (sym k.1)))
 
 argument_reads : Reads IsMemoryArgument argument_at
 unfolding argument_at
 argument_reads =
-    then_reads Any IsU32 u32_at (λ (a : MemoryArgument). a.align) (λ a. IsU32 a.offset) (λ align bytes. u32_at bytes >>= λ offset. Some (record { align = align; offset = offset.0 }, offset.1)) u32_reads
-    (λ align. last_reads (λ (a : MemoryArgument). Any a × (a.align ≡ align)) IsU32 u32_at (λ a. a.offset) (λ offset. record { align = align; offset = offset }) u32_reads (λ offset. ((tt, refl), refl))
+    then_reads Any IsU32 u32_at (λ (a : MemoryArgument). a.align) (λ a. IsU32 a.offset)
+    (λ align bytes. u32_at bytes >>= λ offset. Some (record { align = align; offset = offset.0 }, offset.1)) u32_reads
+    (λ align. last_reads (λ (a : MemoryArgument). Any a × (a.align ≡ align)) IsU32 u32_at (λ a. a.offset) (λ offset. record { align = align; offset = offset })
+    u32_reads (λ offset. ((tt, refl), refl))
     (λ a k. ap (λ (align : ℕ). let made : MemoryArgument = record { align = align; offset = a.offset } in made) (sym k.1)))
 
 reserved_reads : Reads (λ (_ : Unit {0}). IsByte 0x00) reserved_at
@@ -81,25 +87,35 @@ made_alone make (Some a) = refl
 made_alone make None = refl
 
 by_groups : (o : Option Op) (l : Option LoadOp) (s : Option StoreOp) (f : Option Form) (bytes : List ℕ)
-    → or_else (option_map alone o) (λ c. Some (c, bytes)) (or_else l (λ o. argument_at bytes >>= λ a. Some (alone (load_of o a.0), a.1)) (or_else s (λ o. argument_at bytes >>= λ a. Some (alone (store_of o a.0), a.1)) (f >>= λ f. op_read f bytes)))
-    ≡ (first_of (option_map bare o) (first_of (option_map (λ o. access (load_of o)) l) (first_of (option_map (λ o. access (store_of o)) s) f)) >>= λ f. op_read f bytes)
+    → or_else (option_map alone o) (λ c. Some (c, bytes))
+    (or_else l (λ o. argument_at bytes >>= λ a. Some (alone (load_of o a.0), a.1))
+    (or_else s (λ o. argument_at bytes >>= λ a. Some (alone (store_of o a.0), a.1)) (f >>= λ f. op_read f bytes)))
+    ≡ (first_of (option_map bare o) (first_of (option_map (λ o. access (load_of o)) l) (first_of (option_map (λ o. access (store_of o)) s) f)) >>= λ f.
+    op_read f bytes)
 by_groups (Some o) l s f bytes = refl
 by_groups None (Some o) s f bytes = made_alone (load_of o) (argument_at bytes)
 by_groups None None (Some o) f bytes = made_alone (store_of o) (argument_at bytes)
 by_groups None None None f bytes = refl
 
-in_groups : (op : ℕ) → row_at opcodes op ≡ first_of (option_map bare (row_at operator_rows op)) (first_of (option_map (λ o. access (load_of o)) (row_at load_rows op)) (first_of (option_map (λ o. access (store_of o)) (row_at store_rows op)) (row_at other_rows op)))
+in_groups : (op : ℕ) →
+    row_at opcodes op ≡ first_of (option_map bare (row_at operator_rows op))
+    (first_of (option_map (λ o. access (load_of o)) (row_at load_rows op))
+    (first_of (option_map (λ o. access (store_of o)) (row_at store_rows op)) (row_at other_rows op)))
 unfolding opcodes
 in_groups op =
     let loads = with_form (λ o. access (load_of o)) load_rows in
     let stores = with_form (λ o. access (store_of o)) store_rows in
     row_at-append (with_form bare operator_rows) (loads ++ (stores ++ other_rows)) op
-    ∙ ap₂ first_of (row_at-map bare operator_rows op) (row_at-append loads (stores ++ other_rows) op ∙ ap₂ first_of (row_at-map (λ o. access (load_of o)) load_rows op) (row_at-append stores other_rows op ∙ ap (λ o. first_of o (row_at other_rows op)) (row_at-map (λ o. access (store_of o)) store_rows op)))
+    ∙ ap₂ first_of (row_at-map bare operator_rows op)
+    (row_at-append loads (stores ++ other_rows) op ∙
+    ap₂ first_of (row_at-map (λ o. access (load_of o)) load_rows op)
+    (row_at-append stores other_rows op ∙ ap (λ o. first_of o (row_at other_rows op)) (row_at-map (λ o. access (store_of o)) store_rows op)))
 
 plain_by_row : (op : ℕ) (bytes : List ℕ) → plain_at op bytes ≡ (row_at opcodes op >>= λ f. op_read f bytes)
 unfolding plain_at other_at
 plain_by_row op bytes =
-    by_groups (row_at operator_rows op) (row_at load_rows op) (row_at store_rows op) (row_at other_rows op) bytes ∙ ap (λ (f : Option Form). f >>= λ f. op_read f bytes) (sym (in_groups op))
+    by_groups (row_at operator_rows op) (row_at load_rows op) (row_at store_rows op) (row_at other_rows op) bytes ∙
+    ap (λ (f : Option Form). f >>= λ f. op_read f bytes) (sym (in_groups op))
 
 -- What was read is spelled by the opcode and what was taken.
 pub record IsPlain (op : ℕ) (bytes : List ℕ) (c : Code) (rest : List ℕ) : Type 0 where
@@ -140,7 +156,8 @@ unfolding opcodes other_rows operator_rows load_rows store_rows comparison_rows 
 opcodes_unique = refl
 
 -- opcodes that open or end a block are in no row
-absent : (row_at opcodes 0x0b ≡ None) × (row_at opcodes 0x05 ≡ None) × (row_at opcodes 0x02 ≡ None) × (row_at opcodes 0x03 ≡ None) × (row_at opcodes 0x04 ≡ None)
+absent : (row_at opcodes 0x0b ≡ None) × (row_at opcodes 0x05 ≡ None) × (row_at opcodes 0x02 ≡ None) × (row_at opcodes 0x03 ≡ None) ×
+    (row_at opcodes 0x04 ≡ None)
 unfolding opcodes other_rows operator_rows load_rows store_rows comparison_rows arithmetic_32_rows arithmetic_64_rows conversion_rows
 absent = (refl, refl, refl, refl, refl)
 

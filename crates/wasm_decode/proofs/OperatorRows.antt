@@ -12,19 +12,24 @@ module _ (b : ℕ) where
   unfolding operator_rows
   is_comparison c h = in_first alone comparison_rows (arithmetic_32_rows ++ (arithmetic_64_rows ++ conversion_rows)) b c h
 
-  pub no_comparison : None ≡ option_map alone (row_at comparison_rows b) → option_map alone (row_at (arithmetic_32_rows ++ (arithmetic_64_rows ++ conversion_rows)) b) ≡ option_map alone (row_at operator_rows b)
+  pub no_comparison : None ≡ option_map alone (row_at comparison_rows b) →
+      option_map alone (row_at (arithmetic_32_rows ++ (arithmetic_64_rows ++ conversion_rows)) b) ≡ option_map alone (row_at operator_rows b)
   unfolding operator_rows
   no_comparison h = in_others alone comparison_rows (arithmetic_32_rows ++ (arithmetic_64_rows ++ conversion_rows)) b h
 
-  pub is_of_32 : (c : Code) → None ≡ option_map alone (row_at comparison_rows b) → Some c ≡ option_map alone (row_at arithmetic_32_rows b) → Some c ≡ option_map alone (row_at operator_rows b)
+  pub is_of_32 : (c : Code) → None ≡ option_map alone (row_at comparison_rows b) → Some c ≡ option_map alone (row_at arithmetic_32_rows b) →
+      Some c ≡ option_map alone (row_at operator_rows b)
   is_of_32 c first h = in_first alone arithmetic_32_rows (arithmetic_64_rows ++ conversion_rows) b c h ∙ no_comparison first
 
-  pub none_of_32 : None ≡ option_map alone (row_at comparison_rows b) → None ≡ option_map alone (row_at arithmetic_32_rows b) → option_map alone (row_at (arithmetic_64_rows ++ conversion_rows) b) ≡ option_map alone (row_at operator_rows b)
+  pub none_of_32 : None ≡ option_map alone (row_at comparison_rows b) → None ≡ option_map alone (row_at arithmetic_32_rows b) →
+      option_map alone (row_at (arithmetic_64_rows ++ conversion_rows) b) ≡ option_map alone (row_at operator_rows b)
   none_of_32 first h = in_others alone arithmetic_32_rows (arithmetic_64_rows ++ conversion_rows) b h ∙ no_comparison first
 
-  pub is_of_64 : (c : Code) → None ≡ option_map alone (row_at comparison_rows b) → None ≡ option_map alone (row_at arithmetic_32_rows b) → Some c ≡ option_map alone (row_at arithmetic_64_rows b) → Some c ≡ option_map alone (row_at operator_rows b)
+  pub is_of_64 : (c : Code) → None ≡ option_map alone (row_at comparison_rows b) → None ≡ option_map alone (row_at arithmetic_32_rows b) →
+      Some c ≡ option_map alone (row_at arithmetic_64_rows b) → Some c ≡ option_map alone (row_at operator_rows b)
   is_of_64 c first second h = in_first alone arithmetic_64_rows conversion_rows b c h ∙ none_of_32 first second
 
-  pub is_conversion : None ≡ option_map alone (row_at comparison_rows b) → None ≡ option_map alone (row_at arithmetic_32_rows b) → None ≡ option_map alone (row_at arithmetic_64_rows b)
+  pub is_conversion : None ≡ option_map alone (row_at comparison_rows b) → None ≡ option_map alone (row_at arithmetic_32_rows b) →
+      None ≡ option_map alone (row_at arithmetic_64_rows b)
       → option_map alone (row_at conversion_rows b) ≡ option_map alone (row_at operator_rows b)
   is_conversion first second h = in_others alone arithmetic_64_rows conversion_rows b h ∙ none_of_32 first second

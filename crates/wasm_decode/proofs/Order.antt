@@ -88,7 +88,8 @@ pub record IsTail (rows : Rows) (end p : Parts) (text : List ℕ) : Type 0 where
   pub rest : Rest rows end p back
   pub split : text ≡ front ++ back
 
-stepped : (rows : Rows) (last id : ℕ) (k : Kind) (p next end : Parts) (text back : List ℕ) → HasRow rows id k → last < id → Ascends 0 rows → IsSection id (Fills k p next) text → IsTail (above id rows) end next back → Rest (above last rows) end p (text ++ back)
+stepped : (rows : Rows) (last id : ℕ) (k : Kind) (p next end : Parts) (text back : List ℕ) → HasRow rows id k → last < id → Ascends 0 rows →
+    IsSection id (Fills k p next) text → IsTail (above id rows) end next back → Rest (above last rows) end p (text ++ back)
 stepped [] last id k p next end text back h lt a s t = absurd h
 stepped (r ∷ rows) last id k p next end text back (inl h) lt a s t =
     let id_is : r.0 ≡ id = sym h.0 in
@@ -109,7 +110,9 @@ stepped (r ∷ rows) last id k p next end text back (inl h) lt a s t =
 stepped (r ∷ rows) last id k p next end text back (inr h) lt a s t =
     let over : r.0 < id = row_above r.0 rows id k a.1 h in
     let passed : above id (r ∷ rows) ≡ above id rows = rw (le-ltb id r.0 (omega (arith, over))) refl in
-    let after : Rest (above last rows) end p (text ++ back) = stepped rows last id k p next end text back h lt (ascends_from 0 r.0 rows (omega arith) a.1) s (subst (λ (rs : Rows). IsTail rs end next back) passed t) in
+    let after : Rest (above last rows) end p (text ++ back) =
+    stepped rows last id k p next end text back h lt (ascends_from 0 r.0 rows (omega arith) a.1) s (subst (λ (rs : Rows). IsTail rs end next back) passed t)
+    in
     elim (cases_lt last r.0) [
       | inl low ↦
           let all : above last rows ≡ rows = all_above last rows (ascends_from last r.0 rows (omega (arith, low)) a.1) in
@@ -127,30 +130,35 @@ custom_first rows end p name text back h t = record {
   split = ap (λ (x : List ℕ). text ++ x) t.split ∙ sym (append_assoc text t.front t.back);
 }
 
-pub in_order : (ss : List Section) (last : ℕ) (p end : Parts) (text : List ℕ) → Repeats IsOne ss text → Builds last p ss end → IsTail (above last section_rows) end p text
+pub in_order : (ss : List Section) (last : ℕ) (p end : Parts) (text : List ℕ) → Repeats IsOne ss text → Builds last p ss end →
+    IsTail (above last section_rows) end p text
 in_order [] last p end text h b = record {
   front = [];
   back = text;
   custom = no_customs;
-  rest = subst (λ (x : List ℕ). Rest (above last section_rows) end p x) (sym h) (subst (λ (e : Parts). Rest (above last section_rows) e p []) b (nothing_left (above last section_rows) p));
+  rest = subst (λ (x : List ℕ). Rest (above last section_rows) end p x) (sym h)
+      (subst (λ (e : Parts). Rest (above last section_rows) e p []) b (nothing_left (above last section_rows) p));
   split = refl;
 }
 in_order (custom content ∷ ss) last p end text h b =
     let tail = in_order ss last p end h.1 h.3 b.5 in
     let s = h.2 in
     let sized = s.3 in
-    let named : IsCustom b.0 h.0 = (s.0, s.1, s.2, (content, (b.1, b.2, b.3, tt, b.4), subst (λ (x : List ℕ). (IsU32 (length x) ⟫ IsText x) s.1) sized.1 sized.2), s.4) in
+    let named : IsCustom b.0 h.0 =
+    (s.0, s.1, s.2, (content, (b.1, b.2, b.3, tt, b.4), subst (λ (x : List ℕ). (IsU32 (length x) ⟫ IsText x) s.1) sized.1 sized.2), s.4) in
     subst (λ (x : List ℕ). IsTail (above last section_rows) end p x) (sym h.4) (custom_first (above last section_rows) end p b.0 h.0 h.1 named tail)
 in_order (known id k content ∷ ss) last p end text h b =
     let tail = in_order ss id b.0 end h.1 h.3 b.4 in
     let s = h.2 in
     let sized = s.3 in
-    let filled : IsSection id (Fills k p b.0) h.0 = (s.0, s.1, s.2, (content, b.3, subst (λ (x : List ℕ). (IsU32 (length x) ⟫ IsText x) s.1) sized.1 sized.2), s.4) in
+    let filled : IsSection id (Fills k p b.0) h.0 =
+    (s.0, s.1, s.2, (content, b.3, subst (λ (x : List ℕ). (IsU32 (length x) ⟫ IsText x) s.1) sized.1 sized.2), s.4) in
     record {
       front = [];
       back = text;
       custom = no_customs;
-      rest = subst (λ (x : List ℕ). Rest (above last section_rows) end p x) (sym h.4) (stepped section_rows last id k p b.0 end h.0 h.1 b.1 b.2 rows_ascend filled tail);
+      rest = subst (λ (x : List ℕ). Rest (above last section_rows) end p x) (sym h.4)
+          (stepped section_rows last id k p b.0 end h.0 h.1 b.1 b.2 rows_ascend filled tail);
       split = refl;
     }
 
@@ -161,7 +169,8 @@ pub record AreBuilt (last : ℕ) (p end : Parts) (text : List ℕ) : Type 0 wher
   pub spelled : Repeats IsOne sections text
   pub builds : Builds last p sections end
 
-after_customs : (names : List (List ℕ)) (last : ℕ) (p end : Parts) (front back : List ℕ) → Repeats IsCustom names front → AreBuilt last p end back → AreBuilt last p end (front ++ back)
+after_customs : (names : List (List ℕ)) (last : ℕ) (p end : Parts) (front back : List ℕ) → Repeats IsCustom names front → AreBuilt last p end back →
+    AreBuilt last p end (front ++ back)
 after_customs [] last p end front back h t = subst (λ (x : List ℕ). AreBuilt last p end (x ++ back)) (sym h) t
 after_customs (name ∷ names) last p end front back h t =
     let tail = after_customs names last p end h.1 back h.3 t in
@@ -174,7 +183,8 @@ after_customs (name ∷ names) last p end front back h t =
       builds = (name, n.0, n.1, n.2, n.4, tail.builds);
     }
 
-pub rows_built : (rows : Rows) (last : ℕ) (p end : Parts) (text : List ℕ) → Ascends last rows → ((id : ℕ) (k : Kind) → HasRow rows id k → HasRow section_rows id k) → Rest rows end p text → AreBuilt last p end text
+pub rows_built : (rows : Rows) (last : ℕ) (p end : Parts) (text : List ℕ) → Ascends last rows →
+    ((id : ℕ) (k : Kind) → HasRow rows id k → HasRow section_rows id k) → Rest rows end p text → AreBuilt last p end text
 rows_built [] last p end text a sub h = record { sections = []; spelled = h.1; builds = h.0 }
 rows_built (r ∷ rows) last p end text a sub h =
     let more = λ (id : ℕ) (k : Kind) (x : HasRow rows id k). sub id k (inr x) in
@@ -189,7 +199,8 @@ rows_built (r ∷ rows) last p end text a sub h =
             builds = (h.next, sub r.0 r.1 (inl (refl, refl)), a.0, c.1, tail.builds);
           }
       | inr e ↦
-          let tail = after_customs h.custom.0 last h.next end h.customs h.back h.custom.1 (rows_built rows last h.next end h.back (ascends_from last r.0 rows (omega (arith, a.0)) a.1) more h.more) in
+          let tail = after_customs h.custom.0 last h.next end h.customs h.back h.custom.1
+          (rows_built rows last h.next end h.back (ascends_from last r.0 rows (omega (arith, a.0)) a.1) more h.more) in
           let same : text ≡ h.customs ++ h.back = whole ∙ ap (λ (x : List ℕ). x ++ (h.customs ++ h.back)) e.1 in
           subst (λ (x : List ℕ). AreBuilt last p end x) (sym same) (subst (λ (q : Parts). AreBuilt last q end (h.customs ++ h.back)) (sym e.0) tail)
     ]

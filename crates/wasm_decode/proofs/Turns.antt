@@ -1,5 +1,6 @@
 -- Reading a body instruction by instruction, as a loop does.
-use Rattle.std.proofs.Common.{◌≡◌, ℕ, zero, suc, ◌-◌, ◌<◌, Bool, true, false, ◌||◌, ◌≢◌, eqb, List, [], ◌∷◌, ◌++◌, Option, Some, None, refl, sym, ap, ◌∙◌, arith}
+use Rattle.std.proofs.Common.{◌≡◌, ℕ, zero, suc, ◌-◌, ◌<◌, Bool, true, false, ◌||◌, ◌≢◌, eqb, List, [], ◌∷◌, ◌++◌, Option, Some, None, refl, sym, ap, ◌∙◌}
+use Rattle.std.proofs.Common.{arith}
 use Rattle.std.proofs.lemmas.Bool.{eqb-true, eq-eqb}
 use Rattle.grammar.specs.Reading.{◌>>=◌, byte_at}
 use Rattle.wasm_ast.specs.Code as tree
@@ -70,7 +71,8 @@ is_not_last op e n = decided (eqb op 0x0b) (eqb op 0x05) refl refl
     decided false true x y = absurd (n (eqb-true op 0x05 y))
     decided false false x y = refl
 
-module _ (one : ℕ → ℕ → List ℕ → Option (Step × List ℕ)) (front : Code) (n left : ℕ) (bytes : List ℕ) (total : Option (Instructions × List ℕ)) (so_far : before front (code_at one n left bytes) ≡ total) where
+module _ (one : ℕ → ℕ → List ℕ → Option (Step × List ℕ)) (front : Code) (n left : ℕ) (bytes : List ℕ) (total : Option (Instructions × List ℕ))
+    (so_far : before front (code_at one n left bytes) ≡ total) where
   pub no_opcode : 0 < n → byte_at bytes ≡ None → total ≡ None
   unfolding code_at
   no_opcode lt h =
@@ -78,18 +80,21 @@ module _ (one : ℕ → ℕ → List ℕ → Option (Step × List ℕ)) (front :
       let step : before front (code_at one n left bytes) ≡ None = ap (λ (m : ℕ). before front (code_at one m left bytes)) k ∙ rw h refl in
       sym so_far ∙ step
 
-  pub is_over : (op : ℕ) (after : List ℕ) → 0 < n → byte_at bytes ≡ Some (op, after) → is_last op ≡ true → total ≡ Some (record { code = front; last = op; left = left }, after)
+  pub is_over : (op : ℕ) (after : List ℕ) → 0 < n → byte_at bytes ≡ Some (op, after) → is_last op ≡ true →
+      total ≡ Some (record { code = front; last = op; left = left }, after)
   unfolding code_at
   is_over op after lt h e =
       let k : n ≡ suc (n - 1) = omega arith in
-      let step : before front (code_at one n left bytes) ≡ Some (record { code = append front tree.End; last = op; left = left }, after) = ap (λ (m : ℕ). before front (code_at one m left bytes)) k ∙ rw (h, e) refl in
+      let step : before front (code_at one n left bytes) ≡ Some (record { code = append front tree.End; last = op; left = left }, after) =
+      ap (λ (m : ℕ). before front (code_at one m left bytes)) k ∙ rw (h, e) refl in
       sym so_far ∙ step ∙ ap (λ (c : Code). Some (record { code = c; last = op; left = left }, after)) (append-End front)
 
   pub too_many : (op : ℕ) (after : List ℕ) → 0 < n → byte_at bytes ≡ Some (op, after) → ¬ (op ≡ 0x0b) → ¬ (op ≡ 0x05) → left ≡ 0 → total ≡ None
   unfolding code_at
   too_many op after lt h e x zero_left =
       let k : n ≡ suc (n - 1) = omega arith in
-      let step : before front (code_at one n left bytes) ≡ None = ap (λ (m : ℕ). before front (code_at one m left bytes)) k ∙ rw (h, is_not_last op e x, eq-eqb left 0 zero_left) refl in
+      let step : before front (code_at one n left bytes) ≡ None =
+      ap (λ (m : ℕ). before front (code_at one m left bytes)) k ∙ rw (h, is_not_last op e x, eq-eqb left 0 zero_left) refl in
       sym so_far ∙ step
 
   some_left : left ≢ 0 → eqb left 0 ≡ false
@@ -99,17 +104,21 @@ module _ (one : ℕ → ℕ → List ℕ → Option (Step × List ℕ)) (front :
       decided true e = absurd (ne (eqb-true left 0 e))
       decided false e = refl
 
-  pub no_step : (op : ℕ) (after : List ℕ) → 0 < n → byte_at bytes ≡ Some (op, after) → ¬ (op ≡ 0x0b) → ¬ (op ≡ 0x05) → left ≢ 0 → one op (left - 1) after ≡ None → total ≡ None
+  pub no_step : (op : ℕ) (after : List ℕ) → 0 < n → byte_at bytes ≡ Some (op, after) → ¬ (op ≡ 0x0b) → ¬ (op ≡ 0x05) → left ≢ 0 →
+      one op (left - 1) after ≡ None → total ≡ None
   unfolding code_at
   no_step op after lt h e x ne none =
       let k : n ≡ suc (n - 1) = omega arith in
-      let step : before front (code_at one n left bytes) ≡ None = ap (λ (m : ℕ). before front (code_at one m left bytes)) k ∙ rw (h, is_not_last op e x, some_left ne, none) refl in
+      let step : before front (code_at one n left bytes) ≡ None =
+      ap (λ (m : ℕ). before front (code_at one m left bytes)) k ∙ rw (h, is_not_last op e x, some_left ne, none) refl in
       sym so_far ∙ step
 
-  pub turn : (op : ℕ) (after : List ℕ) (i : Step) (rest : List ℕ) → 0 < n → byte_at bytes ≡ Some (op, after) → ¬ (op ≡ 0x0b) → ¬ (op ≡ 0x05) → left ≢ 0 → one op (left - 1) after ≡ Some (i, rest)
+  pub turn : (op : ℕ) (after : List ℕ) (i : Step) (rest : List ℕ) → 0 < n → byte_at bytes ≡ Some (op, after) → ¬ (op ≡ 0x0b) → ¬ (op ≡ 0x05) → left ≢ 0 →
+      one op (left - 1) after ≡ Some (i, rest)
       → before (append front i.code) (code_at one (n - 1) i.left rest) ≡ total
   unfolding code_at
   turn op after i rest lt h e x ne some =
       let k : n ≡ suc (n - 1) = omega arith in
-      let step : before front (code_at one n left bytes) ≡ before front (before i.code (code_at one (n - 1) i.left rest)) = ap (λ (m : ℕ). before front (code_at one m left bytes)) k ∙ rw (h, is_not_last op e x, some_left ne, some) refl in
+      let step : before front (code_at one n left bytes) ≡ before front (before i.code (code_at one (n - 1) i.left rest)) =
+      ap (λ (m : ℕ). before front (code_at one m left bytes)) k ∙ rw (h, is_not_last op e x, some_left ne, some) refl in
       sym (before-before front i.code (code_at one (n - 1) i.left rest)) ∙ sym step ∙ so_far

@@ -3,7 +3,8 @@ use Rattle.std.proofs.Common.{◌≡◌, ℕ, zero, suc, ◌-◌, ◌≤◌, ◌
 use Rattle.wasm_decode.specs.declared.sections.Parts.{Parts}
 use Rattle.wasm_decode.specs.SectionReading.{section_at, sections_at}
 
-pub another : (n last : ℕ) (m : Parts) (bytes : List ℕ) (id : ℕ) (new : Parts) (rest : List ℕ) → length rest < length bytes → length bytes ≤ n → section_at last m bytes ≡ Some ((id, new), rest) → sections_at n last m bytes ≡ sections_at (n - 1) id new rest
+pub another : (n last : ℕ) (m : Parts) (bytes : List ℕ) (id : ℕ) (new : Parts) (rest : List ℕ) → length rest < length bytes → length bytes ≤ n →
+    section_at last m bytes ≡ Some ((id, new), rest) → sections_at n last m bytes ≡ sections_at (n - 1) id new rest
 unfolding sections_at
 another n last m [] id new rest lt le e = absurd (omega arith)
 another zero last m (b ∷ bytes) id new rest lt le e = absurd (omega arith)

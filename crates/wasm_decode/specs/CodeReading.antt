@@ -46,7 +46,8 @@ unfoldable pub closed_at : Inner → ℕ → List ℕ → Option (Step × List �
 closed_at inner left bytes = inner left bytes >>= λ b. if b.0.last == 0x0b then Some (record { code = b.0.code; left = b.0.left }, b.1) else None
 
 unfoldable pub block_at : Inner → ℕ → List ℕ → Option (OneBody × List ℕ)
-block_at inner left bytes = row_byte_at block_type_rows bytes >>= λ t. (closed_at inner left t.1 >>= λ b. Some (record { result = t.0; body = b.0.code; left = b.0.left }, b.1))
+block_at inner left bytes =
+    row_byte_at block_type_rows bytes >>= λ t. (closed_at inner left t.1 >>= λ b. Some (record { result = t.0; body = b.0.code; left = b.0.left }, b.1))
 
 unfoldable pub conditional_at : Inner → ℕ → List ℕ → Option (TwoBodies × List ℕ)
 conditional_at inner left bytes =

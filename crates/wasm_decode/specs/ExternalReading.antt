@@ -19,7 +19,10 @@ import_after external.Memory = made_at Memory memory_type_at
 import_after external.Global = made_at Global global_type_at
 
 unfoldable pub import_at : List ℕ → Option (Import × List ℕ)
-import_at bytes = name_at bytes >>= λ from. (name_at from.1 >>= λ name. (by_row_at external_kind_rows import_after name.1 >>= λ kind. Some (record { «module» = from.0; name = name.0; kind = kind.0 }, kind.1)))
+import_at bytes = name_at bytes >>= λ from.
+    (name_at from.1 >>= λ name.
+    (by_row_at external_kind_rows import_after name.1 >>= λ kind. Some (record { «module» = from.0; name = name.0; kind = kind.0 }, kind.1)))
 
 unfoldable pub export_at : List ℕ → Option (Export × List ℕ)
-export_at bytes = name_at bytes >>= λ name. (row_byte_at external_kind_rows name.1 >>= λ kind. (u32_at kind.1 >>= λ index. Some (record { name = name.0; kind = kind.0; index = index.0 }, index.1)))
+export_at bytes = name_at bytes >>= λ name.
+    (row_byte_at external_kind_rows name.1 >>= λ kind. (u32_at kind.1 >>= λ index. Some (record { name = name.0; kind = kind.0; index = index.0 }, index.1)))

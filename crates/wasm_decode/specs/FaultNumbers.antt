@@ -3,7 +3,8 @@ use Rattle.std.specs.Prelude.{ℕ}
 use Rattle.wasm_bytes.specs.declared.fault.FaultKind.{FaultKind as ByteFaultKind}
 use Rattle.wasm_bytes.specs.declared.fault.FaultKind.TheVariants as byte
 use Rattle.wasm_decode.specs.declared.fault.FaultKind.{FaultKind}
-use Rattle.wasm_decode.specs.declared.fault.FaultKind.TheVariants.{Magic, Version, EndedEarly, BadNumber, SectionOrder, Length, Opcode, TypeByte, NotUtf8, Float, Limit, CountsDiffer, StartSection}
+use Rattle.wasm_decode.specs.declared.fault.FaultKind.TheVariants.{Magic, Version, EndedEarly, BadNumber, SectionOrder, Length, Opcode, TypeByte, NotUtf8}
+use Rattle.wasm_decode.specs.declared.fault.FaultKind.TheVariants.{Float, Limit, CountsDiffer, StartSection}
 
 abbrev pub number_of : FaultKind → ℕ
 number_of Magic = 101

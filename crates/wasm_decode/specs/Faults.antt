@@ -6,7 +6,8 @@ use Rattle.wasm_bytes.specs.Stands.{Spans, NoNumber, NoText}
 use Rattle.wasm_decode.specs.declared.fault.DecodeFault.{DecodeFault}
 use Rattle.wasm_decode.specs.declared.fault.DecodeFault.TheVariants.{Memory, Malformed}
 use Rattle.wasm_decode.specs.declared.fault.FaultKind.{FaultKind}
-use Rattle.wasm_decode.specs.declared.fault.FaultKind.TheVariants.{Magic, Version, EndedEarly, BadNumber, SectionOrder, Length, Opcode, TypeByte, NotUtf8, Float, Limit, CountsDiffer, StartSection}
+use Rattle.wasm_decode.specs.declared.fault.FaultKind.TheVariants.{Magic, Version, EndedEarly, BadNumber, SectionOrder, Length, Opcode, TypeByte, NotUtf8}
+use Rattle.wasm_decode.specs.declared.fault.FaultKind.TheVariants.{Float, Limit, CountsDiffer, StartSection}
 use Rattle.grammar.specs.Table.{row_at}
 use Rattle.wasm_decode.specs.Opcodes.{opcodes}
 use Rattle.wasm_decode.specs.ModuleReading.{header_bytes}

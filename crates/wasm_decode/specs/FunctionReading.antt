@@ -13,13 +13,15 @@ use Rattle.wasm_decode.specs.CodeReading.{expression_at}
 -- so many groups, where there is room for so many locals
 unfoldable pub groups_at : ℕ → ℕ → List ℕ → Option (List ValueType × List ℕ)
 groups_at room zero bytes = Some ([], bytes)
-groups_at room (suc n) bytes = at_most room u32_at bytes >>= λ c. (value_type_at c.1 >>= λ t. (groups_at (room - c.0) n t.1 >>= λ ls. Some (replicate c.0 t.0 ++ ls.0, ls.1)))
+groups_at room (suc n) bytes =
+    at_most room u32_at bytes >>= λ c. (value_type_at c.1 >>= λ t. (groups_at (room - c.0) n t.1 >>= λ ls. Some (replicate c.0 t.0 ++ ls.0, ls.1)))
 
 unfoldable pub locals_at : List ℕ → Option (List ValueType × List ℕ)
 locals_at bytes = u32_at bytes >>= λ n. groups_at 192 n.0 n.1
 
 abbrev pub code_parts_at : ℕ → List ℕ → Option (Func × List ℕ)
-code_parts_at type_index bytes = locals_at bytes >>= λ locals. (expression_at locals.1 >>= λ body. Some (record { type_index = type_index; locals = locals.0; body = body.0 }, body.1))
+code_parts_at type_index bytes =
+    locals_at bytes >>= λ locals. (expression_at locals.1 >>= λ body. Some (record { type_index = type_index; locals = locals.0; body = body.0 }, body.1))
 
 unfoldable pub code_at : ℕ → List ℕ → Option (Func × List ℕ)
 code_at type_index = sized_at (whole_at (code_parts_at type_index))
@@ -35,7 +37,11 @@ unfoldable pub global_at : List ℕ → Option (Global × List ℕ)
 global_at bytes = global_type_at bytes >>= λ type. (expression_at type.1 >>= λ init. Some (record { global_type = type.0; initializer = init.0 }, init.1))
 
 unfoldable pub element_at : List ℕ → Option (ElementSegment × List ℕ)
-element_at bytes = u32_at bytes >>= λ table. (expression_at table.1 >>= λ offset. (list_at 1024 u32_at offset.1 >>= λ functions. Some (record { table = table.0; offset = offset.0; functions = functions.0 }, functions.1)))
+element_at bytes = u32_at bytes >>= λ table.
+    (expression_at table.1 >>= λ offset.
+    (list_at 1024 u32_at offset.1 >>= λ functions. Some (record { table = table.0; offset = offset.0; functions = functions.0 }, functions.1)))
 
 unfoldable pub data_at : List ℕ → Option (DataSegment × List ℕ)
-data_at bytes = u32_at bytes >>= λ memory. (expression_at memory.1 >>= λ offset. (list_at (2 ^ 32 - 1) byte_at offset.1 >>= λ bytes. Some (record { memory = memory.0; offset = offset.0; bytes = bytes.0 }, bytes.1)))
+data_at bytes = u32_at bytes >>= λ memory.
+    (expression_at memory.1 >>= λ offset.
+    (list_at (2 ^ 32 - 1) byte_at offset.1 >>= λ bytes. Some (record { memory = memory.0; offset = offset.0; bytes = bytes.0 }, bytes.1)))

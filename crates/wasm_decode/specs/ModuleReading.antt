@@ -11,4 +11,5 @@ header_bytes = 0x00 ∷ 0x61 ∷ 0x73 ∷ 0x6d ∷ 0x01 ∷ 0x00 ∷ 0x00 ∷ 0x
 unfoldable pub module_at : List ℕ → Option Module
 module_at bytes =
     if nat_lt 262144 (length bytes) then None
-    else (text_at header_bytes bytes >>= λ h. (sections_at (length h.1) 0 no_parts h.1 >>= λ p. if length p.type_indices == length p.«module».functions then Some p.«module» else None))
+    else (text_at header_bytes bytes >>= λ h.
+    (sections_at (length h.1) 0 no_parts h.1 >>= λ p. if length p.type_indices == length p.«module».functions then Some p.«module» else None))

@@ -7,7 +7,8 @@ use Rattle.wasm_ast.specs.declared.body.MemoryArgument.{MemoryArgument}
 use Rattle.wasm_ast.specs.Op.{Op, CallIndirect}
 use Rattle.wasm_ast.specs.Code.{Code, Do, End}
 use Rattle.wasm_decode.specs.Operators.{load_rows, store_rows, operator_rows}
-use Rattle.wasm_decode.specs.Opcodes.{Form, bare, indexed, labelled, indirect, reserved, access, constant_32, constant_64, other_rows, load_of, store_of, constant_32_of, constant_64_of, branch_table_of}
+use Rattle.wasm_decode.specs.Opcodes.{Form, bare, indexed, labelled, indirect, reserved, access, constant_32, constant_64, other_rows, load_of, store_of}
+use Rattle.wasm_decode.specs.Opcodes.{constant_32_of, constant_64_of, branch_table_of}
 
 -- an instruction and nothing else
 abbrev pub alone : Op → Code

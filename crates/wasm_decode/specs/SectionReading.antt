@@ -6,14 +6,16 @@ use Rattle.wasm_bytes.specs.Reading.{u32_at, name_at, list_at, sized_at}
 use Rattle.wasm_decode.specs.declared.sections.Kind.{Kind}
 use Rattle.wasm_decode.specs.declared.sections.Kind.TheVariants.{Types, Imports, TypeIndices, Tables, Memories, Globals, Exports, Elements, Functions, Data}
 use Rattle.wasm_decode.specs.declared.sections.Parts.{Parts}
-use Rattle.wasm_decode.specs.PartsOf.{with_types, with_imports, with_type_indices, with_tables, with_memories, with_globals, with_exports, with_elements, with_functions, with_data}
+use Rattle.wasm_decode.specs.PartsOf.{with_types, with_imports, with_type_indices, with_tables, with_memories, with_globals, with_exports, with_elements}
+use Rattle.wasm_decode.specs.PartsOf.{with_functions, with_data}
 use Rattle.wasm_decode.specs.TypeReading.{func_type_at, table_type_at, memory_type_at}
 use Rattle.wasm_decode.specs.ExternalReading.{import_at, export_at}
 use Rattle.wasm_decode.specs.FunctionReading.{global_at, functions_at, element_at, data_at}
 
 -- sections of the profile, but for custom ones
 abbrev pub section_rows : List (ℕ × Kind)
-section_rows = (1, Types) ∷ (2, Imports) ∷ (3, TypeIndices) ∷ (4, Tables) ∷ (5, Memories) ∷ (6, Globals) ∷ (7, Exports) ∷ (9, Elements) ∷ (10, Functions) ∷ (11, Data) ∷ []
+section_rows = (1, Types) ∷ (2, Imports) ∷ (3, TypeIndices) ∷ (4, Tables) ∷ (5, Memories) ∷ (6, Globals) ∷ (7, Exports) ∷ (9, Elements) ∷ (10, Functions) ∷
+    (11, Data) ∷ []
 
 -- the parts after a section of a kind
 abbrev pub fill_at : Kind → Parts → List ℕ → Option (Parts × List ℕ)

@@ -16,11 +16,13 @@ unfoldable pub result_at : List ℕ → Option (Option ValueType × List ℕ)
 result_at bytes = at_most 1 u32_at bytes >>= λ n. if n.0 == 0 then Some (None, n.1) else (value_type_at n.1 >>= λ t. Some (Some t.0, t.1))
 
 unfoldable pub func_type_at : List ℕ → Option (FuncType × List ℕ)
-func_type_at = tagged_at 0x60 (λ bytes. list_at 64 value_type_at bytes >>= λ params. (result_at params.1 >>= λ result. Some (record { params = params.0; result = result.0 }, result.1)))
+func_type_at = tagged_at 0x60
+    (λ bytes. list_at 64 value_type_at bytes >>= λ params. (result_at params.1 >>= λ result. Some (record { params = params.0; result = result.0 }, result.1)))
 
 abbrev pub after_flag : ℕ → Bool → List ℕ → Option (Limits × List ℕ)
 after_flag most false bytes = at_most most u32_at bytes >>= λ least. Some (record { least = least.0; greatest = None }, least.1)
-after_flag most true bytes = at_most most u32_at bytes >>= λ least. (u32_at least.1 >>= λ greatest. Some (record { least = least.0; greatest = Some greatest.0 }, greatest.1))
+after_flag most true bytes =
+    at_most most u32_at bytes >>= λ least. (u32_at least.1 >>= λ greatest. Some (record { least = least.0; greatest = Some greatest.0 }, greatest.1))
 
 unfoldable pub limits_at : ℕ → List ℕ → Option (Limits × List ℕ)
 limits_at most = by_row_at flag_rows (after_flag most)

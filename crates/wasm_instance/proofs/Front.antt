@@ -1,7 +1,9 @@
 -- Bytes that are laid out, with zeros behind them.
-use Rattle.std.proofs.Common.{◌≡◌, ◌≤◌, ◌<◌, ◌+◌, ◌-◌, ℕ, Bool, true, false, cond, List, [], ◌∷◌, ◌++◌, length, take, drop, replicate, min, inl, inr, refl, sym, ap, ◌∙◌, arith, append_assoc, length-append, length-drop}
+use Rattle.std.proofs.Common.{◌≡◌, ◌≤◌, ◌<◌, ◌+◌, ◌-◌, ℕ, Bool, true, false, cond, List, [], ◌∷◌, ◌++◌, length, take, drop, replicate, min, inl, inr, refl, sym}
+use Rattle.std.proofs.Common.{ap, ◌∙◌, arith, append_assoc, length-append, length-drop}
 use Rattle.std.specs.Prelude.{slice_set}
-use Rattle.std.proofs.lemmas.List.{append-nil, take_all, drop_all, take_at, drop_at, drop-drop, take-append-drop, take-append-le, drop-append-le, length-replicate, drop-replicate, replicate-append-replicate, set-append_left, length-set}
+use Rattle.std.proofs.lemmas.List.{append-nil, take_all, drop_all, take_at, drop_at, drop-drop, take-append-drop, take-append-le, drop-append-le}
+use Rattle.std.proofs.lemmas.List.{length-replicate, drop-replicate, replicate-append-replicate, set-append_left, length-set}
 use Rattle.std.proofs.lemmas.Bool.{cases_lt}
 use Rattle.wasm_meaning.specs.Memory.{bytes_at, with_bytes}
 use Rattle.wasm_meaning.proofs.Writing.{written-is}
@@ -118,7 +120,8 @@ copied laid h =
     ∙ ap (λ zs. laid ++ zs) (drop-replicate (0 + length laid) 8 0 ∙ ap (λ k. replicate k 0) rest)
 
 -- after more is laid out, or where that was refused
-pub padded_resized : (n k count : ℕ) (xs ys : List ℕ) (done : Bool) → count ≡ length xs → length xs ≤ k → k ≤ n → ys ≡ cond done (take k xs ++ replicate (k - count) 0) xs → padded n ys ≡ padded n xs
+pub padded_resized : (n k count : ℕ) (xs ys : List ℕ) (done : Bool) → count ≡ length xs → length xs ≤ k → k ≤ n →
+    ys ≡ cond done (take k xs ++ replicate (k - count) 0) xs → padded n ys ≡ padded n xs
 padded_resized n k count xs ys true len more fits e =
     ap (λ zs. padded n zs) (e ∙ ap (λ zs. zs ++ replicate (k - count) 0) (take_all k xs more))
     ∙ padded_more n (k - count) xs (omega (arith, len, more, fits))

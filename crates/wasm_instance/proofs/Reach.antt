@@ -1,5 +1,6 @@
 -- Loads and stores within what is laid out of a memory, and past it.
-use Rattle.std.proofs.Common.{◌≡◌, ◌≤◌, ◌<◌, ◌+◌, ◌-◌, ℕ, zero, suc, ◌/◌, Bool, true, false, List, length, take, drop, min, inl, inr, refl, sym, ap, ◌∙◌, arith, length-take, length-drop}
+use Rattle.std.proofs.Common.{◌≡◌, ◌≤◌, ◌<◌, ◌+◌, ◌-◌, ℕ, zero, suc, ◌/◌, Bool, true, false, List, length, take, drop, min, inl, inr, refl, sym, ap, ◌∙◌, arith}
+use Rattle.std.proofs.Common.{length-take, length-drop}
 use Rattle.std.specs.Prelude.{Ok, Err, cond, nat_lt}
 use Rattle.std.proofs.lemmas.Bool.{cases_lt}
 use Rattle.std.proofs.lemmas.Bool.Decides.{nat_tests}
@@ -101,7 +102,8 @@ load_window o p m =
     ]
 
 -- a load past what is laid out, from a copy of eight bytes
-pub load_copied : (o : LoadOp) (n p : ℕ) (xs : List ℕ) → length xs ≤ n → length xs < p + 8 → load_at o (take (min (n - p) 8) (padded 8 (drop p xs))) 0 ≡ load_at o (padded n xs) p
+pub load_copied : (o : LoadOp) (n p : ℕ) (xs : List ℕ) → length xs ≤ n → length xs < p + 8 →
+    load_at o (take (min (n - p) 8) (padded 8 (drop p xs))) 0 ≡ load_at o (padded n xs) p
 load_copied o n p xs h near =
     ap (λ m. load_at o m 0) (window p n xs h near) ∙ load_window o p (padded n xs)
 

@@ -20,7 +20,8 @@ data_within m valid k d e =
     record {
       offset = found.offset;
       constant = found.constant;
-      within = subst (λ (l : Limits). found.offset + length d.bytes ≤ 65536 * l.least) (sym (only m.memories d.memory found.memory valid.one_memory found.exists)) found.within;
+      within = subst (λ (l : Limits). found.offset + length d.bytes ≤ 65536 * l.least)
+          (sym (only m.memories d.memory found.memory valid.one_memory found.exists)) found.within;
     }
 
 pub elements_within : (m : Module) → IsValid m → AreElements m.elements (first_limits m.tables).least
@@ -29,7 +30,8 @@ elements_within m valid k e h =
     record {
       offset = found.offset;
       constant = found.constant;
-      within = subst (λ (l : Limits). found.offset + length e.functions ≤ l.least) (sym (only m.tables e.table found.table valid.one_table found.exists)) found.within;
+      within = subst (λ (l : Limits). found.offset + length e.functions ≤ l.least) (sym (only m.tables e.table found.table valid.one_table found.exists))
+          found.within;
     }
 
 pub globals_constant : (m : Module) → IsValid m → AreConstants m.globals

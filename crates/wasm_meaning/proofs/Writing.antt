@@ -18,7 +18,8 @@ written-is m (b ∷ bytes) p h =
     ∙ ap (λ xs. take p m ++ (b ∷ (bytes ++ xs))) (back ∙ ap (λ k. drop k m) n)
 
 -- the same in the place of the next n bytes
-pub written-part : (m bytes now : List ℕ) (p n : ℕ) → p + length bytes ≤ length m → n ≡ length bytes → now ≡ bytes → take p m ++ (now ++ drop n (drop p m)) ≡ with_bytes m p bytes
+pub written-part : (m bytes now : List ℕ) (p n : ℕ) → p + length bytes ≤ length m → n ≡ length bytes → now ≡ bytes →
+    take p m ++ (now ++ drop n (drop p m)) ≡ with_bytes m p bytes
 written-part m bytes now p n h en e =
     ap (λ xs. take p m ++ (xs ++ drop n (drop p m))) e
     ∙ ap (λ xs. take p m ++ (bytes ++ xs)) (drop-drop n p m ∙ ap (λ k. drop (p + k) m) en)

@@ -1,5 +1,6 @@
 -- How many instructions the meaning of code executes: those whose cost of 1 is paid.
-use Rattle.std.specs.Prelude.{ℕ, zero, suc, ◌+◌, ◌-◌, List, [], ◌∷◌, ◌++◌, Option, Some, None, if◌then◌else◌, ◌&&◌, nat_lt, nat_eq, length, take, reverse, slice_get, map}
+use Rattle.std.specs.Prelude.{ℕ, zero, suc, ◌+◌, ◌-◌, List, [], ◌∷◌, ◌++◌, Option, Some, None, if◌then◌else◌, ◌&&◌, nat_lt, nat_eq, length, take, reverse}
+use Rattle.std.specs.Prelude.{slice_get, map}
 use Rattle.wasm_ast.specs.declared.types.ValueType.{ValueType}
 use Rattle.wasm_ast.specs.declared.types.ValueType.TheVariants.{I32}
 use Rattle.wasm_ast.specs.declared.module.Module.{Module}
@@ -59,7 +60,8 @@ module _ {R : Type 0} where
   -- the body of a function that is called
   abbrev pub in_function : Counts R → ℕ → Function → Count R
   in_function count d fn f s l w =
-      let n = length fn.type.params in if nat_lt (length s) n then 0 else (if nat_lt d greatest_depth then (count (d + 1) fn.body f [] (reverse (take n s) ++ zeros fn.locals) w) else 0)
+      let n = length fn.type.params in if nat_lt (length s) n then 0 else
+      (if nat_lt d greatest_depth then (count (d + 1) fn.body f [] (reverse (take n s) ++ zeros fn.locals) w) else 0)
 
 module _ {R : Type 0} (p : Program R) where
   -- a call of a function: only one of a module function executes instructions
@@ -89,9 +91,13 @@ module _ {R : Type 0} (p : Program R) where
   in_tree count d (Block t b c) f s l w =
       count_paid f (λ f. in_tree count d b f [] l w + if_next (block_end t s (tree p (meaning p) d b f [] l w)) (in_tree count d c))
   in_tree count d (Loop t b c) f s l w =
-      count_paid f (λ f. (in_tree count d b f [] l w + if_again s (tree p (meaning p) d b f [] l w) (count d (Loop t b End))) + if_next (loop_end t s (meaning p d (Loop t b End)) (tree p (meaning p) d b f [] l w)) (in_tree count d c))
+      count_paid f (λ f. (in_tree count d b f [] l w + if_again s (tree p (meaning p) d b f [] l w) (count d (Loop t b End))) +
+      if_next (loop_end t s (meaning p d (Loop t b End)) (tree p (meaning p) d b f [] l w)) (in_tree count d c))
   in_tree count d (If t a b c) f s l w =
-      count_paid f (λ f. if_top s (λ x s. if_word I32 x (λ n. (if nat_eq n 0 then in_tree count d b f [] l w else in_tree count d a f [] l w) + if_next (block_end t s (if nat_eq n 0 then tree p (meaning p) d b f [] l w else tree p (meaning p) d a f [] l w)) (in_tree count d c))))
+      count_paid f (λ f. if_top s
+      (λ x s. if_word I32 x
+      (λ n. (if nat_eq n 0 then in_tree count d b f [] l w else in_tree count d a f [] l w) +
+      if_next (block_end t s (if nat_eq n 0 then tree p (meaning p) d b f [] l w else tree p (meaning p) d a f [] l w)) (in_tree count d c))))
 
   -- at most n loops and calls one in the other, as in the meaning
   abbrev pub in_bounded : ℕ → Counts R
@@ -105,4 +111,6 @@ module _ {R : Type 0} (p : Program R) where
 -- how many instructions `invoke` executes on a fresh instance
 abbrev pub executed_by : {R : Type 0} → Module → Answering R → R → ℕ → ℕ
 executed_by m host records fuel =
-    if_some (invoke_of m) (λ i. if_some (slice_get (map (function_of m.types) m.functions) (i - length (host_calls m.imports))) (λ fn. in_function (executed (program_of m host)) 0 fn fuel [] [] (fresh_world m records)))
+    if_some (invoke_of m)
+    (λ i. if_some (slice_get (map (function_of m.types) m.functions) (i - length (host_calls m.imports)))
+    (λ fn. in_function (executed (program_of m host)) 0 fn fuel [] [] (fresh_world m records)))

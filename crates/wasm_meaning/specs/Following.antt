@@ -14,4 +14,5 @@ Ends P Stuck = ⊥
 
 -- where P holds after a call it held before it, and the two hosts answer that call alike
 abbrev pub Follows : {R : Type 0} → (h g : Answering R) → (R → Type 0) → Type 0
-Follows {R} h g P = (which : HostCall) (args memory : List ℕ) (r : R) → P (h which args memory r).records → P r × (h which args memory r ≡ g which args memory r)
+Follows {R} h g P = (which : HostCall) (args memory : List ℕ) (r : R) → P (h which args memory r).records →
+    P r × (h which args memory r ≡ g which args memory r)

@@ -1,5 +1,6 @@
 -- How large signed readings and their quotients are. `mag z` is n both for n and for -(n + 1).
-use Rattle.std.proofs.Common.{◌≡◌, ℕ, zero, suc, ◌+◌, ◌-◌, ◌/◌, ◌<◌, ◌≤◌, Bool, true, false, nat_lt, ℤ, pos, negsuc, neg_ℤ, ◌-ℤ◌, int_le, int_div, if◌then◌else◌, refl, sym, ap, subst, ◌∙◌, arith, leb-true, leb-false, lt-ltb, le-ltb, ltb-true, ltb-false, true≢false}
+use Rattle.std.proofs.Common.{◌≡◌, ℕ, zero, suc, ◌+◌, ◌-◌, ◌/◌, ◌<◌, ◌≤◌, Bool, true, false, nat_lt, ℤ, pos, negsuc, neg_ℤ, ◌-ℤ◌, int_le, int_div}
+use Rattle.std.proofs.Common.{if◌then◌else◌, refl, sym, ap, subst, ◌∙◌, arith, leb-true, leb-false, lt-ltb, le-ltb, ltb-true, ltb-false, true≢false}
 use Rattle.std.proofs.Math.Nat.{div-le_self, div-lt_self, div-one}
 use Rattle.std.proofs.lemmas.Bool.{lt-leb}
 use lib.Signed.{mag}
@@ -17,7 +18,8 @@ pub half_pos : (t : ValueType) → 0 < words t / 2
 half_pos I32 = omega arith
 half_pos I64 = omega arith
 
-reading_lt : (t : ValueType) (a : ℕ) (low : Bool) → nat_lt a (words t / 2) ≡ low → a < words t → mag (if low then pos a else pos a -ℤ pos (words t)) < words t / 2
+reading_lt : (t : ValueType) (a : ℕ) (low : Bool) → nat_lt a (words t / 2) ≡ low → a < words t →
+    mag (if low then pos a else pos a -ℤ pos (words t)) < words t / 2
 reading_lt t a true e h = ltb-true a (words t / 2) e
 reading_lt t a false e h =
     subst (λ (z : ℤ). mag z < words t / 2) (sym (minus_words (words t) a h)) (omega (arith, h, halves t, ltb-false a (words t / 2) e))

@@ -1,5 +1,6 @@
 -- Which operands trap.
-use Rattle.std.proofs.Common.{◌≡◌, ℕ, ◌-◌, ◌/◌, ◌<◌, Bool, true, false, nat_eq, ◌⊎◌, inl, inr, pos, negsuc, int_le, int_div, if◌then◌else◌, Result, Ok, Err, is_ok, refl, sym, ap, ap₂, subst, ◌∙◌, arith, IsTrue, eqb-true, true≢false}
+use Rattle.std.proofs.Common.{◌≡◌, ℕ, ◌-◌, ◌/◌, ◌<◌, Bool, true, false, nat_eq, ◌⊎◌, inl, inr, pos, negsuc, int_le, int_div, if◌then◌else◌, Result, Ok, Err}
+use Rattle.std.proofs.Common.{is_ok, refl, sym, ap, ap₂, subst, ◌∙◌, arith, IsTrue, eqb-true, true≢false}
 use Rattle.wasm_ast.specs.Types.{words}
 use Rattle.wasm_ast.specs.Traps.{trap_number}
 use Rattle.wasm_ast.specs.declared.types.ValueType.{ValueType}
@@ -87,7 +88,8 @@ zero_traps t o a b =
     (zero_forward t o a b, λ p. subst (λ (n : ℕ). binary t o a n ≡ Err DivideByZero) (sym p.1) (zero_back t o a p.0))
 
 -- the words of the readings that overflow
-words_of : (t : ValueType) (a b : ℕ) → a < words t → b < words t → (signed t a ≡ negsuc (words t / 2 - 1)) × (signed t b ≡ negsuc 0) → (a ≡ words t / 2) × (b ≡ words t - 1)
+words_of : (t : ValueType) (a b : ℕ) → a < words t → b < words t → (signed t a ≡ negsuc (words t / 2 - 1)) × (signed t b ≡ negsuc 0) →
+    (a ≡ words t / 2) × (b ≡ words t - 1)
 words_of t a b h k p =
     (sym (unsigned-signed t a h) ∙ ap (unsigned t) p.0 ∙ omega (arith, halves t, half_pos t), sym (unsigned-signed t b k) ∙ ap (unsigned t) p.1)
 
@@ -101,7 +103,8 @@ overflow_by t a b h k e =
       ]
     ]
 
-overflow_forward : (t : ValueType) (o : BinaryOp) (a b : ℕ) → a < words t → b < words t → binary t o a b ≡ Err IntegerOverflow → (o ≡ DivS) × (a ≡ words t / 2) × (b ≡ words t - 1)
+overflow_forward : (t : ValueType) (o : BinaryOp) (a b : ℕ) → a < words t → b < words t → binary t o a b ≡ Err IntegerOverflow →
+    (o ≡ DivS) × (a ≡ words t / 2) × (b ≡ words t - 1)
 overflow_forward t DivS a b h k e = let p = overflow_by t a b h k e in (refl, p.0, p.1)
 overflow_forward t DivU a b h k e = absurd (zero_alone b _ e (no_trap _ _))
 overflow_forward t RemS a b h k e = absurd (zero_alone b _ e (no_trap _ _))
@@ -128,7 +131,8 @@ overflow_traps t o a b h k = (
   λ p. ap (λ (x : BinaryOp). binary t x a b) p.0 ∙ ap₂ (binary t DivS) p.1 p.2 ∙ overflow_back t,
 )
 
-zero_or_not : (b : ℕ) (e : Trap) (x : Result ℕ Trap) → (if nat_eq b 0 then Err DivideByZero else x) ≡ Err e → (x ≡ Err e → e ≡ IntegerOverflow) → (e ≡ DivideByZero) ⊎ (e ≡ IntegerOverflow)
+zero_or_not : (b : ℕ) (e : Trap) (x : Result ℕ Trap) → (if nat_eq b 0 then Err DivideByZero else x) ≡ Err e → (x ≡ Err e → e ≡ IntegerOverflow) →
+    (e ≡ DivideByZero) ⊎ (e ≡ IntegerOverflow)
 zero_or_not b e x h n =
     elim (if_traps (nat_eq b 0) DivideByZero e x h) [ inl p ↦ inl (sym p.1) | inr k ↦ inr (n k) ]
 

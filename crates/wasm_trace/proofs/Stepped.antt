@@ -16,7 +16,8 @@ use Rattle.wasm_trace.specs.Reduction.{values}
 module _ {R : Type 0} where
   pub config_is : (c : Configuration) (r : R) → with_records (config c (tt {0})) r ≡ config c r
   config_is c r =
-      at_is (layers c.levels.items) c.fuel (vals c.locals.items) c.instance.memory (vals c.globals.items) r (values (stack_of c.stack.items) (before c.front (plain_of c.code.now)))
+      at_is (layers c.levels.items) c.fuel (vals c.locals.items) c.instance.memory (vals c.globals.items) r
+      (values (stack_of c.stack.items) (before c.front (plain_of c.code.now)))
 
   fuel_in : (ks : List Layer) (x : Config R) → (plug ks x).fuel ≡ x.fuel
   fuel_in [] x = refl
@@ -36,16 +37,21 @@ module _ {R : Type 0} where
 
 module _ {R : Type 0} (p : Program R) where
   -- in the words of the configurations with their records
-  goes : (c c' : Configuration) (r r' : R) (given : ℕ) (way : Flow) → Reduced p c c' r r' way → Rests c c' r r' way → c.fuel ≤ given → Goes p given (config c r) (config c' r') (outcome_of way (given - c'.fuel))
+  goes : (c c' : Configuration) (r r' : R) (given : ℕ) (way : Flow) → Reduced p c c' r r' way → Rests c c' r r' way → c.fuel ≤ given →
+      Goes p given (config c r) (config c' r') (outcome_of way (given - c'.fuel))
   goes c c' r r' given flow.Continue h k le = inl h
   goes c c' r r' given (flow.Returned n) h k le = (h, omega (arith, fuel_of c r, k.0, le), records_of c' r' ∙ k.1 ∙ sym (records_of c r))
   goes c c' r r' given (flow.Trapped why) h k le = (h, omega (arith, fuel_of c r, k.0, le), records_of c' r' ∙ k.1 ∙ sym (records_of c r))
   goes c c' r r' given flow.Spent h k le = (h, records_of c' r' ∙ k ∙ sym (records_of c r))
   goes c c' r r' given flow.Stuck h k le = inr h
 
-  pub steps_on : (ended : Option Outcome) (c c' : Configuration) (r r' : R) (given : ℕ) (way : Flow) → ended ≡ None → Reduced p c c' r r' way → Rests c c' r r' way → c.fuel ≤ given → StepsOn p ended given (with_records (config c (tt {0})) r) (with_records (config c' (tt {0})) r') (outcome_of way (given - c'.fuel))
+  pub steps_on : (ended : Option Outcome) (c c' : Configuration) (r r' : R) (given : ℕ) (way : Flow) → ended ≡ None → Reduced p c c' r r' way →
+      Rests c c' r r' way → c.fuel ≤ given →
+      StepsOn p ended given (with_records (config c (tt {0})) r) (with_records (config c' (tt {0})) r') (outcome_of way (given - c'.fuel))
   steps_on ended c c' r r' given way e h k le =
-      subst (λ o. StepsOn p o given (with_records (config c (tt {0})) r) (with_records (config c' (tt {0})) r') (outcome_of way (given - c'.fuel))) (sym e) (subst (λ x. Goes p given x (with_records (config c' (tt {0})) r') (outcome_of way (given - c'.fuel))) (sym (config_is c r)) (subst (λ y. Goes p given (config c r) y (outcome_of way (given - c'.fuel))) (sym (config_is c' r')) (goes c c' r r' given way h k le)))
+      subst (λ o. StepsOn p o given (with_records (config c (tt {0})) r) (with_records (config c' (tt {0})) r') (outcome_of way (given - c'.fuel))) (sym e)
+      (subst (λ x. Goes p given x (with_records (config c' (tt {0})) r') (outcome_of way (given - c'.fuel))) (sym (config_is c r))
+      (subst (λ y. Goes p given (config c r) y (outcome_of way (given - c'.fuel))) (sym (config_is c' r')) (goes c c' r r' given way h k le)))
 
 pub none_of : {A : Type 0} (o : Option A) → is_some o ≡ false → o ≡ None
 none_of None e = refl

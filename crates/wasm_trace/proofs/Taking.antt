@@ -16,6 +16,11 @@ module _ {R : Type 0} where
   top_is : (vs rest : List Value) (v : Value) (g : Val → List Val → Step R) → vs ≡ rest ++ v ∷ [] → with_top (stack_of vs) g ≡ g (val_of v) (stack_of rest)
   top_is vs rest v g e = ap (λ s. with_top s g) (ap stack_of e ∙ stack_snoc rest v)
 
-  pub replaced : (k : ℕ) (vs rest ls : List Value) (v old : Value) (go : List Val → List Val → Step R) → vs ≡ rest ++ v ∷ [] → slice_get (vals ls) k ≡ Some (val_of old) → same_type (val_of v).type (val_of old).type ≡ true → with_top (stack_of vs) (λ x s. with_found (slice_get (vals ls) k) (λ old. replacing x old (go (slice_set (vals ls) k x) s))) ≡ go (vals (slice_set ls k v)) (stack_of rest)
+  pub replaced : (k : ℕ) (vs rest ls : List Value) (v old : Value) (go : List Val → List Val → Step R) → vs ≡ rest ++ v ∷ [] →
+      slice_get (vals ls) k ≡ Some (val_of old) → same_type (val_of v).type (val_of old).type ≡ true →
+      with_top (stack_of vs) (λ x s. with_found (slice_get (vals ls) k) (λ old. replacing x old (go (slice_set (vals ls) k x) s))) ≡
+      go (vals (slice_set ls k v)) (stack_of rest)
   replaced k vs rest ls v old go e q t =
-      top_is vs rest v (λ x s. with_found (slice_get (vals ls) k) (λ old. replacing x old (go (slice_set (vals ls) k x) s))) e ∙ ap (λ o. with_found o (λ old. replacing (val_of v) old (go (slice_set (vals ls) k (val_of v)) (stack_of rest)))) q ∙ ap (λ b. cond b (go (slice_set (vals ls) k (val_of v)) (stack_of rest)) Stuck) t ∙ ap (λ ls. go ls (stack_of rest)) (sym (set_map ls k v))
+      top_is vs rest v (λ x s. with_found (slice_get (vals ls) k) (λ old. replacing x old (go (slice_set (vals ls) k x) s))) e ∙
+      ap (λ o. with_found o (λ old. replacing (val_of v) old (go (slice_set (vals ls) k (val_of v)) (stack_of rest)))) q ∙
+      ap (λ b. cond b (go (slice_set (vals ls) k (val_of v)) (stack_of rest)) Stuck) t ∙ ap (λ ls. go ls (stack_of rest)) (sym (set_map ls k v))

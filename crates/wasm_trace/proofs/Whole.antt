@@ -58,7 +58,8 @@ module _ {R : Type 0} (p : Program R) where
   shows_ends x meant.Stuck e h = absurd e
 
   -- what ends as an answer does is an end, with the same outcome and records
-  pub end_of : (x : Config R) (a : Answer R) (given : ℕ) (o : Outcome) (after : R) → IsEnding a → EndsAs p x a → Ended a given o after → (y : Config R) × Reaches p x y × IsEnd p y given o after
+  pub end_of : (x : Config R) (a : Answer R) (given : ℕ) (o : Outcome) (after : R) → IsEnding a → EndsAs p x a → Ended a given o after →
+      (y : Config R) × Reaches p x y × IsEnd p y given o after
   end_of x (Next f (v ∷ []) l w) given (outcome.Returned status used) after i h e =
       (conf f l w (Put v Nil), h, (ap (λ t. Ends (value t v.word ∷ [])) i.0 ∙ ap (λ n. Ends (value I32 n ∷ [])) (sym e.0), e.1, e.2))
   end_of x (Next f (v ∷ []) l w) given (outcome.Trapped kind used) after i h e = absurd e
@@ -133,12 +134,20 @@ module _ {R : Type 0} (m : Module) (host : Answering R) (records : R) (fuel : �
       run : ℕ → Answer R
       run k = with_some (slice_get own (k - length (host_calls m.imports))) (λ fn. call_function (meaning (program_of m host)) 0 fn fuel [] [] w)
 
-      inner : (k : ℕ) → invoke_of m ≡ Some k → (o : Option Function) → slice_get own (k - length (host_calls m.imports)) ≡ o → IsEnding (with_some o (λ fn. call_function (meaning (program_of m host)) 0 fn fuel [] [] w)) → (x : Config R) × IsStart m records fuel x × EndsAs (program_of m host) x (with_some o (λ fn. call_function (meaning (program_of m host)) 0 fn fuel [] [] w))
+      inner : (k : ℕ) → invoke_of m ≡ Some k → (o : Option Function) → slice_get own (k - length (host_calls m.imports)) ≡ o →
+          IsEnding (with_some o (λ fn. call_function (meaning (program_of m host)) 0 fn fuel [] [] w)) →
+          (x : Config R) × IsStart m records fuel x ×
+          EndsAs (program_of m host) x (with_some o (λ fn. call_function (meaning (program_of m host)) 0 fn fuel [] [] w))
       inner k e None q h = absurd h
-      inner k e (Some fn) q h =
-          (conf fuel [] w (Invoke fn Nil), record { index = k; function = fn; invokes = e; found = q; is = refl }, shows_ends (program_of m host) (conf fuel [] w (Invoke fn Nil)) (call_function (meaning (program_of m host)) 0 fn fuel [] [] w) h (invoke_shows (program_of m host) (suc fuel) (sound (program_of m host) (suc fuel)) [] fn fuel [] w [] Nil (omega arith)))
+      inner k e (Some fn) q h = (
+        conf fuel [] w (Invoke fn Nil),
+        record { index = k; function = fn; invokes = e; found = q; is = refl },
+        shows_ends (program_of m host) (conf fuel [] w (Invoke fn Nil)) (call_function (meaning (program_of m host)) 0 fn fuel [] [] w) h
+            (invoke_shows (program_of m host) (suc fuel) (sound (program_of m host) (suc fuel)) [] fn fuel [] w [] Nil (omega arith)),
+      )
 
-      go : (o : Option ℕ) → invoke_of m ≡ o → IsEnding (with_some o run) → (x : Config R) × IsStart m records fuel x × EndsAs (program_of m host) x (with_some o run)
+      go : (o : Option ℕ) → invoke_of m ≡ o → IsEnding (with_some o run) →
+          (x : Config R) × IsStart m records fuel x × EndsAs (program_of m host) x (with_some o run)
       go None e h = absurd h
       go (Some k) e h = inner k e (slice_get own (k - length (host_calls m.imports))) refl h
 
@@ -150,7 +159,10 @@ module _ {R : Type 0} (m : Module) (host : Answering R) (records : R) (fuel : �
       record { start = s.0; starts = s.1; end = h.0; reaches = h.1; ends = h.2 }
 
   same_start : (x y : Config R) → IsStart m records fuel x → IsStart m records fuel y → x ≡ y
-  same_start x y a b = a.is ∙ ap (λ fn. conf fuel [] (fresh_world m records) (Invoke fn Nil)) (same (subst (λ k. slice_get (map (function_of m.types) m.functions) (k - length (host_calls m.imports)) ≡ Some a.function) (some_same a.index b.index (sym a.invokes ∙ b.invokes)) a.found)) ∙ sym b.is
+  same_start x y a b = a.is ∙
+      ap (λ fn. conf fuel [] (fresh_world m records) (Invoke fn Nil))
+      (same (subst (λ k. slice_get (map (function_of m.types) m.functions) (k - length (host_calls m.imports)) ≡ Some a.function)
+      (some_same a.index b.index (sym a.invokes ∙ b.invokes)) a.found)) ∙ sym b.is
     where
       some_same : {A : Type 0} (x y : A) → Some x ≡ Some y → x ≡ y
       some_same x y e = ap (λ o. get x o) e
@@ -199,4 +211,5 @@ module _ {R : Type 0} (m : Module) (host : Answering R) (records : R) (fuel : �
   goes_on x y v st r h =
       let s = start_ends m host records fuel v in
       let p = program_of m host in
-      ending_not_stuck p s.0 y (invocation m host records fuel) (invocation_ends m host records fuel v) s.2 (subst (λ x. Reaches p x y) (same_start m host records fuel x s.0 st s.1) r) h
+      ending_not_stuck p s.0 y (invocation m host records fuel) (invocation_ends m host records fuel v) s.2
+      (subst (λ x. Reaches p x y) (same_start m host records fuel x s.0 st s.1) r) h

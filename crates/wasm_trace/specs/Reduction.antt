@@ -1,5 +1,6 @@
 -- Reduction (Core 1.0, chapter 4): one instruction at a time, on nested labels and frames, its cost taken first.
-use Rattle.std.specs.Prelude.{◌≡◌, ℕ, zero, suc, ◌+◌, ◌-◌, ◌%◌, List, [], ◌∷◌, ◌++◌, Option, Some, None, Result, Ok, Err, if◌then◌else◌, nat_lt, nat_eq, length, take, drop, reverse, slice_get, slice_set, get_or}
+use Rattle.std.specs.Prelude.{◌≡◌, ℕ, zero, suc, ◌+◌, ◌-◌, ◌%◌, List, [], ◌∷◌, ◌++◌, Option, Some, None, Result, Ok, Err, if◌then◌else◌, nat_lt, nat_eq, length}
+use Rattle.std.specs.Prelude.{take, drop, reverse, slice_get, slice_set, get_or}
 use Rattle.wasm_ast.specs.declared.types.ValueType.{ValueType}
 use Rattle.wasm_ast.specs.declared.types.ValueType.TheVariants.{I32}
 use Rattle.wasm_ast.specs.declared.types.FuncType.{FuncType}
@@ -9,7 +10,8 @@ use Rattle.wasm_ast.specs.declared.host_call.HostCall.{HostCall}
 use Rattle.wasm_ast.specs.declared.host_call.HostAnswer.{HostAnswer}
 use Rattle.wasm_ast.specs.declared.host_call.HostAnswer.TheVariants as answer
 use Rattle.wasm_ast.specs.Types.{words, same_type}
-use Rattle.wasm_ast.specs.Op.{Op, Unreachable, Nop, Drop, Select, Return, Br, BrIf, BrTable, Call, CallIndirect, LocalGet, LocalSet, LocalTee, GlobalGet, GlobalSet, MemorySize, MemoryGrow, Load, Store, Const, Eqz, Unary, Compare, Binary, Convert}
+use Rattle.wasm_ast.specs.Op.{Op, Unreachable, Nop, Drop, Select, Return, Br, BrIf, BrTable, Call, CallIndirect, LocalGet, LocalSet, LocalTee, GlobalGet}
+use Rattle.wasm_ast.specs.Op.{GlobalSet, MemorySize, MemoryGrow, Load, Store, Const, Eqz, Unary, Compare, Binary, Convert}
 use Rattle.wasm_ast.specs.Code as code
 use Rattle.wasm_ast.specs.Code.{BlockType, Code}
 use Rattle.wasm_ast.specs.Access.{load_type, load_width, store_type, store_width}
@@ -163,7 +165,8 @@ module _ {R : Type 0} where
 
   abbrev pub grow_step : (most n : ℕ) → ℕ → List Val → World R → List Val → Seq → Step R
   grow_step most n f l w s i =
-      if (nat_lt most (pages w.memory + n)) then (at f l w s (Put (value I32 (words I32 - 1)) i)) else at f l (record w { memory = with_pages n w.memory }) s (Put (value I32 (size_word w.memory)) i)
+      if (nat_lt most (pages w.memory + n)) then (at f l w s (Put (value I32 (words I32 - 1)) i)) else
+      at f l (record w { memory = with_pages n w.memory }) s (Put (value I32 (size_word w.memory)) i)
 
   -- what a host's answer becomes
   abbrev pub answered : HostAnswer → ℕ → List Val → World R → List Val → Seq → Step R
@@ -176,7 +179,9 @@ module _ {R : Type 0} where
   -- a frame round the function's body, within at most 64 frames
   abbrev pub invoke_step : ℕ → Function → ℕ → List Val → World R → List Val → Seq → Step R
   invoke_step d fn f l w s i =
-      with_last (length fn.type.params) s (λ args s. if nat_lt d greatest_depth then (at f l w s (Frame fn.type.result (args ++ zeros fn.locals) (FreeBlock fn.type.result fn.body Nil) i)) else at f l w s (Traps trap.CallDepth i))
+      with_last (length fn.type.params) s
+      (λ args s. if nat_lt d greatest_depth then (at f l w s (Frame fn.type.result (args ++ zeros fn.locals) (FreeBlock fn.type.result fn.body Nil) i)) else
+      at f l w s (Traps trap.CallDepth i))
 
   abbrev pub block_step : BlockType → Code → ℕ → List Val → World R → List Val → Seq → Step R
   block_step t b f l w s i = at f l w s (Label t code.End (plain b Nil) i)
@@ -192,12 +197,14 @@ module _ {R : Type 0} (p : Program R) where
   -- a call of the host is answered at once
   abbrev pub host_step : HostCall → ℕ → List Val → World R → List Val → Seq → Step R
   host_step which f l w s i =
-      with_last (arity which) s (λ args s. with_words args (λ ns. paid (host_cost which ns) f (λ f. after_host (p.host which ns w.memory w.records) w.globals f l s i)))
+      with_last (arity which) s
+      (λ args s. with_words args (λ ns. paid (host_cost which ns) f (λ f. after_host (p.host which ns w.memory w.records) w.globals f l s i)))
 
   -- a call of a function by its index, the imported ones first
   abbrev pub call_step : ℕ → ℕ → List Val → World R → List Val → Seq → Step R
   call_step k f l w s i =
-      if nat_lt k (length p.imports) then (with_found (slice_get p.imports k) (λ which. host_step which f l w s i)) else (with_found (slice_get p.functions (k - length p.imports)) (λ fn. at f l w s (Invoke fn i)))
+      if nat_lt k (length p.imports) then (with_found (slice_get p.imports k) (λ which. host_step which f l w s i)) else
+      (with_found (slice_get p.functions (k - length p.imports)) (λ fn. at f l w s (Invoke fn i)))
 
   -- a call of a function of the type t by an entry of the table
   abbrev pub entry_step : FuncType → Option (Option ℕ) → ℕ → List Val → World R → List Val → Seq → Step R
@@ -235,7 +242,10 @@ module _ {R : Type 0} (p : Program R) where
   op_step (Load o align offset) f l w s i =
       operand I32 s (λ a s. accessed (a + offset) (load_width o) f l w s i (at f l w s (Put (value (load_type o) (load_value o w.memory (a + offset))) i)))
   op_step (Store o align offset) f l w s i =
-      operand (store_type o) s (λ n s. operand I32 s (λ a s. accessed (a + offset) (store_width o) f l w s i (at f l (record w { memory = with_bytes w.memory (a + offset) (bytes_of (store_width o) n) }) s i)))
+      operand (store_type o) s
+      (λ n s. operand I32 s
+      (λ a s. accessed (a + offset) (store_width o) f l w s i
+      (at f l (record w { memory = with_bytes w.memory (a + offset) (bytes_of (store_width o) n) }) s i)))
   op_step (Const t n) f l w s i = at f l w s (Put (value t n) i)
   op_step (Eqz t) f l w s i = operand t s (λ a s. at f l w s (Put (value I32 (eqz a)) i))
   op_step (Unary t o) f l w s i = operand t s (λ a s. at f l w s (Put (value t (unary t o a)) i))

@@ -21,7 +21,13 @@ pub record Standing : Type 0 where
 
 abbrev pub standing : Stepper → Standing
 standing s =
-    record { valid = s.valid.now; given = s.given; at = config s.configuration (tt {0}); ended = s.ended; shown = option_map (λ m. m.prefix.now ++ m.rest.now) s.shown }
+    record {
+      valid = s.valid.now;
+      given = s.given;
+      at = config s.configuration (tt {0});
+      ended = s.ended;
+      shown = option_map (λ m. m.prefix.now ++ m.rest.now) s.shown;
+    }
 
 -- the configuration with these records of the host
 abbrev pub with_records : {R : Type 0} → Config (Unit {0}) → R → Config R

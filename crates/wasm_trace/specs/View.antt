@@ -1,5 +1,6 @@
 -- The configuration that a stepper stands for.
-use Rattle.std.specs.Prelude.{◌≡◌, ◌≤◌, ℕ, List, [], ◌∷◌, ◌++◌, Option, Some, None, Result, Ok, Err, Bool, true, false, if◌then◌else◌, map, reverse, slice_get, slice_set}
+use Rattle.std.specs.Prelude.{◌≡◌, ◌≤◌, ℕ, List, [], ◌∷◌, ◌++◌, Option, Some, None, Result, Ok, Err, Bool, true, false, if◌then◌else◌, map, reverse, slice_get}
+use Rattle.std.specs.Prelude.{slice_set}
 use Rattle.wasm_ast.specs.declared.types.ValueType.TheVariants as type
 use Rattle.wasm_ast.specs.declared.body.Instr.{Instr}
 use Rattle.wasm_ast.specs.declared.trap.Trap.{Trap}
@@ -32,7 +33,9 @@ use Rattle.wasm_trace.specs.declared.parts.Act.TheVariants as act
 use Rattle.wasm_trace.specs.declared.parts.Flow.{Flow}
 use Rattle.wasm_trace.specs.declared.parts.Flow.TheVariants as flow
 use Rattle.wasm_trace.specs.declared.configuration.Configuration.{Configuration}
-use Rattle.wasm_trace.specs.Reduction.{Seq, Nil, Put, Do, Block, Loop, If, Free, FreeBlock, Invoke, Label, Frame, Traps, plain, values, Config, conf, at, paid, Step, To, Ends, Breaks, Leaves, Trapped, Spent, Stuck, with_top, with_found, replacing, in_label, in_frame, op_step, reduce, invoke_step, trap_step, block_step, loop_step, if_step}
+use Rattle.wasm_trace.specs.Reduction.{Seq, Nil, Put, Do, Block, Loop, If, Free, FreeBlock, Invoke, Label, Frame, Traps, plain, values, Config, conf, at, paid}
+use Rattle.wasm_trace.specs.Reduction.{Step, To, Ends, Breaks, Leaves, Trapped, Spent, Stuck, with_top, with_found, replacing, in_label, in_frame, op_step}
+use Rattle.wasm_trace.specs.Reduction.{reduce, invoke_step, trap_step, block_step, loop_step, if_step}
 use Rattle.wasm_trace.specs.Ending.{IsStart, IsNoResult, IsStuck}
 use Rattle.interp.specs.declared.outcome.Outcome.{Outcome}
 use Rattle.interp.specs.declared.outcome.Outcome.TheVariants as outcome
@@ -83,7 +86,8 @@ module _ {R : Type 0} where
   -- the configuration, with these records of the host
   abbrev pub config : Configuration → R → Config R
   config m records =
-      plug (layers m.levels.items) (conf m.fuel (vals m.locals.items) (world m records) (values (stack_of m.stack.items) (before m.front (plain_of m.code.now))))
+      plug (layers m.levels.items)
+      (conf m.fuel (vals m.locals.items) (world m records) (values (stack_of m.stack.items) (before m.front (plain_of m.code.now))))
 
   -- one step of the whole, by what one step within the layers is: with this fuel, locals and world there
   abbrev pub out_of : List Layer → ℕ → List Val → World R → Step R → Step R
@@ -205,31 +209,46 @@ BinaryIs o a b (Err why) = binary (val_of a).type o (val_of a).word (val_of b).w
 
 -- an instruction becomes this, where it changes the values and the locals alone
 abbrev pub OnLocals : (R : Type 0) → Op → (stack locals after set : List Value) → Turn → Type 0
-OnLocals R o vs ls vs' ls' t = (p : Program R) (f : ℕ) (w : World R) (i : Seq) → op_step p o f (vals ls) w (stack_of vs) i ≡ step_of t f (vals ls') w (stack_of vs') i
+OnLocals R o vs ls vs' ls' t =
+    (p : Program R) (f : ℕ) (w : World R) (i : Seq) → op_step p o f (vals ls) w (stack_of vs) i ≡ step_of t f (vals ls') w (stack_of vs') i
 
 -- the last value takes the place of a local or a global of the same type
 abbrev pub Replaced : (R : Type 0) → ℕ → (stack slots : List Value) → Bool → (after set : List Value) → Type 0
-Replaced R k vs ls b vs' ls' = (go : List Val → List Val → Step R) → with_top (stack_of vs) (λ x s. with_found (slice_get (vals ls) k) (λ old. replacing x old (go (slice_set (vals ls) k x) s))) ≡ (if b then go (vals ls') (stack_of vs') else Stuck)
+Replaced R k vs ls b vs' ls' =
+    (go : List Val → List Val → Step R) →
+    with_top (stack_of vs) (λ x s. with_found (slice_get (vals ls) k) (λ old. replacing x old (go (slice_set (vals ls) k x) s))) ≡
+    (if b then go (vals ls') (stack_of vs') else Stuck)
 
 -- the same with the globals
 abbrev pub OnGlobals : (R : Type 0) → Op → (stack globals after set : List Value) → Turn → Type 0
-OnGlobals R o vs gs vs' gs' t = (p : Program R) (f : ℕ) (l : List Val) (memory : List ℕ) (records : R) (i : Seq) → op_step p o f l (record { memory = memory; globals = vals gs; records = records }) (stack_of vs) i ≡ step_of t f l (record { memory = memory; globals = vals gs'; records = records }) (stack_of vs') i
+OnGlobals R o vs gs vs' gs' t =
+    (p : Program R) (f : ℕ) (l : List Val) (memory : List ℕ) (records : R) (i : Seq) →
+    op_step p o f l (record { memory = memory; globals = vals gs; records = records }) (stack_of vs) i ≡
+    step_of t f l (record { memory = memory; globals = vals gs'; records = records }) (stack_of vs') i
 
 -- the same with the memory
 abbrev pub OnMemory : (R : Type 0) → Op → (stack : List Value) → (memory : List ℕ) → (after : List Value) → (set : List ℕ) → Turn → Type 0
-OnMemory R o vs m vs' m' t = (p : Program R) (f : ℕ) (l globals : List Val) (records : R) (i : Seq) → op_step p o f l (record { memory = m; globals = globals; records = records }) (stack_of vs) i ≡ step_of t f l (record { memory = m'; globals = globals; records = records }) (stack_of vs') i
+OnMemory R o vs m vs' m' t =
+    (p : Program R) (f : ℕ) (l globals : List Val) (records : R) (i : Seq) →
+    op_step p o f l (record { memory = m; globals = globals; records = records }) (stack_of vs) i ≡
+    step_of t f l (record { memory = m'; globals = globals; records = records }) (stack_of vs') i
 
 abbrev pub Invoked : (R : Type 0) → FuncType → Func → Configuration → Configuration → Flow → Type 0
 Invoked R t fn m m' way =
-    Takes R (λ records. invoke_step (frames (layers m.levels.items)) (record { type = t; locals = fn.locals; body = fn.body }) m.fuel (vals m.locals.items) (world m records) (stack_of m.stack.items) (plain_of m.code.now)) m m' way
+    Takes R (λ records. invoke_step (frames (layers m.levels.items)) (record { type = t; locals = fn.locals; body = fn.body }) m.fuel (vals m.locals.items)
+    (world m records) (stack_of m.stack.items) (plain_of m.code.now)) m m' way
 
 -- the same with the memory, the greatest size of which is the program's, and with the fuel
 abbrev pub OnGrowth : (R : Type 0) → (stack : List Value) → (j : State) → (fuel : ℕ) → (after : List Value) → (j' : State) → (left : ℕ) → Turn → Type 0
-OnGrowth R vs j f vs' j' f' t = (p : Program R) → p.most_pages ≡ j.most_pages → (l globals : List Val) (records : R) (i : Seq) → op_step p op.MemoryGrow f l (record { memory = j.memory; globals = globals; records = records }) (stack_of vs) i ≡ step_of t f' l (record { memory = j'.memory; globals = globals; records = records }) (stack_of vs') i
+OnGrowth R vs j f vs' j' f' t =
+    (p : Program R) → p.most_pages ≡ j.most_pages → (l globals : List Val) (records : R) (i : Seq) →
+    op_step p op.MemoryGrow f l (record { memory = j.memory; globals = globals; records = records }) (stack_of vs) i ≡
+    step_of t f' l (record { memory = j'.memory; globals = globals; records = records }) (stack_of vs') i
 
 -- an `if` enters this
 abbrev pub EntersEither : (R : Type 0) → Conditional → (stack after : List Value) → Act → Type 0
-EntersEither R c vs vs' a = (f : ℕ) (l : List Val) (w : World R) (i : Seq) → if_step c.result c.yes c.no f l w (stack_of vs) i ≡ act_step a f l w (stack_of vs') i
+EntersEither R c vs vs' a =
+    (f : ℕ) (l : List Val) (w : World R) (i : Seq) → if_step c.result c.yes c.no f l w (stack_of vs) i ≡ act_step a f l w (stack_of vs') i
 
 abbrev pub IsNoJump : Act → Type 0
 IsNoJump (act.Become t) = Unit {0}
@@ -241,7 +260,9 @@ IsNoJump act.Return = ⊥
 module _ {R : Type 0} where
   -- what may change all but the labels, frames and instructions becomes this
   abbrev pub Turns : (ℕ → List Val → World R → List Val → Seq → Step R) → (c c' : Configuration) → (before after : R) → Turn → Type 0
-  Turns go c c' r r' t = (i : Seq) → go c.fuel (vals c.locals.items) (world c r) (stack_of c.stack.items) i ≡ step_of t c'.fuel (vals c'.locals.items) (world c' r') (stack_of c'.stack.items) i
+  Turns go c c' r r' t =
+      (i : Seq) → go c.fuel (vals c.locals.items) (world c r) (stack_of c.stack.items) i ≡
+      step_of t c'.fuel (vals c'.locals.items) (world c' r') (stack_of c'.stack.items) i
 
   -- a branch or a return changes nothing else
   abbrev pub Jumps : (c c' : Configuration) → (before after : R) → Act → Type 0
@@ -314,7 +335,8 @@ module _ {R : Type 0} (p : Program R) where
 
   -- an instruction that is paid for does this
   abbrev pub Does : Instr → (c c' : Configuration) → (before after : R) → Act → Type 0
-  Does x c c' r r' a = paid_step c.fuel (vals c.locals.items) (world c r) (stack_of c.stack.items) (plain (then_code x (code_of c.code.now)) Nil) ≡ act_step a c'.fuel (vals c'.locals.items) (world c' r') (stack_of c'.stack.items) (plain_of c.code.now)
+  Does x c c' r r' a = paid_step c.fuel (vals c.locals.items) (world c r) (stack_of c.stack.items) (plain (then_code x (code_of c.code.now)) Nil) ≡
+      act_step a c'.fuel (vals c'.locals.items) (world c' r') (stack_of c'.stack.items) (plain_of c.code.now)
 
   -- one reduction of the whole is this flow
   abbrev pub Reduced : (c c' : Configuration) → (before after : R) → Flow → Type 0

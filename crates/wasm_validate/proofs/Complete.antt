@@ -8,10 +8,12 @@ use Rattle.wasm_ast.specs.declared.types.Limits.{Limits}
 use Rattle.wasm_ast.specs.Access.{load_type, load_width, store_type, store_width}
 use Rattle.wasm_ast.specs.Conversions.{operand_type, result_type}
 use Rattle.wasm_ast.specs.Types.{words}
-use Rattle.wasm_ast.specs.Op.{Op, Unreachable, Nop, Drop, Select, Return, Br, BrIf, BrTable, Call, CallIndirect, LocalGet, LocalSet, LocalTee, GlobalGet, GlobalSet, MemorySize, MemoryGrow, Load, Store, Const, Eqz, Unary, Compare, Binary, Convert}
+use Rattle.wasm_ast.specs.Op.{Op, Unreachable, Nop, Drop, Select, Return, Br, BrIf, BrTable, Call, CallIndirect, LocalGet, LocalSet, LocalTee, GlobalGet}
+use Rattle.wasm_ast.specs.Op.{GlobalSet, MemorySize, MemoryGrow, Load, Store, Const, Eqz, Unary, Compare, Binary, Convert}
 use Rattle.wasm_ast.specs.Code.{BlockType, Code, End, Do, Block, Loop, If}
 use Rattle.wasm_validate.specs.Typing.{Context, at, results, under, arguments, EachLabel, TypingRule, Types}
-use Rattle.wasm_validate.specs.Operands.{Operands, then, matches, if_true, push, pop_from, pop, pop_as, pop_all, push_result, pop_result, apply, shared, no_operands, from_here, is_none, finish, label_is, named_is}
+use Rattle.wasm_validate.specs.Operands.{Operands, then, matches, if_true, push, pop_from, pop, pop_as, pop_all, push_result, pop_result, apply, shared}
+use Rattle.wasm_validate.specs.Operands.{no_operands, from_here, is_none, finish, label_is, named_is}
 use Rattle.wasm_validate.specs.Algorithm.{each_label, select, access, step, check, whole_body}
 use Rattle.wasm_validate.proofs.Stands.{Stands, StandsFor, For}
 
@@ -35,7 +37,8 @@ if_matches : {A : Type 0} (o : Option ValueType) (t : ValueType) (a : A) (P : A 
 if_matches None t a P m h = h
 if_matches (Some t') t a P m h = subst (λ x. Yields (if_true (matches (Some t') x) a) P) m (if_same t' a P h)
 
-pop_ahead : (os : List (Option ValueType)) (u : Bool) (t : ValueType) (ts : List ValueType) → StandsFor os u (t ∷ ts) → Yields (pop_from os u) (λ p. Stands p.0 t × For p.1 ts)
+pop_ahead : (os : List (Option ValueType)) (u : Bool) (t : ValueType) (ts : List ValueType) → StandsFor os u (t ∷ ts) →
+    Yields (pop_from os u) (λ p. Stands p.0 t × For p.1 ts)
 pop_ahead [] false t ts f = absurd f
 pop_ahead [] true t ts f = (tt, tt)
 pop_ahead (o ∷ os) u t ts f = f
@@ -79,7 +82,8 @@ each_label_ahead c (n ∷ ns) l h =
 if_is : {A : Type 0} (b : Bool) (a : A) (P : A → Type 0) → b ≡ true → P a → Yields (if_true b a) P
 if_is b a P e h = subst (λ b. Yields (if_true b a) P) (sym e) h
 
-by_rule : (s : Operands) (ins ins' outs outs' lower : List ValueType) (o : Option Operands) → ins ≡ ins' → outs ≡ outs' → For s (ins ++ lower) → (For s (ins' ++ lower) → Yields o (λ s'. For s' (outs' ++ lower))) → Yields o (λ s'. For s' (outs ++ lower))
+by_rule : (s : Operands) (ins ins' outs outs' lower : List ValueType) (o : Option Operands) → ins ≡ ins' → outs ≡ outs' → For s (ins ++ lower) →
+    (For s (ins' ++ lower) → Yields o (λ s'. For s' (outs' ++ lower))) → Yields o (λ s'. For s' (outs ++ lower))
 by_rule s ins ins' outs outs' lower o e e' f k =
     subst (λ outs. Yields o (λ s'. For s' (outs ++ lower))) (sym e') (k (subst (λ ins. For s (ins ++ lower)) e f))
 
@@ -94,11 +98,13 @@ le_is : (n m : ℕ) → n ≤ m → nat_le n m ≡ true
 le_is n m h = grind (arith, nat_tests)
 
 -- operands of known types, and a result in their place
-apply_ahead : (ins : List ValueType) (l : BlockType) (s : Operands) (lower : List ValueType) → For s (ins ++ lower) → Yields (apply ins l s) (λ s'. For s' (results l ++ lower))
+apply_ahead : (ins : List ValueType) (l : BlockType) (s : Operands) (lower : List ValueType) → For s (ins ++ lower) →
+    Yields (apply ins l s) (λ s'. For s' (results l ++ lower))
 apply_ahead ins l s lower f =
     on (pop_all ins s) _ _ _ (pop_all_ahead ins s lower f) (λ s1 g. push_result_ahead l s1 lower g)
 
-apply_rule : (s : Operands) (ins ins' outs lower : List ValueType) (l : BlockType) → ins ≡ ins' → outs ≡ results l → For s (ins ++ lower) → Yields (apply ins' l s) (λ s'. For s' (outs ++ lower))
+apply_rule : (s : Operands) (ins ins' outs lower : List ValueType) (l : BlockType) → ins ≡ ins' → outs ≡ results l → For s (ins ++ lower) →
+    Yields (apply ins' l s) (λ s'. For s' (outs ++ lower))
 apply_rule s ins ins' outs lower l e e' f =
     by_rule s ins ins' outs (results l) lower (apply ins' l s) e e' f (λ f. apply_ahead ins' l s lower f)
 
@@ -118,11 +124,13 @@ select_ahead t s lower f =
     on (pop p.1) _ _ _ (pop_ahead p.1.types p.1.unreachable t lower hp.1) (λ q hq.
     on (shared p.0 q.0) _ _ _ (shared_ahead p.0 q.0 t hp.0 hq.0) (λ o h. (h, hq.1)))))
 
-access_ahead : (c : Context) (s : Operands) (align width : ℕ) (m : Limits) (ins ins' outs lower : List ValueType) (l : BlockType) → at c.memories 0 ≡ Some m → 2 ^ align ≤ width → ins ≡ ins' → outs ≡ results l → For s (ins ++ lower) → Yields (access c align width ins' l s) (λ s'. For s' (outs ++ lower))
+access_ahead : (c : Context) (s : Operands) (align width : ℕ) (m : Limits) (ins ins' outs lower : List ValueType) (l : BlockType) → at c.memories 0 ≡ Some m →
+    2 ^ align ≤ width → ins ≡ ins' → outs ≡ results l → For s (ins ++ lower) → Yields (access c align width ins' l s) (λ s'. For s' (outs ++ lower))
 access_ahead c s align width m ins ins' outs lower l e le p q f =
     on_some (at c.memories 0) m _ _ e (then_is (nat_le (2 ^ align) width) s _ _ (le_is (2 ^ align) width le) (apply_rule s ins ins' outs lower l p q f))
 
-step_ahead : (c : Context) (o : Op) (s : Operands) (ins outs lower : List ValueType) → TypingRule c o ins outs → For s (ins ++ lower) → Yields (step c o s) (λ s'. For s' (outs ++ lower))
+step_ahead : (c : Context) (o : Op) (s : Operands) (ins outs lower : List ValueType) → TypingRule c o ins outs → For s (ins ++ lower) →
+    Yields (step c o s) (λ s'. For s' (outs ++ lower))
 step_ahead c Unreachable s ins outs lower r f = tt
 step_ahead c Nop s ins outs lower r f = by_rule s ins [] outs [] lower (step c Nop s) r.0 r.1 f (λ f. f)
 step_ahead c Drop s ins outs lower r f =
@@ -130,7 +138,9 @@ step_ahead c Drop s ins outs lower r f =
 step_ahead c Select s ins outs lower r f =
     by_rule s ins (I32 ∷ r.0 ∷ r.0 ∷ []) outs (r.0 ∷ []) lower (select s) r.1 r.2 f (λ f. select_ahead r.0 s lower f)
 step_ahead c (Const t n) s ins outs lower r f =
-    by_rule s ins [] outs (t ∷ []) lower (step c (Const t n) s) r.1 r.2 f (λ f. let g : For (push (Some t) s) (t ∷ lower) = (refl, f) in if_is (nat_lt n (words t)) (push (Some t) s) (λ s'. For s' (t ∷ lower)) (lt_is n (words t) r.0) g)
+    by_rule s ins [] outs (t ∷ []) lower (step c (Const t n) s) r.1 r.2 f
+    (λ f. let g : For (push (Some t) s) (t ∷ lower) = (refl, f) in
+    if_is (nat_lt n (words t)) (push (Some t) s) (λ s'. For s' (t ∷ lower)) (lt_is n (words t) r.0) g)
 step_ahead c (Eqz t) s ins outs lower r f = apply_rule s ins (t ∷ []) outs lower (Some I32) r.0 r.1 f
 step_ahead c (Unary t o) s ins outs lower r f = apply_rule s ins (t ∷ []) outs lower (Some t) r.0 r.1 f
 step_ahead c (Compare t o) s ins outs lower r f = apply_rule s ins (t ∷ t ∷ []) outs lower (Some I32) r.0 r.1 f
@@ -156,25 +166,34 @@ step_ahead c MemorySize s ins outs lower r f =
 step_ahead c MemoryGrow s ins outs lower r f =
     on_some (at c.memories 0) r.0 _ _ r.1 (apply_rule s ins (I32 ∷ []) outs lower (Some I32) r.2 r.3 f)
 step_ahead c (Br n) s ins outs lower r f =
-    on_some (at c.labels n) r.0 _ _ r.1 (on (pop_result r.0 s) _ _ _ (pop_result_ahead r.0 s (r.2 ++ lower) (split s ins (results r.0) r.2 lower r.3 f)) (λ _ _. tt))
+    on_some (at c.labels n) r.0 _ _ r.1
+    (on (pop_result r.0 s) _ _ _ (pop_result_ahead r.0 s (r.2 ++ lower) (split s ins (results r.0) r.2 lower r.3 f)) (λ _ _. tt))
 step_ahead c (BrIf n) s ins outs lower r f =
-    by_rule s ins (I32 ∷ results r.0) outs (results r.0) lower (step c (BrIf n) s) r.2 r.3 f (λ f. on_some (at c.labels n) r.0 _ _ r.1 (on (pop_as I32 s) _ _ _ (pop_as_ahead I32 s (results r.0 ++ lower) f) (λ s1 f1.
+    by_rule s ins (I32 ∷ results r.0) outs (results r.0) lower (step c (BrIf n) s) r.2 r.3 f
+    (λ f. on_some (at c.labels n) r.0 _ _ r.1 (on (pop_as I32 s) _ _ _ (pop_as_ahead I32 s (results r.0 ++ lower) f) (λ s1 f1.
     on (pop_result r.0 s1) _ _ _ (pop_result_ahead r.0 s1 lower f1) (λ s2 f2. push_result_ahead r.0 s2 lower f2))))
 step_ahead c (BrTable ns n) s ins outs lower r f =
-    on_some (at c.labels n) r.0 _ _ r.1 (on (pop_as I32 s) _ _ _ (pop_as_ahead I32 s (results r.0 ++ (r.3 ++ lower)) (split s ins (I32 ∷ results r.0) r.3 lower r.4 f)) (λ s1 f1.
-    on (pop_result r.0 s1) _ _ _ (pop_result_ahead r.0 s1 (r.3 ++ lower) f1) (λ s2 f2. if_is (each_label c.labels ns r.0) from_here _ (each_label_ahead c ns r.0 r.2) tt)))
+    on_some (at c.labels n) r.0 _ _ r.1
+    (on (pop_as I32 s) _ _ _ (pop_as_ahead I32 s (results r.0 ++ (r.3 ++ lower)) (split s ins (I32 ∷ results r.0) r.3 lower r.4 f)) (λ s1 f1.
+    on (pop_result r.0 s1) _ _ _ (pop_result_ahead r.0 s1 (r.3 ++ lower) f1)
+    (λ s2 f2. if_is (each_label c.labels ns r.0) from_here _ (each_label_ahead c ns r.0 r.2) tt)))
 step_ahead c Return s ins outs lower r f =
     on (pop_result c.result s) _ _ _ (pop_result_ahead c.result s (r.0 ++ lower) (split s ins (results c.result) r.0 lower r.1 f)) (λ _ _. tt)
 step_ahead c (Call x) s ins outs lower r f =
     on_some (at c.functions x) r.0 _ _ r.1 (apply_rule s ins (arguments r.0) outs lower r.0.result r.2 r.3 f)
 step_ahead c (CallIndirect x) s ins outs lower r f =
-    by_rule s ins (I32 ∷ arguments r.2) outs (results r.2.result) lower (step c (CallIndirect x) s) r.4 r.5 f (λ f. on_some (at c.tables 0) r.0 _ _ r.1 (on_some (at c.types x) r.2 _ _ r.3 (on (pop_as I32 s) _ _ _ (pop_as_ahead I32 s (arguments r.2 ++ lower) f) (λ s1 f1. apply_ahead (arguments r.2) r.2.result s1 lower f1))))
+    by_rule s ins (I32 ∷ arguments r.2) outs (results r.2.result) lower (step c (CallIndirect x) s) r.4 r.5 f
+    (λ f. on_some (at c.tables 0) r.0 _ _ r.1
+    (on_some (at c.types x) r.2 _ _ r.3
+    (on (pop_as I32 s) _ _ _ (pop_as_ahead I32 s (arguments r.2 ++ lower) f) (λ s1 f1. apply_ahead (arguments r.2) r.2.result s1 lower f1))))
 
 -- a body that is typed is accepted to its end
-body_ahead : (c : Context) (l : BlockType) (body : Code) → Yields (check c body no_operands) (λ e. For e (results l)) → Yields (whole_body c l body) (λ _. Unit {0})
+body_ahead : (c : Context) (l : BlockType) (body : Code) → Yields (check c body no_operands) (λ e. For e (results l)) →
+    Yields (whole_body c l body) (λ _. Unit {0})
 body_ahead c l body h = on (check c body no_operands) (finish l) _ _ h (λ e f. finish_ahead l e f)
 
-check_ahead : (c : Context) (code : Code) (s : Operands) (from to : List ValueType) → Types c code from to → For s from → Yields (check c code s) (λ s'. For s' to)
+check_ahead : (c : Context) (code : Code) (s : Operands) (from to : List ValueType) → Types c code from to → For s from →
+    Yields (check c code s) (λ s'. For s' to)
 check_ahead c End s from to e f = subst (For s) e f
 check_ahead c (Do o rest) s from to h f =
     on (step c o s) (check c rest) _ _ (step_ahead c o s h.0 h.1 h.2 h.3 (subst (For s) h.4 f)) (λ s1 g. check_ahead c rest s1 (h.1 ++ h.2) to h.5 g)

@@ -91,14 +91,21 @@ breaks_before f c (If t a b rest) r m = m
 
 -- what is mistyped after an accepted instruction is with it
 mistyped_later : (c : Context) (t : BlockType) (code : Code) (s s' : Operands) → first c code s ≡ Some s' → Mistyped c t (after code) s' → Mistyped c t code s
-mistyped_later c t code s s' e m =
-    (before code m.0, front_before code m.0 m.1, ap (λ o. then o (finish t)) (check_before c code m.0 s s' e) ∙ m.2, λ f b. elim (breaks_before f c code m.0 b) [ inl x ↦ first_is_clean c code s s' e f x | inr y ↦ m.3 f y ])
+mistyped_later c t code s s' e m = (
+  before code m.0,
+  front_before code m.0 m.1,
+  ap (λ o. then o (finish t)) (check_before c code m.0 s s' e) ∙
+      m.2,
+  λ f b. elim (breaks_before f c code m.0 b) [ inl x ↦ first_is_clean c code s s' e f x | inr y ↦ m.3 f y ],
+)
 
 if_mistyped : (c : Context) (t : BlockType) (l : BlockType) (a b rest : Code) (s : Operands) → MistypedIf c l a b s → Mistyped c t (If l a b rest) s
 if_mistyped c t l a b rest s (inl e) = (
   If l unreachable_end unreachable_end unreachable_end,
   inr (inl (unreachable_end, cut_front a, refl)),
-  ap (λ o. then (then o (λ s. then (whole_body (under l c) l unreachable_end) (λ _. then (whole_body (under l c) l unreachable_end) (λ _. check c unreachable_end (push_result l s))))) (finish t)) e,
+  ap (λ o. then (then o
+      (λ s. then (whole_body (under l c) l unreachable_end)
+      (λ _. then (whole_body (under l c) l unreachable_end) (λ _. check c unreachable_end (push_result l s))))) (finish t)) e,
   λ f m. elim m [
     | inl m ↦ elim m [ inl x ↦ cut_is_clean (under l c) f x | inr x ↦ cut_is_clean (under l c) f x ]
     | inr x ↦ cut_is_clean c f x
@@ -107,7 +114,9 @@ if_mistyped c t l a b rest s (inl e) = (
 if_mistyped c t l a b rest s (inr (inl m)) = (
   If l m.0 unreachable_end unreachable_end,
   inr (inl (m.0, m.1, refl)),
-  ap (λ o. then o (finish t)) (always_none (pop_as I32 s) _ (λ s. ap (λ o. then o (λ _. then (whole_body (under l c) l unreachable_end) (λ _. check c unreachable_end (push_result l s)))) m.2)),
+  ap (λ o. then o (finish t))
+      (always_none (pop_as I32 s) _
+      (λ s. ap (λ o. then o (λ _. then (whole_body (under l c) l unreachable_end) (λ _. check c unreachable_end (push_result l s)))) m.2)),
   λ f n. elim n [
     | inl n ↦ elim n [ inl x ↦ m.3 f x | inr x ↦ cut_is_clean (under l c) f x ]
     | inr x ↦ cut_is_clean c f x
@@ -116,7 +125,9 @@ if_mistyped c t l a b rest s (inr (inl m)) = (
 if_mistyped c t l a b rest s (inr (inr m)) = (
   If l a m.1.0 unreachable_end,
   inr (inr (inl (m.1.0, m.1.1, refl))),
-  ap (λ o. then o (finish t)) (always_none (pop_as I32 s) _ (λ s. always_none (whole_body (under l c) l a) _ (λ _. ap (λ o. then o (λ _. check c unreachable_end (push_result l s))) m.1.2))),
+  ap (λ o. then o (finish t))
+      (always_none (pop_as I32 s) _
+      (λ s. always_none (whole_body (under l c) l a) _ (λ _. ap (λ o. then o (λ _. check c unreachable_end (push_result l s))) m.1.2))),
   λ f n. elim n [
     | inl n ↦ elim n [
       | inl x ↦ broken_is_untyped f (under l c) a [] (results l) x (accepted_is_typed (under l c) l a m.0)
@@ -129,12 +140,24 @@ if_mistyped c t l a b rest s (inr (inr m)) = (
 -- a refused instruction, before any code
 mistyped_first : (c : Context) (t : BlockType) (code : Code) (s : Operands) → first c code s ≡ None → MistypedFirst c code s → Mistyped c t code s
 mistyped_first c t End s e m = absurd m
-mistyped_first c t (Do o rest) s e m =
-    (Do o unreachable_end, inr (unreachable_end, cut_front rest, refl), ap (λ o. then (then o (check c unreachable_end)) (finish t)) e, λ f n. elim n [ inl x ↦ own_is_clean c o m f x | inr x ↦ cut_is_clean c f x ])
-mistyped_first c t (Block l b rest) s e m =
-    (Block l m.0 unreachable_end, inr (inl (m.0, m.1, refl)), ap (λ o. then (then o (λ _. check c unreachable_end (push_result l s))) (finish t)) m.2, λ f n. elim n [ inl x ↦ m.3 f x | inr x ↦ cut_is_clean c f x ])
-mistyped_first c t (Loop l b rest) s e m =
-    (Loop l m.0 unreachable_end, inr (inl (m.0, m.1, refl)), ap (λ o. then (then o (λ _. check c unreachable_end (push_result l s))) (finish t)) m.2, λ f n. elim n [ inl x ↦ m.3 f x | inr x ↦ cut_is_clean c f x ])
+mistyped_first c t (Do o rest) s e m = (
+  Do o unreachable_end,
+  inr (unreachable_end, cut_front rest, refl),
+  ap (λ o. then (then o (check c unreachable_end)) (finish t)) e,
+  λ f n. elim n [ inl x ↦ own_is_clean c o m f x | inr x ↦ cut_is_clean c f x ],
+)
+mistyped_first c t (Block l b rest) s e m = (
+  Block l m.0 unreachable_end,
+  inr (inl (m.0, m.1, refl)),
+  ap (λ o. then (then o (λ _. check c unreachable_end (push_result l s))) (finish t)) m.2,
+  λ f n. elim n [ inl x ↦ m.3 f x | inr x ↦ cut_is_clean c f x ],
+)
+mistyped_first c t (Loop l b rest) s e m = (
+  Loop l m.0 unreachable_end,
+  inr (inl (m.0, m.1, refl)),
+  ap (λ o. then (then o (λ _. check c unreachable_end (push_result l s))) (finish t)) m.2,
+  λ f n. elim n [ inl x ↦ m.3 f x | inr x ↦ cut_is_clean c f x ],
+)
 mistyped_first c t (If l a b rest) s e m = if_mistyped c t l a b rest s m
 
 mistyped_alone : (c : Context) (i : Instr) (rest : Code) (s : Operands) → MistypedFirst c (then_code i End) s → MistypedFirst c (then_code i rest) s
@@ -142,22 +165,28 @@ mistyped_alone c instr.Unreachable rest s m = m
 mistyped_alone c _ rest s m = m
 
 -- an item that is refused
-pub mistyped_item : (c : Context) (t : BlockType) (i : ℕ) (is : List Instr) (x : Instr) (s : Operands) → i < length is → x ≡ slice_index_or is i x → instruction c x s ≡ None → MistypedFirst c (then_code x End) s → Mistyped c t (code_of (drop i is)) s
+pub mistyped_item : (c : Context) (t : BlockType) (i : ℕ) (is : List Instr) (x : Instr) (s : Operands) → i < length is → x ≡ slice_index_or is i x →
+    instruction c x s ≡ None → MistypedFirst c (then_code x End) s → Mistyped c t (code_of (drop i is)) s
 mistyped_item c t i is x s lt ei e m =
     let rest = code_of (drop (i + 1) is) in
-    subst (λ xs. Mistyped c t (code_of xs) s) (sym (next i is x lt ei)) (mistyped_first c t (then_code x rest) s (first_alone c x rest s ∙ e) (mistyped_alone c x rest s m))
+    subst (λ xs. Mistyped c t (code_of xs) s) (sym (next i is x lt ei))
+    (mistyped_first c t (then_code x rest) s (first_alone c x rest s ∙ e) (mistyped_alone c x rest s m))
 
 -- items after one that is accepted
-pub mistyped_next : (c : Context) (t : BlockType) (i : ℕ) (is : List Instr) (x : Instr) (s s' : Operands) → i < length is → x ≡ slice_index_or is i x → instruction c x s ≡ Some s' → Mistyped c t (code_of (drop (i + 1) is)) s' → Mistyped c t (code_of (drop i is)) s
+pub mistyped_next : (c : Context) (t : BlockType) (i : ℕ) (is : List Instr) (x : Instr) (s s' : Operands) → i < length is → x ≡ slice_index_or is i x →
+    instruction c x s ≡ Some s' → Mistyped c t (code_of (drop (i + 1) is)) s' → Mistyped c t (code_of (drop i is)) s
 mistyped_next c t i is x s s' lt ei e m =
     let rest = code_of (drop (i + 1) is) in
-    subst (λ xs. Mistyped c t (code_of xs) s) (sym (next i is x lt ei)) (mistyped_later c t (then_code x rest) s s' (first_alone c x rest s ∙ e) (subst (λ r. Mistyped c t r s') (sym (after_first x rest)) m))
+    subst (λ xs. Mistyped c t (code_of xs) s) (sym (next i is x lt ei))
+    (mistyped_later c t (then_code x rest) s s' (first_alone c x rest s ∙ e) (subst (λ r. Mistyped c t r s') (sym (after_first x rest)) m))
 
 -- the end of a body
 pub mistyped_end : (c : Context) (t : BlockType) (s : Operands) → finish t s ≡ None → Mistyped c t End s
 mistyped_end c t s e = (End, inl refl, e, λ f m. m)
 
 -- a refused item refuses the body, of which the items from there on are a part
-pub mistyped_refused : (c : Context) (t : BlockType) (body : Code) (i : ℕ) (is : List Instr) (x : Instr) (s : Operands) (f : ValidateFault) → i < length is → x ≡ slice_index_or is i x → (Mistyped c t (code_of (drop i is)) s → Mistyped c t body no_operands) → Refused f (BreaksInstr f c x) (instruction c x s) → Mismatch f (MistypedFirst c (then_code x End) s) → Mismatch f (Mistyped c t body no_operands)
+pub mistyped_refused : (c : Context) (t : BlockType) (body : Code) (i : ℕ) (is : List Instr) (x : Instr) (s : Operands) (f : ValidateFault) → i < length is →
+    x ≡ slice_index_or is i x → (Mistyped c t (code_of (drop i is)) s → Mistyped c t body no_operands) → Refused f (BreaksInstr f c x) (instruction c x s) →
+    Mismatch f (MistypedFirst c (then_code x End) s) → Mismatch f (Mistyped c t body no_operands)
 mistyped_refused c t body i is x s fault.TypeMismatch lt ei part h m = part (mistyped_item c t i is x s lt ei h m)
 mistyped_refused c t body i is x s _ lt ei part h m = tt

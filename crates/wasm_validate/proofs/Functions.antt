@@ -31,10 +31,20 @@ errs_both (Err e) P Q R k h g = k e h g
 -- the context of a function's body, by its parts
 abbrev pub inside : List FuncType → List ℕ → (tables memories : List Limits) → List Global → List ValueType → List BlockType → BlockType → Context
 inside types functions tables memories globals locals labels left =
-    record { types = types; functions = map (type_at types) functions; tables = tables; memories = memories; globals = map (λ (g : Global). g.global_type) globals; locals = locals; labels = left ∷ labels; result = left }
+    record {
+      types = types;
+      functions = map (type_at types) functions;
+      tables = tables;
+      memories = memories;
+      globals = map (λ (g : Global). g.global_type) globals;
+      locals = locals;
+      labels = left ∷ labels;
+      result = left;
+    }
 
 -- what is known of the parts
-pub record Parts (m : Module) (f : Func) (t : FuncType) (types : List FuncType) (functions : List ℕ) (tables memories : List Limits) (globals : List Global) (locals : List ValueType) (labels : List BlockType) : Type 0 where
+pub record Parts (m : Module) (f : Func) (t : FuncType) (types : List FuncType) (functions : List ℕ) (tables memories : List Limits) (globals : List Global)
+    (locals : List ValueType) (labels : List BlockType) : Type 0 where
   pub types_are : types ≡ m.types
   pub functions_are : functions ≡ type_indices m
   pub tables_are : tables ≡ m.tables
@@ -45,7 +55,8 @@ pub record Parts (m : Module) (f : Func) (t : FuncType) (types : List FuncType) 
   pub locals_are : locals ≡ t.params ++ f.locals
   pub no_label : labels ≡ []
 
-module _ (m : Module) (f : Func) (t : FuncType) (types : List FuncType) (functions : List ℕ) (tables memories : List Limits) (globals : List Global) (locals : List ValueType) (labels : List BlockType) (p : Parts m f t types functions tables memories globals locals labels) where
+module _ (m : Module) (f : Func) (t : FuncType) (types : List FuncType) (functions : List ℕ) (tables memories : List Limits) (globals : List Global)
+    (locals : List ValueType) (labels : List BlockType) (p : Parts m f t types functions tables memories globals locals labels) where
   its_type : t ≡ type_at m.types f.type_index
   its_type =
       index_is m.types f.type_index t no_type p.bound (p.type_is ∙ ap (λ ts. slice_index_or ts f.type_index t) p.types_are)
@@ -56,7 +67,13 @@ module _ (m : Module) (f : Func) (t : FuncType) (types : List FuncType) (functio
 
   context_is : inside types functions tables memories globals locals labels t.result ≡ function_context m f
   context_is =
-      ap (λ ts. inside ts functions tables memories globals locals labels t.result) p.types_are ∙ ap (λ is. inside m.types is tables memories globals locals labels t.result) p.functions_are ∙ ap (λ ls. inside m.types (type_indices m) ls memories globals locals labels t.result) p.tables_are ∙ ap (λ ls. inside m.types (type_indices m) m.tables ls globals locals labels t.result) p.memories_are ∙ ap (λ gs. inside m.types (type_indices m) m.tables m.memories gs locals labels t.result) p.globals_are ∙ ap (λ ls. inside m.types (type_indices m) m.tables m.memories m.globals ls labels t.result) p.locals_are ∙ ap (λ ls. inside m.types (type_indices m) m.tables m.memories m.globals (t.params ++ f.locals) ls t.result) p.no_label ∙ ap by_type its_type
+      ap (λ ts. inside ts functions tables memories globals locals labels t.result) p.types_are ∙
+      ap (λ is. inside m.types is tables memories globals locals labels t.result) p.functions_are ∙
+      ap (λ ls. inside m.types (type_indices m) ls memories globals locals labels t.result) p.tables_are ∙
+      ap (λ ls. inside m.types (type_indices m) m.tables ls globals locals labels t.result) p.memories_are ∙
+      ap (λ gs. inside m.types (type_indices m) m.tables m.memories gs locals labels t.result) p.globals_are ∙
+      ap (λ ls. inside m.types (type_indices m) m.tables m.memories m.globals ls labels t.result) p.locals_are ∙
+      ap (λ ls. inside m.types (type_indices m) m.tables m.memories m.globals (t.params ++ f.locals) ls t.result) p.no_label ∙ ap by_type its_type
 
   abbrev context : Context
   context = inside types functions tables memories globals locals labels t.result
@@ -68,7 +85,8 @@ module _ (m : Module) (f : Func) (t : FuncType) (types : List FuncType) (functio
   function_typed h =
       record {
         type = p.bound;
-        body = subst (λ (t : FuncType). Whole (function_context m f) t.result) its_type (subst (λ c. Whole c t.result) context_is (accepted_is_typed context t.result f.body h));
+        body = subst (λ (t : FuncType). Whole (function_context m f) t.result) its_type
+            (subst (λ c. Whole c t.result) context_is (accepted_is_typed context t.result f.body h));
       }
 
   -- some instruction breaks the rule of a fault
@@ -79,9 +97,12 @@ module _ (m : Module) (f : Func) (t : FuncType) (types : List FuncType) (functio
   -- what the algorithm refuses is no body of the function
   no_body : (code : Code) → whole_body context t.result code ≡ None → ¬ IsBody m f code
   no_body code none typed =
-      none_is_untyped context t.result code none (subst (λ c. Types c code [] (results t.result)) (sym context_is) (subst (λ (t : FuncType). Types (function_context m f) code [] (results t.result)) (sym its_type) typed))
+      none_is_untyped context t.result code none
+      (subst (λ c. Types c code [] (results t.result)) (sym context_is)
+      (subst (λ (t : FuncType). Types (function_context m f) code [] (results t.result)) (sym its_type) typed))
 
-  pub function_broken : (e : ValidateFault) → Refused e (BreaksIn e context f.body) (whole_body context t.result f.body) → Mismatch e (Mistyped context t.result f.body no_operands) → (k : ℕ) → at m.functions k ≡ Some f → Broken e m
+  pub function_broken : (e : ValidateFault) → Refused e (BreaksIn e context f.body) (whole_body context t.result f.body) →
+      Mismatch e (Mistyped context t.result f.body no_operands) → (k : ℕ) → at m.functions k ≡ Some f → Broken e m
   function_broken Memory r w k h = tt
   function_broken TypeMismatch r w k h =
       record {
@@ -100,6 +121,10 @@ module _ (m : Module) (f : Func) (t : FuncType) (types : List FuncType) (functio
   function_broken _ r w k h = absurd r
 
 -- a defined function's type is among those of all functions
-pub own_type : (m : Module) (functions : List ℕ) (k : ℕ) (f : Func) → functions ≡ type_indices m → AreTypes functions m.types → at m.functions k ≡ Some f → f.type_index < length m.types
+pub own_type : (m : Module) (functions : List ℕ) (k : ℕ) (f : Func) → functions ≡ type_indices m → AreTypes functions m.types → at m.functions k ≡ Some f →
+    f.type_index < length m.types
 own_type m functions k f e known h =
-    known (length (imported_functions m.imports) + k) f.type_index (ap (λ is. at is (length (imported_functions m.imports) + k)) e ∙ at_append (imported_functions m.imports) (map (λ (f : Func). f.type_index) m.functions) k f.type_index (at_map (λ (f : Func). f.type_index) m.functions k f h))
+    known (length (imported_functions m.imports) + k) f.type_index
+    (ap (λ is. at is (length (imported_functions m.imports) + k)) e ∙
+    at_append (imported_functions m.imports) (map (λ (f : Func). f.type_index) m.functions) k f.type_index
+    (at_map (λ (f : Func). f.type_index) m.functions k f h))

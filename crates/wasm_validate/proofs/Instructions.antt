@@ -1,5 +1,6 @@
 -- A list of instructions is checked one after another.
-use Rattle.std.proofs.Common.{◌≡◌, ◌<◌, ◌≤◌, ◌+◌, inl, inr, ℕ, zero, suc, List, [], ◌∷◌, refl, sym, ap, ◌∙◌, subst, Option, Some, None, length, drop, slice_index_or, arith}
+use Rattle.std.proofs.Common.{◌≡◌, ◌<◌, ◌≤◌, ◌+◌, inl, inr, ℕ, zero, suc, List, [], ◌∷◌, refl, sym, ap, ◌∙◌, subst, Option, Some, None, length, drop}
+use Rattle.std.proofs.Common.{slice_index_or, arith}
 use Rattle.wasm_ast.specs.declared.types.ValueType.TheVariants.{I32}
 use Rattle.wasm_ast.specs.declared.body.Instr.{Instr}
 use Rattle.wasm_ast.specs.declared.body.Instr.TheVariants as instr
@@ -36,9 +37,11 @@ check_after c (Do o rest) s = refl
 check_after c (Block t b rest) s = sym (then_assoc (whole_body (under t c) t b) (λ _. Some (push_result t s)) (check c rest))
 check_after c (Loop t b rest) s = sym (then_assoc (whole_body (under None c) t b) (λ _. Some (push_result t s)) (check c rest))
 check_after c (If t a b rest) s =
-    then_same (pop_as I32 s) _ _ (λ s. then_same (whole_body (under t c) t a) _ _ (λ _. sym (then_assoc (whole_body (under t c) t b) (λ _. Some (push_result t s)) (check c rest)))
+    then_same (pop_as I32 s) _ _
+    (λ s. then_same (whole_body (under t c) t a) _ _ (λ _. sym (then_assoc (whole_body (under t c) t b) (λ _. Some (push_result t s)) (check c rest)))
     ∙ sym (then_assoc (whole_body (under t c) t a) (λ _. then (whole_body (under t c) t b) (λ _. Some (push_result t s))) (check c rest)))
-    ∙ sym (then_assoc (pop_as I32 s) (λ s. then (whole_body (under t c) t a) (λ _. then (whole_body (under t c) t b) (λ _. Some (push_result t s)))) (check c rest))
+    ∙ sym (then_assoc (pop_as I32 s) (λ s. then (whole_body (under t c) t a) (λ _. then (whole_body (under t c) t b) (λ _. Some (push_result t s))))
+    (check c rest))
 
 pub after_first : (i : Instr) (rest : Code) → after (then_code i rest) ≡ rest
 after_first instr.Unreachable rest = refl
@@ -50,7 +53,8 @@ first_alone c _ rest s = refl
 
 pub check_first : (c : Context) (i : Instr) (rest : Code) (s : Operands) → check c (then_code i rest) s ≡ then (instruction c i s) (check c rest)
 check_first c i rest s =
-    check_after c (then_code i rest) s ∙ ap (λ o. then o (check c (after (then_code i rest)))) (first_alone c i rest s) ∙ ap (λ r. then (instruction c i s) (check c r)) (after_first i rest)
+    check_after c (then_code i rest) s ∙ ap (λ o. then o (check c (after (then_code i rest)))) (first_alone c i rest s) ∙
+    ap (λ r. then (instruction c i s) (check c r)) (after_first i rest)
 
 -- an instruction's size
 abbrev pub instr_size : Instr → ℕ
@@ -78,9 +82,11 @@ pub item_size : (i : ℕ) (is : List Instr) (x : Instr) → i < length is → x 
 item_size i is x lt e =
     omega (arith, size_first x (code_of (drop (i + 1) is)), ap (λ xs. code_size (code_of xs)) (next i is x lt e), drop_size i is)
 
-pub check_next : (c : Context) (i : ℕ) (is : List Instr) (x : Instr) (s new : Operands) → i < length is → x ≡ slice_index_or is i x → instruction c x s ≡ Some new → check c (code_of (drop (i + 1) is)) new ≡ check c (code_of (drop i is)) s
+pub check_next : (c : Context) (i : ℕ) (is : List Instr) (x : Instr) (s new : Operands) → i < length is → x ≡ slice_index_or is i x →
+    instruction c x s ≡ Some new → check c (code_of (drop (i + 1) is)) new ≡ check c (code_of (drop i is)) s
 check_next c i is x s new lt e h =
-    sym (ap (λ xs. check c (code_of xs) s) (next i is x lt e) ∙ check_first c x (code_of (drop (i + 1) is)) s ∙ ap (λ o. then o (check c (code_of (drop (i + 1) is)))) h)
+    sym (ap (λ xs. check c (code_of xs) s) (next i is x lt e) ∙ check_first c x (code_of (drop (i + 1) is)) s ∙
+    ap (λ o. then o (check c (code_of (drop (i + 1) is)))) h)
 
 -- what one instruction breaks, the code breaks
 breaks_after : (f : ValidateFault) (c : Context) (code : Code) → BreaksFirst f c code → BreaksIn f c code
@@ -107,15 +113,21 @@ breaks_from f c (suc n) [] m = m
 breaks_from f c (suc n) (i ∷ is) m =
     breaks_later f c (then_code i (code_of is)) (subst (BreaksIn f c) (sym (after_first i (code_of is))) (breaks_from f c n is m))
 
-pub breaks_item : (f : ValidateFault) (c : Context) (i : ℕ) (is : List Instr) (x : Instr) → i < length is → x ≡ slice_index_or is i x → BreaksInstr f c x → BreaksIn f c (code_of is)
+pub breaks_item : (f : ValidateFault) (c : Context) (i : ℕ) (is : List Instr) (x : Instr) → i < length is → x ≡ slice_index_or is i x → BreaksInstr f c x →
+    BreaksIn f c (code_of is)
 breaks_item f c i is x lt e m =
-    breaks_from f c i is (subst (λ xs. BreaksIn f c (code_of xs)) (sym (next i is x lt e)) (breaks_after f c (then_code x (code_of (drop (i + 1) is))) (breaks_alone f c x (code_of (drop (i + 1) is)) m)))
+    breaks_from f c i is (subst (λ xs. BreaksIn f c (code_of xs)) (sym (next i is x lt e))
+    (breaks_after f c (then_code x (code_of (drop (i + 1) is))) (breaks_alone f c x (code_of (drop (i + 1) is)) m)))
 
 -- a refused instruction refuses the body
-pub refused_next : (c : Context) (t : BlockType) (body : Code) (i : ℕ) (is : List Instr) (x : Instr) (s : Operands) (f : ValidateFault) → code_of is ≡ body → i < length is → x ≡ slice_index_or is i x → check c (code_of (drop i is)) s ≡ check c body no_operands → Refused f (BreaksInstr f c x) (instruction c x s) → Refused f (BreaksIn f c body) (whole_body c t body)
+pub refused_next : (c : Context) (t : BlockType) (body : Code) (i : ℕ) (is : List Instr) (x : Instr) (s : Operands) (f : ValidateFault) → code_of is ≡ body →
+    i < length is → x ≡ slice_index_or is i x → check c (code_of (drop i is)) s ≡ check c body no_operands → Refused f (BreaksInstr f c x) (instruction c x s) →
+    Refused f (BreaksIn f c body) (whole_body c t body)
 refused_next c t body i is x s Memory e lt ei inv h = tt
 refused_next c t body i is x s TypeMismatch e lt ei inv h =
-    let none : check c body no_operands ≡ None = sym inv ∙ ap (λ xs. check c (code_of xs) s) (next i is x lt ei) ∙ check_first c x (code_of (drop (i + 1) is)) s ∙ ap (λ o. then o (check c (code_of (drop (i + 1) is)))) h in
+    let none : check c body no_operands ≡ None =
+    sym inv ∙ ap (λ xs. check c (code_of xs) s) (next i is x lt ei) ∙ check_first c x (code_of (drop (i + 1) is)) s ∙
+    ap (λ o. then o (check c (code_of (drop (i + 1) is)))) h in
     ap (λ o. then o (finish t)) none
 refused_next c t body i is x s Index e lt ei inv h = subst (BreaksIn Index c) e (breaks_item Index c i is x lt ei h)
 refused_next c t body i is x s ImmutableGlobal e lt ei inv h = subst (BreaksIn ImmutableGlobal c) e (breaks_item ImmutableGlobal c i is x lt ei h)

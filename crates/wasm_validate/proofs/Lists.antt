@@ -1,5 +1,6 @@
 -- Items of lists, by their places.
-use Rattle.std.proofs.Common.{◌≡◌, ◌<◌, ◌≤◌, ◌+◌, ℕ, zero, suc, List, [], ◌∷◌, ◌++◌, refl, sym, ap, ◌∙◌, subst, ◌⊎◌, inl, inr, Some, None, length, take, drop, append_assoc, get_or, slice_index_or, replicate, arith}
+use Rattle.std.proofs.Common.{◌≡◌, ◌<◌, ◌≤◌, ◌+◌, ℕ, zero, suc, List, [], ◌∷◌, ◌++◌, refl, sym, ap, ◌∙◌, subst, ◌⊎◌, inl, inr, Some, None, length, take, drop}
+use Rattle.std.proofs.Common.{append_assoc, get_or, slice_index_or, replicate, arith}
 use Rattle.std.specs.Prelude.{map}
 use Rattle.std.specs.List.{All}
 use Rattle.std.proofs.lemmas.List.{get_or_default}
@@ -88,12 +89,14 @@ pub item_in : {A : Type 0} (items xs : List A) (i : ℕ) (x : A) → items ≡ x
 item_in items xs i x same lt e = ap (λ xs. at xs i) (sym same) ∙ at_index items i x lt e
 
 -- what holds of each item before a place, and of the item there
-pub one_more : {A : Type 0} (P : A → Type 0) (items xs : List A) (i : ℕ) (x : A) → items ≡ xs → i < length items → x ≡ slice_index_or items i x → P x → ((k : ℕ) → k < i → (y : A) → at xs k ≡ Some y → P y) → (k : ℕ) → k < i + 1 → (y : A) → at xs k ≡ Some y → P y
+pub one_more : {A : Type 0} (P : A → Type 0) (items xs : List A) (i : ℕ) (x : A) → items ≡ xs → i < length items → x ≡ slice_index_or items i x → P x →
+    ((k : ℕ) → k < i → (y : A) → at xs k ≡ Some y → P y) → (k : ℕ) → k < i + 1 → (y : A) → at xs k ≡ Some y → P y
 one_more {A} P items xs i x same lt e p before =
     below_more (λ k. (y : A) → at xs k ≡ Some y → P y) i before (λ y h. subst P (some_same x y (sym (item_in items xs i x same lt e) ∙ h)) p)
 
 -- what holds of each item before the end
-pub each_item : {A : Type 0} (P : A → Type 0) (items xs : List A) (i : ℕ) → items ≡ xs → length items ≤ i → ((k : ℕ) → k < i → (y : A) → at xs k ≡ Some y → P y) → (k : ℕ) → (y : A) → at xs k ≡ Some y → P y
+pub each_item : {A : Type 0} (P : A → Type 0) (items xs : List A) (i : ℕ) → items ≡ xs → length items ≤ i →
+    ((k : ℕ) → k < i → (y : A) → at xs k ≡ Some y → P y) → (k : ℕ) → (y : A) → at xs k ≡ Some y → P y
 each_item P items xs i same le before k y h =
     before k (omega (arith, at_below xs k y h, ap length same)) y h
 
@@ -104,10 +107,12 @@ next zero (y ∷ xs) x lt e = ap (λ z. z ∷ xs) (sym e)
 next (suc i) (y ∷ xs) x lt e =
     let h : suc (i + 1) ≡ suc i + 1 = omega arith in next i xs x (omega arith) e ∙ ap (λ n. x ∷ drop n (y ∷ xs)) h
 
-pub next_item : {A : Type 0} (items xs : List A) (i : ℕ) (x : A) → items ≡ xs → i < length items → x ≡ slice_index_or items i x → drop i xs ≡ x ∷ drop (i + 1) xs
+pub next_item : {A : Type 0} (items xs : List A) (i : ℕ) (x : A) → items ≡ xs → i < length items → x ≡ slice_index_or items i x →
+    drop i xs ≡ x ∷ drop (i + 1) xs
 next_item items xs i x same lt e =
     ap (drop i) (sym same) ∙ next i items x lt e ∙ ap (λ xs. x ∷ drop (i + 1) xs) same
 
-pub mapped_next : {A B : Type 0} (f : A → B) (items xs : List A) (i : ℕ) (x : A) (done : List B) → items ≡ xs → i < length items → x ≡ slice_index_or items i x → (done ++ (f x ∷ [])) ++ map f (drop (i + 1) xs) ≡ done ++ map f (drop i xs)
+pub mapped_next : {A B : Type 0} (f : A → B) (items xs : List A) (i : ℕ) (x : A) (done : List B) → items ≡ xs → i < length items →
+    x ≡ slice_index_or items i x → (done ++ (f x ∷ [])) ++ map f (drop (i + 1) xs) ≡ done ++ map f (drop i xs)
 mapped_next f items xs i x done same lt e =
     append_assoc done (f x ∷ []) (map f (drop (i + 1) xs)) ∙ ap (λ ys. done ++ map f ys) (sym (next_item items xs i x same lt e))

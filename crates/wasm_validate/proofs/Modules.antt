@@ -1,5 +1,6 @@
 -- What the parts of a module have, by their lists.
-use Rattle.std.proofs.Common.{◌≡◌, ◌≢◌, ◌<◌, ◌≤◌, ◌+◌, inl, inr, ℕ, zero, suc, List, [], ◌∷◌, ◌++◌, refl, sym, ap, ◌∙◌, Option, Some, None, length, map, drop, append_assoc, slice_index_or, arith}
+use Rattle.std.proofs.Common.{◌≡◌, ◌≢◌, ◌<◌, ◌≤◌, ◌+◌, inl, inr, ℕ, zero, suc, List, [], ◌∷◌, ◌++◌, refl, sym, ap, ◌∙◌, Option, Some, None, length, map, drop}
+use Rattle.std.proofs.Common.{append_assoc, slice_index_or, arith}
 use Rattle.wasm_ast.specs.declared.types.FuncType.{FuncType}
 use Rattle.wasm_ast.specs.declared.types.Limits.{Limits}
 use Rattle.wasm_ast.specs.declared.types.ValueType.TheVariants.{I32}
@@ -18,7 +19,8 @@ use Rattle.wasm_validate.specs.Typing.{at, results}
 use Rattle.wasm_validate.specs.ModuleRules.{imported_functions, type_indices, type_at, function_context, IsValidImport, IsValid}
 use Rattle.wasm_validate.specs.Indices.{AreTypes}
 use Rattle.wasm_validate.specs.HostCalls.{call_type, call_named, then_call, host_calls}
-use Rattle.wasm_validate.specs.Broken.{Broken, BrokenBody, MissingIndex, ImportType, FunctionType, Exported, ElementTable, ElementFunction, InBody, DataMemory, BadLimits, NotConstant, PassesEnd}
+use Rattle.wasm_validate.specs.Broken.{Broken, BrokenBody, MissingIndex, ImportType, FunctionType, Exported, ElementTable, ElementFunction, InBody, DataMemory}
+use Rattle.wasm_validate.specs.Broken.{BadLimits, NotConstant, PassesEnd}
 use Rattle.wasm_validate.specs.Broken as broken
 use Rattle.wasm_validate.proofs.Lists.{at_below, at_either, at_map_back, next_item}
 use Rattle.wasm_validate.proofs.Untyped.{broken_is_untyped}
@@ -36,15 +38,18 @@ same_word : (c : Code) (n o : ℕ) → c ≡ Do (Const I32 n) End → c ≡ Do (
 same_word c n o e h = cc
 
 -- an import has the type of the call that its name is
-pub import_type : (types : List FuncType) (i : Import) (t : ℕ) (call : HostCall) (f : FuncType) → i.kind ≡ kind.Function t → at types t ≡ Some f → call_named i.name ≡ Some call → IsValidImport types i → f ≡ call_type call
+pub import_type : (types : List FuncType) (i : Import) (t : ℕ) (call : HostCall) (f : FuncType) → i.kind ≡ kind.Function t → at types t ≡ Some f →
+    call_named i.name ≡ Some call → IsValidImport types i → f ≡ call_type call
 import_type types i t call f d e n v =
     let same : t ≡ v.type_index = same_type_index i.kind t v.type_index d v.function in
     some_same (at types t) f (call_type v.call) e (ap (at types) same ∙ v.type) ∙ ap call_type (some_same (call_named i.name) v.call call v.name n)
 
 -- one call more, and the imports after it
-pub calls_next : (items xs : List Import) (k : ℕ) (i : Import) (call : HostCall) (done : List HostCall) → items ≡ xs → k < length items → i ≡ slice_index_or items k i → call_named i.name ≡ Some call → (done ++ (call ∷ [])) ++ host_calls (drop (k + 1) xs) ≡ done ++ host_calls (drop k xs)
+pub calls_next : (items xs : List Import) (k : ℕ) (i : Import) (call : HostCall) (done : List HostCall) → items ≡ xs → k < length items →
+    i ≡ slice_index_or items k i → call_named i.name ≡ Some call → (done ++ (call ∷ [])) ++ host_calls (drop (k + 1) xs) ≡ done ++ host_calls (drop k xs)
 calls_next items xs k i call done same lt e n =
-    append_assoc done (call ∷ []) (host_calls (drop (k + 1) xs)) ∙ ap (λ cs. done ++ cs) (sym (ap host_calls (next_item items xs k i same lt e) ∙ ap (λ o. then_call o (host_calls (drop (k + 1) xs))) n))
+    append_assoc done (call ∷ []) (host_calls (drop (k + 1) xs)) ∙
+    ap (λ cs. done ++ cs) (sym (ap host_calls (next_item items xs k i same lt e) ∙ ap (λ o. then_call o (host_calls (drop (k + 1) xs))) n))
 
 -- some import is of a function of the type at t
 abbrev HasImport : List Import → ℕ → Type 0
@@ -53,7 +58,8 @@ HasImport is t = (j : ℕ) × (i : Import) × (at is j ≡ Some i) × (i.kind �
 later : (i : Import) (is : List Import) (t : ℕ) → HasImport is t → HasImport (i ∷ is) t
 later i is t r = (suc r.0, r.1, r.2, r.3)
 
-first_or_later : (i : Import) (is : List Import) (k t u : ℕ) → i.kind ≡ kind.Function u → at (u ∷ imported_functions is) k ≡ Some t → ((k : ℕ) → at (imported_functions is) k ≡ Some t → HasImport is t) → HasImport (i ∷ is) t
+first_or_later : (i : Import) (is : List Import) (k t u : ℕ) → i.kind ≡ kind.Function u → at (u ∷ imported_functions is) k ≡ Some t →
+    ((k : ℕ) → at (imported_functions is) k ≡ Some t → HasImport is t) → HasImport (i ∷ is) t
 first_or_later i is zero t u d h has = (0, i, refl, d ∙ ap kind.Function (some_same (Some u) u t refl h))
 first_or_later i is (suc k) t u d h has = later i is t (has k h)
 
@@ -61,10 +67,12 @@ first_or_later i is (suc k) t u d h has = later i is t (has k h)
 imported_has : (is : List Import) (k t : ℕ) → at (imported_functions is) k ≡ Some t → HasImport is t
 imported_has [] k t e = absurd (none_some (at (imported_functions []) k) t refl e)
 imported_has (i ∷ is) k t e =
-    elim i.kind as (λ d. i.kind ≡ d → at (elim d [ kind.Function t ↦ t ∷ imported_functions is | _ ↦ imported_functions is ]) k ≡ Some t → HasImport (i ∷ is) t) [ kind.Function u ↦ λ d h. first_or_later i is k t u d h (λ k h. imported_has is k t h) | _ ↦ λ d h. later i is t (imported_has is k t h) ] refl e
+    elim i.kind as (λ d. i.kind ≡ d → at (elim d [ kind.Function t ↦ t ∷ imported_functions is | _ ↦ imported_functions is ]) k ≡ Some t → HasImport (i ∷ is) t)
+    [ kind.Function u ↦ λ d h. first_or_later i is k t u d h (λ k h. imported_has is k t h) | _ ↦ λ d h. later i is t (imported_has is k t h) ] refl e
 
 -- where imports are host calls and functions have types, each function has a type
-pub known_types : (m : Module) → ((k : ℕ) → (i : Import) → at m.imports k ≡ Some i → IsValidImport m.types i) → ((k : ℕ) → (f : Func) → at m.functions k ≡ Some f → f.type_index < length m.types) → AreTypes (type_indices m) m.types
+pub known_types : (m : Module) → ((k : ℕ) → (i : Import) → at m.imports k ≡ Some i → IsValidImport m.types i) →
+    ((k : ℕ) → (f : Func) → at m.functions k ≡ Some f → f.type_index < length m.types) → AreTypes (type_indices m) m.types
 known_types m imports functions k t e =
     elim (at_either (imported_functions m.imports) (map (λ (f : Func). f.type_index) m.functions) k t e) [ inl h ↦ of_import h | inr h ↦ of_function h.0 h.1 ]
   where
@@ -80,7 +88,9 @@ known_types m imports functions k t e =
         let r = at_map_back (λ (f : Func). f.type_index) m.functions j t h in omega (arith, functions j r.0 r.1, r.2)
 
 -- where no two exports have one name, names tell exports apart
-pub names_apart : (es : List Export) (n : ℕ) → length es ≤ n → ((j : ℕ) → (k : ℕ) → (d : Export) → (e : Export) → k < n → at es j ≡ Some d → at es k ≡ Some e → d.name ≡ e.name → j < k → ⊥) → (j : ℕ) → (k : ℕ) → (d : Export) → (e : Export) → at es j ≡ Some d → at es k ≡ Some e → d.name ≡ e.name → j ≡ k
+pub names_apart : (es : List Export) (n : ℕ) → length es ≤ n →
+    ((j : ℕ) → (k : ℕ) → (d : Export) → (e : Export) → k < n → at es j ≡ Some d → at es k ≡ Some e → d.name ≡ e.name → j < k → ⊥) → (j : ℕ) → (k : ℕ) →
+    (d : Export) → (e : Export) → at es j ≡ Some d → at es k ≡ Some e → d.name ≡ e.name → j ≡ k
 names_apart es n le apart j k d e hj hk same =
     let lower : j < k → ⊥ = apart j k d e (omega (arith, at_below es k e hk)) hj hk same in
     let upper : k < j → ⊥ = apart k j e d (omega (arith, at_below es j d hj)) hk hj (sym same) in

@@ -8,16 +8,19 @@ use Rattle.wasm_ast.specs.declared.types.Limits.{Limits}
 use Rattle.wasm_ast.specs.Access.{load_type, load_width, store_type, store_width}
 use Rattle.wasm_ast.specs.Conversions.{operand_type, result_type}
 use Rattle.wasm_ast.specs.Types.{words}
-use Rattle.wasm_ast.specs.Op.{Op, Unreachable, Nop, Drop, Select, Return, Br, BrIf, BrTable, Call, CallIndirect, LocalGet, LocalSet, LocalTee, GlobalGet, GlobalSet, MemorySize, MemoryGrow, Load, Store, Const, Eqz, Unary, Compare, Binary, Convert}
+use Rattle.wasm_ast.specs.Op.{Op, Unreachable, Nop, Drop, Select, Return, Br, BrIf, BrTable, Call, CallIndirect, LocalGet, LocalSet, LocalTee, GlobalGet}
+use Rattle.wasm_ast.specs.Op.{GlobalSet, MemorySize, MemoryGrow, Load, Store, Const, Eqz, Unary, Compare, Binary, Convert}
 use Rattle.wasm_ast.specs.Code.{BlockType, Code, End, Do, Block, Loop, If}
 use Rattle.wasm_validate.specs.Typing.{Context, at, results, under, arguments, TypingRule, Types}
 use Rattle.wasm_validate.specs.Operands.{Operands, then, if_true, pop, pop_as, apply, shared, push_result, pop_result, no_operands, from_here, finish}
 use Rattle.wasm_validate.specs.Algorithm.{select, with_memory, access, step, check, whole_body}
-use Rattle.wasm_validate.proofs.Stands.{Holds, bind, weaker, Stands, For, pop_sound, pop_as_sound, pop_result_sound, apply_sound, shared_sound, push_sound, push_known, push_result_sound, finish_sound, some_stack, at_sound, each_label_sound}
+use Rattle.wasm_validate.proofs.Stands.{Holds, bind, weaker, Stands, For, pop_sound, pop_as_sound, pop_result_sound, apply_sound, shared_sound, push_sound}
+use Rattle.wasm_validate.proofs.Stands.{push_known, push_result_sound, finish_sound, some_stack, at_sound, each_label_sound}
 
 -- the instruction takes the first stack to the second
 abbrev pub Fits : Context → Op → List ValueType → List ValueType → Type 0
-Fits c o from to = (ins : List ValueType) × (outs : List ValueType) × (lower : List ValueType) × TypingRule c o ins outs × (from ≡ ins ++ lower) × (outs ++ lower ≡ to)
+Fits c o from to = (ins : List ValueType) × (outs : List ValueType) × (lower : List ValueType) × TypingRule c o ins outs × (from ≡ ins ++ lower) ×
+    (outs ++ lower ≡ to)
 
 -- from some stack that the operands stand for
 abbrev pub From : Context → Op → Operands → List ValueType → Type 0
@@ -51,7 +54,9 @@ module _ (c : Context) (s : Operands) where
 
   const_back : (t : ValueType) (n : ℕ) → Holds (step c (Const t n) s) (Back c (Const t n) s)
   const_back t n =
-      if_holds (nat_lt n (words t)) _ _ (λ e. let lt : n < words t = grind (arith, nat_tests) in push_known t s (From c (Const t n) s) (λ ts f. (ts, f, ([], t ∷ [], ts, (lt, refl, refl), refl, refl))))
+      if_holds (nat_lt n (words t)) _ _
+      (λ e. let lt : n < words t = grind (arith, nat_tests) in
+      push_known t s (From c (Const t n) s) (λ ts f. (ts, f, ([], t ∷ [], ts, (lt, refl, refl), refl, refl))))
 
   -- what takes operands of known types and leaves a result
   apply_back : (o : Op) (ins : List ValueType) (l : BlockType) → TypingRule c o ins (results l) → Holds (apply ins l s) (Back c o s)
@@ -60,12 +65,16 @@ module _ (c : Context) (s : Operands) where
 
   select_back : Holds (select s) (Back c Select s)
   select_back =
-      bind (pop_as I32 s) _ _ _ (pop_as_sound I32 s) (λ s1 h1. bind (pop s1) _ _ _ (pop_sound s1.types s1.unreachable) (λ p hp. bind (pop p.1) _ _ _ (pop_sound p.1.types p.1.unreachable) (λ q hq. bind (shared p.0 q.0) _ _ _ (shared_sound p.0 q.0) (λ o both.
+      bind (pop_as I32 s) _ _ _ (pop_as_sound I32 s)
+      (λ s1 h1. bind (pop s1) _ _ _ (pop_sound s1.types s1.unreachable)
+      (λ p hp. bind (pop p.1) _ _ _ (pop_sound p.1.types p.1.unreachable) (λ q hq. bind (shared p.0 q.0) _ _ _ (shared_sound p.0 q.0) (λ o both.
       push_sound o q.1 (From c Select s) (λ t ts e f.
       let stands = both t e in
       (I32 ∷ t ∷ t ∷ ts, h1 (t ∷ t ∷ ts) (hp t (t ∷ ts) stands.0 (hq t ts stands.1 f)), (I32 ∷ t ∷ t ∷ [], t ∷ [], ts, (t, refl, refl), refl, refl)))))))
 
-  local_back : (x : ℕ) (o : Op) (ins : ValueType → List ValueType) (l : ValueType → BlockType) → ((t : ValueType) → at c.locals x ≡ Some t → TypingRule c o (ins t) (results (l t))) → Holds (then (at c.locals x) (λ t. apply (ins t) (l t) s)) (Back c o s)
+  local_back : (x : ℕ) (o : Op) (ins : ValueType → List ValueType) (l : ValueType → BlockType) →
+      ((t : ValueType) → at c.locals x ≡ Some t → TypingRule c o (ins t) (results (l t))) →
+      Holds (then (at c.locals x) (λ t. apply (ins t) (l t) s)) (Back c o s)
   local_back x o ins l r =
       bind (at c.locals x) _ _ _ (at_sound c.locals x) (λ t e. apply_back o (ins t) (l t) (r t e))
 
@@ -75,17 +84,22 @@ module _ (c : Context) (s : Operands) where
 
   global_set_back : (x : ℕ) → Holds (step c (GlobalSet x) s) (Back c (GlobalSet x) s)
   global_set_back x =
-      bind (at c.globals x) _ _ _ (at_sound c.globals x) (λ g e. then_if g.is_variable s _ _ (λ variable. apply_back (GlobalSet x) (g.value_type ∷ []) None (g, e, variable, refl, refl)))
+      bind (at c.globals x) _ _ _ (at_sound c.globals x)
+      (λ g e. then_if g.is_variable s _ _ (λ variable. apply_back (GlobalSet x) (g.value_type ∷ []) None (g, e, variable, refl, refl)))
 
-  memory_back : (o : Op) (ins : List ValueType) (l : BlockType) → ((m : Limits) → at c.memories 0 ≡ Some m → TypingRule c o ins (results l)) → Holds (with_memory c ins l s) (Back c o s)
+  memory_back : (o : Op) (ins : List ValueType) (l : BlockType) → ((m : Limits) → at c.memories 0 ≡ Some m → TypingRule c o ins (results l)) →
+      Holds (with_memory c ins l s) (Back c o s)
   memory_back o ins l r = bind (at c.memories 0) _ _ _ (at_sound c.memories 0) (λ m e. apply_back o ins l (r m e))
 
-  access_back : (o : Op) (align width : ℕ) (ins : List ValueType) (l : BlockType) → ((m : Limits) → at c.memories 0 ≡ Some m → 2 ^ align ≤ width → TypingRule c o ins (results l)) → Holds (access c align width ins l s) (Back c o s)
+  access_back : (o : Op) (align width : ℕ) (ins : List ValueType) (l : BlockType) →
+      ((m : Limits) → at c.memories 0 ≡ Some m → 2 ^ align ≤ width → TypingRule c o ins (results l)) → Holds (access c align width ins l s) (Back c o s)
   access_back o align width ins l r =
-      bind (at c.memories 0) _ _ _ (at_sound c.memories 0) (λ m e. then_if (nat_le (2 ^ align) width) s _ _ (λ le. apply_back o ins l (r m e (le_of (2 ^ align) width le))))
+      bind (at c.memories 0) _ _ _ (at_sound c.memories 0)
+      (λ m e. then_if (nat_le (2 ^ align) width) s _ _ (λ le. apply_back o ins l (r m e (le_of (2 ^ align) width le))))
 
   -- what never goes on, above any stack that it takes
-  never : (o : Op) (below : List ValueType) (ins : List ValueType) → For s (ins ++ below) → ((outs : List ValueType) → TypingRule c o (ins ++ below) outs) → Back c o s from_here
+  never : (o : Op) (below : List ValueType) (ins : List ValueType) → For s (ins ++ below) → ((outs : List ValueType) → TypingRule c o (ins ++ below) outs) →
+      Back c o s from_here
   never o below ins f r = λ to g. (ins ++ below, f, (ins ++ below, to, [], r to, sym (append-nil (ins ++ below)), append-nil to))
 
   br_back : (n : ℕ) → Holds (step c (Br n) s) (Back c (Br n) s)
@@ -95,13 +109,15 @@ module _ (c : Context) (s : Operands) where
 
   br_if_back : (n : ℕ) → Holds (step c (BrIf n) s) (Back c (BrIf n) s)
   br_if_back n =
-      bind (at c.labels n) _ _ _ (at_sound c.labels n) (λ l e. bind (pop_as I32 s) _ _ _ (pop_as_sound I32 s) (λ s1 h1. bind (pop_result l s1) _ _ _ (pop_result_sound l s1) (λ s2 h2.
+      bind (at c.labels n) _ _ _ (at_sound c.labels n)
+      (λ l e. bind (pop_as I32 s) _ _ _ (pop_as_sound I32 s) (λ s1 h1. bind (pop_result l s1) _ _ _ (pop_result_sound l s1) (λ s2 h2.
       push_result_sound l s2 (From c (BrIf n) s) (λ ts f.
       (I32 ∷ (results l ++ ts), h1 (results l ++ ts) (h2 ts f), (I32 ∷ results l, results l, ts, (l, e, refl, refl), refl, refl))))))
 
   br_table_back : (ns : List ℕ) (n : ℕ) → Holds (step c (BrTable ns n) s) (Back c (BrTable ns n) s)
   br_table_back ns n =
-      bind (at c.labels n) _ _ _ (at_sound c.labels n) (λ l e. bind (pop_as I32 s) _ _ _ (pop_as_sound I32 s) (λ s1 h1. bind (pop_result l s1) _ _ _ (pop_result_sound l s1) (λ s2 h2.
+      bind (at c.labels n) _ _ _ (at_sound c.labels n)
+      (λ l e. bind (pop_as I32 s) _ _ _ (pop_as_sound I32 s) (λ s1 h1. bind (pop_result l s1) _ _ _ (pop_result_sound l s1) (λ s2 h2.
       each_label_sound c ns l from_here _ (λ each.
       let b = some_stack s2 in never (BrTable ns n) b.0 (I32 ∷ results l) (h1 (results l ++ b.0) (h2 b.0 b.1)) (λ outs. (l, e, each, b.0, refl))))))
 
@@ -119,7 +135,8 @@ module _ (c : Context) (s : Operands) where
 
   call_indirect_back : (x : ℕ) → Holds (step c (CallIndirect x) s) (Back c (CallIndirect x) s)
   call_indirect_back x =
-      bind (at c.tables 0) _ _ _ (at_sound c.tables 0) (λ l el. bind (at c.types x) _ _ _ (at_sound c.types x) (λ t e. bind (pop_as I32 s) _ _ _ (pop_as_sound I32 s) (λ s1 h.
+      bind (at c.tables 0) _ _ _ (at_sound c.tables 0)
+      (λ l el. bind (at c.types x) _ _ _ (at_sound c.types x) (λ t e. bind (pop_as I32 s) _ _ _ (pop_as_sound I32 s) (λ s1 h.
       apply_sound (arguments t) t.result s1 (From c (CallIndirect x) s) (λ ts f.
       (I32 ∷ (arguments t ++ ts), h (arguments t ++ ts) f, (I32 ∷ arguments t, results t.result, ts, (l, el, t, e, refl, refl), refl, refl))))))
 
@@ -161,7 +178,8 @@ abbrev pub BackCode : Context → Code → Operands → Operands → Type 0
 BackCode c code s s' = (to : List ValueType) → For s' to → FromCode c code s to
 
 -- a body that ends as it must is typed
-body_end : (c : Context) (l : BlockType) (body : Code) → Holds (check c body no_operands) (BackCode c body no_operands) → Holds (whole_body c l body) (λ _. Types c body [] (results l))
+body_end : (c : Context) (l : BlockType) (body : Code) → Holds (check c body no_operands) (BackCode c body no_operands) →
+    Holds (whole_body c l body) (λ _. Types c body [] (results l))
 body_end c l body h =
     bind (check c body no_operands) (finish l) _ _ h (λ e back. weaker (finish l e) _ _ (finish_sound l e) (λ s f.
     let r = back (results l ++ []) f in
@@ -172,7 +190,10 @@ body_end c l body h =
     typed (x ∷ xs) f t = absurd f
 
 -- code after a block that leaves this
-after_block : (c : Context) (l : BlockType) (rest : Code) (s : Operands) (P : List ValueType → Type 0) → Holds (check c rest (push_result l s)) (BackCode c rest (push_result l s)) → ((to from : List ValueType) → For s from → Types c rest (results l ++ from) to → P to) → Holds (check c rest (push_result l s)) (λ s'. (to : List ValueType) → For s' to → P to)
+after_block : (c : Context) (l : BlockType) (rest : Code) (s : Operands) (P : List ValueType → Type 0) →
+    Holds (check c rest (push_result l s)) (BackCode c rest (push_result l s)) →
+    ((to from : List ValueType) → For s from → Types c rest (results l ++ from) to → P to) →
+    Holds (check c rest (push_result l s)) (λ s'. (to : List ValueType) → For s' to → P to)
 after_block c l rest s P h k =
     weaker (check c rest (push_result l s)) _ _ h (λ s' back. λ to f.
     let r = back to f in push_result_sound l s (λ mid. Types c rest mid to → P to) (λ from g. k to from g) r.0 r.1 r.2)
@@ -195,7 +216,8 @@ check_sound c (If t a b rest) s =
     bind (pop_as I32 s) _ _ _ (pop_as_sound I32 s) (λ s1 h1.
     bind (whole_body (under t c) t a) _ _ _ (body_end (under t c) t a (check_sound (under t c) a no_operands)) (λ e h2.
     bind (whole_body (under t c) t b) _ _ _ (body_end (under t c) t b (check_sound (under t c) b no_operands)) (λ e h3.
-    after_block c t rest s1 (FromCode c (If t a b rest) s) (check_sound c rest (push_result t s1)) (λ to from g r. (I32 ∷ from, h1 from g, (from, refl, h2, h3, r))))))
+    after_block c t rest s1 (FromCode c (If t a b rest) s) (check_sound c rest (push_result t s1))
+    (λ to from g r. (I32 ∷ from, h1 from g, (from, refl, h2, h3, r))))))
 
 -- what the algorithm accepts is typed
 pub accepted_is_typed : (c : Context) (l : BlockType) (body : Code) → IsSome (whole_body c l body) → Types c body [] (results l)

@@ -4,7 +4,8 @@ use Rattle.std.specs.Prelude.{Bool, true, false, ◌&&◌}
 use Rattle.wasm_ast.specs.declared.types.ValueType.{ValueType}
 use Rattle.wasm_ast.specs.declared.types.ValueType.TheVariants.{I32, I64}
 use Rattle.wasm_validate.specs.Typing.{Context, at, results, EachLabel}
-use Rattle.wasm_validate.specs.Operands.{Operands, then, matches, if_true, push, pop_from, pop, pop_as, pop_all, push_result, pop_result, apply, shared, no_operands, is_none, finish, label_is, named_is}
+use Rattle.wasm_validate.specs.Operands.{Operands, then, matches, if_true, push, pop_from, pop, pop_as, pop_all, push_result, pop_result, apply, shared}
+use Rattle.wasm_validate.specs.Operands.{no_operands, is_none, finish, label_is, named_is}
 use Rattle.wasm_validate.specs.Algorithm.{each_label}
 
 -- a fact of the value, if there is one
@@ -39,7 +40,8 @@ if_matches (Some I32) I64 a P h = tt
 if_matches (Some I64) I32 a P h = tt
 if_matches (Some I64) I64 a P h = h refl
 
-pub pop_sound : (os : List (Option ValueType)) (u : Bool) → Holds (pop_from os u) (λ p. (t : ValueType) (ts : List ValueType) → Stands p.0 t → For p.1 ts → StandsFor os u (t ∷ ts))
+pub pop_sound : (os : List (Option ValueType)) (u : Bool) →
+    Holds (pop_from os u) (λ p. (t : ValueType) (ts : List ValueType) → Stands p.0 t → For p.1 ts → StandsFor os u (t ∷ ts))
 pop_sound [] false = tt
 pop_sound [] true = λ t ts a b. tt
 pop_sound (o ∷ os) u = λ t ts a b. (a, b)
@@ -55,26 +57,32 @@ weaker (Some a) P Q h k = k a h
 pub pop_all_sound : (ts : List ValueType) (s : Operands) → Holds (pop_all ts s) (λ s'. (below : List ValueType) → For s' below → For s (ts ++ below))
 pop_all_sound [] s = λ below f. f
 pop_all_sound (t ∷ ts) s =
-    bind (pop_as t s) (pop_all ts) _ _ (pop_as_sound t s) (λ s1 h. weaker (pop_all ts s1) _ _ (pop_all_sound ts s1) (λ s2 k. λ below f. h (ts ++ below) (k below f)))
+    bind (pop_as t s) (pop_all ts) _ _ (pop_as_sound t s)
+    (λ s1 h. weaker (pop_all ts s1) _ _ (pop_all_sound ts s1) (λ s2 k. λ below f. h (ts ++ below) (k below f)))
 
-pub pop_result_sound : (l : Option ValueType) (s : Operands) → Holds (pop_result l s) (λ s'. (below : List ValueType) → For s' below → For s (results l ++ below))
+pub pop_result_sound : (l : Option ValueType) (s : Operands) →
+    Holds (pop_result l s) (λ s'. (below : List ValueType) → For s' below → For s (results l ++ below))
 pop_result_sound None s = λ below f. f
 pop_result_sound (Some t) s = pop_as_sound t s
 
 -- what holds of each stack for operands with one more on top
-pub push_sound : (o : Option ValueType) (s : Operands) (P : List ValueType → Type 0) → ((t : ValueType) (ts : List ValueType) → Stands o t → For s ts → P (t ∷ ts)) → (ts : List ValueType) → For (push o s) ts → P ts
+pub push_sound : (o : Option ValueType) (s : Operands) (P : List ValueType → Type 0) →
+    ((t : ValueType) (ts : List ValueType) → Stands o t → For s ts → P (t ∷ ts)) → (ts : List ValueType) → For (push o s) ts → P ts
 push_sound o s P h [] f = absurd f
 push_sound o s P h (t ∷ ts) f = h t ts f.0 f.1
 
-pub push_known : (t : ValueType) (s : Operands) (P : List ValueType → Type 0) → ((ts : List ValueType) → For s ts → P (t ∷ ts)) → (ts : List ValueType) → For (push (Some t) s) ts → P ts
+pub push_known : (t : ValueType) (s : Operands) (P : List ValueType → Type 0) → ((ts : List ValueType) → For s ts → P (t ∷ ts)) → (ts : List ValueType) →
+    For (push (Some t) s) ts → P ts
 push_known t s P h = push_sound (Some t) s P (λ t' ts e f. subst (λ x. P (x ∷ ts)) e (h ts f))
 
-pub push_result_sound : (l : Option ValueType) (s : Operands) (P : List ValueType → Type 0) → ((ts : List ValueType) → For s ts → P (results l ++ ts)) → (ts : List ValueType) → For (push_result l s) ts → P ts
+pub push_result_sound : (l : Option ValueType) (s : Operands) (P : List ValueType → Type 0) → ((ts : List ValueType) → For s ts → P (results l ++ ts)) →
+    (ts : List ValueType) → For (push_result l s) ts → P ts
 push_result_sound None s P h = h
 push_result_sound (Some t) s P h = push_known t s P h
 
 -- the operands before each stack that a result is left on
-pub apply_sound : (ins : List ValueType) (l : Option ValueType) (s : Operands) (P : List ValueType → Type 0) → ((ts : List ValueType) → For s (ins ++ ts) → P (results l ++ ts)) → Holds (apply ins l s) (λ s'. (ts : List ValueType) → For s' ts → P ts)
+pub apply_sound : (ins : List ValueType) (l : Option ValueType) (s : Operands) (P : List ValueType → Type 0) →
+    ((ts : List ValueType) → For s (ins ++ ts) → P (results l ++ ts)) → Holds (apply ins l s) (λ s'. (ts : List ValueType) → For s' ts → P ts)
 apply_sound ins l s P h =
     bind (pop_all ins s) _ _ _ (pop_all_sound ins s) (λ s1 k. push_result_sound l s1 P (λ ts f. h ts (k ts f)))
 
@@ -95,7 +103,8 @@ is_none_sound s = no_types s.types s.unreachable s
 
 pub finish_sound : (l : Option ValueType) (s : Operands) → Holds (finish l s) (λ s'. For s (results l ++ []))
 finish_sound l s =
-    bind (pop_result l s) (λ s. if_true (is_none s.types) s) _ _ (pop_result_sound l s) (λ s1 h. weaker (if_true (is_none s1.types) s1) _ _ (is_none_sound s1) (λ s2 e. h [] e))
+    bind (pop_result l s) (λ s. if_true (is_none s.types) s) _ _ (pop_result_sound l s)
+    (λ s1 h. weaker (if_true (is_none s1.types) s1) _ _ (is_none_sound s1) (λ s2 e. h [] e))
 
 -- some stack
 pub some_stack : (s : Operands) → (ts : List ValueType) × For s ts
@@ -120,15 +129,19 @@ at_sound xs n = same (at xs n)
     same None = tt
     same (Some a) = refl
 
-named_sound : (o : Option (Option ValueType)) (l : Option ValueType) (Q : Operands → Type 0) → (o ≡ Some l → Q no_operands) → Holds (if_true (named_is o l) no_operands) Q
+named_sound : (o : Option (Option ValueType)) (l : Option ValueType) (Q : Operands → Type 0) → (o ≡ Some l → Q no_operands) →
+    Holds (if_true (named_is o l) no_operands) Q
 named_sound None l Q k = tt
 named_sound (Some l') l Q k = label_is_sound l' l no_operands Q (λ e. k (ap Some e))
 
-both_true : {A : Type 0} (b b' : Bool) (a : A) (P : A → Type 0) (E : Type 0) → ((Q : Operands → Type 0) → (E → Q no_operands) → Holds (if_true b no_operands) Q) → (E → Holds (if_true b' a) P) → Holds (if_true (b && b') a) P
+both_true : {A : Type 0} (b b' : Bool) (a : A) (P : A → Type 0) (E : Type 0) →
+    ((Q : Operands → Type 0) → (E → Q no_operands) → Holds (if_true b no_operands) Q) → (E → Holds (if_true b' a) P) → Holds (if_true (b && b') a) P
 both_true false b' a P E x y = tt
 both_true true b' a P E x y = x (λ s. Holds (if_true b' a) P) y
 
-pub each_label_sound : {A : Type 0} (c : Context) (ns : List ℕ) (l : Option ValueType) (a : A) (P : A → Type 0) → (EachLabel c ns l → P a) → Holds (if_true (each_label c.labels ns l) a) P
+pub each_label_sound : {A : Type 0} (c : Context) (ns : List ℕ) (l : Option ValueType) (a : A) (P : A → Type 0) → (EachLabel c ns l → P a) →
+    Holds (if_true (each_label c.labels ns l) a) P
 each_label_sound c [] l a P h = h tt
 each_label_sound c (n ∷ ns) l a P h =
-    both_true (named_is (at c.labels n) l) (each_label c.labels ns l) a P (at c.labels n ≡ Some l) (λ Q k. named_sound (at c.labels n) l Q k) (λ e. each_label_sound c ns l a P (λ r. h (e, r)))
+    both_true (named_is (at c.labels n) l) (each_label c.labels ns l) a P (at c.labels n ≡ Some l) (λ Q k. named_sound (at c.labels n) l Q k)
+    (λ e. each_label_sound c ns l a P (λ r. h (e, r)))

@@ -7,11 +7,13 @@ use Rattle.wasm_ast.specs.declared.body.Instr.{Instr}
 use Rattle.wasm_ast.specs.Access.{load_type, load_width, store_type, store_width}
 use Rattle.wasm_ast.specs.Conversions.{operand_type, result_type}
 use Rattle.wasm_ast.specs.Types.{words}
-use Rattle.wasm_ast.specs.Op.{Op, Unreachable, Nop, Drop, Select, Return, Br, BrIf, BrTable, Call, CallIndirect, LocalGet, LocalSet, LocalTee, GlobalGet, GlobalSet, MemorySize, MemoryGrow, Load, Store, Const, Eqz, Unary, Compare, Binary, Convert}
+use Rattle.wasm_ast.specs.Op.{Op, Unreachable, Nop, Drop, Select, Return, Br, BrIf, BrTable, Call, CallIndirect, LocalGet, LocalSet, LocalTee, GlobalGet}
+use Rattle.wasm_ast.specs.Op.{GlobalSet, MemorySize, MemoryGrow, Load, Store, Const, Eqz, Unary, Compare, Binary, Convert}
 use Rattle.wasm_ast.specs.Code.{BlockType, Code, End, Do, Block, Loop, If}
 use Rattle.wasm_ast.specs.View.{then_code}
 use Rattle.wasm_validate.specs.Typing.{Context, at, under, arguments}
-use Rattle.wasm_validate.specs.Operands.{Operands, then, if_true, no_operands, from_here, push, pop, pop_as, apply, shared, push_result, pop_result, finish, named_is}
+use Rattle.wasm_validate.specs.Operands.{Operands, then, if_true, no_operands, from_here, push, pop, pop_as, apply, shared, push_result, pop_result, finish}
+use Rattle.wasm_validate.specs.Operands.{named_is}
 
 -- whether each label carries this
 abbrev pub each_label : List BlockType → List ℕ → BlockType → Bool
@@ -74,7 +76,9 @@ check c (Do o rest) s = then (step c o s) (check c rest)
 check c (Block t b rest) s = then (then (check (under t c) b no_operands) (finish t)) (λ _. check c rest (push_result t s))
 check c (Loop t b rest) s = then (then (check (under None c) b no_operands) (finish t)) (λ _. check c rest (push_result t s))
 check c (If t a b rest) s =
-    then (pop_as I32 s) (λ s. then (then (check (under t c) a no_operands) (finish t)) (λ _. then (then (check (under t c) b no_operands) (finish t)) (λ _. check c rest (push_result t s))))
+    then (pop_as I32 s) (λ s. then
+    (then (check (under t c) a no_operands) (finish t))
+    (λ _. then (then (check (under t c) b no_operands) (finish t)) (λ _. check c rest (push_result t s))))
 
 -- a body to its end, which must leave t
 abbrev pub whole_body : Context → BlockType → Code → Option Operands

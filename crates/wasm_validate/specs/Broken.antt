@@ -15,7 +15,8 @@ use Rattle.wasm_ast.specs.Code.{Code, End, Do}
 use Rattle.wasm_validate.specs.declared.fault.ValidateFault.{ValidateFault}
 use Rattle.wasm_validate.specs.declared.fault.ValidateFault.TheVariants as fault
 use Rattle.wasm_validate.specs.Typing.{Types, at, results}
-use Rattle.wasm_validate.specs.ModuleRules.{IsValidImport, IsTable, IsMemory, type_at, type_indices, function_types, function_context, count_of, invoke_of, invoke_type}
+use Rattle.wasm_validate.specs.ModuleRules.{IsValidImport, IsTable, IsMemory, type_at, type_indices, function_types, function_context, count_of, invoke_of}
+use Rattle.wasm_validate.specs.ModuleRules.{invoke_type}
 use Rattle.wasm_validate.specs.Breaks.{BreaksIn, BreaksNone}
 use Rattle.wasm_validate.specs.Front.{IsFront}
 
@@ -83,8 +84,10 @@ pub data NotConstant (m : Module) : Type 0 where
 
 -- a segment passes the least size of its table or memory
 pub data PassesEnd (m : Module) : Type 0 where
-  ElementsPass : (k : ℕ) (e : ElementSegment) (l : Limits) (n : ℕ) → at m.elements k ≡ Some e → at m.tables e.table ≡ Some l → e.offset ≡ Do (Const I32 n) End → l.least < n + length e.functions → PassesEnd m
-  DataPasses : (k : ℕ) (d : DataSegment) (l : Limits) (n : ℕ) → at m.data k ≡ Some d → at m.memories d.memory ≡ Some l → d.offset ≡ Do (Const I32 n) End → 65536 * l.least < n + length d.bytes → PassesEnd m
+  ElementsPass : (k : ℕ) (e : ElementSegment) (l : Limits) (n : ℕ) → at m.elements k ≡ Some e → at m.tables e.table ≡ Some l → e.offset ≡ Do (Const I32 n) End →
+      l.least < n + length e.functions → PassesEnd m
+  DataPasses : (k : ℕ) (d : DataSegment) (l : Limits) (n : ℕ) → at m.data k ≡ Some d → at m.memories d.memory ≡ Some l → d.offset ≡ Do (Const I32 n) End →
+      65536 * l.least < n + length d.bytes → PassesEnd m
 
 -- want of memory says nothing of the module
 abbrev pub Broken : ValidateFault → Module → Type 0

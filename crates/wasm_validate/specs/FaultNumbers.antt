@@ -1,7 +1,8 @@
 -- The numbers of the faults of validation.
 use Rattle.std.specs.Prelude.{ℕ}
 use Rattle.wasm_validate.specs.declared.fault.ValidateFault.{ValidateFault}
-use Rattle.wasm_validate.specs.declared.fault.ValidateFault.TheVariants.{Memory, TypeMismatch, Index, ImmutableGlobal, Alignment, DuplicateExport, Import, NoInvoke, Segment, Initializer, Limits}
+use Rattle.wasm_validate.specs.declared.fault.ValidateFault.TheVariants.{Memory, TypeMismatch, Index, ImmutableGlobal, Alignment, DuplicateExport, Import}
+use Rattle.wasm_validate.specs.declared.fault.ValidateFault.TheVariants.{NoInvoke, Segment, Initializer, Limits}
 
 abbrev pub number_of : ValidateFault → ℕ
 number_of Memory = 9

@@ -8,4 +8,13 @@ use Rattle.wasm_validate.specs.ModuleRules.{type_at}
 
 abbrev pub context_of : Scope → List BlockType → Context
 context_of s labels =
-    record { types = s.types.now; functions = map (type_at s.types.now) s.functions.now; tables = s.tables.now; memories = s.memories.now; globals = map (λ (g : Global). g.global_type) s.globals.now; locals = s.locals.now; labels = labels; result = s.result }
+    record {
+      types = s.types.now;
+      functions = map (type_at s.types.now) s.functions.now;
+      tables = s.tables.now;
+      memories = s.memories.now;
+      globals = map (λ (g : Global). g.global_type) s.globals.now;
+      locals = s.locals.now;
+      labels = labels;
+      result = s.result;
+    }

@@ -1,5 +1,6 @@
 -- When a module is valid (Core 1.0, section 3.4), cut to the profile.
-use Rattle.std.specs.Prelude.{◌≡◌, ◌<◌, ◌≤◌, ◌+◌, ◌*◌, ◌==◌, ℕ, List, [], ◌∷◌, ◌++◌, map, length, Option, Some, None, IfSome, codes, Bool, true, false, if◌then◌else◌, ◌&&◌}
+use Rattle.std.specs.Prelude.{◌≡◌, ◌<◌, ◌≤◌, ◌+◌, ◌*◌, ◌==◌, ℕ, List, [], ◌∷◌, ◌++◌, map, length, Option, Some, None, IfSome, codes, Bool, true, false}
+use Rattle.std.specs.Prelude.{if◌then◌else◌, ◌&&◌}
 use Rattle.std.specs.Cmp.Lexicographic.{pointwise}
 use Rattle.wasm_ast.specs.declared.types.ValueType.TheVariants.{I32}
 use Rattle.wasm_ast.specs.declared.types.FuncType.{FuncType}
@@ -50,7 +51,17 @@ pub record IsValidImport (types : List FuncType) (i : Import) : Type 0 where
 -- the context of a function's body: a branch out of all blocks returns (section 3.4.1)
 abbrev pub function_context : Module → Func → Context
 function_context m f =
-    let t = type_at m.types f.type_index in under t.result (record { types = m.types; functions = function_types m; tables = m.tables; memories = m.memories; globals = global_types m; locals = t.params ++ f.locals; labels = []; result = t.result })
+    let t = type_at m.types f.type_index in
+    under t.result (record {
+      types = m.types;
+      functions = function_types m;
+      tables = m.tables;
+      memories = m.memories;
+      globals = global_types m;
+      locals = t.params ++ f.locals;
+      labels = [];
+      result = t.result;
+    })
 
 pub record IsFunction (m : Module) (f : Func) : Type 0 where
   pub type : f.type_index < length m.types

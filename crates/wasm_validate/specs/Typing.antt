@@ -8,7 +8,8 @@ use Rattle.wasm_ast.specs.declared.types.Limits.{Limits}
 use Rattle.wasm_ast.specs.Types.{words}
 use Rattle.wasm_ast.specs.Access.{load_type, load_width, store_type, store_width}
 use Rattle.wasm_ast.specs.Conversions.{operand_type, result_type}
-use Rattle.wasm_ast.specs.Op.{Op, Unreachable, Nop, Drop, Select, Return, Br, BrIf, BrTable, Call, CallIndirect, LocalGet, LocalSet, LocalTee, GlobalGet, GlobalSet, MemorySize, MemoryGrow, Load, Store, Const, Eqz, Unary, Compare, Binary, Convert}
+use Rattle.wasm_ast.specs.Op.{Op, Unreachable, Nop, Drop, Select, Return, Br, BrIf, BrTable, Call, CallIndirect, LocalGet, LocalSet, LocalTee, GlobalGet}
+use Rattle.wasm_ast.specs.Op.{GlobalSet, MemorySize, MemoryGrow, Load, Store, Const, Eqz, Unary, Compare, Binary, Convert}
 use Rattle.wasm_ast.specs.Code.{BlockType, Code, End, Do, Block, Loop, If}
 
 -- what code may refer to (section 3.1.1)
@@ -73,7 +74,8 @@ TypingRule c MemorySize ins outs = (l : Limits) × (at c.memories 0 ≡ Some l) 
 TypingRule c MemoryGrow ins outs = (l : Limits) × (at c.memories 0 ≡ Some l) × (ins ≡ I32 ∷ []) × (outs ≡ I32 ∷ [])
 TypingRule c (Br n) ins outs = (l : BlockType) × (at c.labels n ≡ Some l) × (below : List ValueType) × (ins ≡ results l ++ below)
 TypingRule c (BrIf n) ins outs = (l : BlockType) × (at c.labels n ≡ Some l) × (ins ≡ I32 ∷ results l) × (outs ≡ results l)
-TypingRule c (BrTable ns n) ins outs = (l : BlockType) × (at c.labels n ≡ Some l) × EachLabel c ns l × (below : List ValueType) × (ins ≡ I32 ∷ results l ++ below)
+TypingRule c (BrTable ns n) ins outs =
+    (l : BlockType) × (at c.labels n ≡ Some l) × EachLabel c ns l × (below : List ValueType) × (ins ≡ I32 ∷ results l ++ below)
 TypingRule c Return ins outs = (below : List ValueType) × (ins ≡ results c.result ++ below)
 TypingRule c (Call f) ins outs = (t : FuncType) × (at c.functions f ≡ Some t) × (ins ≡ arguments t) × (outs ≡ results t.result)
 TypingRule c (CallIndirect x) ins outs =
@@ -84,8 +86,10 @@ TypingRule c (CallIndirect x) ins outs =
 abbrev pub Types : Context → Code → (from to : List ValueType) → Type 0
 Types c End from to = from ≡ to
 Types c (Do o rest) from to =
-    (ins : List ValueType) × (outs : List ValueType) × (lower : List ValueType) × TypingRule c o ins outs × (from ≡ ins ++ lower) × Types c rest (outs ++ lower) to
+    (ins : List ValueType) × (outs : List ValueType) × (lower : List ValueType) × TypingRule c o ins outs × (from ≡ ins ++ lower) ×
+    Types c rest (outs ++ lower) to
 Types c (Block t b rest) from to = Types (under t c) b [] (results t) × Types c rest (results t ++ from) to
 Types c (Loop t b rest) from to = Types (under None c) b [] (results t) × Types c rest (results t ++ from) to
 Types c (If t a b rest) from to =
-    (lower : List ValueType) × (from ≡ I32 ∷ lower) × Types (under t c) a [] (results t) × Types (under t c) b [] (results t) × Types c rest (results t ++ lower) to
+    (lower : List ValueType) × (from ≡ I32 ∷ lower) × Types (under t c) a [] (results t) × Types (under t c) b [] (results t) ×
+    Types c rest (results t ++ lower) to

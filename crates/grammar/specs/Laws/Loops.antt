@@ -7,7 +7,8 @@ use Rattle.grammar.specs.Reading.{◌>>=◌, repeats_at}
 abbrev pub with_front : {A : Type 0} → List A → Option (List A × List ℕ) → Option (List A × List ℕ)
 with_front front read = read >>= λ x. Some (front ++ x.0, x.1)
 
-pub regroup : {A : Type 0} (front : List A) (n : A) (read : Option (List A × List ℕ)) → with_front front (read >>= λ x. Some (n ∷ x.0, x.1)) ≡ with_front (front ++ n ∷ []) read
+pub regroup : {A : Type 0} (front : List A) (n : A) (read : Option (List A × List ℕ)) →
+    with_front front (read >>= λ x. Some (n ∷ x.0, x.1)) ≡ with_front (front ++ n ∷ []) read
 regroup {A = A} front n (Some x) = ap (λ (ns : List A). Some (ns, x.1)) (simp append_assoc)
 regroup front n None = refl
 
@@ -21,7 +22,8 @@ module _ {A : Type 0} (read : List ℕ → Option (A × List ℕ)) (front : List
   unfolding repeats_at
   goes_on n after lt h so_far =
       let k : count - i ≡ suc (count - (i + 1)) = omega arith in
-      let one : with_front front (repeats_at read (count - i) bytes) ≡ with_front (front ++ n ∷ []) (repeats_at read (count - (i + 1)) after) = rw (k, h) (regroup front n (repeats_at read (count - (i + 1)) after)) in
+      let one : with_front front (repeats_at read (count - i) bytes) ≡ with_front (front ++ n ∷ []) (repeats_at read (count - (i + 1)) after) =
+      rw (k, h) (regroup front n (repeats_at read (count - (i + 1)) after)) in
       sym one ∙ so_far
 
   pub refused : i < count → read bytes ≡ None → with_front front (repeats_at read (count - i) bytes) ≡ total → total ≡ None

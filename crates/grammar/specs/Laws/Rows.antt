@@ -4,7 +4,8 @@ use Rattle.std.proofs.lemmas.Bool.{eqb-true, eq-eqb}
 use Rattle.std.specs.Prelude.{is_none, ◌&&◌}
 use Rattle.grammar.specs.Table.{HasRow, row_at, is_unique}
 
-has_row_at : {K : Type 0} (t : Bool) (b : ℕ) (r : ℕ × K) (rows : List (ℕ × K)) (k : K) → eqb b r.0 ≡ t → (row_at rows b ≡ Some k → HasRow rows b k) → cond t (Some r.1) (row_at rows b) ≡ Some k → HasRow (r ∷ rows) b k
+has_row_at : {K : Type 0} (t : Bool) (b : ℕ) (r : ℕ × K) (rows : List (ℕ × K)) (k : K) → eqb b r.0 ≡ t → (row_at rows b ≡ Some k → HasRow rows b k) →
+    cond t (Some r.1) (row_at rows b) ≡ Some k → HasRow (r ∷ rows) b k
 has_row_at true b r rows k is more e = inl (eqb-true b r.0 is, cc)
 has_row_at false b r rows k is more e = inr (more e)
 
@@ -16,7 +17,8 @@ unique_parts : {K : Type 0} (o : Option K) (more : Bool) → (is_none o && more)
 unique_parts None more e = (refl, e)
 unique_parts (Some k) more e = absurd cc
 
-not_first : {K : Type 0} (t : Bool) (b n : ℕ) (rows : List (ℕ × K)) (k x : K) → eqb b n ≡ t → row_at rows n ≡ None → row_at rows b ≡ Some k → cond t (Some x) (row_at rows b) ≡ Some k
+not_first : {K : Type 0} (t : Bool) (b n : ℕ) (rows : List (ℕ × K)) (k x : K) → eqb b n ≡ t → row_at rows n ≡ None → row_at rows b ≡ Some k →
+    cond t (Some x) (row_at rows b) ≡ Some k
 not_first true b n rows k x is none e =
     let same : row_at rows b ≡ None = ap (row_at rows) (eqb-true b n is) ∙ none in
     absurd (let f : Some k ≡ None = sym e ∙ same in cc)

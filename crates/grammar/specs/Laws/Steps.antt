@@ -18,7 +18,8 @@ refused_past true o y e = absurd cc
 refused_past false o y e = (refl, e)
 
 -- either way of a test
-pub either : {A : Type 0} (b : Bool) (o r : Option A) (y : A) (P : Type 0) → (b ≡ true → o ≡ Some y → P) → (b ≡ false → r ≡ Some y → P) → cond b o r ≡ Some y → P
+pub either : {A : Type 0} (b : Bool) (o r : Option A) (y : A) (P : Type 0) → (b ≡ true → o ≡ Some y → P) → (b ≡ false → r ≡ Some y → P) → cond b o r ≡ Some y →
+    P
 either true o r y P f g e = f refl e
 either false o r y P f g e = g refl e
 

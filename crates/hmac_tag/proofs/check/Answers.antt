@@ -15,8 +15,10 @@ loop-place-preserved c =
     let i = c.loop-place.place in
     let d = c.loop-place.difference in
     let x = bit_xor (slice_index_or right i 0) (slice_index_or claimed i 0) in (
-      (λ z. take_more_same right claimed i 0 (omega (arith, length-right, c.loop-place-test.true)) (omega (arith, c.told-claimed, c.loop-place-test.true)) (c.loop-place.invariant.0 (omega (arith, le_or_l d x, z))) (same-xor _ _ (omega (arith, le_or_r d x, z)))),
-      (λ e. ap₂ bit_or (c.loop-place.invariant.1 e) (ap (λ ys. bit_xor (slice_index_or ys i 0) (slice_index_or claimed i 0)) e ∙ xor_self (slice_index_or claimed i 0))),
+      (λ z. take_more_same right claimed i 0 (omega (arith, length-right, c.loop-place-test.true)) (omega (arith, c.told-claimed, c.loop-place-test.true))
+          (c.loop-place.invariant.0 (omega (arith, le_or_l d x, z))) (same-xor _ _ (omega (arith, le_or_r d x, z)))),
+      (λ e. ap₂ bit_or (c.loop-place.invariant.1 e)
+          (ap (λ ys. bit_xor (slice_index_or ys i 0) (slice_index_or claimed i 0)) e ∙ xor_self (slice_index_or claimed i 0))),
     )
 
 pub returns : goal.returns

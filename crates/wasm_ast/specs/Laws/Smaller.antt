@@ -5,7 +5,9 @@ use denote.Param.Weighed.{most}
 use Rattle.wasm_ast.specs.Code.{code_size}
 use Rattle.wasm_ast.specs.View.{code_of}
 use Rattle.wasm_ast.specs.declared.body.Instr.{Instr}
-use Rattle.wasm_ast.specs.declared.body.Instr.TheVariants.{Unreachable, Nop, Block, Loop, If, Br, BrIf, BrTable, Return, Call, CallIndirect, Drop, Select, LocalGet, LocalSet, LocalTee, GlobalGet, GlobalSet, Load, Store, MemorySize, MemoryGrow, I32Const, I64Const, I32Eqz, I64Eqz, I32Compare, I64Compare, I32Unary, I64Unary, I32Binary, I64Binary, Convert}
+use Rattle.wasm_ast.specs.declared.body.Instr.TheVariants.{Unreachable, Nop, Block, Loop, If, Br, BrIf, BrTable, Return, Call, CallIndirect, Drop, Select}
+use Rattle.wasm_ast.specs.declared.body.Instr.TheVariants.{LocalGet, LocalSet, LocalTee, GlobalGet, GlobalSet, Load, Store, MemorySize, MemoryGrow, I32Const}
+use Rattle.wasm_ast.specs.declared.body.Instr.TheVariants.{I64Const, I32Eqz, I64Eqz, I32Compare, I64Compare, I32Unary, I64Unary, I32Binary, I64Binary, Convert}
 use Rattle.wasm_ast.specs.declared.body.Body.TheDeep.{deep-Instr}
 
 pub most_le-code_size : (is : List Instr) → most deep-Instr is ≤ code_size (code_of is)

@@ -1,5 +1,6 @@
 -- Reading a LEB128 number takes a spelling from the front, and reads each spelling.
-use Rattle.std.proofs.Common.{◌≡◌, ℕ, ◌+◌, ◌-◌, ◌*◌, ◌/◌, ◌<◌, ◌≤◌, inl, inr, ℤ, pos, negsuc, ◌+ℤ◌, ◌*ℤ◌, ltb, leb, List, [], ◌∷◌, ◌++◌, Some, refl, sym, ap, subst, ◌∙◌, arith}
+use Rattle.std.proofs.Common.{◌≡◌, ℕ, ◌+◌, ◌-◌, ◌*◌, ◌/◌, ◌<◌, ◌≤◌, inl, inr, ℤ, pos, negsuc, ◌+ℤ◌, ◌*ℤ◌, ltb, leb, List, [], ◌∷◌, ◌++◌, Some, refl, sym, ap}
+use Rattle.std.proofs.Common.{subst, ◌∙◌, arith}
 use Rattle.std.proofs.lemmas.Bool.{cases_lt, ltb-true, le-ltb, lt-ltb, leb-true, le-leb}
 use Rattle.std.proofs.lemmas.Option.{cond_some, some_pair_parts}
 use Rattle.wasm_bytes.specs.Spelling.{IsUnsigned, IsSigned}
@@ -15,11 +16,13 @@ unsigned_again bound (b ∷ []) n rest h = rw (lt-ltb b 128 h.0, lt-ltb b bound 
 unsigned_again bound (b ∷ c ∷ bs) n rest h =
     rw (le-ltb b 128 h.0, lt-ltb 128 bound h.1, unsigned_again (bound / 128) (c ∷ bs) h.2 rest h.4, h.3) refl
 
-pub unsigned_longer : (bound b : ℕ) (text : List ℕ) (high : ℕ) → 128 ≤ b → 128 < bound → IsUnsigned (bound / 128) text high → IsUnsigned bound (b ∷ text) ((b - 128) + 128 * high)
+pub unsigned_longer : (bound b : ℕ) (text : List ℕ) (high : ℕ) → 128 ≤ b → 128 < bound → IsUnsigned (bound / 128) text high →
+    IsUnsigned bound (b ∷ text) ((b - 128) + 128 * high)
 unsigned_longer bound b [] high le lt h = absurd h
 unsigned_longer bound b (c ∷ bs) high le lt h = (le, lt, high, refl, h)
 
-pub unsigned_takes : (bound : ℕ) (bytes : List ℕ) (n : ℕ) (rest : List ℕ) → unsigned_at bound bytes ≡ Some (n, rest) → (text : List ℕ) × IsUnsigned bound text n × (bytes ≡ text ++ rest)
+pub unsigned_takes : (bound : ℕ) (bytes : List ℕ) (n : ℕ) (rest : List ℕ) → unsigned_at bound bytes ≡ Some (n, rest) →
+    (text : List ℕ) × IsUnsigned bound text n × (bytes ≡ text ++ rest)
 unfolding unsigned_at
 unsigned_takes bound [] n rest e = absurd cc
 unsigned_takes bound (b ∷ bytes) n rest e =
@@ -33,12 +36,19 @@ unsigned_takes bound (b ∷ bytes) n rest e =
           let g = guarded (ltb 128 bound) (unsigned_at (bound / 128) bytes >>= more) (n, rest) (rw (le-ltb b 128 le) at e) in
           let s = bind_some (unsigned_at (bound / 128) bytes) more (n, rest) g.1 in
           let p = some_pair_parts ((b - 128) + 128 * s.0.0) n s.0.1 rest s.2 in
-          let i = unsigned_takes (bound / 128) bytes s.0.0 s.0.1 s.1 in
-          (b ∷ i.0, subst (IsUnsigned bound (b ∷ i.0)) p.0 (unsigned_longer bound b i.0 s.0.0 le (ltb-true 128 bound g.0) i.1), ap (λ (x : List ℕ). b ∷ x) (i.2 ∙ ap (λ (x : List ℕ). i.0 ++ x) p.1))
+          let i = unsigned_takes (bound / 128) bytes s.0.0 s.0.1 s.1 in (
+            b ∷ i.0,
+            subst (IsUnsigned bound (b ∷ i.0)) p.0 (unsigned_longer bound b i.0 s.0.0 le (ltb-true 128 bound g.0) i.1),
+            ap (λ (x : List ℕ). b ∷ x) (i.2 ∙ ap (λ (x : List ℕ). i.0 ++ x) p.1),
+          )
     ]
 
 pub unsigned_reads : (bound : ℕ) → Reads (λ n text. IsUnsigned bound text n) (unsigned_at bound)
-unsigned_reads bound = record { takes = λ bytes n rest e. let t = unsigned_takes bound bytes n rest e in (tt, t.0, t.1, t.2); again = λ n text rest _ h. unsigned_again bound text n rest h }
+unsigned_reads bound =
+    record {
+      takes = λ bytes n rest e. let t = unsigned_takes bound bytes n rest e in (tt, t.0, t.1, t.2);
+      again = λ n text rest _ h. unsigned_again bound text n rest h;
+    }
 
 signed_again : (half : ℕ) (text : List ℕ) (z : ℤ) (rest : List ℕ) → IsSigned half text z → signed_at half (text ++ rest) ≡ Some (z, rest)
 unfolding signed_at
@@ -49,11 +59,13 @@ signed_again half (b ∷ c ∷ bs) z rest h =
     let far : 64 ≤ b = omega (arith, h.0) in
     rw (le-ltb b 64 far, le-ltb b 128 h.0, lt-ltb 64 half h.1, signed_again (half / 128) (c ∷ bs) h.2 rest h.4, h.3) refl
 
-pub signed_longer : (half b : ℕ) (text : List ℕ) (high : ℤ) → 128 ≤ b → 64 < half → IsSigned (half / 128) text high → IsSigned half (b ∷ text) (pos (b - 128) +ℤ pos 128 *ℤ high)
+pub signed_longer : (half b : ℕ) (text : List ℕ) (high : ℤ) → 128 ≤ b → 64 < half → IsSigned (half / 128) text high →
+    IsSigned half (b ∷ text) (pos (b - 128) +ℤ pos 128 *ℤ high)
 signed_longer half b [] high le lt h = absurd h
 signed_longer half b (c ∷ bs) high le lt h = (le, lt, high, refl, h)
 
-signed_takes : (half : ℕ) (bytes : List ℕ) (z : ℤ) (rest : List ℕ) → signed_at half bytes ≡ Some (z, rest) → (text : List ℕ) × IsSigned half text z × (bytes ≡ text ++ rest)
+signed_takes : (half : ℕ) (bytes : List ℕ) (z : ℤ) (rest : List ℕ) → signed_at half bytes ≡ Some (z, rest) →
+    (text : List ℕ) × IsSigned half text z × (bytes ≡ text ++ rest)
 unfolding signed_at
 signed_takes half [] z rest e = absurd cc
 signed_takes half (b ∷ bytes) z rest e =
@@ -72,10 +84,16 @@ signed_takes half (b ∷ bytes) z rest e =
             let g = guarded (ltb 64 half) (signed_at (half / 128) bytes >>= more) (z, rest) (rw (le-ltb b 64 far, le-ltb b 128 le) at e) in
             let s = bind_some (signed_at (half / 128) bytes) more (z, rest) g.1 in
             let p = some_pair_parts (pos (b - 128) +ℤ pos 128 *ℤ s.0.0) z s.0.1 rest s.2 in
-            let i = signed_takes (half / 128) bytes s.0.0 s.0.1 s.1 in
-            (b ∷ i.0, subst (IsSigned half (b ∷ i.0)) p.0 (signed_longer half b i.0 s.0.0 le (ltb-true 64 half g.0) i.1), ap (λ (x : List ℕ). b ∷ x) (i.2 ∙ ap (λ (x : List ℕ). i.0 ++ x) p.1))
+            let i = signed_takes (half / 128) bytes s.0.0 s.0.1 s.1 in (
+              b ∷ i.0,
+              subst (IsSigned half (b ∷ i.0)) p.0 (signed_longer half b i.0 s.0.0 le (ltb-true 64 half g.0) i.1),
+              ap (λ (x : List ℕ). b ∷ x) (i.2 ∙ ap (λ (x : List ℕ). i.0 ++ x) p.1),
+            )
       ]
     ]
 
 pub signed_reads : (half : ℕ) → Reads (λ z text. IsSigned half text z) (signed_at half)
-signed_reads half = record { takes = λ bytes z rest e. let t = signed_takes half bytes z rest e in (tt, t.0, t.1, t.2); again = λ z text rest _ h. signed_again half text z rest h }
+signed_reads half = record {
+  takes = λ bytes z rest e. let t = signed_takes half bytes z rest e in (tt, t.0, t.1, t.2);
+  again = λ z text rest _ h. signed_again half text z rest h;
+}

@@ -1,5 +1,6 @@
 -- The counts of std's methods are those of the binary digits.
-use Rattle.std.proofs.Common.{◌≡◌, ℕ, zero, suc, ◌+◌, ◌/◌, ◌%◌, ◌^◌, ◌<◌, ◌≤◌, List, [], ◌∷◌, ◌++◌, reverse, length, ap, subst, sym, refl, ◌∙◌, arith, add-one, add_comm, length-append, shr_lt}
+use Rattle.std.proofs.Common.{◌≡◌, ℕ, zero, suc, ◌+◌, ◌/◌, ◌%◌, ◌^◌, ◌<◌, ◌≤◌, List, [], ◌∷◌, ◌++◌, reverse, length, ap, subst, sym, refl, ◌∙◌, arith, add-one}
+use Rattle.std.proofs.Common.{add_comm, length-append, shr_lt}
 use Rattle.std.specs.Prelude.{sum}
 use Rattle.std.specs.Int.Count.{ones, count_leading_zeros, count_trailing_zeros}
 use lib.Count.{ones_step, ones-le, leading_top, leading_le, leading_of_zero, trailing_le, under}
@@ -42,7 +43,8 @@ zeros_before_zero (zero ∷ xs) h = let e = zeros_before_zero xs (omega (arith, 
 zeros_before_zero (suc x ∷ xs) h = absurd (omega (arith, h))
 
 -- the lowest digit of a number above zero makes no zero in front
-zeros_before_lowest : (k q d : ℕ) → q < 2 ^ k → 0 < q + d → count_leading_zeros k q ≡ zeros_before (digits k q) → zeros_before (digits k q ++ d ∷ []) ≡ zeros_before (digits k q)
+zeros_before_lowest : (k q d : ℕ) → q < 2 ^ k → 0 < q + d → count_leading_zeros k q ≡ zeros_before (digits k q) →
+    zeros_before (digits k q ++ d ∷ []) ≡ zeros_before (digits k q)
 zeros_before_lowest k q (suc d) h f e = zeros_before_one (digits k q) d
 zeros_before_lowest k q zero h f e =
     zeros_before-append (digits k q) (0 ∷ []) (omega (arith, e, length-digits k q, (leading_top k q (omega (arith, f)) h).1))

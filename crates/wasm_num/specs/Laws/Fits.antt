@@ -1,5 +1,7 @@
 -- Each result is a word of its type, where the operands are words.
-use Rattle.std.proofs.Common.{◌≡◌, ℕ, zero, suc, ◌+◌, ◌-◌, ◌*◌, ◌/◌, ◌%◌, ◌^◌, ◌<◌, ◌≤◌, Bool, true, false, leb, nat_eq, nat_lt, bit_or, bit_xor, ℤ, pos, negsuc, neg_ℤ, ◌-ℤ◌, int_le, int_div, int_rem, if◌then◌else◌, Result, Ok, Err, IfOk, refl, sym, ap, subst, ◌∙◌, arith, mod-lt, lt_of_le_of_lt, le_of_lt, leb-false}
+use Rattle.std.proofs.Common.{◌≡◌, ℕ, zero, suc, ◌+◌, ◌-◌, ◌*◌, ◌/◌, ◌%◌, ◌^◌, ◌<◌, ◌≤◌, Bool, true, false, leb, nat_eq, nat_lt, bit_or, bit_xor, ℤ, pos}
+use Rattle.std.proofs.Common.{negsuc, neg_ℤ, ◌-ℤ◌, int_le, int_div, int_rem, if◌then◌else◌, Result, Ok, Err, IfOk, refl, sym, ap, subst, ◌∙◌, arith, mod-lt}
+use Rattle.std.proofs.Common.{lt_of_le_of_lt, le_of_lt, leb-false}
 use Rattle.std.proofs.Math.Nat.{mod-le, div-le_self}
 use Rattle.std.proofs.lemmas.Int.{ints}
 use Rattle.std.specs.Int.{int_shr}

@@ -1,5 +1,6 @@
 -- A rotation as two shifts joined by `or`, and as the bits beyond the width added at the low end.
-use Rattle.std.proofs.Common.{◌≡◌, ℕ, zero, suc, ◌+◌, ◌-◌, ◌*◌, ◌/◌, ◌%◌, ◌^◌, ◌<◌, ◌≤◌, bit_or, ap, ap₂, subst, sym, ◌∙◌, arith, add_comm, mod-eq_of_lt, mul-one, add-zero, zero-add, mul_comm, mod-lt, pow_pos, pow-add}
+use Rattle.std.proofs.Common.{◌≡◌, ℕ, zero, suc, ◌+◌, ◌-◌, ◌*◌, ◌/◌, ◌%◌, ◌^◌, ◌<◌, ◌≤◌, bit_or, ap, ap₂, subst, sym, ◌∙◌, arith, add_comm, mod-eq_of_lt}
+use Rattle.std.proofs.Common.{mul-one, add-zero, zero-add, mul_comm, mod-lt, pow_pos, pow-add}
 use Rattle.std.proofs.lemmas.Nat.{mul-add-lt}
 use lib.Bits.{or_shifted, or_comm, or_self}
 use lib.Pow.{mod-pow-add, shl-shr, shr-shr, shr_lt}
@@ -55,7 +56,8 @@ or-rotated_left n (suc k) a h f =
     ap (λ (j : ℕ). bit_or ((a * 2 ^ suc k) % 2 ^ n) (a / 2 ^ j)) (mod-eq_of_lt (omega (arith, h)))
     ∙ turned_of n (n - suc k) (suc k) a (omega (arith, h)) f
 
-pub or-rotated_right : (n k a : ℕ) → k < n → a < 2 ^ n → bit_or (a / 2 ^ k) ((a * 2 ^ ((n - k) % n)) % 2 ^ n) ≡ (a * 2 ^ (n - k)) % 2 ^ n + (a * 2 ^ (n - k)) / 2 ^ n
+pub or-rotated_right : (n k a : ℕ) → k < n → a < 2 ^ n →
+    bit_or (a / 2 ^ k) ((a * 2 ^ ((n - k) % n)) % 2 ^ n) ≡ (a * 2 ^ (n - k)) % 2 ^ n + (a * 2 ^ (n - k)) / 2 ^ n
 or-rotated_right n zero a h f =
     let word : (a * 2 ^ ((n - 0) % n)) % 2 ^ n ≡ a =
     ap (λ (j : ℕ). (a * 2 ^ j) % 2 ^ n) (no_place n) ∙ ap (λ (x : ℕ). x % 2 ^ n) (mul-one a) ∙ mod-eq_of_lt f in

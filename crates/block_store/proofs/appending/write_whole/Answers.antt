@@ -15,6 +15,8 @@ loop-at-preserved g c =
     let within = c.loop-at.invariant.within in
     record {
       within = omega (arith, some, within, length-drop at bytes);
-      written = e.2 ∙ ap (λ (t : List ℕ). g.W.CountedWrite.written c.loop-at.writer ++ take n t) (slice_to_end at bytes) ∙ ap (λ (w : List ℕ). w ++ take n (drop at bytes)) c.loop-at.invariant.written ∙ append_assoc before (take at bytes) (take n (drop at bytes)) ∙ ap (λ (t : List ℕ). before ++ t) (sym (take-add at n bytes));
+      written = e.2 ∙ ap (λ (t : List ℕ). g.W.CountedWrite.written c.loop-at.writer ++ take n t) (slice_to_end at bytes) ∙
+          ap (λ (w : List ℕ). w ++ take n (drop at bytes)) c.loop-at.invariant.written ∙ append_assoc before (take at bytes) (take n (drop at bytes)) ∙
+          ap (λ (t : List ℕ). before ++ t) (sym (take-add at n bytes));
       failures = e.3 ∙ c.loop-at.invariant.failures;
     }

@@ -5,12 +5,14 @@ use Rattle.block_store.proofs.loading.load_by.Goals as goal
 
 pub returns-in-Err-clause-loaded : goal.returns-in-Err-clause-loaded
 returns-in-Err-clause-loaded g c =
-    device_failed (g.R.CountedRead.taken c.args.reader.now) (g.R.CountedRead.taken c.pieces.reader) (g.R.CountedRead.taken c.read.new.self) c.pieces.blocks.items c.pieces.records c.pieces.invariant.taken c.pieces.invariant.goes_on c.in-Err.ensures.0
+    device_failed (g.R.CountedRead.taken c.args.reader.now) (g.R.CountedRead.taken c.pieces.reader) (g.R.CountedRead.taken c.read.new.self)
+    c.pieces.blocks.items c.pieces.records c.pieces.invariant.taken c.pieces.invariant.goes_on c.in-Err.ensures.0
 
 pub returns-in-Ok-eq0-clause-loaded : goal.returns-in-Ok-eq0-clause-loaded
 returns-in-Ok-eq0-clause-loaded g c =
     let taken = g.R.CountedRead.taken in
-    let h = no_more_read (taken c.args.reader.now) (taken c.pieces.reader) (taken c.read.new.self) c.read.new.buffer c.pieces.blocks.items c.pieces.records c.pieces.invariant.taken c.in-Ok-eq0.field-0 (omega (arith, c.in-Ok-eq0.field-0-test)) c.in-Ok-eq0.ensures.1 in
+    let h = no_more_read (taken c.args.reader.now) (taken c.pieces.reader) (taken c.read.new.self) c.read.new.buffer c.pieces.blocks.items c.pieces.records
+    c.pieces.invariant.taken c.in-Ok-eq0.field-0 (omega (arith, c.in-Ok-eq0.field-0-test)) c.in-Ok-eq0.ensures.1 in
     all_read (taken c.args.reader.now) (taken c.read.new.self) c.pieces.blocks.items c.pieces.records c.finish-end.result h c.finish-end.ensures
 
 pub returns-then-is_damaged-clause-loaded : goal.returns-then-is_damaged-clause-loaded
@@ -18,8 +20,11 @@ returns-then-is_damaged-clause-loaded g c =
     let taken = g.R.CountedRead.taken in
     let piece = take c.in-Ok.count c.read.new.buffer in
     let fed = c.in_ok-more-in-Ok.ensures.fed in
-    let h = more_read (taken c.args.reader.now) (taken c.pieces.reader) (taken c.read.new.self) piece c.pieces.blocks.items c.in_ok-more-in-Ok.more.items c.append.new.self.items c.pieces.records c.feed.new.self c.pieces.invariant.taken c.pieces.invariant.goes_on c.in-Ok.ensures.1 fed c.in_ok-append-in-Ok.ensures.items in
-    all_read (taken c.args.reader.now) (taken c.read.new.self) c.append.new.self.items c.feed.new.self c.finish-end-then-is_damaged.result h c.finish-end-then-is_damaged.ensures
+    let h = more_read (taken c.args.reader.now) (taken c.pieces.reader) (taken c.read.new.self) piece c.pieces.blocks.items c.in_ok-more-in-Ok.more.items
+    c.append.new.self.items c.pieces.records c.feed.new.self c.pieces.invariant.taken c.pieces.invariant.goes_on c.in-Ok.ensures.1 fed
+    c.in_ok-append-in-Ok.ensures.items in
+    all_read (taken c.args.reader.now) (taken c.read.new.self) c.append.new.self.items c.feed.new.self c.finish-end-then-is_damaged.result h
+    c.finish-end-then-is_damaged.ensures
 
 pub pieces-smaller : goal.pieces-smaller
 pieces-smaller g c =
@@ -28,7 +33,8 @@ pieces-smaller g c =
     let limits = c.in_ok-more-in-Ok.ensures in
     let within = c.in-Ok.ensures.0 in
     let some : 0 < length piece = omega (arith, within, c.in-Ok.count-test, length-take c.in-Ok.count c.read.new.buffer) in
-    left_falls c.pieces.records piece c.in_ok-more-in-Ok.more.items c.feed.new.self c.pieces.invariant.goes_on (search rules) fed c.pieces.invariant.next c.pieces.invariant.held limits.next limits.held some
+    left_falls c.pieces.records piece c.in_ok-more-in-Ok.more.items c.feed.new.self c.pieces.invariant.goes_on (search rules) fed c.pieces.invariant.next
+    c.pieces.invariant.held limits.next limits.held some
 
 pub pieces-preserved : goal.pieces-preserved
 pieces-preserved g c =
@@ -36,7 +42,9 @@ pieces-preserved g c =
     let piece = take c.in-Ok.count c.read.new.buffer in
     let fed = c.in_ok-more-in-Ok.ensures.fed in
     record {
-      taken = more_read (taken c.args.reader.now) (taken c.pieces.reader) (taken c.read.new.self) piece c.pieces.blocks.items c.in_ok-more-in-Ok.more.items c.append.new.self.items c.pieces.records c.feed.new.self c.pieces.invariant.taken c.pieces.invariant.goes_on c.in-Ok.ensures.1 fed c.in_ok-append-in-Ok.ensures.items;
+      taken = more_read (taken c.args.reader.now) (taken c.pieces.reader) (taken c.read.new.self) piece c.pieces.blocks.items c.in_ok-more-in-Ok.more.items
+          c.append.new.self.items c.pieces.records c.feed.new.self c.pieces.invariant.taken c.pieces.invariant.goes_on c.in-Ok.ensures.1 fed
+          c.in_ok-append-in-Ok.ensures.items;
       failures = search rules;
       goes_on = search rules;
       next = c.in_ok-more-in-Ok.ensures.next;

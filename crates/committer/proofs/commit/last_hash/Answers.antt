@@ -23,7 +23,8 @@ returns-in-Some c =
     ap (λ (bs : Chain). slice_get bs n) (sym c.blocks-2.ensures.value) ∙ slice_get_map (λ a. a.value) arcs n ∙ ap (option_map (λ a. a.value)) at
     in
     let here : slice_get (blocks_of chain) n ≡ Some committed.block = slice_get_map (λ b. b.block) chain n ∙ ap (option_map (λ b. b.block)) in_chain in
-    let long : length (blocks_of chain) ≡ length arcs = length_map (λ b. b.block) chain ∙ ap length (sym c.blocks-2.ensures.value) ∙ length_map (λ a. a.value) arcs in
+    let long : length (blocks_of chain) ≡ length arcs =
+    length_map (λ b. b.block) chain ∙ ap length (sym c.blocks-2.ensures.value) ∙ length_map (λ a. a.value) arcs in
     c.header_hash.ensures
     ∙ ap (λ (b : Block). sha256 (header_bytes b.header)) (c.block.ensures ∙ ap (λ (b : Committed). b.block) c.deref.ensures)
     ∙ sym (names_last (replicate 32 0) (blocks_of chain) n committed.block here (omega (arith, some, long)))

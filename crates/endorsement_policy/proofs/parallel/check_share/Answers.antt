@@ -11,9 +11,11 @@ loop-index-preserved g c =
     let answer = c.in_ok-answer.field-0 in
     let i = c.loop-index.index in
     let is : answer ≡ get_or all i false =
-    c.in_ok-answer.ensures ∙ ap (is_endorsed c.args.rules.now) c.index-envelopes-index.is ∙ sym (get_or-map (is_endorsed c.args.rules.now) c.args.envelopes.now i c.index-envelopes-index.result false c.loop-index-test.true) in
+    c.in_ok-answer.ensures ∙ ap (is_endorsed c.args.rules.now) c.index-envelopes-index.is ∙
+    sym (get_or-map (is_endorsed c.args.rules.now) c.args.envelopes.now i c.index-envelopes-index.result false c.loop-index-test.true) in
     rw c.in_ok-push.ensures.items (record {
       place = next_place all done c.args.worker c.args.workers i answer c.loop-index.invariant.place;
       so_far = next_answer all done c.args.worker c.args.workers i answer c.loop-index.invariant.place is c.loop-index.invariant.so_far;
-      within = next_within all done c.args.worker c.args.workers i answer c.loop-index.invariant.place (length c.args.envelopes.now) c.loop-index-test.true c.loop-index.invariant.within;
+      within = next_within all done c.args.worker c.args.workers i answer c.loop-index.invariant.place (length c.args.envelopes.now) c.loop-index-test.true
+          c.loop-index.invariant.within;
     })

@@ -28,7 +28,8 @@ children-returns-in_err-comma t c =
     let p = err_from_is_err_and c.from_residual-in_err-comma.result c.from_residual-in_err-comma.ensures.1 in
     let child = rw c.skip_spaces.ensures at c.in_ok-policy.ensures in
     rw (p.1, p.2) (Fails-weaker e (comma_at c.policy.new.reader ≡ None) ((m : Leniency) → Keeps e m → total m ≡ None)
-    (λ h m k. broken (read m) c.loop.children.items c.loop.counter c.loop.reader (total m) c.loop-test.true (c.loop.invariant m) c.in_ok-policy.field-0 c.policy.new.reader (child m) h)
+    (λ h m k. broken (read m) c.loop.children.items c.loop.counter c.loop.reader (total m) c.loop-test.true (c.loop.invariant m) c.in_ok-policy.field-0
+    c.policy.new.reader (child m) h)
     c.in_err-comma.ensures)
 
 pub children-returns-then-not-branch : goal.children-returns-then-not-branch
@@ -36,21 +37,26 @@ children-returns-then-not-branch t c =
     let read = λ (m : Leniency). policy_by c.args.orgs.now m c.args.levels in
     let total = λ (m : Leniency). children_at (read m) 1024 c.args.reader.now in
     let child = rw c.skip_spaces.ensures at c.in_ok-policy.ensures in
-    rw c.in_ok-push.ensures.items (λ m. ends (read m) c.loop.children.items c.loop.counter c.loop.reader (total m) c.loop-test.true (c.loop.invariant m) c.in_ok-policy.field-0 c.policy.new.reader c.comma.new.self (child m) (rw c.if-not-branch.true at c.in_ok-comma.ensures))
+    rw c.in_ok-push.ensures.items
+    (λ m. ends (read m) c.loop.children.items c.loop.counter c.loop.reader (total m) c.loop-test.true (c.loop.invariant m) c.in_ok-policy.field-0
+    c.policy.new.reader c.comma.new.self (child m) (rw c.if-not-branch.true at c.in_ok-comma.ensures))
 
 pub children-loop-preserved : goal.children-loop-preserved
 children-loop-preserved t c =
     let read = λ (m : Leniency). policy_by c.args.orgs.now m c.args.levels in
     let total = λ (m : Leniency). children_at (read m) 1024 c.args.reader.now in
     let child = rw c.skip_spaces.ensures at c.in_ok-policy.ensures in
-    rw c.in_ok-push.ensures.items (λ m. goes_on (read m) c.loop.children.items c.loop.counter c.loop.reader (total m) c.loop-test.true (c.loop.invariant m) c.in_ok-policy.field-0 c.policy.new.reader c.comma.new.self (child m) (rw c.if-not-branch.false at c.in_ok-comma.ensures))
+    rw c.in_ok-push.ensures.items
+    (λ m. goes_on (read m) c.loop.children.items c.loop.counter c.loop.reader (total m) c.loop-test.true (c.loop.invariant m) c.in_ok-policy.field-0
+    c.policy.new.reader c.comma.new.self (child m) (rw c.if-not-branch.false at c.in_ok-comma.ensures))
 
 pub children-returns : goal.children-returns
 children-returns t c =
     let read = λ (m : Leniency). policy_by c.args.orgs.now m c.args.levels in
     let total = λ (m : Leniency). children_at (read m) 1024 c.args.reader.now in
     let e = c.syntax.result in
-    fails_of e ((m : Leniency) → Keeps e m → total m ≡ None) (λ m k. too_many (read m) c.loop.children.items c.loop.counter c.loop.reader (total m) c.loop-test.false (c.loop.invariant m))
+    fails_of e ((m : Leniency) → Keeps e m → total m ≡ None)
+    (λ m k. too_many (read m) c.loop.children.items c.loop.counter c.loop.reader (total m) c.loop-test.false (c.loop.invariant m))
 
 pub policy-returns-then-is_quoted : goal.policy-returns-then-is_quoted
 policy-returns-then-is_quoted t c =
@@ -75,13 +81,16 @@ policy-returns-in_err-children t c =
     let orgs = c.args.orgs.now in
     let e = c.in_err-children.field-0.0 in
     let p = err_from_is_err_and c.from_residual-in_err-children.result c.from_residual-in_err-children.ensures.1 in
-    rw (p.1, p.2) (Fails-weaker e ((m : Leniency) → Keeps e m → children_at (policy_by orgs m (c.args.levels - 1)) 1024 c.opening.new.self ≡ None) ((m : Leniency) → Keeps e m → policy_by orgs m c.args.levels c.args.reader.now ≡ None)
-    (λ h m k. unfed (is_known_by orgs m) (fits_by m) (c.args.levels + m.more) (c.args.levels - 1 + m.more) c.args.reader.now (search rules) (let z = c.if-levels-eq0.false in omega arith) (rule_of c.in_ok-operator.operator) c.opening.new.self c.in_ok-operator.ensures (h m k))
+    rw (p.1, p.2) (Fails-weaker e ((m : Leniency) → Keeps e m → children_at (policy_by orgs m (c.args.levels - 1)) 1024 c.opening.new.self ≡ None)
+    ((m : Leniency) → Keeps e m → policy_by orgs m c.args.levels c.args.reader.now ≡ None)
+    (λ h m k. unfed (is_known_by orgs m) (fits_by m) (c.args.levels + m.more) (c.args.levels - 1 + m.more) c.args.reader.now (search rules)
+    (let z = c.if-levels-eq0.false in omega arith) (rule_of c.in_ok-operator.operator) c.opening.new.self c.in_ok-operator.ensures (h m k))
     c.in_err-children.ensures)
 
 pub policy-over-requires : goal.policy-over-requires
 policy-over-requires t c =
-    some_child (policy_by c.args.orgs.now strict (c.args.levels - 1)) 1024 c.opening.new.self c.children.new.reader c.in_ok-children.children.items (c.in_ok-children.ensures strict)
+    some_child (policy_by c.args.orgs.now strict (c.args.levels - 1)) 1024 c.opening.new.self c.children.new.reader c.in_ok-children.children.items
+    (c.in_ok-children.ensures strict)
 
 pub policy-returns-in_default : goal.policy-returns-in_default
 policy-returns-in_default t c =
@@ -89,7 +98,9 @@ policy-returns-in_default t c =
     let children = c.in_ok-children.children.items in
     let rule = rule_of c.in_ok-operator.operator in
     λ m k.
-    (fed (is_known_by orgs m) (fits_by m) (c.args.levels + m.more) (c.args.levels - 1 + m.more) c.args.reader.now (search rules) (let z = c.if-levels-eq0.false in omega arith) rule c.opening.new.self c.in_ok-operator.ensures children c.children.new.reader (c.in_ok-children.ensures m)
+    (fed (is_known_by orgs m) (fits_by m) (c.args.levels + m.more) (c.args.levels - 1 + m.more) c.args.reader.now (search rules)
+    (let z = c.if-levels-eq0.false in omega arith) rule c.opening.new.self c.in_ok-operator.ensures children c.children.new.reader
+    (c.in_ok-children.ensures m)
     ∙ ap (λ (o : Option Policy). o >>= λ p. Some (p, c.children.new.reader)) (not_made m rule children (sym c.over.ensures ∙ c.in_default.is) k))
 
 pub policy-returns : goal.policy-returns
@@ -98,5 +109,7 @@ policy-returns t c =
     let children = c.in_ok-children.children.items in
     let rule = rule_of c.in_ok-operator.operator in
     λ m.
-    (fed (is_known_by orgs m) (fits_by m) (c.args.levels + m.more) (c.args.levels - 1 + m.more) c.args.reader.now (search rules) (let z = c.if-levels-eq0.false in omega arith) rule c.opening.new.self c.in_ok-operator.ensures children c.children.new.reader (c.in_ok-children.ensures m)
+    (fed (is_known_by orgs m) (fits_by m) (c.args.levels + m.more) (c.args.levels - 1 + m.more) c.args.reader.now (search rules)
+    (let z = c.if-levels-eq0.false in omega arith) rule c.opening.new.self c.in_ok-operator.ensures children c.children.new.reader
+    (c.in_ok-children.ensures m)
     ∙ ap (λ (o : Option Policy). o >>= λ p. Some (p, c.children.new.reader)) (made_by m rule children c.in-Some.policy (sym c.over.ensures ∙ c.in-Some.is)))

@@ -12,4 +12,5 @@ decreases-policy l = 2 * l.levels
 
 abbrev pub invariant-children-loop : goal.invariant-children-loop
 invariant-children-loop l =
-    (m : Leniency) → with_front l.children.items (children_at (policy_by l.orgs m l.levels) (1024 - l.counter) l.reader) ≡ children_at (policy_by l.orgs m l.levels) 1024 l.fn.reader
+    (m : Leniency) → with_front l.children.items (children_at (policy_by l.orgs m l.levels) (1024 - l.counter) l.reader) ≡
+    children_at (policy_by l.orgs m l.levels) 1024 l.fn.reader

@@ -15,7 +15,8 @@ returns-in_err-quoted c =
     let bytes = c.args.reader.now in
     let e = c.in_err-quoted.field-0.0 in
     let p = err_from_is_err_and c.from_residual.result c.from_residual.ensures.1 in
-    rw (p.1, p.2) (Fails-weaker e (quoted_at bytes ≡ None) ((m : Leniency) → Keeps e m → leaf_at (is_known_by orgs m) bytes ≡ None) (λ h m k. unquoted (is_known_by orgs m) bytes h) c.in_err-quoted.ensures)
+    rw (p.1, p.2) (Fails-weaker e (quoted_at bytes ≡ None) ((m : Leniency) → Keeps e m → leaf_at (is_known_by orgs m) bytes ≡ None)
+    (λ h m k. unquoted (is_known_by orgs m) bytes h) c.in_err-quoted.ensures)
 
 pub returns-in_default : goal.returns-in_default
 returns-in_default c =
@@ -25,7 +26,8 @@ returns-in_default c =
     let name = c.in_ok-name.name.items in
     let wrong : IsOrgName name → ⊥ = search rules in
     let some : quoted_at bytes ≡ Some (name, c.quoted.new.self) = search rules in
-    fails_of e ((m : Leniency) → Keeps e m → leaf_at (is_known_by orgs m) bytes ≡ None) (λ m k. misnamed (is_known_by orgs m) bytes name c.quoted.new.self some wrong)
+    fails_of e ((m : Leniency) → Keeps e m → leaf_at (is_known_by orgs m) bytes ≡ None)
+    (λ m k. misnamed (is_known_by orgs m) bytes name c.quoted.new.self some wrong)
 
 pub returns-then-not-is_among : goal.returns-then-not-is_among
 returns-then-not-is_among c =

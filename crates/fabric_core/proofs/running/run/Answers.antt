@@ -28,7 +28,10 @@ loop-event-preserved c =
     let start = opening c.args.genesis.now.peers.items c.args.genesis.now.seats (limits_of c.args.genesis.now) c.args.genesis.now.reorder in
     let h = ok_of _ c.advance.result (sym c.is_err.ensures.value ∙ c.if-is_err.false) c.advance.ensures.step in
     let here : slice_get events i ≡ Some e = get_here events i e (omega (arith, c.loop-event-test.true)) ∙ ap Some (sym c.event-item.is) in
-    let told : IsStep r old.system.world e h.0 new.system.world = subst (λ n. IsStep (rules_of (exec c.args.genesis.now.book.value) c.args.genesis.now.rules.value n) old.system.world e h.0 new.system.world) inv.capacity (subst (λ l. IsStep (rules_of (exec c.args.genesis.now.book.value) l old.system.capacity) old.system.world e h.0 new.system.world) inv.rules (subst (λ b. IsStep (rules_of (exec b) old.system.rules old.system.capacity) old.system.world e h.0 new.system.world) inv.book h.1)) in
+    let told : IsStep r old.system.world e h.0 new.system.world =
+    subst (λ n. IsStep (rules_of (exec c.args.genesis.now.book.value) c.args.genesis.now.rules.value n) old.system.world e h.0 new.system.world)
+    inv.capacity (subst (λ l. IsStep (rules_of (exec c.args.genesis.now.book.value) l old.system.capacity) old.system.world e h.0 new.system.world)
+    inv.rules (subst (λ b. IsStep (rules_of (exec b) old.system.rules old.system.capacity) old.system.world e h.0 new.system.world) inv.book h.1)) in
     let more = run_more r start old.system.world new.system.world events i e h.0 old.replies.items new.replies.items here inv.steps told h.2 in
     record {
       refused = c.advance.ensures.refused ∙ inv.refused;
@@ -50,15 +53,21 @@ returns-clause-run c =
     let start = opening genesis.peers.items genesis.seats limits genesis.reorder in
     let law = c.ordering_laws.ensures.step in
     let began = c.ordering_laws.ensures.opening (fresh_orderer limits genesis.reorder) c.requires.some (refl, refl) in
-    let steps : (more : List Reply) (w : World) → more ≡ c.loop-event.ran.replies.items → w ≡ c.loop-event.ran.system.world → AreSteps r start (take i events) more w =
-    λ more w a b. subst (λ (x : World). AreSteps r start (take i events) more x) (sym b) (subst (λ (rs : List Reply). AreSteps r start (take i events) rs c.loop-event.ran.system.world) (sym a) inv.steps)
+    let steps : (more : List Reply) (w : World) → more ≡ c.loop-event.ran.replies.items → w ≡ c.loop-event.ran.system.world →
+    AreSteps r start (take i events) more w =
+    λ more w a b. subst (λ (x : World). AreSteps r start (take i events) more x) (sym b)
+    (subst (λ (rs : List Reply). AreSteps r start (take i events) rs c.loop-event.ran.system.world) (sym a) inv.steps)
     in
     elim c.loop-event-test.branch [
-      | else-loop-event-test w ↦ run_all r genesis.peers.items genesis.seats limits genesis.reorder events ran.replies.items ran.system.world ran.refused i law began (steps ran.replies.items ran.system.world (ap (λ x. x.replies.items) w.ran-is) (ap (λ x. x.system.world) w.ran-is)) (ap (λ x. x.refused) w.ran-is ∙ inv.refused) w.loop-event-test.false
+      | else-loop-event-test w ↦
+          run_all r genesis.peers.items genesis.seats limits genesis.reorder events ran.replies.items ran.system.world ran.refused i law began
+          (steps ran.replies.items ran.system.world (ap (λ x. x.replies.items) w.ran-is) (ap (λ x. x.system.world) w.ran-is))
+          (ap (λ x. x.refused) w.ran-is ∙ inv.refused) w.loop-event-test.false
       | then-loop-event-test+then-is_err w ↦
           let err = sym w.is_err.ensures.value ∙ w.if-is_err.true in
           run_part r genesis.peers.items genesis.seats limits genesis.reorder events ran.replies.items ran.system.world ran.refused i law began
-          (steps ran.replies.items ran.system.world (ap (λ x. x.replies.items) w.ran-is ∙ err_of _ w.advance.result err w.advance.ensures.replies) (ap (λ x. x.system.world) w.ran-is ∙ ap (λ x. x.world) (err_of _ w.advance.result err w.advance.ensures.system)))
+          (steps ran.replies.items ran.system.world (ap (λ x. x.replies.items) w.ran-is ∙ err_of _ w.advance.result err w.advance.ensures.replies)
+          (ap (λ x. x.system.world) w.ran-is ∙ ap (λ x. x.world) (err_of _ w.advance.result err w.advance.ensures.system)))
           (ap (λ x. x.refused) w.ran-is) (omega (arith, w.loop-event-test.true))
     ]
 
@@ -72,14 +81,16 @@ returns-clause-honest c peer chain is =
     let carries : (e : Envelope) → is_endorsed genesis.rules.value e ≡ true → CarriesRight genesis.rules.value.orgs e =
     subst (λ l. (e : Envelope) → is_endorsed l e ≡ true → CarriesRight l.orgs e) c.deref-2.ensures c.an_endorsed_envelope_carries_a_right_tag.ensures
     in
-    honest_of (exec_of genesis.book.value) alone genesis.rules.value carries genesis.queue genesis.peers.items genesis.seats (limits_of genesis) genesis.reorder c.args.events.now ran.replies.items ran.system.world ran.refused (returns-clause-run c) peer chain is
+    honest_of (exec_of genesis.book.value) alone genesis.rules.value carries genesis.queue genesis.peers.items genesis.seats (limits_of genesis) genesis.reorder
+    c.args.events.now ran.replies.items ran.system.world ran.refused (returns-clause-run c) peer chain is
 
 pub returns-clause-conflicts : goal.returns-clause-conflicts
 returns-clause-conflicts c on peer chain is =
     let genesis = c.args.genesis.now in
     let ran = c.loop-event-test.ran in
     let r = rules_of (exec_of genesis.book.value) genesis.rules.value genesis.queue in
-    older_run id_of (is_endorsed genesis.rules.value) r genesis.peers.items genesis.seats (limits_of genesis) genesis.reorder c.args.events.now ran.replies.items ran.system.world ran.refused refl (returns-clause-run c) on peer chain is
+    older_run id_of (is_endorsed genesis.rules.value) r genesis.peers.items genesis.seats (limits_of genesis) genesis.reorder c.args.events.now
+    ran.replies.items ran.system.world ran.refused refl (returns-clause-run c) on peer chain is
 
 pub returns-clause-fits : goal.returns-clause-fits
 returns-clause-fits c peer chain next is there =

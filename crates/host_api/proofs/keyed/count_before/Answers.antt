@@ -9,4 +9,5 @@ returns g c =
     let key_of = g.T.Keyed.key_of in
     let key = c.args.key.now in
     place_is key_of key c.args.items.now c.partition_point.result c.partition_point.ensures.bound
-    (IsPartitionPoint-from_clause (λ x. is_before (key_of x) key) _ _ c.partition_point.ensures.partitioned (parted key_of key c.args.items.now c.requires) (λ a r q k. search rules))
+    (IsPartitionPoint-from_clause (λ x. is_before (key_of x) key) _ _ c.partition_point.ensures.partitioned (parted key_of key c.args.items.now c.requires)
+    (λ a r q k. search rules))

@@ -12,7 +12,8 @@ loop-key-preserved c =
     ap (λ (z : List RangeEntry). z ++ rest) c.in_ok-push.ensures.items
     ∙ append_one c.loop-key.items.items item rest
     ∙ ap (λ (z : RangeEntry). c.loop-key.items.items ++ z ∷ rest) alike
-    ∙ ap (λ (z : List RangeEntry). c.loop-key.items.items ++ z) (sym (keys_next c.args.entries.now c.loop-key.key-index e c.loop-key-test.true c.loop-key-item.is))
+    ∙ ap (λ (z : List RangeEntry). c.loop-key.items.items ++ z)
+    (sym (keys_next c.args.entries.now c.loop-key.key-index e c.loop-key-test.true c.loop-key-item.is))
     ∙ c.loop-key.invariant
 
 pub returns : goal.returns

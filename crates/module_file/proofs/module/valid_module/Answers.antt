@@ -4,8 +4,11 @@ use Rattle.wasm_validate.specs.ModuleRules.{IsValid}
 use Rattle.module_file.proofs.module.valid_module.Goals as goal
 
 pub returns-in-Err-Malformed-clause-refused : goal.returns-in-Err-Malformed-clause-refused
-returns-in-Err-Malformed-clause-refused c =
-    (λ m spelled. let e = rw c.in-Err-Malformed.field-0-is at (c.in-Err-Malformed.ensures.only m spelled) in cc, rw c.in-Err-Malformed.field-0-is (rw c.in-Err-Malformed.field-0-is at c.in-Err-Malformed.ensures.fault))
+returns-in-Err-Malformed-clause-refused c = (
+  λ m spelled. let e = rw c.in-Err-Malformed.field-0-is at (c.in-Err-Malformed.ensures.only m spelled) in
+      cc,
+  rw c.in-Err-Malformed.field-0-is (rw c.in-Err-Malformed.field-0-is at c.in-Err-Malformed.ensures.fault),
+)
 
 pub returns-in-Ok-validate-clause-ok : goal.returns-in-Ok-validate-clause-ok
 returns-in-Ok-validate-clause-ok c =

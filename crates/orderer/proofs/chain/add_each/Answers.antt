@@ -4,7 +4,8 @@ use Rattle.std.proofs.lemmas.List.{append-nil}
 use Rattle.orderer.specs.Adding.{BeginsWith}
 use Rattle.orderer.specs.Arranged.{plans_of}
 use Rattle.orderer.proofs.Refusing.{first_refused, second_refused, adds_begins, begins_through}
-use Rattle.orderer.proofs.chain.add_each.Goals.{in-Nothing, in-One+in_ok-add_batch-in-One+in_ok-push-in-One, in-Two+in_ok-add_batch-in-Two+in_ok-push-in-Two+in_ok-add_batch-in-Two-2+in_ok-push-in-Two-2}
+use Rattle.orderer.proofs.chain.add_each.Goals.{in-Nothing, in-One+in_ok-add_batch-in-One+in_ok-push-in-One}
+use Rattle.orderer.proofs.chain.add_each.Goals.{in-Two+in_ok-add_batch-in-Two+in_ok-push-in-Two+in_ok-add_batch-in-Two-2+in_ok-push-in-Two-2}
 use Rattle.orderer.proofs.chain.add_each.Goals as goal
 
 pub returns-in_err-add_batch-in-One-clause-refused :
@@ -12,21 +13,28 @@ pub returns-in_err-add_batch-in-One-clause-refused :
 returns-in_err-add_batch-in-One-clause-refused c =
     let plans = plans_of c.args.reorder in
     let p = err_from_is_err_and c.from_residual.result c.from_residual.ensures.1 in
-    rw (p.1, p.2, c.in-One.is) (first_refused plans c.in_err-add_batch-in-One.field-0.0 c.args.blocks.now.items c.deref.result.now c.in-One.batch.items [] c.deref.ensures.value c.in_err-add_batch-in-One.ensures.refused)
+    rw (p.1, p.2, c.in-One.is)
+    (first_refused plans c.in_err-add_batch-in-One.field-0.0 c.args.blocks.now.items c.deref.result.now c.in-One.batch.items [] c.deref.ensures.value
+    c.in_err-add_batch-in-One.ensures.refused)
 
 pub returns-in_err-add_batch-in-Two-clause-refused :
     goal.returns-in_err-add_batch-in-Two-clause-refused
 returns-in_err-add_batch-in-Two-clause-refused c =
     let plans = plans_of c.args.reorder in
     let p = err_from_is_err_and c.from_residual-in_err-add_batch-in-Two.result c.from_residual-in_err-add_batch-in-Two.ensures.1 in
-    rw (p.1, p.2, c.in-Two.is) (first_refused plans c.in_err-add_batch-in-Two.field-0.0 c.args.blocks.now.items c.deref-in-Two.result.now c.in-Two.first.items (c.in-Two.second.items ∷ []) c.deref-in-Two.ensures.value c.in_err-add_batch-in-Two.ensures.refused)
+    rw (p.1, p.2, c.in-Two.is)
+    (first_refused plans c.in_err-add_batch-in-Two.field-0.0 c.args.blocks.now.items c.deref-in-Two.result.now c.in-Two.first.items
+    (c.in-Two.second.items ∷ []) c.deref-in-Two.ensures.value c.in_err-add_batch-in-Two.ensures.refused)
 
 pub returns-in_err-add_batch-in-Two-2-clause-refused :
     goal.returns-in_err-add_batch-in-Two-2-clause-refused
 returns-in_err-add_batch-in-Two-2-clause-refused c =
     let plans = plans_of c.args.reorder in
     let p = err_from_is_err_and c.from_residual-in_err-add_batch-in-Two-2.result c.from_residual-in_err-add_batch-in-Two-2.ensures.1 in
-    rw (p.1, p.2, c.in-Two.is) (second_refused plans c.in_err-add_batch-in-Two-2.field-0.0 c.args.blocks.now.items c.add_batch-in-Two.new.blocks.items c.deref-in-Two.result.now c.deref-in-Two-2.result.now c.in-Two.first.items c.in-Two.second.items c.in_ok-add_batch-in-Two.field-0 c.deref-in-Two.ensures.value c.deref-in-Two-2.ensures.value c.in_ok-add_batch-in-Two.ensures.added c.in_err-add_batch-in-Two-2.ensures.refused)
+    rw (p.1, p.2, c.in-Two.is)
+    (second_refused plans c.in_err-add_batch-in-Two-2.field-0.0 c.args.blocks.now.items c.add_batch-in-Two.new.blocks.items c.deref-in-Two.result.now
+    c.deref-in-Two-2.result.now c.in-Two.first.items c.in-Two.second.items c.in_ok-add_batch-in-Two.field-0 c.deref-in-Two.ensures.value
+    c.deref-in-Two-2.ensures.value c.in_ok-add_batch-in-Two.ensures.added c.in_err-add_batch-in-Two-2.ensures.refused)
 
 pub returns-in_err-push-in-Two-2-clause-begins : goal.returns-in_err-push-in-Two-2-clause-begins
 returns-in_err-push-in-Two-2-clause-begins c =

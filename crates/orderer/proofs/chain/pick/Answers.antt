@@ -20,7 +20,8 @@ loop-place-preserved c =
       | in-Some+in_ok-clone+in_ok-push w ↦
           let x = w.in-Some.envelope.now in
           let found = w.in-Some.ensures.lookup in
-          let at : slice_get batch (get_or order i 0) ≡ Some x = slice_get-get_or batch (get_or order i 0) x found.3.0 ∙ ap (λ (e : Envelope). Some e) (sym found.1) in
+          let at : slice_get batch (get_or order i 0) ≡ Some x =
+          slice_get-get_or batch (get_or order i 0) x found.3.0 ∙ ap (λ (e : Envelope). Some e) (sym found.1) in
           let new : c.match-get.envelopes.items ≡ c.loop-place.envelopes.items ++ x ∷ [] = search rules in
           new ∙ ap (λ (es : List Envelope). es ++ x ∷ []) c.loop-place.invariant ∙ sym (more ∙ ap (λ (o : Option Envelope). front ++ option_to_list o) at)
       | in_default w ↦

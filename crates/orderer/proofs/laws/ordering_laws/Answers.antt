@@ -42,7 +42,8 @@ returns c = record {
       (once.0, same_ordering new other (a.reorder ∙ sym b.reorder) (a.limits ∙ sym b.limits) same.1 once.1);
   past = λ old new mark reports out takes.
       let plans = plans_of old.reorder in
-      let same = c.division_laws.ensures.one old.limits (map message old.pending ++ mark ∷ []) (out.first ++ out.others) takes.batches out.pending new.pending out.cut takes.cut in
+      let same = c.division_laws.ensures.one old.limits (map message old.pending ++ mark ∷ []) (out.first ++ out.others) takes.batches out.pending new.pending
+      out.cut takes.cut in
       let added = subst (λ bs. AddsEach plans old.chain bs reports new.chain) (sym same.0) takes.added in
       let through = each_through plans old.chain out.first out.others reports new.chain added in
       let once = each_once plans (one_plan old.reorder) old.chain out.first out.reports through.1 out.chain through.0 out.added through.3 in

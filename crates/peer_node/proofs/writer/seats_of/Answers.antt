@@ -19,6 +19,11 @@ loop-seat-preserved c = (
       let there : c.pop.result ≡ Some c.unwrap-reader.result = search rules in
       let P : Reader → Type 0 = λ r. (cell_of_reader r ≡ peer) × (seen_list r ≡ chain) in
       let begins : P c.unwrap-reader.result = subst (λ (o : Option Reader). IfSome o P) there popped.1 in
-      let added = All-push (IsSeatBehind (arc_value c.args.genesis.now.book) (arc_value c.args.genesis.now.rules) c.args.org.now peer chain) _ _ both.1 (begins.0, begins.1, c.in_ok-endorser.ensures) in
-      (popped.0, subst (λ (seats : List Seat). All (IsSeatBehind (arc_value c.args.genesis.now.book) (arc_value c.args.genesis.now.rules) c.args.org.now peer chain) seats) (sym c.in_ok-push.ensures.items) added),
+      let added = All-push (IsSeatBehind (arc_value c.args.genesis.now.book) (arc_value c.args.genesis.now.rules) c.args.org.now peer chain) _ _ both.1
+      (begins.0, begins.1, c.in_ok-endorser.ensures) in (
+        popped.0,
+        subst (λ (seats : List Seat).
+            All (IsSeatBehind (arc_value c.args.genesis.now.book) (arc_value c.args.genesis.now.rules) c.args.org.now peer chain) seats)
+            (sym c.in_ok-push.ensures.items) added,
+      ),
 )

@@ -14,13 +14,17 @@ pub returns-in_default-clause-ok : goal.returns-in_default-clause-ok
 returns-in_default-clause-ok g c =
     let place : IsGapAt g.K.Ord.cmp c.args.key.now (pages_of c.args.pages.now.items) c.find-sought.result.page c.in_default.field-0 =
     subst (IsPlaceOf g.K.Ord.cmp c.args.key.now (pages_of c.args.pages.now.items) c.find-sought.result.page) c.in_default.is
-    (subst (λ b. IsPlaceOf g.K.Ord.cmp c.args.key.now (pages_of b) c.find-sought.result.page c.find-sought.result.place) c.deref.ensures.value c.find-sought.ensures.place) in
+    (subst (λ b. IsPlaceOf g.K.Ord.cmp c.args.key.now (pages_of b) c.find-sought.result.page c.find-sought.result.place) c.deref.ensures.value
+    c.find-sought.ensures.place) in
     without_none g.K.Ord.cmp g.met.K.Ord.total c.args.key.now (pages_of c.args.pages.now.items) c.find-sought.result.page c.in_default.field-0 place
 
-after_remove : (g : Over) (c : After-drop-remove g) → AreAfter g.K.Ord.cmp (pages_of c.remove.new.self.items) (without g.K.Ord.cmp (joined (pages_of c.args.pages.now.items)) c.args.key.now)
+after_remove : (g : Over) (c : After-drop-remove g) →
+    AreAfter g.K.Ord.cmp (pages_of c.remove.new.self.items) (without g.K.Ord.cmp (joined (pages_of c.args.pages.now.items)) c.args.key.now)
 after_remove g c =
-    let h = hit g.K.Ord.cmp c.args.pages.now.items c.deref.result.now c.args.key.now c.find-sought.result.page c.in-Ok.at c.find-sought.result.place c.index.result.now c.deref-2.result.now c.deref.ensures.value c.find-sought.ensures.place c.in-Ok.is c.index.ensures c.deref-2.ensures in
-    delete_page g.K.Ord.cmp g.met.K.Ord.total c.args.key.now (pages_of c.args.pages.now.items) (pages_of c.remove.new.self.items) c.find-sought.result.page c.in-Ok.at c.requires h.place
+    let h = hit g.K.Ord.cmp c.args.pages.now.items c.deref.result.now c.args.key.now c.find-sought.result.page c.in-Ok.at c.find-sought.result.place
+    c.index.result.now c.deref-2.result.now c.deref.ensures.value c.find-sought.ensures.place c.in-Ok.is c.index.ensures c.deref-2.ensures in
+    delete_page g.K.Ord.cmp g.met.K.Ord.total c.args.key.now (pages_of c.args.pages.now.items) (pages_of c.remove.new.self.items) c.find-sought.result.page
+    c.in-Ok.at c.requires h.place
     (omega (arith, h.long, ap length c.deref-3.ensures.value, c.is_single.ensures.single c.if-is_single.true))
     (pages_removed c.args.pages.now.items c.remove.new.self.items c.find-sought.result.page c.remove.ensures.by_index.2)
 
@@ -30,11 +34,23 @@ returns-then-is_single-clause-laid g c = (after_remove g c).laid
 pub returns-then-is_single-clause-ok : goal.returns-then-is_single-clause-ok
 returns-then-is_single-clause-ok g c = (after_remove g c).entries
 
-after_cut : (g : Over) (c : goal.After-cut_entry g) → pages_of c.cut_entry.new.pages.items ≡ replaced (pages_of c.args.pages.now.items) c.find-sought.result.page (cut (page_at (pages_of c.args.pages.now.items) c.find-sought.result.page) c.in-Ok.at ∷ []) → AreAfter g.K.Ord.cmp (pages_of c.cut_entry.new.pages.items) (without g.K.Ord.cmp (joined (pages_of c.args.pages.now.items)) c.args.key.now)
+after_cut : (g : Over) (c : goal.After-cut_entry g) →
+    pages_of c.cut_entry.new.pages.items ≡
+    replaced (pages_of c.args.pages.now.items) c.find-sought.result.page
+    (cut (page_at (pages_of c.args.pages.now.items) c.find-sought.result.page) c.in-Ok.at ∷ []) →
+    AreAfter g.K.Ord.cmp (pages_of c.cut_entry.new.pages.items) (without g.K.Ord.cmp (joined (pages_of c.args.pages.now.items)) c.args.key.now)
 after_cut g c n =
-    let h = hit g.K.Ord.cmp c.args.pages.now.items c.deref.result.now c.args.key.now c.find-sought.result.page c.in-Ok.at c.find-sought.result.place c.index.result.now c.deref-2.result.now c.deref.ensures.value c.find-sought.ensures.place c.in-Ok.is c.index.ensures c.deref-2.ensures in
-    delete_one g.K.Ord.cmp g.met.K.Ord.total c.args.key.now (pages_of c.args.pages.now.items) (pages_of c.cut_entry.new.pages.items) c.find-sought.result.page c.in-Ok.at c.requires h.place
-    (omega (arith, h.long, h.place.inside, ap length c.deref-3.ensures.value, c.is_single.ensures.several c.if-is_single.false (omega (arith, h.long, h.place.inside, ap length c.deref-3.ensures.value)))) n
+    let h = hit g.K.Ord.cmp c.args.pages.now.items c.deref.result.now c.args.key.now c.find-sought.result.page c.in-Ok.at c.find-sought.result.place
+    c.index.result.now c.deref-2.result.now c.deref.ensures.value c.find-sought.ensures.place c.in-Ok.is c.index.ensures c.deref-2.ensures in
+    delete_one g.K.Ord.cmp g.met.K.Ord.total c.args.key.now (pages_of c.args.pages.now.items) (pages_of c.cut_entry.new.pages.items) c.find-sought.result.page
+    c.in-Ok.at c.requires h.place
+    (omega (
+      arith,
+      h.long,
+      h.place.inside,
+      ap length c.deref-3.ensures.value,
+      c.is_single.ensures.several c.if-is_single.false (omega (arith, h.long, h.place.inside, ap length c.deref-3.ensures.value)),
+    )) n
 
 pub returns-clause-laid : goal.returns-clause-laid
 returns-clause-laid g c =

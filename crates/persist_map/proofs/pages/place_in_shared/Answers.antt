@@ -6,7 +6,9 @@ use Rattle.persist_map.proofs.pages.place_in_shared.Goals as goal
 
 pub returns-in_err-own-clause-err : goal.returns-in_err-own-clause-err
 returns-in_err-own-clause-err g c =
-    at_err c.from_residual.result _ (same_or_cloned c.args.page.now.value c.make_mut.follows.lender-at-none.value (once_err c.make_mut.result _ _ c.in_err-own.was c.make_mut.follows.holds-at-none))
+    at_err c.from_residual.result _
+    (same_or_cloned c.args.page.now.value c.make_mut.follows.lender-at-none.value
+    (once_err c.make_mut.result _ _ c.in_err-own.was c.make_mut.follows.holds-at-none))
 
 pub returns-clause-ok : goal.returns-clause-ok
 returns-clause-ok g c =

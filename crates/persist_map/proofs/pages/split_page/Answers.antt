@@ -10,7 +10,9 @@ returns-clause-ok g c =
     let ps = pages_of c.args.pages.now.items in
     let page : shared c.deref.result.now ≡ page_at ps c.args.page =
     ap shared c.deref.ensures.value
-    ∙ sym (page_is c.args.pages.now.items c.args.page c.index.result.now c.deref-old.result.now (omega (arith, c.args.pages.now.ok.0, c.requires.page, length-map c.args.pages.now.items (λ p. shared p.value.items))) c.index.ensures c.deref-old.ensures) in
+    ∙ sym (page_is c.args.pages.now.items c.args.page c.index.result.now c.deref-old.result.now
+    (omega (arith, c.args.pages.now.ok.0, c.requires.page, length-map c.args.pages.now.items (λ p. shared p.value.items))) c.index.ensures
+    c.deref-old.ensures) in
     let whole : shared c.in_ok-first.first.items ≡ placed (page_at ps c.args.page) c.args.place c.args.entry.value =
     c.in_ok-first.ensures ∙ ap (λ p. placed p c.args.place c.args.entry.value) page in
     let left = ap shared c.in_ok-rest.ensures.items ∙ sym (take-map (λ e. e.value) 32 c.in_ok-first.first.items) ∙ ap (take 32) whole in

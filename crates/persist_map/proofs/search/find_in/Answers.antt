@@ -18,7 +18,8 @@ loop-low-preserved-in-Less g c =
       order = omega arith;
       inside = omega arith;
       last = i.last;
-      next = λ d h. ap (λ e. g.K.Ord.cmp c.args.key.now e.0) (read_entry c.args.page.now m c.index-page-middle.result inside c.index-page-middle.is d ∙ sym c.deref.ensures) ∙ sym c.cmp.ensures ∙ c.in-Less.is;
+      next = λ d h. ap (λ e. g.K.Ord.cmp c.args.key.now e.0)
+          (read_entry c.args.page.now m c.index-page-middle.result inside c.index-page-middle.is d ∙ sym c.deref.ensures) ∙ sym c.cmp.ensures ∙ c.in-Less.is;
       halving = halving_step _ _ _ _ i.halving (omega arith) (omega arith);
     }
 
@@ -32,7 +33,9 @@ loop-low-preserved g c =
       small = i.small;
       order = omega arith;
       inside = i.inside;
-      last = λ d h. ap (λ n. g.K.Ord.cmp c.args.key.now (get_or (shared c.args.page.now) n d).0) same ∙ ap (λ e. g.K.Ord.cmp c.args.key.now e.0) (read_entry c.args.page.now m c.index-page-middle.result inside c.index-page-middle.is d ∙ sym c.deref.ensures) ∙ sym c.cmp.ensures ∙ c.in-Greater.is;
+      last = λ d h. ap (λ n. g.K.Ord.cmp c.args.key.now (get_or (shared c.args.page.now) n d).0) same ∙
+          ap (λ e. g.K.Ord.cmp c.args.key.now e.0)
+          (read_entry c.args.page.now m c.index-page-middle.result inside c.index-page-middle.is d ∙ sym c.deref.ensures) ∙ sym c.cmp.ensures ∙ c.in-Greater.is;
       next = i.next;
       halving = halving_step _ _ _ _ i.halving (omega arith) (omega arith);
     }

@@ -14,8 +14,11 @@ loop-i-init c =
     let edge = edge_at c.args.edges.now in
     let back = c.in_ok-back.back in
     let size = c.in_ok-back.ensures.size in
-    let into_is : (i : ℕ) → i < n → get_or c.in_ok-into.into.items i 0 ≡ tally n (λ k. edge k i) = counts_back n back.size edge (edge_at back) c.in_ok-into.into.items size c.in_ok-back.ensures.edges c.in_ok-into.ensures.each in
-    let whole : IsCounted n edge (replicate n true) c.in_ok-into.into.items c.in_ok-out.out.items = counted_whole n edge c.in_ok-into.into.items c.in_ok-out.out.items (c.in_ok-into.ensures.long ∙ size) c.in_ok-out.ensures.long into_is c.in_ok-out.ensures.each in
+    let into_is : (i : ℕ) → i < n → get_or c.in_ok-into.into.items i 0 ≡ tally n (λ k. edge k i) =
+    counts_back n back.size edge (edge_at back) c.in_ok-into.into.items size c.in_ok-back.ensures.edges c.in_ok-into.ensures.each in
+    let whole : IsCounted n edge (replicate n true) c.in_ok-into.into.items c.in_ok-out.out.items =
+    counted_whole n edge c.in_ok-into.into.items c.in_ok-out.out.items (c.in_ok-into.ensures.long ∙ size) c.in_ok-out.ensures.long into_is
+    c.in_ok-out.ensures.each in
     let left_is : c.in_ok-left.left.items ≡ replicate n true = search rules in
     record {
       counted = subst (λ (x : List Bool). IsCounted n edge x c.in_ok-into.into.items c.in_ok-out.out.items) (sym left_is) whole;
@@ -70,7 +73,9 @@ take_out-requires-in-Some-clause-waits c =
     let left = c.loop-pick.left.items in
     let into = c.loop-pick.into.items in
     let out = c.loop-pick.out.items in
-    let pick : IsCountedPick left into out c.in-Some.pick = same_pick left _ into _ out _ c.in-Some.pick c.deref.ensures.value c.deref-in-loop-pick.ensures.value c.deref-in-loop-pick-2.ensures.value c.in-Some.ensures in
+    let pick : IsCountedPick left into out c.in-Some.pick =
+    same_pick left _ into _ out _ c.in-Some.pick c.deref.ensures.value c.deref-in-loop-pick.ensures.value c.deref-in-loop-pick-2.ensures.value
+    c.in-Some.ensures in
     counted_waits left into out c.in-Some.pick c.index-in-Some.result c.index-in-Some.ensures pick
 
 pub loop-pick-smaller : goal.loop-pick-smaller
@@ -79,7 +84,9 @@ loop-pick-smaller c =
     let into = c.loop-pick.into.items in
     let out = c.loop-pick.out.items in
     let i = c.index-in-Some.result in
-    let pick : IsCountedPick left into out c.in-Some.pick = same_pick left _ into _ out _ c.in-Some.pick c.deref.ensures.value c.deref-in-loop-pick.ensures.value c.deref-in-loop-pick-2.ensures.value c.in-Some.ensures in
+    let pick : IsCountedPick left into out c.in-Some.pick =
+    same_pick left _ into _ out _ c.in-Some.pick c.deref.ensures.value c.deref-in-loop-pick.ensures.value c.deref-in-loop-pick-2.ensures.value
+    c.in-Some.ensures in
     let w : waits left i ≡ true = counted_waits left into out c.in-Some.pick i c.index-in-Some.ensures pick in
     rw c.take_out-in-Some.ensures.left (fewer_wait left i w)
 
@@ -93,12 +100,16 @@ loop-pick-preserved c =
     let out = c.loop-pick.out.items in
     let i = c.index-in-Some.result in
     let counted : IsCounted n edge left into out = c.loop-pick.invariant.counted in
-    let pick : IsCountedPick left into out c.in-Some.pick = same_pick left _ into _ out _ c.in-Some.pick c.deref.ensures.value c.deref-in-loop-pick.ensures.value c.deref-in-loop-pick-2.ensures.value c.in-Some.ensures in
+    let pick : IsCountedPick left into out c.in-Some.pick =
+    same_pick left _ into _ out _ c.in-Some.pick c.deref.ensures.value c.deref-in-loop-pick.ensures.value c.deref-in-loop-pick-2.ensures.value
+    c.in-Some.ensures in
     record {
       counted = c.take_out-in-Some.ensures.counted;
       goes_on = λ rest p.
           let q : IsPlan n edge (set left i false) rest = subst (λ (x : List Bool). IsPlan n edge x rest) c.take_out-in-Some.ensures.left p in
-          rw c.in_ok-push.ensures.items (plan_more n edge start left into out c.in-Some.pick i c.loop-pick.picks.items rest c.index-in-Some.ensures counted pick c.loop-pick.invariant.goes_on q);
+          rw c.in_ok-push.ensures.items
+          (plan_more n edge start left into out c.in-Some.pick i c.loop-pick.picks.items rest c.index-in-Some.ensures counted pick
+          c.loop-pick.invariant.goes_on q);
     }
 
 pub returns : goal.returns

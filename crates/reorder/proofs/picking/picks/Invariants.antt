@@ -16,7 +16,8 @@ abbrev pub invariant-loop-pick : goal.invariant-loop-pick
 invariant-loop-pick l = record {
   counted : IsCounted l.edges.size (edge_at l.edges) l.left.items l.into.items l.out.items;
   goes_on :
-      (rest : List Pick) → IsPlan l.edges.size (edge_at l.edges) l.left.items rest → IsPlan l.edges.size (edge_at l.edges) (all_but l.gone l.edges.size) (l.picks.items ++ rest);
+      (rest : List Pick) → IsPlan l.edges.size (edge_at l.edges) l.left.items rest →
+      IsPlan l.edges.size (edge_at l.edges) (all_but l.gone l.edges.size) (l.picks.items ++ rest);
 }
 
 abbrev pub decreases-loop-pick : goal.decreases-loop-pick

@@ -49,9 +49,15 @@ returns-clause-counted c =
     let out_was = c.deref_mut-2.ensures.value in
     let into_long : length c.lower.new.counts ≡ length into = c.lower.auto.counts ∙ ap length into_was in
     let out_long : length c.lower-2.new.counts ≡ length out = c.lower-2.auto.counts ∙ ap length out_was in
-    let into_less : (k : ℕ) → k < length into → get_or c.lower.new.counts k 0 + (if get_or c.row.result.now k false then 1 else 0) ≡ get_or into k 0 = subst (λ (x : List ℕ). (k : ℕ) → k < length x → get_or c.lower.new.counts k 0 + (if get_or c.row.result.now k false then 1 else 0) ≡ get_or x k 0) into_was c.lower.ensures in
-    let out_less : (k : ℕ) → k < length out → get_or c.lower-2.new.counts k 0 + (if get_or c.row-2.result.now k false then 1 else 0) ≡ get_or out k 0 = subst (λ (x : List ℕ). (k : ℕ) → k < length x → get_or c.lower-2.new.counts k 0 + (if get_or c.row-2.result.now k false then 1 else 0) ≡ get_or x k 0) out_was c.lower-2.ensures in
-    let next = counted_unpick n edge left into out c.lower.new.counts c.lower-2.new.counts i c.row.result.now c.row-2.result.now counted w into_long out_long c.row.ensures.cells back into_less out_less in
+    let into_less : (k : ℕ) → k < length into → get_or c.lower.new.counts k 0 + (if get_or c.row.result.now k false then 1 else 0) ≡ get_or into k 0 =
+    subst (λ (x : List ℕ). (k : ℕ) → k < length x → get_or c.lower.new.counts k 0 + (if get_or c.row.result.now k false then 1 else 0) ≡ get_or x k 0)
+    into_was c.lower.ensures in
+    let out_less : (k : ℕ) → k < length out → get_or c.lower-2.new.counts k 0 + (if get_or c.row-2.result.now k false then 1 else 0) ≡ get_or out k 0 =
+    subst (λ (x : List ℕ). (k : ℕ) → k < length x → get_or c.lower-2.new.counts k 0 + (if get_or c.row-2.result.now k false then 1 else 0) ≡ get_or x k 0)
+    out_was c.lower-2.ensures in
+    let next = counted_unpick n edge left into out c.lower.new.counts c.lower-2.new.counts i c.row.result.now c.row-2.result.now counted w into_long out_long
+    c.row.ensures.cells back into_less out_less in
     let into_is = put_back c.args.into.now.len c.lower.new.counts (drop (length c.lower.new.counts) into) (omega arith) in
     let out_is = put_back c.args.out.now.len c.lower-2.new.counts (drop (length c.lower-2.new.counts) out) (omega arith) in
-    subst (λ (x : List ℕ). IsCounted n edge (set left i false) x (take c.args.out.now.len (c.lower-2.new.counts ++ drop (length c.lower-2.new.counts) out))) (sym into_is) (subst (λ (x : List ℕ). IsCounted n edge (set left i false) c.lower.new.counts x) (sym out_is) next)
+    subst (λ (x : List ℕ). IsCounted n edge (set left i false) x (take c.args.out.now.len (c.lower-2.new.counts ++ drop (length c.lower-2.new.counts) out)))
+    (sym into_is) (subst (λ (x : List ℕ). IsCounted n edge (set left i false) c.lower.new.counts x) (sym out_is) next)

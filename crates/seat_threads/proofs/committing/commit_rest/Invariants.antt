@@ -6,4 +6,5 @@ use Rattle.seat_threads.proofs.committing.commit_rest.Given as goal
 
 abbrev pub invariant-loop-index : goal.invariant-loop-index
 invariant-loop-index g l =
-    (l.writer.rules ≡ l.fn.writer.rules) × IsFirstOf (arc_value l.fn.writer.rules) l.blocks (published_chain l.writer) × (length (published_chain l.writer) ≡ l.index)
+    (l.writer.rules ≡ l.fn.writer.rules) × IsFirstOf (arc_value l.fn.writer.rules) l.blocks (published_chain l.writer) ×
+    (length (published_chain l.writer) ≡ l.index)

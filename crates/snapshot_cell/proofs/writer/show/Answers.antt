@@ -11,4 +11,5 @@ publish_as-requires g c next is =
 pub returns : goal.returns
 returns g c xs op is =
     each_way c.publish_as.result.1 _ _ _ _
-    (λ _ p. let all = latest _ _ _ xs op p.0 is in (ap (λ (s : State). s.0) all, mark_back _ _ (ap (λ (s : State). s.1) all))) (λ _ p. p.0) c.publish_as.ensures.values
+    (λ _ p. let all = latest _ _ _ xs op p.0 is in (ap (λ (s : State). s.0) all, mark_back _ _ (ap (λ (s : State). s.1) all))) (λ _ p. p.0)
+    c.publish_as.ensures.values

@@ -42,6 +42,7 @@ returns c =
           let left = c.next.new.self.rest.items in
           let steps : c.records.stored-iterator.rest.items ≡ w.in-Some.stored ∷ left = search rules in
           let unfit : IsPushed rule chain w.in-Some.stored (pushed.Refused w.in-Refused.cause) = search rules in
-          let done = stops rule all chain differs w.in-Some.stored left w.in-Refused.cause (subst (GoesOn rule all chain differs) steps c.records.invariant.goes_on) unfit in
+          let done = stops rule all chain differs w.in-Some.stored left w.in-Refused.cause
+          (subst (GoesOn rule all chain differs) steps c.records.invariant.goes_on) unfit in
           search rules
     ]

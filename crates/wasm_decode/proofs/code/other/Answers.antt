@@ -6,11 +6,13 @@ use Rattle.wasm_decode.proofs.code.other.Goals as goal
 
 pub reserved-requires : goal.reserved-requires
 reserved-requires c =
-    behind_opcode c.args.cursor.now c.args.opcode.byte c.args.opcode.offset c.requires.here (omega (arith, c.in-63.is)) (omega (arith, c.in-63.is)) c.requires.behind
+    behind_opcode c.args.cursor.now c.args.opcode.byte c.args.opcode.offset c.requires.here (omega (arith, c.in-63.is)) (omega (arith, c.in-63.is))
+    c.requires.behind
 
 pub reserved-requires-in-64 : goal.reserved-requires-in-64
 reserved-requires-in-64 c =
-    behind_opcode c.args.cursor.now c.args.opcode.byte c.args.opcode.offset c.requires.here (omega (arith, c.in-64.is)) (omega (arith, c.in-64.is)) c.requires.behind
+    behind_opcode c.args.cursor.now c.args.opcode.byte c.args.opcode.offset c.requires.here (omega (arith, c.in-64.is)) (omega (arith, c.in-64.is))
+    c.requires.behind
 
 pub opcode_fault-requires : goal.opcode_fault-requires
 unfolding other_rows

@@ -11,7 +11,8 @@ returns-in_err-last-clause-read c =
     let total = sections_at (length c.args.cursor.now.rest) 0 c.args.parts.now c.args.cursor.now.rest in
     let some : ¬ (l.cursor.rest ≡ []) = grind arith in
     let p = err_from_is_err_and c.from_residual.result c.from_residual.ensures.1 in
-    rw (p.1, p.2) (Fails-weaker c.in_err-last.field-0.0 (section_at l.last l.parts l.cursor.rest ≡ None) (total ≡ None) (λ e. sym l.invariant.2 ∙ none_more l.invariant.0 l.last l.parts l.cursor.rest some e) c.in_err-last.ensures.read)
+    rw (p.1, p.2) (Fails-weaker c.in_err-last.field-0.0 (section_at l.last l.parts l.cursor.rest ≡ None) (total ≡ None)
+    (λ e. sym l.invariant.2 ∙ none_more l.invariant.0 l.last l.parts l.cursor.rest some e) c.in_err-last.ensures.read)
 
 pub sections-preserved : goal.sections-preserved
 sections-preserved c =

@@ -19,7 +19,14 @@ decreases-check_instr l = 3 * instr_size l.instr.now
 
 abbrev pub invariant-check_body-loop-instr : goal.invariant-check_body-loop-instr
 invariant-check_body-loop-instr l =
-    record { labels : l.labels ≡ l.initial.labels; lower : l.stack.lower ≡ l.initial.stack.lower; checked : check (context_of l.scope l.initial.labels) (code_of (drop l.instr-index l.instr-items)) l.stack.here ≡ check (context_of l.scope l.initial.labels) l.body no_operands; mistyped : Mistyped (context_of l.scope l.initial.labels) l.left (code_of (drop l.instr-index l.instr-items)) l.stack.here → Mistyped (context_of l.scope l.initial.labels) l.left l.body no_operands }
+    record {
+      labels : l.labels ≡ l.initial.labels;
+      lower : l.stack.lower ≡ l.initial.stack.lower;
+      checked : check (context_of l.scope l.initial.labels) (code_of (drop l.instr-index l.instr-items)) l.stack.here ≡
+          check (context_of l.scope l.initial.labels) l.body no_operands;
+      mistyped : Mistyped (context_of l.scope l.initial.labels) l.left (code_of (drop l.instr-index l.instr-items)) l.stack.here →
+          Mistyped (context_of l.scope l.initial.labels) l.left l.body no_operands;
+    }
 
 abbrev pub decreases-check_block : goal.decreases-check_block
 decreases-check_block l = 3 * code_size l.block.now.body + 2

@@ -3,7 +3,9 @@ use Rattle.std.proofs.lemmas.Result.{IfOk-weaker}
 use Rattle.wasm_validate.proofs.Functions.{Parts, errs_both, function_typed, function_broken}
 use Rattle.wasm_validate.proofs.code.check_function.Goals as goal
 
-parts : (c : goal.After-drop-locals-2) → Parts c.args.given.now c.args.function.now c.index-types-function.result c.as_slice-types.result.now c.args.functions.now c.as_slice-3.result.now c.as_slice-4.result.now c.as_slice-5.result.now c.deref.result.now c.new-labels.result
+parts : (c : goal.After-drop-locals-2) →
+    Parts c.args.given.now c.args.function.now c.index-types-function.result c.as_slice-types.result.now c.args.functions.now c.as_slice-3.result.now
+    c.as_slice-4.result.now c.as_slice-5.result.now c.deref.result.now c.new-labels.result
 parts c =
     record {
       types_are = c.as_slice-types.ensures;
@@ -13,7 +15,9 @@ parts c =
       globals_are = c.as_slice-5.ensures;
       bound = c.requires.has_type;
       type_is = c.index-types-function.is;
-      locals_are = c.deref.ensures.value ∙ c.in_ok-extend_from_slice.ensures.items ∙ ap (λ z. z ++ c.as_slice-2.result.now) (c.in_ok-locals.ensures.items ∙ c.as_slice.ensures) ∙ ap (λ z. c.index-types-function.result.params ++ z) c.as_slice-2.ensures;
+      locals_are = c.deref.ensures.value ∙ c.in_ok-extend_from_slice.ensures.items ∙
+          ap (λ z. z ++ c.as_slice-2.result.now) (c.in_ok-locals.ensures.items ∙ c.as_slice.ensures) ∙
+          ap (λ z. c.index-types-function.result.params ++ z) c.as_slice-2.ensures;
       no_label = c.new-labels.ensures;
     }
 
@@ -23,4 +27,5 @@ returns-clause-typed c =
 
 pub returns-clause-broken : goal.returns-clause-broken
 returns-clause-broken c =
-    errs_both c.check_body.result _ _ _ (λ e r w. function_broken _ _ _ _ _ _ _ _ _ _ (parts c) e r w) c.check_body.ensures.refused c.check_body.ensures.mistyped
+    errs_both c.check_body.result _ _ _ (λ e r w. function_broken _ _ _ _ _ _ _ _ _ _ (parts c) e r w) c.check_body.ensures.refused
+    c.check_body.ensures.mistyped

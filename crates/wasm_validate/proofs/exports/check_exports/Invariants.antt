@@ -6,4 +6,8 @@ use Rattle.wasm_validate.proofs.exports.check_exports.Given as goal
 
 abbrev pub invariant-loop-i : goal.invariant-loop-i
 invariant-loop-i l =
-    record { exports : (k : ℕ) → k < l.i → (e : Export) → at l.given.exports k ≡ Some e → e.index < count_of l.given e.kind; names : (j : ℕ) → (k : ℕ) → (d : Export) → (e : Export) → k < l.i → at l.given.exports j ≡ Some d → at l.given.exports k ≡ Some e → d.name ≡ e.name → j < k → ⊥ }
+    record {
+      exports : (k : ℕ) → k < l.i → (e : Export) → at l.given.exports k ≡ Some e → e.index < count_of l.given e.kind;
+      names : (j : ℕ) → (k : ℕ) →
+          (d : Export) → (e : Export) → k < l.i → at l.given.exports j ≡ Some d → at l.given.exports k ≡ Some e → d.name ≡ e.name → j < k → ⊥;
+    }

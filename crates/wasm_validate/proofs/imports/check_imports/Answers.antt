@@ -11,11 +11,15 @@ loop-import-preserved c =
     let imports = c.args.given.now.imports in
     let import = c.import-item.result in
     record {
-      calls = ap (λ cs. cs ++ host_calls (drop (c.loop-import.import-index + 1) imports)) c.in_ok-push.ensures.items ∙ calls_next items.result.now imports c.loop-import.import-index import c.in_ok-check_import.field-0 c.loop-import.calls.items items.ensures c.loop-import-test.true c.import-item.is c.in_ok-check_import.ensures.call ∙ c.loop-import.invariant.calls;
-      imports = one_more (IsValidImport c.args.given.now.types) items.result.now imports c.loop-import.import-index import items.ensures c.loop-import-test.true c.import-item.is c.in_ok-check_import.ensures.listed c.loop-import.invariant.imports;
+      calls = ap (λ cs. cs ++ host_calls (drop (c.loop-import.import-index + 1) imports)) c.in_ok-push.ensures.items ∙
+          calls_next items.result.now imports c.loop-import.import-index import c.in_ok-check_import.field-0 c.loop-import.calls.items items.ensures
+          c.loop-import-test.true c.import-item.is c.in_ok-check_import.ensures.call ∙ c.loop-import.invariant.calls;
+      imports = one_more (IsValidImport c.args.given.now.types) items.result.now imports c.loop-import.import-index import items.ensures c.loop-import-test.true
+          c.import-item.is c.in_ok-check_import.ensures.listed c.loop-import.invariant.imports;
     }
 
 pub returns-clause-imports : goal.returns-clause-imports
 returns-clause-imports c =
     let items = c.as_slice-import-items in
-    each_item (IsValidImport c.args.given.now.types) items.result.now c.args.given.now.imports c.loop-import.import-index items.ensures c.loop-import-test.false c.loop-import.invariant.imports
+    each_item (IsValidImport c.args.given.now.types) items.result.now c.args.given.now.imports c.loop-import.import-index items.ensures c.loop-import-test.false
+    c.loop-import.invariant.imports

@@ -7,4 +7,8 @@ use Rattle.wasm_validate.proofs.imports.check_imports.Given as goal
 
 abbrev pub invariant-loop-import : goal.invariant-loop-import
 invariant-loop-import l =
-    record { calls : l.calls.items ++ host_calls (drop l.import-index l.given.imports) ≡ host_calls l.given.imports; imports : (k : ℕ) → k < l.import-index → (i : Import) → at l.given.imports k ≡ Some i → IsValidImport l.given.types i }
+    record {
+      calls : l.calls.items ++ host_calls (drop l.import-index l.given.imports) ≡ host_calls l.given.imports;
+      imports : (k : ℕ) → k < l.import-index →
+          (i : Import) → at l.given.imports k ≡ Some i → IsValidImport l.given.types i;
+    }

@@ -10,4 +10,8 @@ invariant-loop-import l =
 
 abbrev pub invariant-loop-function : goal.invariant-loop-function
 invariant-loop-function l =
-    record { indices : l.indices.items ++ map (λ (f : Func). f.type_index) (drop l.function-index l.given.functions) ≡ type_indices l.given; known : (k : ℕ) → k < l.function-index → (f : Func) → at l.given.functions k ≡ Some f → f.type_index < length l.given.types }
+    record {
+      indices : l.indices.items ++ map (λ (f : Func). f.type_index) (drop l.function-index l.given.functions) ≡ type_indices l.given;
+      known : (k : ℕ) →
+          k < l.function-index → (f : Func) → at l.given.functions k ≡ Some f → f.type_index < length l.given.types;
+    }

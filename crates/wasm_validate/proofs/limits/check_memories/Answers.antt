@@ -7,7 +7,8 @@ use Rattle.wasm_validate.proofs.limits.check_memories.Goals as goal
 pub returns-then-not-are_pages-clause-broken : goal.returns-then-not-are_pages-clause-broken
 returns-then-not-are_pages-clause-broken c =
     let items = c.as_slice-limits-items in
-    Memory c.loop-limits.limits-index _ (at_get items.result.now c.args.given.now.memories c.loop-limits.limits-index _ items.ensures c.loop-limits-test.true) (λ v. true≢false (sym (c.if-not-are_pages.ensures.1 v)))
+    Memory c.loop-limits.limits-index _ (at_get items.result.now c.args.given.now.memories c.loop-limits.limits-index _ items.ensures c.loop-limits-test.true)
+    (λ v. true≢false (sym (c.if-not-are_pages.ensures.1 v)))
 
 pub returns-clause-limits : goal.returns-clause-limits
 returns-clause-limits c =

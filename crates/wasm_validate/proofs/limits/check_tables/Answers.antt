@@ -7,7 +7,8 @@ use Rattle.wasm_validate.proofs.limits.check_tables.Goals as goal
 pub returns-then-not-are_ordered-clause-broken : goal.returns-then-not-are_ordered-clause-broken
 returns-then-not-are_ordered-clause-broken c =
     let items = c.as_slice-limits-items in
-    Table c.loop-limits.limits-index _ (at_get items.result.now c.args.given.now.tables c.loop-limits.limits-index _ items.ensures c.loop-limits-test.true) (λ v. true≢false (sym (c.if-not-are_ordered.ensures.1 v)))
+    Table c.loop-limits.limits-index _ (at_get items.result.now c.args.given.now.tables c.loop-limits.limits-index _ items.ensures c.loop-limits-test.true)
+    (λ v. true≢false (sym (c.if-not-are_ordered.ensures.1 v)))
 
 pub returns-clause-limits : goal.returns-clause-limits
 returns-clause-limits c =

@@ -8,7 +8,8 @@ use Rattle.wasm_validate.proofs.segments.check_element.Goals as goal
 pub returns-in_default-clause-broken : goal.returns-in_default-clause-broken
 returns-in_default-clause-broken c k h =
     let segment = c.args.segment.now in
-    let missing : at c.args.given.now.tables segment.table ≡ None = ap (λ ts. at ts segment.table) (sym c.as_slice.ensures) ∙ at_none c.as_slice.result.now segment.table c.in_default.ensures.lookup.3 in
+    let missing : at c.args.given.now.tables segment.table ≡ None =
+    ap (λ ts. at ts segment.table) (sym c.as_slice.ensures) ∙ at_none c.as_slice.result.now segment.table c.in_default.ensures.lookup.3 in
     ElementTable k segment h missing
 
 pub returns-then-not-are_below-clause-broken : goal.returns-then-not-are_below-clause-broken
@@ -26,7 +27,8 @@ returns-in_default-constant_of-clause-broken c k h =
 pub returns-then-not-is_inside-clause-broken : goal.returns-then-not-is_inside-clause-broken
 returns-then-not-is_inside-clause-broken c k h =
     let segment = c.args.segment.now in
-    let table = item_in c.as_slice.result.now c.args.given.now.tables segment.table c.in-Some.limits.now c.as_slice.ensures c.in-Some.ensures.lookup.3.0 c.in-Some.ensures.lookup.1 in
+    let table = item_in c.as_slice.result.now c.args.given.now.tables segment.table c.in-Some.limits.now c.as_slice.ensures c.in-Some.ensures.lookup.3.0
+    c.in-Some.ensures.lookup.1 in
     let offset = c.in-Some-constant_of.offset in
     let over : c.in-Some.limits.now.least < offset + length segment.functions = grind (arith, c.if-not-is_inside.ensures.1, c.len.ensures) in
     ElementsPass k segment c.in-Some.limits.now offset h table c.in-Some-constant_of.ensures.constant over
@@ -37,7 +39,8 @@ returns-clause-inside c =
     let below = c.if-not-are_below.ensures.all refl in
     record {
       table = c.in-Some.limits.now;
-      exists = item_in c.as_slice.result.now c.args.given.now.tables segment.table c.in-Some.limits.now c.as_slice.ensures c.in-Some.ensures.lookup.3.0 c.in-Some.ensures.lookup.1;
+      exists = item_in c.as_slice.result.now c.args.given.now.tables segment.table c.in-Some.limits.now c.as_slice.ensures c.in-Some.ensures.lookup.3.0
+          c.in-Some.ensures.lookup.1;
       functions = λ k f e. let lt = below k f (ap (λ fs. at fs k) c.as_slice-2.ensures ∙ e) in omega (arith, lt, ap length c.requires);
       offset = c.in-Some-constant_of.offset;
       constant = c.in-Some-constant_of.ensures.constant;

@@ -11,4 +11,5 @@ use Rattle.world_state.proofs.index.index.Goals as goal
 pub returns : goal.returns
 returns c =
     on_ok c.put.result _ _ c.put.ensures.ok (λ n sought.
-    known_put c.args.ids.now.entries c.put.new.self.entries c.args.id sought tt (ap (λ es. get (slice_cmp nat_cmp) es sought) n ∙ get-put (slice_cmp nat_cmp) keys_total c.args.id c.args.ids.now.entries tt sought))
+    known_put c.args.ids.now.entries c.put.new.self.entries c.args.id sought tt
+    (ap (λ es. get (slice_cmp nat_cmp) es sought) n ∙ get-put (slice_cmp nat_cmp) keys_total c.args.id c.args.ids.now.entries tt sought))

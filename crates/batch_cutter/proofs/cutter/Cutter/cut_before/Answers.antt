@@ -9,4 +9,9 @@ returns-clause-cut g c =
     let pending = c.self.inside.pending.items in
     let limit = ap (λ (s : State g.row.M.Denot). s.limits.preferred) c.self.view_is in
     let total = ap (λ (s : State g.row.M.Denot). sum_by g.M.Weigh.weight s.pending) c.self.view_is in
-    rw (← c.self.view_is) (record { waited = record { counted = omega arith; together = omega arith }; divides = cuts_before g.M.Weigh.weight _ pending _ _ c.args.given (search rules) (search rules) (omega arith) (omega arith) (omega arith) (omega arith); limits = refl })
+    rw (← c.self.view_is)
+    (record {
+      waited = record { counted = omega arith; together = omega arith };
+      divides = cuts_before g.M.Weigh.weight _ pending _ _ c.args.given (search rules) (search rules) (omega arith) (omega arith) (omega arith) (omega arith);
+      limits = refl;
+    })

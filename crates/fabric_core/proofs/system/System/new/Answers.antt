@@ -19,8 +19,10 @@ loop-org-preserved c =
     let right = all_push (IsPeerRight chain) peers peer c.loop-org.invariant.right (c.in_ok-new.ensures.right chain refl) in
     record {
       state =
-          opened_more seats orgs c.loop-org.org-index c.in_ok-clone.field-0 c.org-item.result (map peer_of peers) (map peer_of c.push.new.self.items) (omega (arith, c.loop-org-test.true)) c.org-item.is c.in_ok-clone.ensures.cases c.loop-org.invariant.state
-          (ap (map peer_of) c.in_ok-push.ensures.items ∙ map-append peer_of peers (peer ∷ []) ∙ ap (λ s. map peer_of peers ++ s ∷ []) c.in_ok-new.ensures.state);
+          opened_more seats orgs c.loop-org.org-index c.in_ok-clone.field-0 c.org-item.result (map peer_of peers) (map peer_of c.push.new.self.items)
+          (omega (arith, c.loop-org-test.true)) c.org-item.is c.in_ok-clone.ensures.cases c.loop-org.invariant.state
+          (ap (map peer_of) c.in_ok-push.ensures.items ∙ map-append peer_of peers (peer ∷ []) ∙
+          ap (λ s. map peer_of peers ++ s ∷ []) c.in_ok-new.ensures.state);
       right = subst (AllByRecursion (IsPeerRight chain)) (sym c.in_ok-push.ensures.items) right;
     }
 

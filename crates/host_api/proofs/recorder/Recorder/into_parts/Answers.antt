@@ -13,4 +13,7 @@ returns g c =
     let reads = told c.new.ensures.value c.unwrap.ensures ∙ c.self.invariant.reads_are ∙ sym (reads_seen m (values_of m) c.self.inside.reads.items) in
     let ranges = told c.new-2.ensures.value c.unwrap-2.ensures ∙ c.self.invariant.ranges_are ∙ sym (ranges_seen m (values_of m) c.self.inside.ranges.items) in
     let writes = told c.new-3.ensures.value c.unwrap-3.ensures in
-    subst (λ (r : Recording _). ◌≡◌ {A = Parts} (record { reads = c.unwrap.result; ranges = c.unwrap-2.result; result = c.self.inside.result; writes = c.unwrap-3.result }) (parts_of (g.V.View.state r.opened.view) (seen_on (values_of (g.V.View.state r.opened.view)) r.records))) c.self.view_is (λ i. record { reads = reads i; ranges = ranges i; result = c.self.inside.result; writes = writes i })
+    subst (λ (r : Recording _).
+    ◌≡◌ {A = Parts} (record { reads = c.unwrap.result; ranges = c.unwrap-2.result; result = c.self.inside.result; writes = c.unwrap-3.result })
+    (parts_of (g.V.View.state r.opened.view) (seen_on (values_of (g.V.View.state r.opened.view)) r.records))) c.self.view_is
+    (λ i. record { reads = reads i; ranges = ranges i; result = c.self.inside.result; writes = writes i })

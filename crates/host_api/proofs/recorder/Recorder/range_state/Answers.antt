@@ -18,10 +18,16 @@ returns-in-Some-2-clause-answer g c =
     let capacity = c.args.room.len in
     let asked : Asked = record { start = c.in-Some.start.now; end = c.in-Some-span_bytes.end.now; limit = limit } in
     let found : c.in_ok-ask.field-0 ≡ Some c.in-Some-2.entries = search rules in
-    here memory s _ c.in-Some.start.now c.in-Some.ensures (λ start. or_trap (span_bytes c.args.end.pointer c.args.end.len memory) memory s (λ end. or_trap (span_bytes target capacity memory) memory s (λ room. range_state m (record { start = start; end = end; limit = limit }) target capacity memory s)))
-    ∙ here memory s _ c.in-Some-span_bytes.end.now c.in-Some-span_bytes.ensures (λ end. or_trap (span_bytes target capacity memory) memory s (λ room. range_state m (record { start = c.in-Some.start.now; end = end; limit = limit }) target capacity memory s))
+    here memory s _ c.in-Some.start.now c.in-Some.ensures
+    (λ start. or_trap (span_bytes c.args.end.pointer c.args.end.len memory) memory s
+    (λ end. or_trap (span_bytes target capacity memory) memory s
+    (λ room. range_state m (record { start = start; end = end; limit = limit }) target capacity memory s)))
+    ∙ here memory s _ c.in-Some-span_bytes.end.now c.in-Some-span_bytes.ensures
+    (λ end. or_trap (span_bytes target capacity memory) memory s
+    (λ room. range_state m (record { start = c.in-Some.start.now; end = end; limit = limit }) target capacity memory s))
     ∙ room memory s c.span_bytes-3.result _ c.span_bytes-3.ensures (search rules) (range_state m asked target capacity memory s)
-    ∙ ap (λ b. cond b (cond (is_limit limit) (ask_range m asked target capacity memory s) (refuses refusal.Limit memory s)) (refuses refusal.KeyLength memory s)) (bounds_ok asked.start asked.end (search rules) (search rules))
+    ∙ ap (λ b. cond b (cond (is_limit limit) (ask_range m asked target capacity memory s) (refuses refusal.Limit memory s))
+    (refuses refusal.KeyLength memory s)) (bounds_ok asked.start asked.end (search rules) (search rules))
     ∙ ap (λ b. cond b (ask_range m asked target capacity memory s) (refuses refusal.Limit memory s)) (limit_ok limit (search rules) (search rules))
     ∙ c.in_ok-ask.ensures.answer target capacity memory
     ∙ ap (λ o. range_reply (option_map (λ v. map key_and_value (map deref_pair v.items)) o) target capacity memory c.ask.new.self.records) found

@@ -4,4 +4,7 @@ use Rattle.intake.proofs.Mails.{submits, learns_mine}
 use Rattle.intake.proofs.sender.SenderSeat.submit.Goals as goal
 
 pub push_as-requires-clause-rule : goal.push_as-requires-clause-rule
-push_as-requires-clause-rule g c = (submits _ _ _ _ (ap (λ (v : View). v.sends) c.args.self.now.sends) (sym (ap (λ (v : View). v.from) c.args.self.now.sends)), learns_mine _ _ (ap (λ (v : View). v.sends) c.args.self.now.sends))
+push_as-requires-clause-rule g c = (
+  submits _ _ _ _ (ap (λ (v : View). v.sends) c.args.self.now.sends) (sym (ap (λ (v : View). v.from) c.args.self.now.sends)),
+  learns_mine _ _ (ap (λ (v : View). v.sends) c.args.self.now.sends),
+)

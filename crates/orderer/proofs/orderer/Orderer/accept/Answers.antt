@@ -13,20 +13,23 @@ pub add_cut-requires-clause-batches : goal.add_cut-requires-clause-batches
 add_cut-requires-clause-batches c =
     let offers = c.in-Ok.ensures.cut in
     let cutter = c.self.inside.cutter in
-    offered_fit cutter.limits cutter.pending c.args.given (batches c.in-Ok.cut) c.offer.new.self.pending c.self.invariant.0 offers.waited c.in-Ok.ensures.size offers.divides
+    offered_fit cutter.limits cutter.pending c.args.given (batches c.in-Ok.cut) c.offer.new.self.pending c.self.invariant.0 offers.waited c.in-Ok.ensures.size
+    offers.divides
 
 pub invariant_of-self-in-Ok-add_cut : goal.invariant_of-self-in-Ok-add_cut
 invariant_of-self-in-Ok-add_cut c = (
   subst AreLimits (sym c.in-Ok.ensures.cut.limits) c.self.invariant.0,
   c.in-Ok-add_cut.ensures.number,
-  each_linked (plans_of c.self.inside.reorder) c.self.inside.blocks.items (batches c.in-Ok.cut) c.in-Ok-add_cut.reports.items c.add_cut.new.blocks.items c.in-Ok-add_cut.ensures.added c.self.invariant.2,
+  each_linked (plans_of c.self.inside.reorder) c.self.inside.blocks.items (batches c.in-Ok.cut) c.in-Ok-add_cut.reports.items c.add_cut.new.blocks.items
+      c.in-Ok-add_cut.ensures.added c.self.invariant.2,
 )
 
 pub invariant_of-self-in-Ok-add_cut-2 : goal.invariant_of-self-in-Ok-add_cut-2
 invariant_of-self-in-Ok-add_cut-2 c = (
   subst AreLimits (sym c.in-Ok.ensures.cut.limits) c.self.invariant.0,
   c.in-Ok-add_cut.ensures.number,
-  each_linked (plans_of c.self.inside.reorder) c.self.inside.blocks.items (batches c.in-Ok.cut) c.in-Ok-add_cut.reports.items c.add_cut.new.blocks.items c.in-Ok-add_cut.ensures.added c.self.invariant.2,
+  each_linked (plans_of c.self.inside.reorder) c.self.inside.blocks.items (batches c.in-Ok.cut) c.in-Ok-add_cut.reports.items c.add_cut.new.blocks.items
+      c.in-Ok-add_cut.ensures.added c.self.invariant.2,
 )
 
 pub returns-in-Ok-add_cut-clause-taken : goal.returns-in-Ok-add_cut-clause-taken
@@ -60,4 +63,6 @@ pub returns-in-Err-add_cut-clause-refused : goal.returns-in-Err-add_cut-clause-r
 returns-in-Err-add_cut-clause-refused c =
     let inside = c.self.inside in
     let old : Ordering = record { reorder = inside.reorder; limits = inside.cutter.limits; pending = inside.cutter.pending; chain = inside.blocks.items } in
-    rw (← c.self.view_is) (mark_refused c.in-Err-add_cut.cause old (message c.args.given) (batches c.in-Ok.cut) c.offer.new.self.pending c.in-Ok.ensures.cut.divides c.in-Err-add_cut.ensures.refused)
+    rw (← c.self.view_is)
+    (mark_refused c.in-Err-add_cut.cause old (message c.args.given) (batches c.in-Ok.cut) c.offer.new.self.pending c.in-Ok.ensures.cut.divides
+    c.in-Err-add_cut.ensures.refused)

@@ -16,4 +16,6 @@ returns c =
     let start = c.saturating_sub-start.result in
     let blocks = c.self.inside.blocks.items in
     let same : c.as_slice-blocks.result.now ≡ blocks = search rules in
-    rw (← c.self.view_is) (subst (λ bs. take (length bs - start) (drop start bs) ≡ from_number c.args.number blocks) (sym same) (rest_from c.args.number start blocks (linked_numbered [] blocks c.self.invariant.2) c.saturating_sub-start.ensures))
+    rw (← c.self.view_is)
+    (subst (λ bs. take (length bs - start) (drop start bs) ≡ from_number c.args.number blocks) (sym same)
+    (rest_from c.args.number start blocks (linked_numbered [] blocks c.self.invariant.2) c.saturating_sub-start.ensures))

@@ -15,14 +15,17 @@ pub add_batch-requires-clause-batch : goal.add_batch-requires-clause-batch
 add_batch-requires-clause-batch c =
     let cutter = c.self.inside.cutter in
     let pending = c.timeout.new.self.pending in
-    let cut = subst (λ r. IsDivision envelope_size cutter.limits (map message cutter.pending ++ timeout ∷ []) (batch_of r) pending) c.in-Some.is c.timeout.ensures.divides in
-    subst IsBlockData (sym c.deref.ensures.value) (timed_fit cutter.limits cutter.pending (c.in-Some.batch.items ∷ []) pending c.self.invariant.0 c.timeout.ensures.waited cut).0
+    let cut = subst (λ r. IsDivision envelope_size cutter.limits (map message cutter.pending ++ timeout ∷ []) (batch_of r) pending) c.in-Some.is
+    c.timeout.ensures.divides in
+    subst IsBlockData (sym c.deref.ensures.value)
+    (timed_fit cutter.limits cutter.pending (c.in-Some.batch.items ∷ []) pending c.self.invariant.0 c.timeout.ensures.waited cut).0
 
 pub invariant_of-self-in-Ok-1 : goal.invariant_of-self-in-Ok-1
 invariant_of-self-in-Ok-1 c = (
   subst AreLimits (sym c.timeout.ensures.limits) c.self.invariant.0,
   c.in-Ok.ensures.number,
-  adds_linked (plans_of c.self.inside.reorder) c.self.inside.blocks.items c.deref.result.now c.in-Ok.report c.add_batch.new.blocks.items c.in-Ok.ensures.added c.self.invariant.2,
+  adds_linked (plans_of c.self.inside.reorder) c.self.inside.blocks.items c.deref.result.now c.in-Ok.report c.add_batch.new.blocks.items c.in-Ok.ensures.added
+      c.self.invariant.2,
 )
 
 pub returns-in-Ok-clause-taken : goal.returns-in-Ok-clause-taken
@@ -32,7 +35,8 @@ returns-in-Ok-clause-taken c =
     let old = c.self.inside.blocks.items in
     let new = c.add_batch.new.blocks.items in
     let plans = plans_of c.self.inside.reorder in
-    let cut = subst (λ r. IsDivision envelope_size cutter.limits (map message cutter.pending ++ timeout ∷ []) (batch_of r) pending) c.in-Some.is c.timeout.ensures.divides in
+    let cut = subst (λ r. IsDivision envelope_size cutter.limits (map message cutter.pending ++ timeout ∷ []) (batch_of r) pending) c.in-Some.is
+    c.timeout.ensures.divides in
     let adds = subst (λ es. Adds plans old es c.in-Ok.report new) c.deref.ensures.value c.in-Ok.ensures.added in
     rw (← c.self.view_is) (record {
       batches = c.in-Some.batch.items ∷ [];
@@ -48,6 +52,7 @@ returns-in-Err-clause-refused c =
     let pending = c.timeout.new.self.pending in
     let old : Ordering = record { reorder = inside.reorder; limits = inside.cutter.limits; pending = inside.cutter.pending; chain = inside.blocks.items } in
     let plans = plans_of inside.reorder in
-    let cut = subst (λ r. IsDivision envelope_size old.limits (map message old.pending ++ timeout ∷ []) (batch_of r) pending) c.in-Some.is c.timeout.ensures.divides in
+    let cut = subst (λ r. IsDivision envelope_size old.limits (map message old.pending ++ timeout ∷ []) (batch_of r) pending) c.in-Some.is
+    c.timeout.ensures.divides in
     let why = first_refused plans c.in-Err.cause old.chain c.deref.result.now c.in-Some.batch.items [] c.deref.ensures.value c.in-Err.ensures.refused in
     rw (← c.self.view_is) (mark_refused c.in-Err.cause old timeout (c.in-Some.batch.items ∷ []) pending cut why)

@@ -4,4 +4,5 @@ use Rattle.persist_map.proofs.map.PMap.first_from.Goals as goal
 
 pub returns : goal.returns
 returns g c =
-    map_from_collect c.collect.result c.collect.ensures.ran (YieldsList-from_take c.args.n (YieldsList-at c.take.ensures.source (YieldsList-from_rest _ c.range.ensures.all)) c.take.ensures.count)
+    map_from_collect c.collect.result c.collect.ensures.ran
+    (YieldsList-from_take c.args.n (YieldsList-at c.take.ensures.source (YieldsList-from_rest _ c.range.ensures.all)) c.take.ensures.count)

@@ -5,7 +5,8 @@ use Rattle.persist_map.proofs.Reading.{pages_clones}
 use Rattle.persist_map.proofs.map.PMapClone.clone.Goals as goal
 
 pub invariant_of-result : goal.invariant_of-result
-invariant_of-result g c = subst (AreLaid g.K.Ord.cmp) (sym (pages_clones c.self.inside.pages.items c.in_ok-clone.field-0.items c.in_ok-clone.ensures.cases.0)) c.self.invariant
+invariant_of-result g c =
+    subst (AreLaid g.K.Ord.cmp) (sym (pages_clones c.self.inside.pages.items c.in_ok-clone.field-0.items c.in_ok-clone.ensures.cases.0)) c.self.invariant
 
 pub returns : goal.returns
 returns g c =

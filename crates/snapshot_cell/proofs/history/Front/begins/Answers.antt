@@ -15,5 +15,7 @@ returns c =
     let this : IsPrefix mine.seen.log both = subst (λ (l : Chain). IsPrefix l both) (ap (λ s. s.log) c.again-both.ensures) c.learn.ensures.2 in
     let that : IsPrefix theirs.seen.log both = c.learn.ensures.3 in
     decided _
-    (λ t. let less : length mine.seen.log ≤ length theirs.seen.log = grind (arith, nat_tests, t, mine.counted, theirs.counted) in prefix_shorter _ _ both this that less)
-    (λ f. let less : length theirs.seen.log ≤ length mine.seen.log = grind (arith, nat_tests, f, mine.counted, theirs.counted) in prefix_shorter _ _ both that this less)
+    (λ t. let less : length mine.seen.log ≤ length theirs.seen.log = grind (arith, nat_tests, t, mine.counted, theirs.counted) in
+    prefix_shorter _ _ both this that less)
+    (λ f. let less : length theirs.seen.log ≤ length mine.seen.log = grind (arith, nat_tests, f, mine.counted, theirs.counted) in
+    prefix_shorter _ _ both that this less)

@@ -32,8 +32,10 @@ pub returns-in-Ok-clause-stands : goal.returns-in-Ok-clause-stands
 returns-in-Ok-clause-stands c =
     let inside = c.self.inside in
     let read : s32_at inside.rest.now ≡ Some (to_z w32 (of_z w32 (to_z w64 (of_z w64 c.in-Ok.number))), c.in-Ok.rest.now) = search rules in
-    let t = taken IsS32 s32_at (signed_reads (2 ^ 31)) inside.rest.now _ c.in-Ok.rest.now read in
-    (spans IsS32 _ inside.whole.now inside.end inside.rest.now t.0 c.in-Ok.rest.now c.args.self.now c.self.invariant.1 c.self.view_is t.1 t.2, ap (λ (p : Place). p.whole) c.self.view_is)
+    let t = taken IsS32 s32_at (signed_reads (2 ^ 31)) inside.rest.now _ c.in-Ok.rest.now read in (
+      spans IsS32 _ inside.whole.now inside.end inside.rest.now t.0 c.in-Ok.rest.now c.args.self.now c.self.invariant.1 c.self.view_is t.1 t.2,
+      ap (λ (p : Place). p.whole) c.self.view_is,
+    )
 
 pub returns-in-Err-clause-stands : goal.returns-in-Err-clause-stands
 returns-in-Err-clause-stands c =
@@ -41,4 +43,6 @@ returns-in-Err-clause-stands c =
     let read : s32_at inside.rest.now ≡ None = search rules in
     let kind : c.in-Err.kind ≡ s32_fault inside.rest.now = search rules in
     let fault : c.fault.result ≡ fault_at c.args.self.now c.in-Err.kind = search rules in
-    told inside.whole.now inside.end inside.rest.now c.self.invariant.1 c.args.self.now c.self.view_is c.fault.result c.in-Err.kind fault (says_s32 inside.whole.now inside.end inside.rest.now c.self.invariant.1 (nothing IsS32 s32_at (signed_reads (2 ^ 31)) inside.rest.now read) c.in-Err.kind kind)
+    told inside.whole.now inside.end inside.rest.now c.self.invariant.1 c.args.self.now c.self.view_is c.fault.result c.in-Err.kind fault
+    (says_s32 inside.whole.now inside.end inside.rest.now c.self.invariant.1 (nothing IsS32 s32_at (signed_reads (2 ^ 31)) inside.rest.now read)
+    c.in-Err.kind kind)

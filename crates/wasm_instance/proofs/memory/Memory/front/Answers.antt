@@ -18,10 +18,15 @@ returns c =
     let reaches : min c.args.end (length c.args.self.now) ≤ length c.if-len-end.self-inside.front.items =
     elim c.if-len-end.branch [
       | then-len-end w ↦ let e = ap (λ (m : Inside). length m.front.items) w.self-inside-is in omega (arith, e, size, w.lay_out.ensures.reaches)
-      | else-len-end w ↦ let e = ap (λ (m : Inside). length m.front.items) w.self-inside-is in omega (arith, e, c.self.inside.front.ok.0, c.len.ensures, w.if-len-end.false)
+      | else-len-end w ↦ let e =
+          ap (λ (m : Inside). length m.front.items) w.self-inside-is in omega (arith, e, c.self.inside.front.ok.0, c.len.ensures, w.if-len-end.false)
     ] in
     let now = c.as_mut_slice.ensures.value in (
-      (refl, λ w. lent c.if-len-end.self-inside.size c.if-len-end.self-inside.front.len c.if-len-end.self-inside.front.items c.as_mut_slice.result.now c.args.self.now w c.if-len-end.self-inside.front.ok.0 c.as_mut_slice.ensures.value memory),
+      (
+        refl,
+        λ w. lent c.if-len-end.self-inside.size c.if-len-end.self-inside.front.len c.if-len-end.self-inside.front.items c.as_mut_slice.result.now
+            c.args.self.now w c.if-len-end.self-inside.front.ok.0 c.as_mut_slice.ensures.value memory,
+      ),
       record {
         writes_back = tt;
         value = now ∙ sym (beginning c.if-len-end.self-inside.size c.if-len-end.self-inside.front.items c.as_mut_slice.result.now c.args.self.now now memory);

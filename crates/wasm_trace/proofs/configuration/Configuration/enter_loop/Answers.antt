@@ -4,4 +4,6 @@ use Rattle.wasm_trace.proofs.configuration.Configuration.enter_loop.Goals as goa
 
 pub returns-clause-goes : goal.returns-clause-goes
 returns-clause-goes g c = λ records.
-    entered_label c.args.self.now.levels.items c.push.new.self.items _ c.args.self.now.stack.items c.replace-before.new.dest.items c.replace-before.result.items _ _ _ c.items-self.result.now _ _ _ _ c.in_ok-push.ensures.items refl (ap (λ v. v.items) c.replace-before.ensures.value) (ap (λ v. v.items) c.replace-before.ensures.after ∙ c.new.ensures.items) c.items-self.ensures
+    entered_label c.args.self.now.levels.items c.push.new.self.items _ c.args.self.now.stack.items c.replace-before.new.dest.items c.replace-before.result.items
+    _ _ _ c.items-self.result.now _ _ _ _ c.in_ok-push.ensures.items refl (ap (λ v. v.items) c.replace-before.ensures.value)
+    (ap (λ v. v.items) c.replace-before.ensures.after ∙ c.new.ensures.items) c.items-self.ensures

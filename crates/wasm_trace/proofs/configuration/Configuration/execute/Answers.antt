@@ -156,7 +156,9 @@ returns-in-BrTable-clause-does g c =
     let w = world m r in
     let l = vals m.locals.items in
     let i = plain_of m.code.now in
-    by p c.args.instr.now _ m.fuel l w (stack_of m.stack.items) (code_of m.code.now) _ c.in-BrTable.is (ap (λ (t : BranchTable). op_step p (op.BrTable t.labels t.default) m.fuel l w (stack_of m.stack.items) i) (sym c.deref-in-BrTable.ensures) ∙ c.branch_table.ensures p m.fuel l w i)
+    by p c.args.instr.now _ m.fuel l w (stack_of m.stack.items) (code_of m.code.now) _ c.in-BrTable.is
+    (ap (λ (t : BranchTable). op_step p (op.BrTable t.labels t.default) m.fuel l w (stack_of m.stack.items) i) (sym c.deref-in-BrTable.ensures) ∙
+    c.branch_table.ensures p m.fuel l w i)
 
 pub returns-in-Drop-clause-does : goal.returns-in-Drop-clause-does
 returns-in-Drop-clause-does g c =
@@ -176,7 +178,9 @@ returns-in_ok-get_local-in-LocalGet-clause-does g c =
     let w = world m r in
     let l = vals m.locals.items in
     let i = plain_of m.code.now in
-    by p c.args.instr.now _ m.fuel l w (stack_of m.stack.items) (code_of m.code.now) _ c.in-LocalGet.is (subst (λ ls. OnLocals g.H.Host.Records (op.LocalGet c.in-LocalGet.k) m.stack.items ls c.get_local.new.stack.items ls c.in_ok-get_local-in-LocalGet.field-0) c.deref-in-LocalGet.ensures.value c.in_ok-get_local-in-LocalGet.ensures p m.fuel w i)
+    by p c.args.instr.now _ m.fuel l w (stack_of m.stack.items) (code_of m.code.now) _ c.in-LocalGet.is
+    (subst (λ ls. OnLocals g.H.Host.Records (op.LocalGet c.in-LocalGet.k) m.stack.items ls c.get_local.new.stack.items ls
+    c.in_ok-get_local-in-LocalGet.field-0) c.deref-in-LocalGet.ensures.value c.in_ok-get_local-in-LocalGet.ensures p m.fuel w i)
 
 pub returns-in-LocalSet-clause-does : goal.returns-in-LocalSet-clause-does
 returns-in-LocalSet-clause-does g c =
@@ -196,7 +200,9 @@ returns-in_ok-get_global-in-GlobalGet-clause-does g c =
     let w = world m r in
     let l = vals m.locals.items in
     let i = plain_of m.code.now in
-    by p c.args.instr.now _ m.fuel l w (stack_of m.stack.items) (code_of m.code.now) _ c.in-GlobalGet.is (subst (λ gs. OnGlobals g.H.Host.Records (op.GlobalGet c.in-GlobalGet.k) m.stack.items gs c.get_global.new.stack.items gs c.in_ok-get_global-in-GlobalGet.field-0) c.deref-in-GlobalGet.ensures.value c.in_ok-get_global-in-GlobalGet.ensures p m.fuel l m.instance.memory r i)
+    by p c.args.instr.now _ m.fuel l w (stack_of m.stack.items) (code_of m.code.now) _ c.in-GlobalGet.is
+    (subst (λ gs. OnGlobals g.H.Host.Records (op.GlobalGet c.in-GlobalGet.k) m.stack.items gs c.get_global.new.stack.items gs
+    c.in_ok-get_global-in-GlobalGet.field-0) c.deref-in-GlobalGet.ensures.value c.in_ok-get_global-in-GlobalGet.ensures p m.fuel l m.instance.memory r i)
 
 pub returns-in-GlobalSet-clause-does : goal.returns-in-GlobalSet-clause-does
 returns-in-GlobalSet-clause-does g c =
@@ -216,7 +222,8 @@ returns-in_ok-load-in-Load-clause-does g c =
     let w = world m r in
     let l = vals m.locals.items in
     let i = plain_of m.code.now in
-    by p c.args.instr.now _ m.fuel l w (stack_of m.stack.items) (code_of m.code.now) _ c.in-Load.is (c.in_ok-load-in-Load.ensures p m.fuel l (vals m.globals.items) r i)
+    by p c.args.instr.now _ m.fuel l w (stack_of m.stack.items) (code_of m.code.now) _ c.in-Load.is
+    (c.in_ok-load-in-Load.ensures p m.fuel l (vals m.globals.items) r i)
 
 pub returns-in-Store-clause-does : goal.returns-in-Store-clause-does
 returns-in-Store-clause-does g c =
@@ -226,7 +233,8 @@ returns-in-Store-clause-does g c =
     let w = world m r in
     let l = vals m.locals.items in
     let i = plain_of m.code.now in
-    by p c.args.instr.now _ m.fuel l w (stack_of m.stack.items) (code_of m.code.now) _ c.in-Store.is (c.store.ensures.effect p m.fuel l (vals m.globals.items) r i)
+    by p c.args.instr.now _ m.fuel l w (stack_of m.stack.items) (code_of m.code.now) _ c.in-Store.is
+    (c.store.ensures.effect p m.fuel l (vals m.globals.items) r i)
 
 pub returns-in_ok-memory_size-in-MemorySize-clause-does : goal.returns-in_ok-memory_size-in-MemorySize-clause-does
 returns-in_ok-memory_size-in-MemorySize-clause-does g c =
@@ -236,4 +244,5 @@ returns-in_ok-memory_size-in-MemorySize-clause-does g c =
     let w = world m r in
     let l = vals m.locals.items in
     let i = plain_of m.code.now in
-    by p c.args.instr.now _ m.fuel l w (stack_of m.stack.items) (code_of m.code.now) _ c.in-MemorySize.is (c.in_ok-memory_size-in-MemorySize.ensures p m.fuel l (vals m.globals.items) r i)
+    by p c.args.instr.now _ m.fuel l w (stack_of m.stack.items) (code_of m.code.now) _ c.in-MemorySize.is
+    (c.in_ok-memory_size-in-MemorySize.ensures p m.fuel l (vals m.globals.items) r i)

@@ -5,8 +5,11 @@ use Rattle.wasm_trace.proofs.configuration.Configuration.leave.Goals as goal
 
 pub returns-then-not-branch-clause-goes : goal.returns-then-not-branch-clause-goes
 returns-then-not-branch-clause-goes g c = λ records.
-    result_missing c.args.self.now c.loop-level.self c.pop.new.self.items c.in-Some.level _ _ _ _ c.in-Frame.before.items c.keep.new.stack.items c.in_ok-keep.field-0 records c.loop-level.invariant.0 c.loop-level.invariant.1 c.in-Some.ensures.items (ap layer_of c.in-Frame.is) c.if-not-branch.true c.in_ok-keep.ensures
+    result_missing c.args.self.now c.loop-level.self c.pop.new.self.items c.in-Some.level _ _ _ _ c.in-Frame.before.items c.keep.new.stack.items
+    c.in_ok-keep.field-0 records c.loop-level.invariant.0 c.loop-level.invariant.1 c.in-Some.ensures.items (ap layer_of c.in-Frame.is) c.if-not-branch.true
+    c.in_ok-keep.ensures
 
 pub returns-in-Frame-clause-goes : goal.returns-in-Frame-clause-goes
 returns-in-Frame-clause-goes g c = λ records.
-    returned c.args.self.now c.loop-level.self c.pop.new.self.items c.in-Some.level _ _ _ c.in-Frame.before.items c.keep.new.stack.items c.in_ok-keep.field-0 records c.loop-level.invariant.0 c.loop-level.invariant.1 c.in-Some.ensures.items (ap layer_of c.in-Frame.is) c.if-not-branch.false c.in_ok-keep.ensures
+    returned c.args.self.now c.loop-level.self c.pop.new.self.items c.in-Some.level _ _ _ c.in-Frame.before.items c.keep.new.stack.items c.in_ok-keep.field-0
+    records c.loop-level.invariant.0 c.loop-level.invariant.1 c.in-Some.ensures.items (ap layer_of c.in-Frame.is) c.if-not-branch.false c.in_ok-keep.ensures

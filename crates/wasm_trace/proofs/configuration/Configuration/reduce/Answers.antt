@@ -17,7 +17,11 @@ returns-in-Set-clause-goes g c =
     let m = c.args.self.now in
     let p = program_of c.args.valid.now (g.H.Host.answers c.args.host.now) in
     let r = g.H.Host.records c.args.host.now in
-    is_from _ _ c.turn.result _ (reduce_front p m r _ c.in-Set.is ∙ ap (out_of (layers m.levels.items) m.fuel (vals m.locals.items) (world m r)) (c.set_local-turn.ensures p m.fuel (world m r) (plain_of m.code.now)) ∙ acted (layers m.levels.items) m.fuel m (record m { stack = c.set_local-turn.new.stack; locals = c.set_local-turn.new.locals }) r r (act.Become c.set_local-turn.result) (stack_of c.set_local-turn.new.stack.items) (plain_of m.code.now) tt) (c.turn.ensures.goes r)
+    is_from _ _ c.turn.result _
+    (reduce_front p m r _ c.in-Set.is ∙
+    ap (out_of (layers m.levels.items) m.fuel (vals m.locals.items) (world m r)) (c.set_local-turn.ensures p m.fuel (world m r) (plain_of m.code.now)) ∙
+    acted (layers m.levels.items) m.fuel m (record m { stack = c.set_local-turn.new.stack; locals = c.set_local-turn.new.locals }) r r
+    (act.Become c.set_local-turn.result) (stack_of c.set_local-turn.new.stack.items) (plain_of m.code.now) tt) (c.turn.ensures.goes r)
 
 pub returns-in_ok-enter_block-in-Body-clause-goes : goal.returns-in_ok-enter_block-in-Body-clause-goes
 returns-in_ok-enter_block-in-Body-clause-goes g c =
@@ -45,7 +49,8 @@ returns-in-Trap-clause-goes g c =
 
 pub returns-in-Branch-clause-rests : goal.returns-in-Branch-clause-rests
 returns-in-Branch-clause-rests g c =
-    IfOk-weaker c.branch-self.result _ _ (λ way h. rests_going c.args.self.now c.branch-self.new.self (g.H.Host.records c.args.host.now) way h) c.branch-self.ensures.going
+    IfOk-weaker c.branch-self.result _ _ (λ way h. rests_going c.args.self.now c.branch-self.new.self (g.H.Host.records c.args.host.now) way h)
+    c.branch-self.ensures.going
 
 pub returns-in-Again-clause-rests : goal.returns-in-Again-clause-rests
 returns-in-Again-clause-rests g c =

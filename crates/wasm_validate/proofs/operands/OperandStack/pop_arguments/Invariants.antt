@@ -4,7 +4,11 @@ use Rattle.wasm_validate.proofs.operands.OperandStack.pop_arguments.Given as goa
 
 abbrev pub invariant-loop-left : goal.invariant-loop-left
 invariant-loop-left l =
-    record { bound : l.left ≤ length l.params; lower : l.self.lower ≡ l.initial.self.lower; popped : pop_all (reverse (take l.left l.params)) l.self.here ≡ pop_all (reverse l.params) l.initial.self.here }
+    record {
+      bound : l.left ≤ length l.params;
+      lower : l.self.lower ≡ l.initial.self.lower;
+      popped : pop_all (reverse (take l.left l.params)) l.self.here ≡ pop_all (reverse l.params) l.initial.self.here;
+    }
 
 abbrev pub decreases-loop-left : goal.decreases-loop-left
 decreases-loop-left l = l.left
