@@ -17,7 +17,7 @@ use world_state::Snapshot;
 
 /// The hash that the next header names: that of the last header, or 32 zero bytes where there is
 /// none.
-fn last_hash(snapshot: &Snapshot) -> [u8; 32]
+fn next_link(snapshot: &Snapshot) -> [u8; 32]
     ensures { result ≡ next_link (blocks_of snapshot.now) }
 {
     match snapshot.blocks().last() {
@@ -40,7 +40,7 @@ fn check(alloc: Global, snapshot: &Snapshot, block: &Block) -> Result<(), Commit
     if block.header.number.get() != height as u32 + 1 {
         return Err(CommitRefusal::Number);
     }
-    if block.header.previous_hash != last_hash(snapshot) {
+    if block.header.previous_hash != next_link(snapshot) {
         return Err(CommitRefusal::PreviousHash);
     }
     if block.header.data_hash != data_hash(alloc, &block.envelopes)? {

@@ -9,7 +9,7 @@ use Rattle.endorsement_policy.specs.declared.rules.Organisation.{Organisation}
 use Rattle.serde_json.specs.Data.{Data, boolean}
 use Rattle.serde_json.specs.Read.{read}
 use Rattle.genesis.specs.declared.genesis.Definition.{Definition}
-use Rattle.genesis.specs.declared.genesis.Genesis.{Genesis}
+use Rattle.genesis.specs.declared.genesis.GenesisFile.{GenesisFile}
 use Rattle.genesis.specs.Lists.{IsListOf}
 use Rattle.genesis.specs.Opening.{HoldsSame}
 use Rattle.genesis.specs.Spelling.{IsOrganisation, IsPeer, IsDefinition, IsHex, Parts, IsGenesis, Spells, names_of, object_of}
@@ -46,7 +46,7 @@ same_policy orgs d x y h k =
 same_rules : (a b : Listed) → a.orgs ≡ b.orgs → a.policies ≡ b.policies → a ≡ b
 same_rules a b o p = ap (λ x. record a { orgs = x }) o ∙ ap (λ x. record b { policies = x }) p
 
-same_fields : (p : Parts) (a b : Genesis) → IsGenesis p a → IsGenesis p b → HoldsSame a b
+same_fields : (p : Parts) (a b : GenesisFile) → IsGenesis p a → IsGenesis p b → HoldsSame a b
 same_fields p a b h k =
     let orgs = all_same IsOrganisation one_organisation 16 p.orgs a.rules.orgs b.rules.orgs h.organisations k.organisations in
     let names = sym (ap names_of orgs) in
@@ -94,7 +94,7 @@ one_object p q e = ap parts_in e
 one_data : (text : List ℕ) (d e : Data) → read text ≡ Some d → read text ≡ Some e → d ≡ e
 one_data text d e h k = let same = sym h ∙ k in cc
 
-pub one : (text : List ℕ) (a b : Genesis) → Spells text a → Spells text b → HoldsSame a b
+pub one : (text : List ℕ) (a b : GenesisFile) → Spells text a → Spells text b → HoldsSame a b
 one text a b h k =
     let same_data = one_data text h.0 k.0 h.1 k.1 in
     let parts = one_object h.2.0 k.2.0 (sym h.2.1 ∙ same_data ∙ k.2.1) in

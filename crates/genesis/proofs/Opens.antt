@@ -9,7 +9,7 @@ use Rattle.simulator.specs.declared.book.Chaincode.{Chaincode}
 use Rattle.endorsement_policy.specs.Endorsed.{do_need_someone}
 use Rattle.endorsement_policy.proofs.Needed.{spelled_needs}
 use Rattle.genesis.specs.declared.genesis.Definition.{Definition}
-use Rattle.genesis.specs.declared.genesis.Genesis.{Genesis}
+use Rattle.genesis.specs.declared.genesis.GenesisFile.{GenesisFile}
 use Rattle.genesis.specs.Lists.{IsListOf}
 use Rattle.genesis.specs.Opening.{CanOpen}
 use Rattle.genesis.specs.Spelling.{IsDefinition, IsPeer, Parts, IsGenesis, Spells, chaincodes_of, policies_of}
@@ -45,7 +45,7 @@ needed orgs (item d ds) (c ∷ cs) h =
 pub all_needed : (orgs : List (List ℕ)) (d : Data) (cs : List Definition) → IsListOf (IsDefinition orgs) 16 d cs → do_need_someone (policies_of cs) ≡ true
 all_needed orgs d cs h = needed orgs h.0 cs h.2
 
-opens : (p : Parts) (g : Genesis) → IsGenesis p g → CanOpen g
+opens : (p : Parts) (g : GenesisFile) → IsGenesis p g → CanOpen g
 opens p g h =
     let d = h.definitions in
     let cs = d.0 in
@@ -64,5 +64,5 @@ opens p g h =
       policies = rw (d.3, d.4) names;
     }
 
-pub spelled_opens : (text : List ℕ) (g : Genesis) → Spells text g → CanOpen g
+pub spelled_opens : (text : List ℕ) (g : GenesisFile) → Spells text g → CanOpen g
 spelled_opens text g h = opens h.2.0 g h.2.2

@@ -8,7 +8,7 @@ use Rattle.simulator.specs.Books.{IsBook}
 use Rattle.simulator.specs.declared.book.Chaincode.{Chaincode}
 use Rattle.serde_json.specs.Data.{Data, Num, unsigned, number}
 use Rattle.genesis.specs.declared.genesis.Definition.{Definition}
-use Rattle.genesis.specs.declared.genesis.Genesis.{Genesis}
+use Rattle.genesis.specs.declared.genesis.GenesisFile.{GenesisFile}
 use Rattle.endorsement_policy.specs.declared.rules.Organisation.{Organisation}
 use Rattle.genesis.specs.declared.refusal.GenesisRefusal.{GenesisRefusal}
 use Rattle.genesis.specs.Lists.{IsListOf}
@@ -50,7 +50,7 @@ same_chaincode orgs d x y h k =
     (same_module k.1 _ _ (subst (λ t. IsHexModule t x.chaincode.«module») (ap (λ d. text_in (first (rest (members_in d)))) e) h.5) k.5)
     (same_number h.0 k.0 _ _ (ap (λ d. first (members_in d)) e) h.4.0 k.4.0)
 
-pub NoneIs-different : (p : Parts) (os : List Organisation) (orgs : List (List ℕ)) (g : Genesis) → IsListOf IsOrganisation 16 p.orgs os
+pub NoneIs-different : (p : Parts) (os : List Organisation) (orgs : List (List ℕ)) (g : GenesisFile) → IsListOf IsOrganisation 16 p.orgs os
     → orgs ≡ names_of os → are_different orgs ≡ false → ¬ IsGenesis p g
 NoneIs-different p os orgs g h is not spelled =
     let same = names_same p.orgs os _ h spelled.organisations in
@@ -75,7 +75,7 @@ NoneIs-definitions p os orgs r h is none = (
       none.1 real spelled.definitions.0 (subst (λ ns. IsListOf (IsDefinition ns) 16 p.chaincodes spelled.definitions.0) (sym same) spelled.definitions.1),
 )
 
-pub NoneIs-book : (p : Parts) (os : List Organisation) (orgs : List (List ℕ)) (cs : List Definition) (g : Genesis) → IsListOf IsOrganisation 16 p.orgs os
+pub NoneIs-book : (p : Parts) (os : List Organisation) (orgs : List (List ℕ)) (cs : List Definition) (g : GenesisFile) → IsListOf IsOrganisation 16 p.orgs os
     → orgs ≡ names_of os → IsListOf (IsDefinition orgs) 16 p.chaincodes cs → ¬ IsBook (chaincodes_of cs) → ¬ IsGenesis p g
 NoneIs-book p os orgs cs g h is k not spelled =
     let same = is ∙ names_same p.orgs os _ h spelled.organisations in

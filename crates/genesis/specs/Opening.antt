@@ -4,13 +4,13 @@ use Rattle.std.specs.List.{list_all}
 use Rattle.endorsement_policy.specs.GoodSets.{is_among}
 use Rattle.endorsement_policy.specs.declared.rules.ChaincodePolicy.{ChaincodePolicy}
 use Rattle.simulator.specs.declared.book.Chaincode.{Chaincode}
-use Rattle.genesis.specs.declared.genesis.Genesis.{Genesis}
+use Rattle.genesis.specs.declared.genesis.GenesisFile.{GenesisFile}
 use Rattle.genesis.specs.Lists.{IsWithin}
 use Rattle.genesis.specs.Spelling.{are_different, names_of}
 
 -- The numbers are within the ledger's limits, no two organisations have one name, each peer's organisation is known,
 -- and the rules have a policy for each chaincode of the book, in its order.
-pub record CanOpen (g : Genesis) : Type 0 where
+pub record CanOpen (g : GenesisFile) : Type 0 where
   pub seats : IsWithin 1 64 g.seats
   pub queue : IsWithin 1 4096 g.queue
   pub count : IsWithin 1 512 g.count
@@ -24,7 +24,7 @@ pub record CanOpen (g : Genesis) : Type 0 where
   pub policies : map (λ (p : ChaincodePolicy). p.chaincode) g.rules.policies ≡ map (λ (c : Chaincode). c.name) g.book
 
 -- Both hold the same. Where their lists of peers lie in memory is not compared.
-pub record HoldsSame (a b : Genesis) : Type 0 where
+pub record HoldsSame (a b : GenesisFile) : Type 0 where
   pub book : a.book ≡ b.book
   pub rules : a.rules ≡ b.rules
   pub peers : a.peers.items ≡ b.peers.items

@@ -16,7 +16,7 @@ use Rattle.endorsement_policy.specs.declared.rules.ChaincodePolicy.{ChaincodePol
 use Rattle.simulator.specs.Books.{IsBook}
 use Rattle.simulator.specs.declared.book.Chaincode.{Chaincode}
 use Rattle.genesis.specs.declared.genesis.Definition.{Definition}
-use Rattle.genesis.specs.declared.genesis.Genesis.{Genesis}
+use Rattle.genesis.specs.declared.genesis.GenesisFile.{GenesisFile}
 use Rattle.genesis.specs.Lists.{IsListOf, IsNumber}
 
 -- the bytes that a text of hex stands for
@@ -84,7 +84,7 @@ object_of p =
     (member (codes "queue") p.queue (member (codes "reorder") p.reorder (member (codes "seats") p.seats no_members)))))))))
 
 -- the genesis that the fields spell
-pub record IsGenesis (p : Parts) (g : Genesis) : Type 0 where
+pub record IsGenesis (p : Parts) (g : GenesisFile) : Type 0 where
   pub seats : IsNumber 1 64 p.seats g.seats
   pub queue : IsNumber 1 4096 p.queue g.queue
   pub count : IsNumber 1 512 p.count g.count
@@ -98,9 +98,9 @@ pub record IsGenesis (p : Parts) (g : Genesis) : Type 0 where
       × IsBook (chaincodes_of cs) × (g.book ≡ chaincodes_of cs) × (g.rules.policies ≡ policies_of cs)
 
 -- the genesis that the data of a file spells
-abbrev pub IsGenesisOf : Data → Genesis → Type 0
+abbrev pub IsGenesisOf : Data → GenesisFile → Type 0
 IsGenesisOf d g = (p : Parts) × (d ≡ object_of p) × IsGenesis p g
 
 -- the genesis that a text spells
-abbrev pub Spells : List ℕ → Genesis → Type 0
+abbrev pub Spells : List ℕ → GenesisFile → Type 0
 Spells text g = (d : Data) × (read text ≡ Some d) × IsGenesisOf d g

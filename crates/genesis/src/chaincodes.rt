@@ -17,15 +17,13 @@ use crate::genesis::Definition;
 use crate::numbers::{bytes_of, within};
 use crate::refusal::GenesisRefusal;
 use endorsement_policy::{ChaincodePolicy, Policy, PolicyFault, parse};
+use fab_types::limits::MOST_FUEL;
 use fab_types::{Name, OrgName};
 use serde_json::Value;
 use simulator::Chaincode;
 use std::alloc::{AllocError, Global};
 use wasm_decode::{DecodeFault, decode};
 use wasm_validate::{ValidModule, ValidateFault, validate};
-
-/// What a call may spend at most.
-const MOST_FUEL: u64 = 10_000_000;
 
 /// Reads a chaincode with its policy over these organisations.
 #[derive(Clone, Copy)]
@@ -64,11 +62,11 @@ fn module(alloc: Global, hex: &str) -> Result<ValidModule, GenesisRefusal>
     ensures refused { IfErr result (λ r. NoneIs (IsHexModule hex.now) r) }
 {
     let bytes = bytes_of(alloc, hex)?;
-    valid_module(alloc, &bytes)
+    module_in(alloc, &bytes)
 }
 
 /// The valid module that bytes spell.
-fn valid_module(alloc: Global, bytes: &[u8]) -> Result<ValidModule, GenesisRefusal>
+fn module_in(alloc: Global, bytes: &[u8]) -> Result<ValidModule, GenesisRefusal>
     ensures ok { IfOk result (λ m. IsModule m bytes.now × IsValid m) }
     ensures refused { IfErr result
         (λ r. NoneIs (λ (m : Module). IsModule m bytes.now × IsValid m) r) }

@@ -6,7 +6,7 @@ use simulator::{Book, Chaincode};
 
 /// What a ledger begins with, as a genesis file says it.
 #[derive(Drop)]
-pub struct Genesis {
+pub struct GenesisFile {
     /// The chaincodes, 1 to 16.
     pub book: Book,
     /// The organisations, 1 to 16 of different names, with their keys; and the policy of each

@@ -17,7 +17,7 @@ mod peers;
 mod read;
 mod refusal;
 
-pub use genesis::Genesis;
+pub use genesis::GenesisFile;
 pub use laws::spelled_once;
 pub use read::read_genesis;
 pub use refusal::GenesisRefusal;

@@ -26,11 +26,15 @@ pub(crate) fn within(value: &Value, least: u64, greatest: u64) -> Result<u64, Ge
 }
 
 /// A whole number as `within` reads it, of things that are counted.
-pub(crate) fn size_within(value: &Value, least: u64, greatest: u64) -> Result<usize, GenesisRefusal>
+pub(crate) fn size_within(
+    value: &Value,
+    least: usize,
+    greatest: usize,
+) -> Result<usize, GenesisRefusal>
     ensures ok { IfOk result (λ n. IsNumber least greatest (view value.now) n) }
     ensures refused { IfErr result (λ r. NoneIs (IsNumber least greatest (view value.now)) r) }
 {
-    match within(value, least, greatest) {
+    match within(value, least as u64, greatest as u64) {
         Ok(n) => Ok(n as usize),
         Err(refusal) => Err(refusal),
     }

@@ -10,38 +10,21 @@ ghost use Rattle.genesis.specs.Spelling.{IsGenesis, IsGenesisOf, Spells};
 
 use crate::chaincodes::{DefinitionReader, parted};
 use crate::fields::{GenesisFields, genesis_fields};
-use crate::genesis::Genesis;
+use crate::genesis::GenesisFile;
 use crate::lists::read_list;
 use crate::numbers::{size_within, truth};
 use crate::organisations::{OrganisationReader, are_different, names};
 use crate::peers::PeerReader;
 use crate::refusal::GenesisRefusal;
 use endorsement_policy::Rules;
+use fab_types::limits::{
+    MOST_CHAINCODES, MOST_DATA_BYTES, MOST_ORGANISATIONS, MOST_PEERS, MOST_QUEUED, MOST_SEATS,
+    MOST_TRANSACTIONS,
+};
 use serde_json::Value;
 use serde_json::error::Category;
 use simulator::Book;
 use std::alloc::Global;
-
-/// How many organisations there are at most.
-const MOST_ORGANISATIONS: usize = 16;
-
-/// How many peers there are at most.
-const MOST_PEERS: usize = 8;
-
-/// How many chaincodes there are at most.
-const MOST_CHAINCODES: usize = 16;
-
-/// How many seats a peer has at most.
-const MOST_SEATS: u64 = 64;
-
-/// How many envelopes the queue holds at most.
-const MOST_QUEUED: u64 = 4_096;
-
-/// How many envelopes a batch holds at most.
-const MOST_ENVELOPES: u64 = 512;
-
-/// How many bytes the envelopes of a batch have at most.
-const MOST_BYTES: u64 = 524_288;
 
 /// The genesis that a text spells.
 ///
@@ -49,7 +32,7 @@ const MOST_BYTES: u64 = 524_288;
 /// kind or hex is not read (802), where a number, a length or a name is out of its range (803),
 /// where a module (804) or a policy (805) is refused, where a name stands twice or a peer's
 /// organisation is unknown (806), and for want of memory (9). Of several causes any may be told.
-pub fn read_genesis(alloc: Global, text: &str) -> Result<Genesis, GenesisRefusal>
+pub fn read_genesis(alloc: Global, text: &str) -> Result<GenesisFile, GenesisRefusal>
     ensures ok { IfOk result (λ g. Spells text.now g) }
     ensures opening { IfOk result (λ g. CanOpen g) }
     ensures refused { IfErr result (λ r. NoGenesis text.now r) }
@@ -62,7 +45,7 @@ pub fn read_genesis(alloc: Global, text: &str) -> Result<Genesis, GenesisRefusal
 }
 
 /// The genesis that the data of a file spells.
-fn genesis_of(alloc: Global, value: &Value) -> Result<Genesis, GenesisRefusal>
+fn genesis_of(alloc: Global, value: &Value) -> Result<GenesisFile, GenesisRefusal>
     ensures ok { IfOk result (λ g. IsGenesisOf (view value.now) g) }
     ensures refused { IfErr result (λ r. NoneIs (IsGenesisOf (view value.now)) r) }
 {
@@ -73,15 +56,15 @@ fn genesis_of(alloc: Global, value: &Value) -> Result<Genesis, GenesisRefusal>
 }
 
 /// The genesis that the fields spell.
-fn genesis_from(alloc: Global, fields: &GenesisFields<'_>) -> Result<Genesis, GenesisRefusal>
+fn genesis_from(alloc: Global, fields: &GenesisFields<'_>) -> Result<GenesisFile, GenesisRefusal>
     ensures ok { IfOk result (λ g. IsGenesis (parts_of fields.now) g) }
     ensures refused { IfErr result (λ r. NoneIs (IsGenesis (parts_of fields.now)) r) }
 {
     let seats = size_within(fields.seats, 1, MOST_SEATS)?;
     let queue = size_within(fields.queue, 1, MOST_QUEUED)?;
-    let count = size_within(fields.count, 1, MOST_ENVELOPES)?;
-    let preferred = size_within(fields.preferred, 1, MOST_BYTES)?;
-    let absolute = size_within(fields.absolute, 1, MOST_BYTES)?;
+    let count = size_within(fields.count, 1, MOST_TRANSACTIONS)?;
+    let preferred = size_within(fields.preferred, 1, MOST_DATA_BYTES)?;
+    let absolute = size_within(fields.absolute, 1, MOST_DATA_BYTES)?;
     let reorder = truth(fields.reorder)?;
     let organisations = read_list(alloc, &OrganisationReader, fields.orgs, MOST_ORGANISATIONS)?;
     let orgs = names(alloc, &organisations)?;
@@ -98,7 +81,7 @@ fn genesis_from(alloc: Global, fields: &GenesisFields<'_>) -> Result<Genesis, Ge
     let Some(rules) = Rules::new(organisations, policies) else {
         return Err(GenesisRefusal::Policy);
     };
-    Ok(Genesis {
+    Ok(GenesisFile {
         book,
         rules,
         peers,

@@ -1,6 +1,6 @@
 //! Cases `genesis TEXT`: what the genesis has that a text spells, or why it spells none.
 
-use genesis::{Genesis, read_genesis};
+use genesis::{GenesisFile, read_genesis};
 use std::alloc::{AllocError, Global};
 
 /// The answer of a case.
@@ -12,7 +12,7 @@ pub fn genesis_file(alloc: Global, text: &str) -> Result<String, AllocError> {
 }
 
 /// How many there are of each, and the numbers.
-fn contents(alloc: Global, genesis: &Genesis) -> Result<String, AllocError> {
+fn contents(alloc: Global, genesis: &GenesisFile) -> Result<String, AllocError> {
     let chaincodes = genesis.book.chaincodes().len();
     let policies = genesis.rules.policies().len();
     let peers = genesis.peers.len();
@@ -20,7 +20,7 @@ fn contents(alloc: Global, genesis: &Genesis) -> Result<String, AllocError> {
     format!(in alloc; "read chaincodes={chaincodes} policies={policies} peers={peers} {numbers}")
 }
 
-fn numbers(alloc: Global, genesis: &Genesis) -> Result<String, AllocError> {
+fn numbers(alloc: Global, genesis: &GenesisFile) -> Result<String, AllocError> {
     format!(in alloc;
         "seats={} queue={} count={} preferred={} absolute={} reorder={}",
         genesis.seats,

@@ -20,7 +20,7 @@ pub fn simulate_calls(alloc: Global, text: &str) -> Result<String, CaseFault> {
     let (fuel, pieces) = split_word(rest);
     let chaincode = Chaincode {
         name: name_of(alloc, name)?,
-        module: valid_module(alloc, pieces)?,
+        module: module_of(alloc, pieces)?,
         fuel: fuel_of(fuel)?,
     };
     let book = Book::new(vec![in alloc; chaincode]?).ok_or(CaseFault::BadLine)?;
@@ -35,7 +35,7 @@ fn fuel_of(text: &str) -> Result<u64, CaseFault> {
 }
 
 /// The valid module that the bytes spell.
-fn valid_module(alloc: Global, pieces: &str) -> Result<ValidModule, CaseFault> {
+fn module_of(alloc: Global, pieces: &str) -> Result<ValidModule, CaseFault> {
     let bytes = bytes_of(alloc, pieces)?;
     let Ok(module) = decode(alloc, &bytes) else {
         return Err(CaseFault::BadLine);

@@ -5,6 +5,7 @@ ghost use Rattle.std.specs.List.{list_all, list_any};
 ghost use Rattle.simulator.specs.Books.{IsBook, AreValid, chaincode_at, is_named, has_fuel, have_own_names};
 
 use fab_types::Name;
+use fab_types::limits::MOST_FUEL;
 use std::marker::Model;
 use wasm_validate::ValidModule;
 
@@ -82,9 +83,7 @@ impl Chaincode {
 fn have_fuel(chaincodes: &[Chaincode]) -> bool
     ensures { result ≡ list_all has_fuel chaincodes.now }
 {
-    chaincodes
-        .iter()
-        .all(|c| (1..=10_000_000).contains(&c.fuel))
+    chaincodes.iter().all(|c| (1..=MOST_FUEL).contains(&c.fuel))
 }
 
 /// Whether one of the chaincodes has this name.

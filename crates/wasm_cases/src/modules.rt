@@ -23,13 +23,13 @@ pub fn show_module(alloc: Global, pieces: &str) -> Result<String, CaseFault> {
 
 /// The index of the valid module's entry, and the host calls that it imports.
 pub fn validate_module(alloc: Global, pieces: &str) -> Result<String, CaseFault> {
-    let valid = valid_module(alloc, pieces)?;
+    let valid = module_of(alloc, pieces)?;
     let (invoke, calls) = (valid.invoke(), valid.host_calls());
     Ok(format!(in alloc; "valid invoke={invoke} calls={calls:?}")?)
 }
 
 /// The valid module that the bytes spell.
-pub fn valid_module(alloc: Global, pieces: &str) -> Result<ValidModule, CaseFault> {
+pub fn module_of(alloc: Global, pieces: &str) -> Result<ValidModule, CaseFault> {
     let bytes = bytes_of(alloc, pieces)?;
     let module = decode(alloc, &bytes)?;
     Ok(validate(alloc, module)?)

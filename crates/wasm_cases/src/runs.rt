@@ -2,7 +2,7 @@
 
 use crate::bytes::split_word;
 use crate::fault::CaseFault;
-use crate::modules::valid_module;
+use crate::modules::module_of;
 use crate::steps::step_through;
 use fab_types::{Value, WriteItem, WriteSet};
 use host_api::{PlainMap, Recorder};
@@ -26,14 +26,14 @@ pub enum Runner {
 /// with their values.
 pub fn run_module(alloc: Global, text: &str) -> Result<String, CaseFault> {
     let (fuel, pieces) = split_fuel(text)?;
-    let valid = valid_module(alloc, pieces)?;
+    let valid = module_of(alloc, pieces)?;
     Ok(run_invoke(alloc, &valid, fuel, Runner::Flat)?)
 }
 
 /// Whether all runners answer the same with every fuel up to what the first word is.
 pub fn compare_runs(alloc: Global, text: &str) -> Result<String, CaseFault> {
     let (last, pieces) = split_fuel(text)?;
-    let valid = valid_module(alloc, pieces)?;
+    let valid = module_of(alloc, pieces)?;
     Ok(compared(alloc, &valid, last)?)
 }
 

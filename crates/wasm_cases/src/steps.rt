@@ -1,7 +1,7 @@
 //! Runs of modules by a stepper, on a state without keys.
 
 use crate::fault::CaseFault;
-use crate::modules::valid_module;
+use crate::modules::module_of;
 use crate::runs::{run_answer, split_fuel};
 use fab_types::Value;
 use host_api::{PlainMap, Recorder};
@@ -14,7 +14,7 @@ use wasm_validate::ValidModule;
 /// with the fuel that the first word is.
 pub fn trace_module(alloc: Global, text: &str) -> Result<String, CaseFault> {
     let (fuel, pieces) = split_fuel(text)?;
-    let valid = valid_module(alloc, pieces)?;
+    let valid = module_of(alloc, pieces)?;
     Ok(trace_invoke(alloc, &valid, fuel)?)
 }
 

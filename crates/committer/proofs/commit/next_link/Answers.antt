@@ -8,7 +8,7 @@ use Rattle.sha2.specs.Sha256.{sha256}
 use Rattle.committer.specs.Fits.{blocks_of}
 use Rattle.wire.proofs.Last.{names_last}
 use Rattle.committer.proofs.Last.{slice_get_map, length_map}
-use Rattle.committer.proofs.commit.last_hash.Goals as goal
+use Rattle.committer.proofs.commit.next_link.Goals as goal
 
 pub returns-in-Some : goal.returns-in-Some
 returns-in-Some c =

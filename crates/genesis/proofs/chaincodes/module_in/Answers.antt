@@ -1,7 +1,7 @@
 use Rattle.std.proofs.Common.{◌≡◌, sym, subst}
 use Rattle.wasm_decode.specs.ModuleSpelling.{IsModule}
 use Rattle.wasm_validate.specs.ModuleRules.{IsValid}
-use Rattle.genesis.proofs.chaincodes.valid_module.Goals as goal
+use Rattle.genesis.proofs.chaincodes.module_in.Goals as goal
 
 pub returns-in-Err-Malformed-clause-refused : goal.returns-in-Err-Malformed-clause-refused
 returns-in-Err-Malformed-clause-refused c =

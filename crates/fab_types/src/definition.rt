@@ -1,0 +1,168 @@
+//! Definitions of chaincodes.
+
+ghost use Rattle.std.specs.Prelude.{◌≡◌, ◌↔◌, IsSome, IfSome};
+ghost use Rattle.std.specs.List.{list_all};
+ghost use Rattle.fab_types.specs.Limits.{IsFuel, IsPolicyText, IsProfile, is_policy_byte};
+
+use crate::limits::{MOST_FUEL, MOST_POLICY_BYTES};
+use std::alloc::AllocError;
+use std::marker::Model;
+
+/// The number of the profile by which a module is read.
+#[derive(Clone, Copy, PartialEq, Eq, Debug)]
+pub struct Profile {
+    number: u8,
+}
+
+impl Model for Profile {
+    ghost use Rattle.std.specs.Prelude.{ℕ};
+    ghost use Rattle.fab_types.specs.Limits.{IsProfile};
+
+    ghost Value = { ℕ };
+
+    ghost view = { λ p. p.number };
+
+    ghost invariant = { λ p. IsProfile p.number };
+
+    ghost inverse = { λ n. record { number = n } };
+}
+
+impl Profile {
+    /// The profile of this number. None if there is none.
+    pub fn new(number: u8) -> Option<Profile>
+        ensures accepted { IsSome result ↔ IsProfile number }
+        ensures value { IfSome result (λ p. p ≡ number) }
+    {
+        if number != 1 {
+            return None;
+        }
+        Some(Profile { number })
+    }
+
+    /// The number.
+    pub fn get(self) -> u8
+        ensures value { result ≡ self }
+        ensures limits { IsProfile self }
+    {
+        self.number
+    }
+}
+
+/// What a call may spend: 1 to 10,000,000.
+#[derive(Clone, Copy, PartialEq, Eq, Debug)]
+pub struct Fuel {
+    units: u32,
+}
+
+impl Model for Fuel {
+    ghost use Rattle.std.specs.Prelude.{ℕ};
+    ghost use Rattle.fab_types.specs.Limits.{IsFuel};
+
+    ghost Value = { ℕ };
+
+    ghost view = { λ f. f.units };
+
+    ghost invariant = { λ f. IsFuel f.units };
+
+    ghost inverse = { λ n. record { units = n } };
+}
+
+impl Fuel {
+    /// This much. None unless it is 1 to 10,000,000.
+    pub fn new(units: u32) -> Option<Fuel>
+        ensures accepted { IsSome result ↔ IsFuel units }
+        ensures value { IfSome result (λ f. f ≡ units) }
+    {
+        if units == 0 || u64::from(units) > MOST_FUEL {
+            return None;
+        }
+        Some(Fuel { units })
+    }
+
+    /// How much.
+    pub fn get(self) -> u32
+        ensures value { result ≡ self }
+        ensures limits { IsFuel self }
+    {
+        self.units
+    }
+}
+
+fn are_policy_bytes(bytes: &[u8]) -> bool
+    ensures { result ≡ list_all is_policy_byte bytes.now }
+{
+    bytes.iter().all(|b| matches!(b, b' '..=b'~'))
+}
+
+/// The text of a policy: 1 to 1,024 characters from the space to `~`.
+#[derive(Debug, Drop)]
+pub struct PolicyText {
+    bytes: Vec<u8>,
+}
+
+impl Model for PolicyText {
+    ghost use Rattle.std.specs.Prelude.{List, ℕ};
+    ghost use Rattle.fab_types.specs.Limits.{IsPolicyText};
+
+    ghost Value = { List ℕ };
+
+    ghost view = { λ t. t.bytes.items };
+
+    ghost invariant = { λ t. IsPolicyText t.bytes.items };
+}
+
+impl PolicyText {
+    /// The text of these bytes. None if there are none, more than 1,024 or others than those.
+    pub fn new(bytes: Vec<u8>) -> Option<PolicyText>
+        ensures accepted { IsSome result ↔ IsPolicyText bytes.items }
+        ensures value { IfSome result (λ t. t ≡ bytes.items) }
+    {
+        if bytes.is_empty() || bytes.len() > MOST_POLICY_BYTES || !are_policy_bytes(&bytes) {
+            return None;
+        }
+        Some(PolicyText { bytes })
+    }
+
+    /// The bytes.
+    pub fn as_slice(&self) -> &[u8]
+        ensures value { result.now ≡ self.now }
+        ensures limits { IsPolicyText self.now }
+    {
+        &self.bytes
+    }
+}
+
+impl Clone for PolicyText {
+    ghost is_clone = { λ a b. b ≡ a };
+
+    fn clone(&self) -> Result<PolicyText, AllocError> {
+        Ok(PolicyText {
+            bytes: self.bytes.clone()?,
+        })
+    }
+}
+
+/// How a chaincode is executed and whose endorsements its transactions need.
+#[derive(Debug, Drop)]
+pub struct Definition {
+    pub profile: Profile,
+    /// The SHA-256 of the module's bytes.
+    pub digest: [u8; 32],
+    pub fuel: Fuel,
+    pub policy: PolicyText,
+}
+
+impl Clone for Definition {
+    ghost use Rattle.std.specs.Prelude.{◌≡◌};
+
+    ghost is_clone = { λ a b. b ≡ a };
+
+    fn clone(&self) -> Result<Definition, AllocError> {
+        Ok(Definition {
+            profile: self.profile,
+            digest: self.digest,
+            fuel: self.fuel,
+            policy: self.policy.clone()?,
+        })
+    }
+}
