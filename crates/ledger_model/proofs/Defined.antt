@@ -8,7 +8,7 @@ use Rattle.ledger_model.specs.Chain.{Bytes, Version, Placed, is_valid}
 use Rattle.ledger_model.specs.Views.{Plain}
 use Rattle.ledger_model.specs.State.{write_to, write_of, last_write, value_and_version, state}
 use Rattle.ledger_model.specs.Flags.{version_at}
-use Rattle.ledger_model.specs.Execution.{Ending, Exec, Outcome, Answers, ReadsAlone}
+use Rattle.ledger_model.specs.Execution.{Ending, Exec, Outcome, ReadsAlone}
 use Rattle.ledger_model.proofs.State.{get-state, last_write-append}
 use Rattle.ledger_model.specs.Defined.{with_read, called, upgraded, IsAlone, Puts, AreOf, IsOfOther}
 

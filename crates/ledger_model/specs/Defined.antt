@@ -1,5 +1,5 @@
 -- Executions that take the definition of their chaincode from the state, and read its key there.
-use Rattle.std.specs.Prelude.{◌≡◌, ℕ, true, List, [], ◌∷◌, Option, Some, None}
+use Rattle.std.specs.Prelude.{◌≡◌, ℕ, true, [], ◌∷◌, Option, Some, None}
 use Rattle.std.specs.FinMap.{get}
 use Rattle.ledger_model.specs.Chain.{Bytes, Version, Placed, is_valid}
 use Rattle.ledger_model.specs.Views.{Plain}
@@ -42,18 +42,18 @@ upgraded key value ending m =
     with_read key (get m key)
     (record { ending = ending; seen = record { reads = []; ranges = []; result = []; writes = record { key = key; value = Some value } ∷ [] } })
 
--- what it saw is so, and on each state where that is so it comes to the same
+-- the execution depends only on what it saw: that is so, and on each state where it is so it comes to the same
 pub record IsAlone (run : Plain → Outcome) : Type 0 where
   pub truthful : (m : Plain) → Answers m (run m).seen
   pub only : (m n : Plain) → Answers n (run m).seen → run n ≡ run m
 
--- it does not delete
+-- no write that deletes
 abbrev pub Puts : Option (Option Bytes) → Type 0
 Puts None = Unit {0}
 Puts (Some None) = ⊥
 Puts (Some (Some value)) = Unit {0}
 
--- the transactions stand in this block, and those that are VALID do not delete the key
+-- the transaction stands in this block, and where it is VALID it does not delete the key
 pub record AreOf (number : ℕ) (key : Bytes) (t : Placed) : Type 0 where
   pub block : t.version.block ≡ number
   pub puts : is_valid t.flag ≡ true → Puts (write_to t.envelope.payload.writes key)
