@@ -9,7 +9,7 @@
 /* Answers that say why nothing was recorded; each call has some of them. */
 enum {
     FABRIC_ABSENT = -1,       /* the key is absent: the read is recorded */
-    FABRIC_KEY_LENGTH = -2,   /* a key not of 1 to 64 bytes, or a bound above 64 */
+    FABRIC_KEY_LENGTH = -2,   /* a key not of 1 to 64 bytes or that begins with the byte 0, or a bound above 64 */
     FABRIC_NO_ROOM = -3,      /* one more key read than 256, key written than 64, or range than 16 */
     FABRIC_VALUE_LENGTH = -4, /* a value or a result above 4,096 bytes */
     FABRIC_LIMIT = -5         /* a limit not of 1 to 64 */

@@ -1,4 +1,4 @@
-//! Definitions of chaincodes.
+//! Definitions of chaincodes, and their parts.
 
 ghost use Rattle.std.specs.Prelude.{◌≡◌, ◌↔◌, IsSome, IfSome};
 ghost use Rattle.std.specs.List.{list_all};
@@ -8,7 +8,7 @@ use crate::limits::{MOST_FUEL, MOST_POLICY_BYTES};
 use std::alloc::AllocError;
 use std::marker::Model;
 
-/// The number of the profile by which a module is read.
+/// The number of a profile: which modules are read, and how one is executed. Only 1 is known.
 #[derive(Clone, Copy, PartialEq, Eq, Debug)]
 pub struct Profile {
     number: u8,
@@ -28,7 +28,7 @@ impl Model for Profile {
 }
 
 impl Profile {
-    /// The profile of this number. None if there is none.
+    /// The profile of this number. None unless it is 1.
     pub fn new(number: u8) -> Option<Profile>
         ensures accepted { IsSome result ↔ IsProfile number }
         ensures value { IfSome result (λ p. p ≡ number) }
@@ -39,7 +39,7 @@ impl Profile {
         Some(Profile { number })
     }
 
-    /// The number.
+    /// The number, which is 1.
     pub fn get(self) -> u8
         ensures value { result ≡ self }
         ensures limits { IsProfile self }
@@ -48,7 +48,7 @@ impl Profile {
     }
 }
 
-/// What a call may spend: 1 to 10,000,000.
+/// How much fuel a call may spend: 1 to 10,000,000.
 #[derive(Clone, Copy, PartialEq, Eq, Debug)]
 pub struct Fuel {
     units: u32,
@@ -68,7 +68,7 @@ impl Model for Fuel {
 }
 
 impl Fuel {
-    /// This much. None unless it is 1 to 10,000,000.
+    /// So much fuel. None unless it is 1 to 10,000,000.
     pub fn new(units: u32) -> Option<Fuel>
         ensures accepted { IsSome result ↔ IsFuel units }
         ensures value { IfSome result (λ f. f ≡ units) }
@@ -79,7 +79,7 @@ impl Fuel {
         Some(Fuel { units })
     }
 
-    /// How much.
+    /// How much it is, 1 to 10,000,000.
     pub fn get(self) -> u32
         ensures value { result ≡ self }
         ensures limits { IsFuel self }
@@ -88,13 +88,15 @@ impl Fuel {
     }
 }
 
+/// Whether each byte is a character that the text of a policy may have.
 fn are_policy_bytes(bytes: &[u8]) -> bool
     ensures { result ≡ list_all is_policy_byte bytes.now }
 {
     bytes.iter().all(|b| matches!(b, b' '..=b'~'))
 }
 
-/// The text of a policy: 1 to 1,024 characters from the space to `~`.
+/// The text of a policy: 1 to 1,024 characters from the space to `~`. Whether it spells a policy is
+/// not said here.
 #[derive(Debug, Drop)]
 pub struct PolicyText {
     bytes: Vec<u8>,
@@ -123,7 +125,7 @@ impl PolicyText {
         Some(PolicyText { bytes })
     }
 
-    /// The bytes.
+    /// The bytes, a character each.
     pub fn as_slice(&self) -> &[u8]
         ensures value { result.now ≡ self.now }
         ensures limits { IsPolicyText self.now }
@@ -142,13 +144,16 @@ impl Clone for PolicyText {
     }
 }
 
-/// How a chaincode is executed and whose endorsements its transactions need.
+/// How a chaincode is executed, and whose endorsements its transactions need.
 #[derive(Debug, Drop)]
 pub struct Definition {
+    /// By which profile the module is read.
     pub profile: Profile,
     /// The SHA-256 of the module's bytes.
     pub digest: [u8; 32],
+    /// What a call may spend.
     pub fuel: Fuel,
+    /// Whose endorsements a transaction needs.
     pub policy: PolicyText,
 }
 

@@ -109,7 +109,7 @@ fn mark_range(row: &mut [bool], index: &[Written<'_>], range: &RangeItem)
         (λ k. is_within range.now.start range.now.end k) index.now j) }
 {
     let bound = range.end().as_slice();
-    let first = first_from(index, range.start().as_slice());
+    let first = first_from(index, range.start().first_shown());
     let end = if bound.is_empty() {
         index.len()
     } else {

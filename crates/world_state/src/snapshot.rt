@@ -139,8 +139,8 @@ impl Snapshot {
     }
 
     /// The first `n` entries of a range, in key order: from `start` on, or from the first key where
-    /// it is empty, and below `end`, or without a bound where it is empty. Nothing else of the
-    /// state is visited.
+    /// it is empty, and below `end`, or without a bound where it is empty. Keys that begin with the
+    /// byte 0 are shown in no range. Nothing else of the state is visited.
     pub fn range(
         &self,
         alloc: Global,
