@@ -4,7 +4,7 @@ use Rattle.std.specs.Prelude.{◌&&◌}
 use Rattle.std.proofs.lemmas.Bool.Decides.{nat_tests}
 use Rattle.wasm_meaning.specs.Values.{Reply}
 use Rattle.host_api.specs.Recorded.{Recorded}
-use Rattle.host_api.specs.HostStep.{or_trap, is_key, is_bound, is_limit}
+use Rattle.host_api.specs.HostStep.{or_trap, is_bound, is_limit}
 
 module _ (memory : List ℕ) (s : Recorded) where
   -- bytes that lie in the memory
@@ -16,9 +16,6 @@ module _ (memory : List ℕ) (s : Recorded) where
       or_trap p memory s (λ _. r) ≡ r
   room None p e h r = cc
   room (Some b) p e h r = ap (λ (q : Option (List ℕ)). or_trap q memory s (λ _. r)) (sym e)
-
-pub key_ok : (key : List ℕ) → 1 ≤ length key → length key ≤ 64 → is_key key ≡ true
-key_ok key lo hi = grind (arith, nat_tests, lo, hi)
 
 pub limit_ok : (n : ℕ) → 1 ≤ n → n ≤ 64 → is_limit n ≡ true
 limit_ok n lo hi = grind (arith, nat_tests, lo, hi)

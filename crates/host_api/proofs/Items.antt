@@ -87,8 +87,9 @@ module _ (m : Versioned) (reads : List ReadItem) (ranges : List Range) (writes :
         sym (map-with_item (λ (r : ReadItem). read_of m r.key) (λ r. r.key) (λ r. r.key) (λ r. refl) x reads) ∙
         sym (ap (map (λ (r : ReadItem). read_of m r.key)) e);
     ranges_are = are.ranges_are;
+    read_count = le;
     read_set = record {
-      count = le;
+      count = omega (arith, le);
       order = ap (λ (rs : List ReadItem). are_ascending (map (λ r. r.key) rs)) e ∙ ascend_item (λ (r : ReadItem). r.key) x reads are.read_set.order;
     };
     range_count = are.range_count;
@@ -99,6 +100,7 @@ module _ (m : Versioned) (reads : List ReadItem) (ranges : List Range) (writes :
   items_written w new e le = record {
     reads_are = are.reads_are;
     ranges_are = are.ranges_are;
+    read_count = are.read_count;
     read_set = are.read_set;
     range_count = are.range_count;
     write_set = record {
@@ -143,6 +145,7 @@ module _ (m : Versioned) (reads : List ReadItem) (ranges : List Range) (writes :
     reads_are = are.reads_are;
     ranges_are = e ∙ ap (λ (gs : List Range). gs ++ range_of m a ∷ []) are.ranges_are ∙
         sym (map-more (λ (g : Range). range_of m (asked_of g)) ranges (range_of m a)) ∙ sym (ap (map (λ (g : Range). range_of m (asked_of g))) e);
+    read_count = are.read_count;
     read_set = are.read_set;
     range_count = one_more 16 (length ranges) are.range_count ne (ap length e ∙ length-more ranges (range_of m a));
     write_set = are.write_set;

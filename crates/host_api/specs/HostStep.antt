@@ -4,7 +4,7 @@ use Rattle.std.specs.Prelude.{get_or}
 use Rattle.std.specs.List.{flat_map}
 use Rattle.std.specs.Ordering.{eq_by_cmp}
 use Rattle.std.specs.FinMap.{get}
-use Rattle.fab_types.specs.Order.{key_cmp, is_before}
+use Rattle.fab_types.specs.Order.{key_cmp, is_before, is_shown}
 use Rattle.fab_types.specs.declared.items.WriteItem.{WriteItem}
 use Rattle.wasm_ast.specs.declared.host_call.HostCall.TheVariants as call
 use Rattle.wasm_ast.specs.declared.host_call.HostAnswer.TheVariants as answer
@@ -50,11 +50,11 @@ abbrev pub or_trap : Option Bytes → (memory : List ℕ) → Recorded → (Byte
 or_trap None memory s reply = traps memory s
 or_trap (Some bytes) memory s reply = reply bytes
 
--- a key has 1 to 64 bytes
+-- a key has 1 to 64 bytes, and does not begin with the byte 0
 abbrev pub is_key : Bytes → Bool
-is_key bytes = nat_le 1 (length bytes) && nat_le (length bytes) 64
+is_key bytes = nat_le 1 (length bytes) && nat_le (length bytes) 64 && is_shown bytes
 
--- a bound has up to 64 bytes
+-- a bound has up to 64 bytes, which may begin with the byte 0
 abbrev pub is_bound : Bytes → Bool
 is_bound bytes = nat_le (length bytes) 64
 

@@ -37,10 +37,11 @@ abbrev pub recorded_of : List ReadItem → List Range → Bytes → List WriteIt
 recorded_of reads ranges result writes =
     record { reads = map (λ r. r.key) reads; ranges = map asked_of ranges; result = result; writes = writes }
 
--- each item has what the state says of its question, and the sets are within their limits
+-- each item has what the state says of its question, and the sets are within their limits; 256 reads leave room for that of the definition
 pub record AreItems (m : Versioned) (reads : List ReadItem) (ranges : List Range) (writes : List WriteItem) : Type 0 where
   pub reads_are : reads ≡ map (λ r. read_of m r.key) reads
   pub ranges_are : ranges ≡ map (λ g. range_of m (asked_of g)) ranges
+  pub read_count : length reads ≤ 256
   pub read_set : IsReadSet reads
   pub range_count : length ranges ≤ 16
   pub write_set : IsWriteSet writes

@@ -1,6 +1,6 @@
 //! The host that records what chaincode does.
 
-ghost use Rattle.std.specs.Prelude.{◌≡◌, ◌≤◌, ◌∷◌, ◌++◌, ℕ, List, IfOk, IfSome, length, map, option_map};
+ghost use Rattle.std.specs.Prelude.{◌≡◌, ◌≤◌, ◌∷◌, ◌++◌, ℕ, List, true, IfOk, IfSome, length, map, option_map};
 ghost use Rattle.std.specs.FinMap.{get};
 ghost use Rattle.std.specs.Map.Iter.{deref_pair};
 ghost use Rattle.fab_types.specs.Limits.{IsKey, IsBound, IsValue};
@@ -9,7 +9,7 @@ ghost use Rattle.wasm_validate.specs.HostCalls.{arity};
 ghost use Rattle.ledger_model.specs.Views.{values_of};
 ghost use Rattle.ledger_model.specs.Flags.{version_at};
 ghost use Rattle.host_api.specs.Recorded.{Recorded, nothing_recorded, seen_on};
-ghost use Rattle.host_api.specs.HostStep.{read_key, write, ask_range};
+ghost use Rattle.host_api.specs.HostStep.{is_key, read_key, write, ask_range};
 ghost use Rattle.host_api.specs.Recording.{read_reply, range_reply, key_and_value};
 ghost use Rattle.host_api.specs.Steps.{Steps, words_of};
 
@@ -19,10 +19,11 @@ use crate::ranges::{range_entries, range_reply};
 use crate::refusal::{Refusal, negative};
 use crate::view::View;
 use fab_types::limits::{
-    MOST_KEY_BYTES, MOST_RANGE_ENTRIES, MOST_RANGES, MOST_READS, MOST_VALUE_BYTES, MOST_WRITES,
+    MOST_CHAINCODE_READS, MOST_KEY_BYTES, MOST_RANGE_ENTRIES, MOST_RANGES, MOST_VALUE_BYTES,
+    MOST_WRITES,
 };
 use fab_types::{
-    Bound, Key, RangeItem, Ranges, ReadItem, ReadSet, Value, Version, WriteItem, WriteSet,
+    Bound, Key, RangeItem, Ranges, ReadItem, ReadSet, Value, Version, WriteItem, WriteSet, is_shown,
 };
 use interp::{Host, HostAnswer, HostCall};
 use std::alloc::{AllocError, Global};
@@ -161,7 +162,7 @@ impl<'v, V: View> Recorder<'v, V> {
         if span_bytes(memory, room).is_none() {
             return Ok(HostAnswer::OutOfBounds);
         }
-        if key.is_empty() || key.len() > MOST_KEY_BYTES {
+        if !is_key(key) {
             return Ok(negative(Refusal::KeyLength));
         }
         match self.read(key)? {
@@ -184,7 +185,7 @@ impl<'v, V: View> Recorder<'v, V> {
     {
         match search(&self.reads, key) {
             Ok(at) => Ok(Some(look_up(self.view, &self.reads[at].key).0)),
-            Err(_) if self.reads.len() == MOST_READS => Ok(None),
+            Err(_) if self.reads.len() == MOST_CHAINCODE_READS => Ok(None),
             Err(at) => {
                 let key = copied_key(self.alloc, key)?;
                 let (value, version) = look_up(self.view, &key);
@@ -207,7 +208,7 @@ impl<'v, V: View> Recorder<'v, V> {
         let Some(value) = span_bytes(memory, value) else {
             return Ok(HostAnswer::OutOfBounds);
         };
-        if key.is_empty() || key.len() > MOST_KEY_BYTES {
+        if !is_key(key) {
             return Ok(negative(Refusal::KeyLength));
         }
         if value.len() > MOST_VALUE_BYTES {
@@ -226,7 +227,7 @@ impl<'v, V: View> Recorder<'v, V> {
         let Some(key) = span_bytes(memory, key) else {
             return Ok(HostAnswer::OutOfBounds);
         };
-        if key.is_empty() || key.len() > MOST_KEY_BYTES {
+        if !is_key(key) {
             return Ok(negative(Refusal::KeyLength));
         }
         self.write(key, None)
@@ -366,6 +367,14 @@ fn look_up<'v, V: View>(view: &'v V, key: &Key) -> (Option<&'v Value>, Option<Ve
         Some((value, version)) => (Some(value), Some(version)),
         None => (None, None),
     }
+}
+
+/// Whether chaincode may name these bytes as a key: 1 to 64, of which the first is not 0.
+fn is_key(bytes: &[u8]) -> bool
+    ensures value { result ≡ is_key bytes.now }
+    ensures limits { result ≡ true → IsKey bytes.now }
+{
+    !bytes.is_empty() && bytes.len() <= MOST_KEY_BYTES && is_shown(bytes)
 }
 
 /// A key of these bytes.

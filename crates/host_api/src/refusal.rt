@@ -11,7 +11,7 @@ use wasm_ast::HostAnswer;
 pub enum Refusal {
     /// The key is absent.
     Absent,
-    /// A key or a bound has a wrong length.
+    /// A key or a bound has a wrong length, or a key begins with the byte 0.
     KeyLength,
     /// There is no room for one more key or range.
     NoRoom,

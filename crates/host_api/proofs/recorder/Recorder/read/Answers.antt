@@ -24,7 +24,7 @@ invariant_of-self-in-Err-2 g c =
     (c.in-Err.ensures ∙ ap (found_at (λ (r : ReadItem). r.key) c.args.key.now) c.deref.ensures.value) in
     let item : ReadItem = record { key = c.in_ok-key-in-Err-2.key; version = c.look_up-version.result.1 } in
     let new = c.in_ok-insert-in-Err-2.ensures.items ∙ gap.put item c.in_ok-key-in-Err-2.ensures in
-    let count = one_more 256 (length reads) c.self.invariant.read_set.count (λ e. c.if-len-eq-MOST_READS.false (omega (arith, e, c.len.ensures)))
+    let count = one_more 256 (length reads) c.self.invariant.read_count (λ e. c.if-len-eq-MOST_CHAINCODE_READS.false (omega (arith, e, c.len.ensures)))
     (ap length new ∙ grown (λ (r : ReadItem). r.key) c.args.key.now reads _ gap item c.in_ok-key-in-Err-2.ensures) in
     items_read _ reads c.self.inside.ranges.items c.self.inside.writes.items c.self.invariant item
     (λ i. record { key = c.in_ok-key-in-Err-2.key; version = c.look_up-version.ensures.version i }) _ new count
@@ -39,7 +39,7 @@ returns-in-Ok-clause-answer g c =
     subst (λ (r : Recording _). (target capacity : ℕ) (memory : List ℕ) →
     read_key (values_of (g.V.View.state r.opened.view)) c.args.key.now target capacity memory r.records ≡
     value_reply (option_map (λ v. v.now) c.look_up.result.0) target capacity memory r.records) c.self.view_is (λ target capacity memory.
-    read_again _ c.args.key.now reads c.self.inside.ranges.items c.self.inside.result c.self.inside.writes.items c.self.invariant.read_set.count found.keys
+    read_again _ c.args.key.now reads c.self.inside.ranges.items c.self.inside.result c.self.inside.writes.items c.self.invariant.read_count found.keys
     target capacity memory
     ∙ ap (λ v. value_reply v target capacity memory (recorded_of reads c.self.inside.ranges.items c.self.inside.result c.self.inside.writes.items)) value)
 
@@ -50,7 +50,7 @@ returns-in-Err-clause-answer g c =
     (c.in-Err.ensures ∙ ap (found_at (λ (r : ReadItem). r.key) c.args.key.now) c.deref.ensures.value) in
     let item : ReadItem = record { key = c.args.key.now; version = None } in
     let full : length (with_item (λ r. r.key) item reads) ≡ 257 =
-    omega (arith, grown (λ (r : ReadItem). r.key) c.args.key.now reads _ gap item refl, c.len.ensures, c.if-len-eq-MOST_READS.true) in
+    omega (arith, grown (λ (r : ReadItem). r.key) c.args.key.now reads _ gap item refl, c.len.ensures, c.if-len-eq-MOST_CHAINCODE_READS.true) in
     subst (λ (r : Recording _). (target capacity : ℕ) (memory : List ℕ) →
     read_key (values_of (g.V.View.state r.opened.view)) c.args.key.now target capacity memory r.records ≡ refuses refusal.NoRoom memory r.records)
     c.self.view_is (read_full _ c.args.key.now reads c.self.inside.ranges.items c.self.inside.result c.self.inside.writes.items item refl full)
@@ -62,7 +62,7 @@ returns-in_ok-insert-in-Err-2-clause-answer g c =
     (c.in-Err.ensures ∙ ap (found_at (λ (r : ReadItem). r.key) c.args.key.now) c.deref.ensures.value) in
     let item : ReadItem = record { key = c.in_ok-key-in-Err-2.key; version = c.look_up-version.result.1 } in
     let new = c.in_ok-insert-in-Err-2.ensures.items ∙ gap.put item c.in_ok-key-in-Err-2.ensures in
-    let count = one_more 256 (length reads) c.self.invariant.read_set.count (λ e. c.if-len-eq-MOST_READS.false (omega (arith, e, c.len.ensures)))
+    let count = one_more 256 (length reads) c.self.invariant.read_count (λ e. c.if-len-eq-MOST_CHAINCODE_READS.false (omega (arith, e, c.len.ensures)))
     (ap length new ∙ grown (λ (r : ReadItem). r.key) c.args.key.now reads _ gap item c.in_ok-key-in-Err-2.ensures) in
     let after = recorded_of c.insert.new.self.items c.self.inside.ranges.items c.self.inside.result c.self.inside.writes.items in
     let value = ap (get (values_of (g.V.View.state c.self.inside.view.now))) (sym c.in_ok-key-in-Err-2.ensures) ∙ sym c.look_up-version.ensures.value in
