@@ -11,7 +11,7 @@ use Rattle.fab_types.specs.declared.payload.Proposal.{Proposal}
 use Rattle.batch_cutter.specs.Division.{Limits, Mark, message, timeout}
 use Rattle.ledger_model.specs.Chain.{Bytes, Envelope, Committed, Chain, Placed, transactions_from, history}
 use Rattle.ledger_model.specs.State.{state}
-use Rattle.ledger_model.specs.Judged.{FlagRule, by_table, judge, judge_onto, judged_chain}
+use Rattle.ledger_model.specs.Judged.{BlockRule, table, judge, judge_onto, judged_chain}
 use Rattle.ledger_model.specs.Legal.{DiffersBefore}
 use Rattle.ledger_model.proofs.Kept.{block_legal}
 use Rattle.orderer.specs.Arranged.{plans_of}
@@ -115,13 +115,13 @@ older_more before next old here k c there =
           (subst (λ (d : Committed). IsOlderAt before (k + 1) d) last.1 (subst (λ (n : ℕ). IsOlderAt before (n + 1) next) (sym last.0) here))
     ]
 
-onto_older : (id : Proposal → Bytes) (endorsed : Envelope → Bool) (before : Chain) (blocks : List Block) → AreLegal blocks → ConflictsAreOlder before →
-    ConflictsAreOlder (judge_onto (by_table id endorsed) before blocks)
+onto_older : (id : Proposal → Bytes) (endorsed : List Placed → Envelope → Bool) (before : Chain) (blocks : List Block) → AreLegal blocks →
+    ConflictsAreOlder before → ConflictsAreOlder (judge_onto (table id endorsed) before blocks)
 onto_older id endorsed before [] are old = old
 onto_older id endorsed before (b ∷ blocks) are old =
-    let next : Committed = record { block = b; flags = judge (by_table id endorsed) (history before) (length before + 1) 0 b.envelopes } in
+    let next : Committed = record { block = b; flags = judge (table id endorsed (history before)) (history before) (length before + 1) 0 b.envelopes } in
     onto_older id endorsed (before ++ next ∷ []) blocks are.1
-    (older_more before next old (block_legal id endorsed (history before) (length before + 1) b.envelopes are.0))
+    (older_more before next old (block_legal id (endorsed (history before)) (history before) (length before + 1) b.envelopes are.0))
 
 no_block : {A : Type 0} (k : ℕ) (c : Committed) → slice_get [] k ≡ Some c → A
 no_block k c e = absurd (cc)
@@ -132,17 +132,17 @@ none_older k c there = no_block k c there
 same_Some : {X : Type 0} (x y : X) → Some x ≡ Some y → x ≡ y
 same_Some x y e = cc
 
-older_if : (id : Proposal → Bytes) (endorsed : Envelope → Bool) (r : Rules) (w : World) (o : Option PeerState) (chain : Chain) → r.rule ≡ by_table id endorsed →
-    AreLegal w.orderer.chain → option_map (λ q. chain_at r w q.height) o ≡ Some chain → ConflictsAreOlder chain
+older_if : (id : Proposal → Bytes) (endorsed : List Placed → Envelope → Bool) (r : Rules) (w : World) (o : Option PeerState) (chain : Chain) →
+    r.rule ≡ table id endorsed → AreLegal w.orderer.chain → option_map (λ q. chain_at r w q.height) o ≡ Some chain → ConflictsAreOlder chain
 older_if id endorsed r w None chain rule are is = absurd (cc)
 older_if id endorsed r w (Some q) chain rule are is =
     subst ConflictsAreOlder (same_Some _ _ is)
-    (subst (λ (u : FlagRule). ConflictsAreOlder (chain_of_first u w.orderer.chain q.height)) (sym rule)
+    (subst (λ (u : BlockRule). ConflictsAreOlder (chain_of_first u w.orderer.chain q.height)) (sym rule)
     (onto_older id endorsed [] (take q.height w.orderer.chain) (take_legal q.height w.orderer.chain are) none_older))
 
 -- so it is with each chain of a run
-pub older_run : (id : Proposal → Bytes) (endorsed : Envelope → Bool) (r : Rules) (orgs : List Bytes) (seats : ℕ) (limits : Limits) (reorder : Bool)
-    (events : List Event) (replies : List Reply) (w : World) (refused : Bool) → r.rule ≡ by_table id endorsed →
+pub older_run : (id : Proposal → Bytes) (endorsed : List Placed → Envelope → Bool) (r : Rules) (orgs : List Bytes) (seats : ℕ) (limits : Limits)
+    (reorder : Bool) (events : List Event) (replies : List Reply) (w : World) (refused : Bool) → r.rule ≡ table id endorsed →
     IsRun r orgs seats limits reorder events replies w refused → reorder ≡ true → (peer : ℕ) (chain : Chain) → chain_of r w peer ≡ Some chain →
     ConflictsAreOlder chain
 older_run id endorsed r orgs seats limits reorder events replies w refused rule run on peer chain is =

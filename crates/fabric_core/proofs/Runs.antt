@@ -1,18 +1,18 @@
 -- What is handed out in a run was made on a chain that the run's chain begins, or that begins it.
 use Rattle.std.proofs.Common.{◌≡◌, ℕ, zero, suc, ◌+◌, Bool, true, false, cond, List, [], ◌∷◌, ◌++◌, map, take, drop, length, Option, Some, None, Result, Ok}
 use Rattle.std.proofs.Common.{Err, option_map, refl, sym, ap, ◌∙◌, subst, ◌⊎◌, inl, inr, append_assoc, append-nil, slice_get, nat_lt, ◌≤◌, ◌<◌, arith, OnOk}
-use Rattle.std.proofs.Common.{OnErr, is_err}
+use Rattle.std.proofs.Common.{OnErr, is_err, length-append}
 use Rattle.std.proofs.lemmas.List.{take-append-drop}
 use Rattle.fab_types.specs.declared.payload.Proposal.{Proposal}
 use Rattle.fab_types.specs.declared.payload.Payload.{Payload}
-use Rattle.ledger_model.specs.Chain.{Bytes, Envelope, Committed, Valid, MvccReadConflict, Chain, Placed, history}
+use Rattle.ledger_model.specs.Chain.{Bytes, Envelope, Committed, Valid, MvccReadConflict, Chain, Placed, placed_from, history}
 use Rattle.ledger_model.specs.Views.{Versioned, Plain, values_of}
 use Rattle.mvcc_validate.specs.Current.{is_current}
 use Rattle.ledger_model.specs.State.{state}
 use Rattle.ledger_model.specs.Flags.{reads_current, ranges_current}
 use Rattle.ledger_model.specs.Execution.{Unknown, Trapped, Spent, Status, Done, Exec, ReadsAlone, payload_of, range_item}
 use Rattle.ledger_model.specs.Serial.{IsPrefix, IsHandedOut, AllHandedOut}
-use Rattle.ledger_model.specs.Judged.{FlagRule, HasFlagsBy, IsCurrent, AllCurrent, AllEndorsed, judged_chain}
+use Rattle.ledger_model.specs.Judged.{BlockRule, IsCurrent, AllCurrent, AllEndorsed, AreEndorsed, block_of, judged_chain}
 use Rattle.fab_types.specs.declared.block.Block.{Block}
 use Rattle.fab_types.specs.declared.envelope.Endorsement.{Endorsement}
 use Rattle.wire.specs.Ids.{id_of}
@@ -53,13 +53,13 @@ both_begin {X} (x ∷ a) (y ∷ b) r s e =
       | inr g ↦ inr (g.0, λ i. sym h i ∷ g.1 i)
     ]
 
-chain_grows : (rule : FlagRule) (front whole : List Block) → Begins front whole → IsPrefix (judged_chain rule front) (judged_chain rule whole)
+chain_grows : (rule : BlockRule) (front whole : List Block) → Begins front whole → IsPrefix (judged_chain rule front) (judged_chain rule whole)
 chain_grows rule front whole h =
     let more = judged_grows rule (judged_chain rule front) h.0 in
     (more.0, more.1 ∙ sym (judged_onto-append rule [] front h.0) ∙ ap (judged_chain rule) h.1)
 
 -- two chains of beginnings of the same blocks
-chains_joined : (rule : FlagRule) (a b whole : List Block) → Begins a whole → Begins b whole →
+chains_joined : (rule : BlockRule) (a b whole : List Block) → Begins a whole → Begins b whole →
     IsPrefix (judged_chain rule a) (judged_chain rule b) ⊎ IsPrefix (judged_chain rule b) (judged_chain rule a)
 chains_joined rule a b whole f g =
     elim (both_begin a b f.0 g.0 (f.1 ∙ sym g.1)) [ inl h ↦ inl (chain_grows rule a b h) | inr h ↦ inr (chain_grows rule b a h) ]
@@ -250,11 +250,12 @@ all_handed_out is_right r w es replies new steps n (t ∷ ts) h = (
   all_handed_out is_right r w es replies new steps n ts h.1,
 )
 
--- where no tag was forged, those that a policy wants were handed out
-genuine_of : (listed : Listed) (replies : List Reply) (ts : List Placed) → ((e : Envelope) → is_endorsed listed e ≡ true → CarriesRight listed.orgs e) →
-    AllEndorsed (is_endorsed listed) ts → IsUnforged (is_right listed.orgs) replies ts → IsGenuine (is_right listed.orgs) replies ts
-genuine_of listed replies [] carries h k = tt
-genuine_of listed replies (t ∷ ts) carries h k = (
+-- where no tag was forged, those that a policy wants were handed out: in a block, and then in what follows it
+genuine_first : (listed : Listed) (endorsed : Envelope → Bool) (replies : List Reply) (ts us : List Placed) →
+    ((e : Envelope) → endorsed e ≡ true → CarriesRight listed.orgs e) → AllEndorsed endorsed ts → IsUnforged (is_right listed.orgs) replies (ts ++ us) →
+    (IsUnforged (is_right listed.orgs) replies us → IsGenuine (is_right listed.orgs) replies us) → IsGenuine (is_right listed.orgs) replies (ts ++ us)
+genuine_first listed endorsed replies [] us carries h k rest = rest k
+genuine_first listed endorsed replies (t ∷ ts) us carries h k rest = (
   (λ v.
       let c = carries t.envelope (h.0 v) in
       record {
@@ -263,8 +264,23 @@ genuine_of listed replies (t ∷ ts) carries h k = (
         right = c.right;
         given = k.0 v c.endorsement (c.place, c.stands) c.right;
       }),
-  genuine_of listed replies ts carries h.1 k.1,
+  genuine_first listed endorsed replies ts us carries h.1 k.1 rest,
 )
+
+-- block by block, by the policies that hold before each
+genuine_of : (listed : Listed) (endorsed : List Placed → Envelope → Bool) (replies : List Reply) (before chain : Chain) →
+    ((ts : List Placed) (e : Envelope) → endorsed ts e ≡ true → CarriesRight listed.orgs e) → AreEndorsed endorsed before chain →
+    IsUnforged (is_right listed.orgs) replies (placed_from (length before + 1) chain) →
+    IsGenuine (is_right listed.orgs) replies (placed_from (length before + 1) chain)
+genuine_of listed endorsed replies before [] carries h k = tt
+genuine_of listed endorsed replies before (c ∷ cs) carries h k =
+    let ts = history before in
+    let longer = length-append before (c ∷ []) in
+    let next : length (before ++ c ∷ []) + 1 ≡ suc (length before + 1) = omega (arith, longer) in
+    genuine_first listed (endorsed ts) replies (block_of before c) (placed_from (suc (length before + 1)) cs) (carries ts) h.0 k
+    (λ u. subst (λ n. IsGenuine (is_right listed.orgs) replies (placed_from n cs)) next
+    (genuine_of listed endorsed replies (before ++ c ∷ []) cs carries h.1
+    (subst (λ n. IsUnforged (is_right listed.orgs) replies (placed_from n cs)) (sym next) u)))
 
 -- the chain of a height is honest
 honest_at : (exec : Exec) → ReadsAlone exec → (listed : Listed) → ((e : Envelope) → is_endorsed listed e ≡ true → CarriesRight listed.orgs e) →
@@ -279,10 +295,12 @@ honest_at exec alone listed carries capacity w es replies new steps n =
       flags = flags;
       serial = λ genuine.
           let handed = all_handed_out (is_right listed.orgs) r w es replies new steps n (history chain) genuine in
-          let now = judged_current id_of (is_endorsed listed) [] (history chain) flags in
+          let now = judged_current id_of (λ before. is_endorsed listed) chain flags in
           let both = reruns_and_map exec chain alone now handed in
           record { agree = both.0; same = reruns_same exec chain alone now handed; map = both.1 };
-      genuine = λ unforged. genuine_of listed replies (history chain) carries (judged_endorsed id_of (is_endorsed listed) [] (history chain) flags) unforged;
+      genuine = λ unforged.
+          let endorsed = judged_endorsed id_of (λ before. is_endorsed listed) [] chain flags in
+          genuine_of listed (λ before. is_endorsed listed) replies [] chain (λ before. carries) endorsed unforged;
     }
 
 honest_if : (exec : Exec) → ReadsAlone exec → (listed : Listed) → ((e : Envelope) → is_endorsed listed e ≡ true → CarriesRight listed.orgs e) →

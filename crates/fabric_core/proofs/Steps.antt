@@ -12,7 +12,7 @@ use Rattle.ledger_model.specs.Execution.{Exec}
 use Rattle.fab_types.specs.declared.block.Block.{Block}
 use Rattle.fab_types.specs.declared.envelope.Endorsement.{Endorsement}
 use Rattle.endorsement_policy.specs.Endorsed.{Listed}
-use Rattle.ledger_model.specs.Judged.{FlagRule, judge}
+use Rattle.ledger_model.specs.Judged.{BlockRule, judge}
 use Rattle.std.specs.Option.{option_to_list}
 use Rattle.batch_cutter.specs.Division.{Mark, timeout}
 use Rattle.orderer.specs.Ordering.{Ordering, Takes}
@@ -113,7 +113,7 @@ either_way X P Q (Err e) f g h k = g k
 -- peers stay right as blocks are appended
 pub blocks_more : (listed : Listed) (peers : List Peer) (blocks more : List Block) → IsRight listed peers blocks → IsRight listed peers (blocks ++ more)
 blocks_more listed peers blocks more right =
-    let rule : FlagRule = table_of listed in
+    let rule : BlockRule = table_of listed in
     let old = chain_of_first rule blocks in
     let new = chain_of_first rule (blocks ++ more) in
     let first : (c : Chain) → IsFirst old c → IsFirst new c = λ c h. stays rule blocks more c h in
@@ -134,16 +134,17 @@ pub timed_right : (listed : Listed) (peers : List Peer) (old : Ordering) (report
 timed_right listed peers old report new right takes = mark_right listed peers old timeout (option_to_list report) new right takes
 
 -- a peer with the next block
-pub committed : (rule : FlagRule) (blocks : List Block) (old new : Peer) (b : Block) (reply : Reply) → IsPeerRight (chain_of_first rule blocks) old →
+pub committed : (rule : BlockRule) (blocks : List Block) (old new : Peer) (b : Block) (reply : Reply) → IsPeerRight (chain_of_first rule blocks) old →
     slice_get blocks (length old.snapshot.value) ≡ Some b →
-    reply ≡ IsCommitted (length old.snapshot.value + 1) (judge rule (history old.snapshot.value) (length old.snapshot.value + 1) 0 b.envelopes) →
+    reply ≡ IsCommitted (length old.snapshot.value + 1)
+    (judge (rule (history old.snapshot.value)) (history old.snapshot.value) (length old.snapshot.value + 1) 0 b.envelopes) →
     new.snapshot.value ≡ old.snapshot.value ++
-    record { block = b; flags = judge rule (history old.snapshot.value) (length old.snapshot.value + 1) 0 b.envelopes } ∷ [] →
+    record { block = b; flags = judge (rule (history old.snapshot.value)) (history old.snapshot.value) (length old.snapshot.value + 1) 0 b.envelopes } ∷ [] →
     new.seats.items ≡ old.seats.items → new.org ≡ old.org →
     (commit (chain_of_first rule blocks) (peer_of old) ≡ (reply, peer_of new)) × IsPeerRight (chain_of_first rule blocks) new
 committed rule blocks old new b reply right there told made seats org =
     let c = old.snapshot.value in
-    let next : Committed = record { block = b; flags = judge rule (history c) (length c + 1) 0 b.envelopes } in
+    let next : Committed = record { block = b; flags = judge (rule (history c)) (history c) (length c + 1) 0 b.envelopes } in
     let chain : chain_of_first rule blocks (length c + 1) ≡ c ++ next ∷ [] = next_chain rule blocks c b right.kept there in
     let got : slice_get (chain_of_first rule blocks (length c + 1)) (length c) ≡ Some next = ap (λ d. slice_get d (length c)) chain ∙ last_of c next in
     let tall : length new.snapshot.value ≡ length c + 1 = ap (λ d. length d) made ∙ length-append c (next ∷ []) in (
@@ -155,7 +156,7 @@ committed rule blocks old new b reply right there told made seats org =
     )
 
 -- with nothing left to commit
-pub committed_none : (rule : FlagRule) (blocks : List Block) (p : PeerState) → length blocks ≤ p.height → commit (chain_of_first rule blocks) p ≡ (Nothing, p)
+pub committed_none : (rule : BlockRule) (blocks : List Block) (p : PeerState) → length blocks ≤ p.height → commit (chain_of_first rule blocks) p ≡ (Nothing, p)
 committed_none rule blocks p short = ap (commit_next p) (past_end rule blocks p.height short)
 
 pub free_seats : (n : ℕ) → seats_of (replicate n None) ≡ replicate n None
@@ -167,12 +168,13 @@ free_right chain zero = tt
 free_right chain (suc n) = (tt, free_right chain n)
 
 -- what committing at a peer leaves, whether memory was refused or not
-pub commit_all : {E : Type 0} (rule : FlagRule) (blocks : List Block) (old new : Peer) (b : Block) (r : Result Reply E) →
+pub commit_all : {E : Type 0} (rule : BlockRule) (blocks : List Block) (old new : Peer) (b : Block) (r : Result Reply E) →
     IsPeerRight (chain_of_first rule blocks) old → slice_get blocks (length old.snapshot.value) ≡ Some b →
     IfOk r (λ reply. reply ≡
-    IsCommitted (length old.snapshot.value + 1) (judge rule (history old.snapshot.value) (length old.snapshot.value + 1) 0 b.envelopes)) →
+    IsCommitted (length old.snapshot.value + 1)
+    (judge (rule (history old.snapshot.value)) (history old.snapshot.value) (length old.snapshot.value + 1) 0 b.envelopes)) →
     IfOk r (λ reply. new.snapshot.value ≡ old.snapshot.value ++
-    record { block = b; flags = judge rule (history old.snapshot.value) (length old.snapshot.value + 1) 0 b.envelopes } ∷ []) →
+    record { block = b; flags = judge (rule (history old.snapshot.value)) (history old.snapshot.value) (length old.snapshot.value + 1) 0 b.envelopes } ∷ []) →
     new.seats.items ≡ old.seats.items → new.org ≡ old.org → OnErr r (new ≡ old) →
     IfOk r (λ reply. commit (chain_of_first rule blocks) (peer_of old) ≡ (reply, peer_of new)) × IsPeerRight (chain_of_first rule blocks) new
 commit_all rule blocks old new b (Ok reply) right there told made seats org same = committed rule blocks old new b reply right there told made seats org

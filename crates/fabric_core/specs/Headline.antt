@@ -10,7 +10,7 @@ use Rattle.ledger_model.specs.Views.{values_of}
 use Rattle.ledger_model.specs.State.{state}
 use Rattle.ledger_model.specs.Execution.{Exec}
 use Rattle.ledger_model.specs.Serial.{AllAgree, AllSame, serial}
-use Rattle.ledger_model.specs.Judged.{FlagRule, HasFlagsBy}
+use Rattle.ledger_model.specs.Judged.{BlockRule, AreFlagsBy}
 use Rattle.batch_cutter.specs.Division.{Limits, Mark, message, timeout}
 use Rattle.orderer.specs.Ordering.{IsOrdered}
 use Rattle.fabric_core.specs.System.{Rules, World, Event, Submit, Take, Tick, Reply, Queued, TooLarge, NoBlockLeft, Endorsed, opening, AreSteps}
@@ -90,8 +90,8 @@ pub record IsSerial (exec : Exec) (chain : Chain) : Type 0 where
 
 -- A chain of a run: each flag is the rule's, where each VALID transaction has a tag that was handed out it
 -- is serial, and they have where no tag was forged.
-pub record IsHonest (exec : Exec) (rule : FlagRule) (is_right : Payload → Endorsement → Bool) (replies : List Reply) (chain : Chain) : Type 0 where
-  pub flags : HasFlagsBy rule [] (history chain)
+pub record IsHonest (exec : Exec) (rule : BlockRule) (is_right : Payload → Endorsement → Bool) (replies : List Reply) (chain : Chain) : Type 0 where
+  pub flags : AreFlagsBy rule [] chain
   pub serial : IsGenuine is_right replies (history chain) → IsSerial exec chain
   pub genuine : IsUnforged is_right replies (history chain) → IsGenuine is_right replies (history chain)
 

@@ -15,7 +15,7 @@ use Rattle.ledger_model.specs.Views.{Versioned}
 use Rattle.ledger_model.specs.State.{state}
 use Rattle.mvcc_validate.specs.Current.{is_current}
 use Rattle.ledger_model.specs.Execution.{Exec}
-use Rattle.ledger_model.specs.Judged.{FlagRule, judged_chain}
+use Rattle.ledger_model.specs.Judged.{BlockRule, judged_chain}
 pub use Rattle.fabric_core.specs.declared.event.Event.{Event}
 pub use Rattle.fabric_core.specs.declared.event.Event.TheVariants.{Begin, Finish, Submit, Take, Tick, Commit}
 pub use Rattle.fabric_core.specs.declared.event.Reply.{Reply}
@@ -28,7 +28,7 @@ use Rattle.simulator.specs.Answers.{payload_or_refusal}
 -- what the genesis fixes
 pub record Rules : Type 0 where
   pub exec : Exec
-  pub rule : FlagRule
+  pub rule : BlockRule
   -- what a peer of an organisation puts on a payload
   pub seal : Bytes → Payload → Endorsement
   -- how many envelopes the queue holds
@@ -65,7 +65,7 @@ opening orgs seats limits reorder =
     record { peers = map (fresh seats) orgs; queue = []; orderer = fresh_orderer limits reorder }
 
 -- the first n of these blocks, with their flags
-abbrev pub chain_of_first : FlagRule → List Block → ℕ → Chain
+abbrev pub chain_of_first : BlockRule → List Block → ℕ → Chain
 chain_of_first rule blocks n = judged_chain rule (take n blocks)
 
 -- all peers' chains are first blocks of the one orderer's

@@ -51,7 +51,7 @@ fn extended(
         ≡ snapshot.now ++
         record {
           block = block;
-          flags = judge (table_of rules.now) (history snapshot.now)
+          flags = judge (table_of rules.now (history snapshot.now)) (history snapshot.now)
               (length snapshot.now + 1) 0 block.envelopes;
         } ∷
         []) }
@@ -197,15 +197,17 @@ impl Peer {
         ensures reply { IfOk result
             (λ reply. reply
             ≡ IsCommitted (length self.old.snapshot.value + 1)
-            (judge (table_of rules.now) (history self.old.snapshot.value)
-            (length self.old.snapshot.value + 1) 0 block.envelopes)) }
+            (judge (table_of rules.now (history self.old.snapshot.value))
+            (history self.old.snapshot.value) (length self.old.snapshot.value + 1) 0
+            block.envelopes)) }
         ensures chain { IfOk result
             (λ _. self.new.snapshot.value
             ≡ self.old.snapshot.value ++
             record {
               block = block;
-              flags = judge (table_of rules.now) (history self.old.snapshot.value)
-                  (length self.old.snapshot.value + 1) 0 block.envelopes;
+              flags = judge (table_of rules.now (history self.old.snapshot.value))
+                  (history self.old.snapshot.value) (length self.old.snapshot.value + 1) 0
+                  block.envelopes;
             } ∷
             []) }
         ensures seats { self.new.seats ≡ self.old.seats }

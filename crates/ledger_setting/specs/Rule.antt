@@ -5,11 +5,11 @@ use Rattle.fab_types.specs.declared.envelope.Endorsement.{Endorsement}
 use Rattle.wire.specs.Ids.{id_of}
 use Rattle.endorsement_policy.specs.Endorsed.{Listed, is_endorsed, endorsement_by, key_of}
 use Rattle.ledger_model.specs.Chain.{Bytes}
-use Rattle.ledger_model.specs.Judged.{FlagRule, by_table}
+use Rattle.ledger_model.specs.Judged.{BlockRule, table}
 
--- the table, where the genesis lists the organisations and policies
-abbrev pub table_of : Listed → FlagRule
-table_of listed = by_table id_of (is_endorsed listed)
+-- the table, where the genesis lists the organisations and policies: no block changes what is listed
+abbrev pub table_of : Listed → BlockRule
+table_of listed = table id_of (λ before. is_endorsed listed)
 
 -- the tag of an organisation under its key
 abbrev pub seal_of : Listed → Bytes → Payload → Endorsement

@@ -29,7 +29,7 @@ pub fn commit_checked(
         ≡ snapshot.now ++
         record {
           block = block;
-          flags = judge (table_of rules.now) (history snapshot.now)
+          flags = judge (table_of rules.now (history snapshot.now)) (history snapshot.now)
               (length snapshot.now + 1) 0 block.envelopes;
         } ∷
         []) }

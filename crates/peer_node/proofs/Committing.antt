@@ -20,8 +20,8 @@ committed listed chain shown b endorsed same all fits =
     let es = b.envelopes in
     let ts = history shown in
     let number : b.header.number ≡ length shown + 1 = omega (arith, fits.number, length_map (λ x. x.block) shown) in
-    let flags : flags_told id_of ts b.header.number 0 es endorsed ≡ judge (table_of listed) ts (length shown + 1) 0 es =
+    let flags : flags_told id_of ts b.header.number 0 es endorsed ≡ judge (table_of listed ts) ts (length shown + 1) 0 es =
     ap (flags_told id_of ts b.header.number 0 es) all ∙ told_judged id_of (is_endorsed listed) ts b.header.number 0 es ∙
-    ap (λ (n : ℕ). judge (table_of listed) ts n 0 es) number
+    ap (λ (n : ℕ). judge (table_of listed ts) ts n 0 es) number
     in
     ap (λ (fs : List Flag). shown ++ record { block = b; flags = fs } ∷ []) flags ∙ ap (λ (c : Chain). c ++ next_by listed c b ∷ []) same

@@ -1,7 +1,7 @@
 -- The numbers of refusals, which refusal a seat hands on, and what the refusal of a peer that comes back says.
 use Rattle.std.specs.Prelude.{ℕ, List}
 use Rattle.fab_types.specs.Committed.{Committed}
-use Rattle.ledger_model.specs.Judged.{FlagRule}
+use Rattle.ledger_model.specs.Judged.{BlockRule}
 use Rattle.simulator.specs.RefusalNumber.{refusal_number}
 use Rattle.simulator.specs.declared.refusal.SimRefusal.TheVariants.{Memory}
 use Rattle.snapshot_cell.specs.declared.refusal.TakeRefusal.{TakeRefusal}
@@ -31,6 +31,6 @@ reopen_number (Stored r) = recommit_number r
 reopen_number (Open r) = open_number r
 
 -- of a place in the cell nothing is said
-abbrev pub IsReopenRefused : FlagRule → List Committed → ReopenRefusal → Type 0
+abbrev pub IsReopenRefused : BlockRule → List Committed → ReopenRefusal → Type 0
 IsReopenRefused rule records (Stored r) = IsRecommitRefused rule records r
 IsReopenRefused rule records (Open r) = Unit {0}

@@ -19,4 +19,4 @@ peer_of_writer w = cell.cell_of_writer w.cell
 
 -- the block that comes next in a chain, its transactions marked by the table
 abbrev pub next_by : Listed → Chain → Block → Committed
-next_by listed chain b = record { block = b; flags = judge (table_of listed) (history chain) (length chain + 1) 0 b.envelopes }
+next_by listed chain b = record { block = b; flags = judge (table_of listed (history chain)) (history chain) (length chain + 1) 0 b.envelopes }

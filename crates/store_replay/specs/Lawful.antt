@@ -2,20 +2,20 @@
 use Rattle.std.specs.Prelude.{◌≡◌, ℕ, true, false, List, [], ◌∷◌, ◌++◌, ◌+◌, length}
 use Rattle.fab_types.specs.Committed.{Committed}
 use Rattle.ledger_model.specs.Chain.{Chain}
-use Rattle.ledger_model.specs.Judged.{FlagRule}
+use Rattle.ledger_model.specs.Judged.{BlockRule}
 use Rattle.committer.specs.Fits.{Fits, blocks_of}
 use Rattle.store_replay.specs.Replay.{HasTheFlags, IsUnfit}
 use Rattle.store_replay.specs.declared.refusal.RecommitRefusal.{RecommitRefusal}
 use Rattle.store_replay.specs.declared.refusal.RecommitRefusal.TheVariants.{Memory, Unfit, Flags}
 
 -- behind `chain` each of these blocks is the next one, and has the rule's flags
-abbrev pub AreLawful : FlagRule → Chain → List Committed → Type 0
+abbrev pub AreLawful : BlockRule → Chain → List Committed → Type 0
 AreLawful rule chain [] = Unit {0}
 AreLawful rule chain (c ∷ cs) =
     Fits (blocks_of chain) c.block × HasTheFlags rule chain c true × AreLawful rule (chain ++ c ∷ []) cs
 
 -- the block of this number is the first for which something is wrong, and this is true of it and of the chain before it
-pub record StopsAt (rule : FlagRule) (records : List Committed) (number : ℕ) (Wrong : Chain → Committed → Type 0) : Type 0 where
+pub record StopsAt (rule : BlockRule) (records : List Committed) (number : ℕ) (Wrong : Chain → Committed → Type 0) : Type 0 where
   pub before : Chain
   pub first : Committed
   pub after : List Committed
@@ -25,7 +25,7 @@ pub record StopsAt (rule : FlagRule) (records : List Committed) (number : ℕ) (
   pub wrong : Wrong before first
 
 -- what a refusal says of stored blocks; for want of memory nothing is said
-abbrev pub IsRecommitRefused : FlagRule → List Committed → RecommitRefusal → Type 0
+abbrev pub IsRecommitRefused : BlockRule → List Committed → RecommitRefusal → Type 0
 IsRecommitRefused rule records Memory = Unit {0}
 IsRecommitRefused rule records (Unfit number cause) = StopsAt rule records number (λ before c. IsUnfit before c cause)
 IsRecommitRefused rule records (Flags number) =

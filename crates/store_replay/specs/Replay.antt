@@ -2,7 +2,7 @@
 use Rattle.std.specs.Prelude.{◌≡◌, ◌≢◌, ℕ, Bool, true, false, ◌⊎◌, Option, Some, None, List, [], ◌∷◌, ◌++◌, ◌+◌, length}
 use Rattle.fab_types.specs.Committed.{Committed}
 use Rattle.ledger_model.specs.Chain.{Chain, history}
-use Rattle.ledger_model.specs.Judged.{FlagRule, judge}
+use Rattle.ledger_model.specs.Judged.{BlockRule, judge}
 use Rattle.committer.specs.Fits.{Fits, IsRefused, blocks_of}
 use Rattle.committer.specs.declared.refusal.CommitRefusal.{CommitRefusal}
 use Rattle.committer.specs.declared.refusal.CommitRefusal.TheVariants.{OutOfMemory}
@@ -12,16 +12,16 @@ use Rattle.store_replay.specs.declared.replaying.Pushed.TheVariants as pushed
 use Rattle.store_replay.specs.declared.replaying.Replayed.{Replayed}
 
 -- the block of a record behind a chain, with the flags of the rule
-abbrev pub judged_behind : FlagRule → Chain → Committed → Committed
+abbrev pub judged_behind : BlockRule → Chain → Committed → Committed
 judged_behind rule chain c =
-    record { block = c.block; flags = judge rule (history chain) (length chain + 1) 0 c.block.envelopes }
+    record { block = c.block; flags = judge (rule (history chain)) (history chain) (length chain + 1) 0 c.block.envelopes }
 
 -- a block does not fit, for this cause
 abbrev pub IsUnfit : Chain → Committed → CommitRefusal → Type 0
 IsUnfit chain c cause = (cause ≢ OutOfMemory) × IsRefused cause (blocks_of chain) c.block
 
 -- whether the record has the rule's flags
-abbrev pub HasTheFlags : FlagRule → Chain → Committed → Bool → Type 0
+abbrev pub HasTheFlags : BlockRule → Chain → Committed → Bool → Type 0
 HasTheFlags rule chain c true = c.flags ≡ (judged_behind rule chain c).flags
 HasTheFlags rule chain c false = c.flags ≢ (judged_behind rule chain c).flags
 
@@ -37,7 +37,7 @@ earlier (Some number) later = Some number
 
 -- Behind `chain` the records' blocks are committed as far as they fit: `last` is the chain then, `differs` the number of the
 -- first of those blocks for which the store has other flags, and `refused` why the next one does not fit, if there is one.
-abbrev pub Replays : FlagRule → Chain → List Committed → Chain → Option ℕ → Option CommitRefusal → Type 0
+abbrev pub Replays : BlockRule → Chain → List Committed → Chain → Option ℕ → Option CommitRefusal → Type 0
 Replays rule chain [] last differs refused = (last ≡ chain) × (differs ≡ None) × (refused ≡ None)
 Replays rule chain (c ∷ cs) last differs refused =
     (Fits (blocks_of chain) c.block × ((is_same : Bool) × (later : Option ℕ) × HasTheFlags rule chain c is_same
@@ -46,13 +46,13 @@ Replays rule chain (c ∷ cs) last differs refused =
     ⊎ ((cause : CommitRefusal) × IsUnfit chain c cause × (refused ≡ Some cause) × (last ≡ chain) × (differs ≡ None))
 
 -- one record behind a chain
-abbrev pub IsPushed : FlagRule → Chain → Committed → Pushed → Type 0
+abbrev pub IsPushed : BlockRule → Chain → Committed → Pushed → Type 0
 IsPushed rule chain c (pushed.Committed snapshot is_same) =
     Fits (blocks_of chain) c.block × HasTheFlags rule chain c is_same × (snapshot ≡ chain ++ judged_behind rule chain c ∷ [])
 IsPushed rule chain c (pushed.Refused cause) = IsUnfit chain c cause
 
 -- behind what was read before, some bytes were read: the whole blocks that they are, committed, and their end
-pub record IsReplayed (rule : FlagRule) (before now : List ℕ) (r : Replayed) : Type 0 where
+pub record IsReplayed (rule : BlockRule) (before now : List ℕ) (r : Replayed) : Type 0 where
   pub bytes : List ℕ
   pub records : List Committed
   pub read : now ≡ before ++ bytes

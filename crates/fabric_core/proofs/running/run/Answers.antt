@@ -89,7 +89,7 @@ returns-clause-conflicts c on peer chain is =
     let genesis = c.args.genesis.now in
     let ran = c.loop-event-test.ran in
     let r = rules_of (exec_of genesis.book.value) genesis.rules.value genesis.queue in
-    older_run id_of (is_endorsed genesis.rules.value) r genesis.peers.items genesis.seats (limits_of genesis) genesis.reorder c.args.events.now
+    older_run id_of (λ before. is_endorsed genesis.rules.value) r genesis.peers.items genesis.seats (limits_of genesis) genesis.reorder c.args.events.now
     ran.replies.items ran.system.world ran.refused refl (returns-clause-run c) on peer chain is
 
 pub returns-clause-fits : goal.returns-clause-fits

@@ -17,7 +17,7 @@ returns-clause-committed c =
     let b = c.args.block in
     let es = b.envelopes in
     let endorsed = is_endorsed c.args.rules.now in
-    let rule = table_of c.args.rules.now in
+    let rule = table_of c.args.rules.now ts in
     let number : b.header.number ≡ length chain + 1 = omega (arith, c.in_ok-next.ensures.fits.number, length_map (λ x. x.block) chain) in
     let flags : flags_told id_of ts b.header.number 0 es c.deref.result.now ≡ judge rule ts (length chain + 1) 0 es =
     ap (flags_told id_of ts b.header.number 0 es) (c.deref.ensures.value ∙ c.in_ok-endorsed.ensures ∙ ap (map endorsed) c.as_slice.ensures.value)

@@ -15,7 +15,7 @@ returns-in-Ok c =
     let block = c.into_parts-block.ensures.block in
     let behind = judged_behind rule chain c.args.stored in
     let committed = c.in-Ok.ensures.committed ∙
-    ap (λ (b : Block). chain ++ record { block = b; flags = judge rule (history chain) (length chain + 1) 0 b.envelopes } ∷ []) block in (
+    ap (λ (b : Block). chain ++ record { block = b; flags = judge (rule (history chain)) (history chain) (length chain + 1) 0 b.envelopes } ∷ []) block in (
       subst (λ (b : Block). Fits (blocks_of chain) b) block c.in-Ok.ensures.fits,
       has_flags rule chain c.args.stored c.as_slice.result.now c.last_flags.result.now c.eq-is_same.result
           (c.as_slice.ensures.value ∙ c.into_parts-block.ensures.flags) (c.last_flags.ensures chain behind committed) c.eq-is_same.ensures,
