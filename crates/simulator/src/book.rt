@@ -5,7 +5,7 @@ ghost use Rattle.std.specs.List.{list_all, list_any};
 ghost use Rattle.simulator.specs.Books.{IsBook, AreValid, chaincode_at, is_named, has_fuel, have_own_names};
 
 use fab_types::Name;
-use fab_types::limits::MOST_FUEL;
+use fab_types::limits::{MOST_CHAINCODES, MOST_FUEL};
 use std::marker::Model;
 use wasm_validate::ValidModule;
 
@@ -47,7 +47,10 @@ impl Book {
         ensures accepted { IsSome result ↔ IsBook chaincodes.items }
         ensures value { IfSome result (λ b. b ≡ chaincodes.items) }
     {
-        if chaincodes.len() > 16 || !have_fuel(&chaincodes) || !have_own_names(&chaincodes) {
+        if chaincodes.len() > MOST_CHAINCODES
+            || !have_fuel(&chaincodes)
+            || !have_own_names(&chaincodes)
+        {
             return None;
         }
         Some(Book { chaincodes })
