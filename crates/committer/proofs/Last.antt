@@ -1,7 +1,7 @@
 -- The last block's header, and that a block that fits is not refused.
 use Rattle.std.proofs.Common.{◌≡◌, ℕ, zero, suc, Bool, List, [], ◌∷◌, ◌++◌, map, length, refl, ap, arith, slice_get, option_map}
 use Rattle.fab_types.specs.declared.block.Block.{Block}
-use Rattle.fab_types.specs.declared.payload.Proposal.{Proposal}
+use Rattle.fab_types.specs.declared.proposal.Proposal.{Proposal}
 use Rattle.ledger_model.specs.Chain.{Bytes, Envelope, Flag, Placed}
 use Rattle.ledger_model.specs.Flags.{flag_at, flags_told}
 use Rattle.committer.specs.declared.refusal.CommitRefusal.{CommitRefusal}

@@ -3,7 +3,7 @@ use Rattle.std.proofs.Common.{◌≡◌, ℕ, true, false, cond, List, [], ◌�
 use Rattle.std.specs.List.{AllByRecursion}
 use Rattle.std.specs.Option.{option_or}
 use Rattle.std.specs.FinMap.{get}
-use Rattle.fab_types.specs.declared.payload.Proposal.{Proposal}
+use Rattle.fab_types.specs.declared.proposal.Proposal.{Proposal}
 use Rattle.ledger_model.specs.Chain.{Bytes, Version, Placed, is_valid}
 use Rattle.ledger_model.specs.Views.{Plain}
 use Rattle.ledger_model.specs.State.{write_to, write_of, last_write, value_and_version, state}

@@ -1,14 +1,11 @@
 -- Executions that take the definition of their chaincode from the state, and read its key there.
 use Rattle.std.specs.Prelude.{◌≡◌, ℕ, true, [], ◌∷◌, Option, Some, None}
 use Rattle.std.specs.FinMap.{get}
+pub use Rattle.fab_types.specs.Proposals.{definition_key}
 use Rattle.ledger_model.specs.Chain.{Bytes, Version, Placed, is_valid}
 use Rattle.ledger_model.specs.Views.{Plain}
 use Rattle.ledger_model.specs.State.{write_to}
 use Rattle.ledger_model.specs.Execution.{Ending, Outcome, Answers}
-
--- where the definition of a chaincode stands: the byte 0 and its name
-abbrev pub definition_key : Bytes → Bytes
-definition_key name = 0 ∷ name
 
 -- The definition that the bytes there are: what they spell, if they spell one that can be used. While
 -- there are none, the genesis's holds, if it has one.

@@ -3,7 +3,7 @@
 use crate::commands::commands;
 use clap::ArgMatches;
 use clap::error::ErrorKind;
-use fab_types::{Name, Proposal, Value};
+use fab_types::{Call, Name, Proposal, Value};
 use hex::{FromHex, FromHexError};
 use std::alloc::{AllocError, Global};
 
@@ -43,7 +43,7 @@ pub enum Work<'a> {
     },
     /// Show this many steps at most of this call, on the empty state.
     Trace {
-        proposal: Proposal,
+        call: Call,
         most: u32,
     },
 }
@@ -111,7 +111,7 @@ fn work_of<'a>(
 ) -> Result<Work<'a>, WordsFault> {
     match name {
         "sim" => Ok(Work::Simulate {
-            proposal: proposal(alloc, command, command.get_str("nonce"))?,
+            proposal: Proposal::Call(call(alloc, command, command.get_str("nonce"))?),
             store: command.get_str("store"),
         }),
         "run" => Ok(Work::Run {
@@ -127,7 +127,7 @@ fn work_of<'a>(
         }),
         "trace" => Ok(Work::Trace {
             most: command.get_str("steps").map_or(Ok(MOST_COUNT), count)?,
-            proposal: proposal(alloc, command, None)?,
+            call: call(alloc, command, None)?,
         }),
         _ => Err(WordsFault::Usage),
     }
@@ -162,18 +162,14 @@ fn argument(alloc: Global, digits: &str) -> Result<Value, WordsFault> {
 }
 
 /// The call that words stand for, with this nonce, or with zeros.
-fn proposal(
-    alloc: Global,
-    call: &ArgMatches<'_>,
-    nonce: Option<&str>,
-) -> Result<Proposal, WordsFault> {
+fn call(alloc: Global, command: &ArgMatches<'_>, nonce: Option<&str>) -> Result<Call, WordsFault> {
     let nonce = match nonce {
         Some(digits) => <[u8; 16]>::from_hex(digits)?,
         None => [0; 16],
     };
-    let argument = argument(alloc, text(call, "ARG")?)?;
-    let chaincode = chaincode(alloc, call)?;
-    Ok(Proposal {
+    let argument = argument(alloc, text(command, "ARG")?)?;
+    let chaincode = chaincode(alloc, command)?;
+    Ok(Call {
         chaincode,
         argument,
         nonce,
