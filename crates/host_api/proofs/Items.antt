@@ -2,9 +2,10 @@
 use Rattle.std.proofs.Common.{◌≡◌, ◌≢◌, ℕ, suc, ◌+◌, ◌≤◌, Bool, true, false, cond, List, [], ◌∷◌, ◌++◌, length, map, Option, Some, refl, sym, ap, ◌∙◌, subst}
 use Rattle.std.proofs.Common.{arith}
 use Rattle.std.specs.Prelude.{nat_le, IfSome}
+use Rattle.std.specs.List.{list_all}
 use Rattle.std.specs.FinMap.{get}
 use Rattle.std.proofs.lemmas.Bool.Decides.{nat_tests}
-use Rattle.fab_types.specs.Order.{are_ascending}
+use Rattle.fab_types.specs.Order.{are_ascending, is_shown}
 use Rattle.fab_types.specs.Sets.{Range}
 use Rattle.fab_types.specs.declared.items.ReadItem.{ReadItem}
 use Rattle.fab_types.specs.declared.items.WriteItem.{WriteItem}
@@ -16,7 +17,7 @@ use Rattle.host_api.specs.declared.refusal.Refusal.TheVariants as refusal
 use Rattle.host_api.specs.Recorded.{Asked, key_seen, range_seen}
 use Rattle.host_api.specs.HostStep.{with_item, with_key, with_write, says, refuses, value_reply, read_key, write, ask_range, replies, reply_range_bytes}
 use Rattle.host_api.specs.Recording.{read_of, range_of, asked_of, recorded_of, key_and_value, AreItems}
-use Rattle.host_api.proofs.Places.{map-with_item, ascend_item}
+use Rattle.host_api.proofs.Places.{map-with_item, ascend_item, all_with_item}
 
 fits : (n most : ℕ) → n ≤ most → nat_le n most ≡ true
 fits n most le = grind (arith, nat_tests)
@@ -81,13 +82,15 @@ module _ (reads : List ReadItem) (ranges : List Range) (result : Bytes) (writes 
 
 module _ (m : Versioned) (reads : List ReadItem) (ranges : List Range) (writes : List WriteItem) (are : AreItems m reads ranges writes) where
   pub items_read : (x : ReadItem) → x ≡ read_of m x.key → (new : List ReadItem) → new ≡ with_item (λ r. r.key) x reads → length new ≤ 256 →
-      AreItems m new ranges writes
-  items_read x is new e le = record {
+      is_shown x.key ≡ true → AreItems m new ranges writes
+  items_read x is new e le shown = record {
     reads_are = e ∙ ap (λ z. with_item (λ (r : ReadItem). r.key) z reads) is ∙ ap (with_item (λ (r : ReadItem). r.key) (read_of m x.key)) are.reads_are ∙
         sym (map-with_item (λ (r : ReadItem). read_of m r.key) (λ r. r.key) (λ r. r.key) (λ r. refl) x reads) ∙
         sym (ap (map (λ (r : ReadItem). read_of m r.key)) e);
     ranges_are = are.ranges_are;
     read_count = le;
+    reads_shown = ap (list_all (λ (r : ReadItem). is_shown r.key)) e ∙
+        all_with_item (λ (r : ReadItem). r.key) (λ r. is_shown r.key) x reads shown are.reads_shown;
     read_set = record {
       count = omega (arith, le);
       order = ap (λ (rs : List ReadItem). are_ascending (map (λ r. r.key) rs)) e ∙ ascend_item (λ (r : ReadItem). r.key) x reads are.read_set.order;
@@ -101,6 +104,7 @@ module _ (m : Versioned) (reads : List ReadItem) (ranges : List Range) (writes :
     reads_are = are.reads_are;
     ranges_are = are.ranges_are;
     read_count = are.read_count;
+    reads_shown = are.reads_shown;
     read_set = are.read_set;
     range_count = are.range_count;
     write_set = record {
@@ -146,6 +150,7 @@ module _ (m : Versioned) (reads : List ReadItem) (ranges : List Range) (writes :
     ranges_are = e ∙ ap (λ (gs : List Range). gs ++ range_of m a ∷ []) are.ranges_are ∙
         sym (map-more (λ (g : Range). range_of m (asked_of g)) ranges (range_of m a)) ∙ sym (ap (map (λ (g : Range). range_of m (asked_of g))) e);
     read_count = are.read_count;
+    reads_shown = are.reads_shown;
     read_set = are.read_set;
     range_count = one_more 16 (length ranges) are.range_count ne (ap length e ∙ length-more ranges (range_of m a));
     write_set = are.write_set;

@@ -2,7 +2,7 @@
 use Rattle.std.proofs.Common.{◌≡◌, ℕ, zero, suc, ◌+◌, ◌<◌, ◌≤◌, Bool, true, false, cond, ◌&&◌, List, [], ◌∷◌, length, map, Option, Some, Ok, Err, refl, sym, ap}
 use Rattle.std.proofs.Common.{◌∙◌, subst, arith, is_eq, length-set}
 use Rattle.std.specs.Prelude.{slice_get, slice_set}
-use Rattle.std.specs.List.{insert}
+use Rattle.std.specs.List.{insert, list_all}
 use Rattle.std.specs.Ordering.{is_lt, ordering_reverse}
 use Rattle.std.specs.declared.cmp.Ordering.{Ordering}
 use Rattle.std.specs.declared.cmp.Ordering.TheVariants.{Less, Equal, Greater}
@@ -178,3 +178,15 @@ module _ {X : Type 0} (key_of : X → Bytes) where
 
   pub replaced : (key : Bytes) (xs : List X) (at : ℕ) → IsFound key xs at → (x : X) → key_of x ≡ key → length (with_item key_of x xs) ≡ length xs
   replaced key xs at found x same = ap length (sym (found.set x same)) ∙ length-set xs at x
+
+-- what holds of an item and of the others holds of all
+pub all_with_item : {X : Type 0} (key_of : X → Bytes) (test : X → Bool) (x : X) (xs : List X) → test x ≡ true → list_all test xs ≡ true →
+    list_all test (with_item key_of x xs) ≡ true
+all_with_item key_of test x [] h all = join (test x) true h refl
+all_with_item key_of test x (y ∷ ys) h all =
+    let parts = both (test y) (list_all test ys) all in
+    elim (key_cmp (key_of y) (key_of x)) as (λ o. list_all test (joined o x y ys (with_item key_of x ys)) ≡ true) [
+      | Less ↦ join _ _ parts.0 (all_with_item key_of test x ys h parts.1)
+      | Equal ↦ join _ _ h parts.1
+      | Greater ↦ join _ _ h all
+    ]

@@ -1,5 +1,7 @@
 -- A recorder as contracts see it, and what a payload takes from it.
-use Rattle.std.specs.Prelude.{◌≡◌, ℕ, ◌≤◌, List, Option, Some, None, map, length}
+use Rattle.std.specs.Prelude.{◌≡◌, ℕ, ◌≤◌, true, List, Option, Some, None, map, length}
+use Rattle.std.specs.List.{list_all}
+use Rattle.fab_types.specs.Order.{is_shown}
 use Rattle.fab_types.specs.Sets.{Range, IsReadSet, IsWriteSet}
 use Rattle.fab_types.specs.declared.items.ReadItem.{ReadItem}
 use Rattle.fab_types.specs.declared.items.RangeEntry.{RangeEntry}
@@ -37,11 +39,13 @@ abbrev pub recorded_of : List ReadItem → List Range → Bytes → List WriteIt
 recorded_of reads ranges result writes =
     record { reads = map (λ r. r.key) reads; ranges = map asked_of ranges; result = result; writes = writes }
 
--- each item has what the state says of its question, and the sets are within their limits; 256 reads leave room for that of the definition
+-- each item has what the state says of its question, and the sets are within their limits; 256 reads of keys that are shown leave room for
+-- that of the definition, in front of them
 pub record AreItems (m : Versioned) (reads : List ReadItem) (ranges : List Range) (writes : List WriteItem) : Type 0 where
   pub reads_are : reads ≡ map (λ r. read_of m r.key) reads
   pub ranges_are : ranges ≡ map (λ g. range_of m (asked_of g)) ranges
   pub read_count : length reads ≤ 256
+  pub reads_shown : list_all (λ r. is_shown r.key) reads ≡ true
   pub read_set : IsReadSet reads
   pub range_count : length ranges ≤ 16
   pub write_set : IsWriteSet writes

@@ -27,7 +27,7 @@ mod view;
 
 pub use plain_map::PlainMap;
 pub use recorder::{Parts, Recorder};
-pub use view::View;
+pub use view::{View, look_up};
 
 /// The execution of a valid module depends only on what it read: what it saw is so, and on each
 /// state where that is so it comes to the same.

@@ -1,13 +1,13 @@
 //! The host that records what chaincode does.
 
 ghost use Rattle.std.specs.Prelude.{◌≡◌, ◌≤◌, ◌∷◌, ◌++◌, ℕ, List, true, IfOk, IfSome, length, map, option_map};
-ghost use Rattle.std.specs.FinMap.{get};
+ghost use Rattle.std.specs.List.{list_all};
 ghost use Rattle.std.specs.Map.Iter.{deref_pair};
 ghost use Rattle.fab_types.specs.Limits.{IsKey, IsBound, IsValue};
+ghost use Rattle.fab_types.specs.Order.{is_shown};
 ghost use Rattle.wasm_ast.specs.declared.host_call.HostCall.TheVariants as host_call;
 ghost use Rattle.wasm_validate.specs.HostCalls.{arity};
 ghost use Rattle.ledger_model.specs.Views.{values_of};
-ghost use Rattle.ledger_model.specs.Flags.{version_at};
 ghost use Rattle.host_api.specs.Recorded.{Recorded, nothing_recorded, seen_on};
 ghost use Rattle.host_api.specs.HostStep.{is_key, read_key, write, ask_range};
 ghost use Rattle.host_api.specs.Recording.{read_reply, range_reply, key_and_value};
@@ -17,7 +17,7 @@ use crate::keyed::search;
 use crate::memory::{Span, reach, reply, span_bytes};
 use crate::ranges::{range_entries, range_reply};
 use crate::refusal::{Refusal, negative};
-use crate::view::View;
+use crate::view::{View, look_up};
 use fab_types::limits::{
     MOST_CHAINCODE_READS, MOST_KEY_BYTES, MOST_RANGE_ENTRIES, MOST_RANGES, MOST_VALUE_BYTES,
     MOST_WRITES,
@@ -103,11 +103,14 @@ impl<'v, V: View> Recorder<'v, V> {
         }
     }
 
-    /// What was recorded, with the view's answers and versions.
+    /// What was recorded, with the view's answers and versions. At most 256 keys are read, all of
+    /// them shown.
     pub fn into_parts(self) -> Parts
-        ensures { result
+        ensures value { result
             ≡ parts_of (V.state self.entry.opened.view)
             (seen_on (values_of (V.state self.entry.opened.view)) self.entry.records) }
+        ensures shown { list_all (λ i. is_shown i.key) result.reads ≡ true }
+        ensures count { length result.reads ≤ MOST_CHAINCODE_READS }
     {
         Parts {
             reads: ReadSet::new(self.reads).unwrap(),
@@ -174,7 +177,8 @@ impl<'v, V: View> Recorder<'v, V> {
 
     /// The value of a key, which is recorded once. None where there is no room for one more key.
     fn read(&mut self, key: &[u8]) -> Result<Option<Option<&'v Value>>, AllocError>
-        requires { IsKey key.now }
+        requires key { IsKey key.now }
+        requires shown { is_shown key.now ≡ true }
         ensures answer { IfOk result
             (λ found. (target capacity : ℕ) (memory : List ℕ) →
             read_key (values_of (V.state self.old.opened.view)) key.now target capacity memory
@@ -358,21 +362,11 @@ impl<'v, V: View> Recorder<'v, V> {
     }
 }
 
-/// The value and the version of a key in a view.
-fn look_up<'v, V: View>(view: &'v V, key: &Key) -> (Option<&'v Value>, Option<Version>)
-    ensures value { option_map (λ v. v.now) result.0 ≡ get (values_of (V.state view.now)) key.now }
-    ensures version { result.1 ≡ version_at (V.state view.now) key.now }
-{
-    match view.get(key) {
-        Some((value, version)) => (Some(value), Some(version)),
-        None => (None, None),
-    }
-}
-
 /// Whether chaincode may name these bytes as a key: 1 to 64, of which the first is not 0.
 fn is_key(bytes: &[u8]) -> bool
     ensures value { result ≡ is_key bytes.now }
     ensures limits { result ≡ true → IsKey bytes.now }
+    ensures shown { result ≡ true → is_shown bytes.now ≡ true }
 {
     !bytes.is_empty() && bytes.len() <= MOST_KEY_BYTES && is_shown(bytes)
 }

@@ -3,7 +3,8 @@
 ghost use Rattle.std.specs.Prelude.{◌≡◌, option_map, map, IfOk};
 ghost use Rattle.std.specs.FinMap.{get};
 ghost use Rattle.std.specs.Map.Iter.{deref_pair};
-ghost use Rattle.ledger_model.specs.Views.{Versioned, first};
+ghost use Rattle.ledger_model.specs.Flags.{version_at};
+ghost use Rattle.ledger_model.specs.Views.{Versioned, first, values_of};
 
 use fab_types::{Bound, Key, Value, Version};
 use std::alloc::{AllocError, Global};
@@ -49,5 +50,16 @@ impl View for Snapshot {
         n: usize,
     ) -> Result<Vec<(&Key, &(Value, Version))>, AllocError> {
         Snapshot::range(self, alloc, start, end, n)
+    }
+}
+
+/// The value and the version of a key in a view.
+pub fn look_up<'v, V: View>(view: &'v V, key: &Key) -> (Option<&'v Value>, Option<Version>)
+    ensures value { option_map (λ v. v.now) result.0 ≡ get (values_of (V.state view.now)) key.now }
+    ensures version { result.1 ≡ version_at (V.state view.now) key.now }
+{
+    match view.get(key) {
+        Some((value, version)) => (Some(value), Some(version)),
+        None => (None, None),
     }
 }

@@ -1,6 +1,7 @@
 use Rattle.std.proofs.Common.{◌≡◌, ℕ, List, None, length, option_map, refl, sym, ap, ◌∙◌, subst, arith}
 use Rattle.std.specs.FinMap.{get}
 use Rattle.std.proofs.lemmas.Option.{slice_get_read}
+use Rattle.fab_types.specs.Order.{is_shown}
 use Rattle.fab_types.specs.declared.items.ReadItem.{ReadItem}
 use Rattle.ledger_model.specs.Views.{values_of}
 use Rattle.host_api.specs.declared.refusal.Refusal.TheVariants as refusal
@@ -28,6 +29,7 @@ invariant_of-self-in-Err-2 g c =
     (ap length new ∙ grown (λ (r : ReadItem). r.key) c.args.key.now reads _ gap item c.in_ok-key-in-Err-2.ensures) in
     items_read _ reads c.self.inside.ranges.items c.self.inside.writes.items c.self.invariant item
     (λ i. record { key = c.in_ok-key-in-Err-2.key; version = c.look_up-version.ensures.version i }) _ new count
+    (ap is_shown c.in_ok-key-in-Err-2.ensures ∙ c.requires.shown)
 
 pub returns-in-Ok-clause-answer : goal.returns-in-Ok-clause-answer
 returns-in-Ok-clause-answer g c =
