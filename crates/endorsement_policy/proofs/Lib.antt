@@ -9,4 +9,6 @@ pub mod Found
 pub mod Whole
 pub mod Shares
 pub mod Needed
+pub mod Definitions
+pub mod Sources
 pub mod Rights

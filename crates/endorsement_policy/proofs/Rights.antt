@@ -1,11 +1,26 @@
 -- An endorsed envelope carries a right tag.
-use Rattle.std.proofs.Common.{◌≡◌, ℕ, suc, Bool, true, false, not, cond, ◌&&◌, List, [], ◌∷◌, map, filter, Option, Some, None, slice_get, refl, sym, ap, ◌∙◌}
+use Rattle.std.proofs.Common.{◌≡◌, ℕ, suc, Bool, true, false, not, cond, ◌&&◌, List, [], ◌∷◌, map, filter, Option, Some, None, slice_get, option_map, refl, sym}
+use Rattle.std.proofs.Common.{ap, ◌∙◌}
 use Rattle.std.proofs.Common.{subst, ◌⊎◌, inl, inr}
+use Rattle.std.specs.FinMap.{get}
 use Rattle.std.specs.List.{find, list_all}
+use Rattle.std.specs.Result.{is_ok}
+use Rattle.std.proofs.lemmas.Option.{same_Some}
+use Rattle.fab_types.specs.Proposals.{definition_key}
+use Rattle.fab_types.specs.declared.proposal.Proposal.{Proposal}
+use Rattle.fab_types.specs.declared.proposal.Proposal.TheVariants as proposal
 use Rattle.fab_types.specs.declared.envelope.Envelope.{Envelope}
+use Rattle.ledger_model.specs.Chain.{Bytes}
+use Rattle.ledger_model.specs.Defined.{definition_by}
+use Rattle.ledger_model.specs.Views.{Plain}
 use Rattle.endorsement_policy.specs.GoodSets.{Name, Names, is_satisfied}
+use Rattle.endorsement_policy.specs.Installed.{usable_by}
+use Rattle.endorsement_policy.specs.declared.policy.Policy.{Policy}
 use Rattle.endorsement_policy.specs.declared.rules.ChaincodePolicy.{ChaincodePolicy}
-use Rattle.endorsement_policy.specs.Endorsed.{Listed, needs_someone, do_need_someone, is_policy_of, is_right, right_orgs, is_met_by, is_endorsed, CarriesRight}
+use Rattle.endorsement_policy.specs.Endorsed.{Listed, needs_someone, do_need_someone, is_policy_of, is_right, right_orgs, is_met_by, listed_policy}
+use Rattle.endorsement_policy.specs.Endorsed.{defined_policy, policy_in, reads_own, names_no_other, is_upgrade_payload, is_endorsed_as, is_endorsed}
+use Rattle.endorsement_policy.specs.Endorsed.{CarriesRight}
+use Rattle.endorsement_policy.proofs.Definitions.{defined_needs}
 
 both : (a b : Bool) → (a && b) ≡ true → (a ≡ true) × (b ≡ true)
 both true b e = (refl, e)
@@ -42,17 +57,42 @@ not_both : (b : Bool) → b ≡ true → not b ≡ true → ⊥
 not_both true e f = absurd cc
 not_both false e f = absurd cc
 
-met_by_someone : (policies : List ChaincodePolicy) (chaincode : Name) (names : Names) (o : Option ChaincodePolicy) →
-    find (is_policy_of chaincode) policies ≡ o → do_need_someone policies ≡ true → is_met_by names o ≡ true → names ≡ [] → ⊥
-met_by_someone policies chaincode names None is need met none = absurd cc
-met_by_someone policies chaincode names (Some p) is need met none =
-    not_both (is_satisfied p.policy []) (ap (is_satisfied p.policy) (sym none) ∙ met)
-    (found_passes (is_policy_of chaincode) (λ q. needs_someone q.policy) policies p need is)
+-- the policy that some names meet, of which none meets nobody
+met_by_someone : (o : Option Policy) (names : Names) → ((p : Policy) → o ≡ Some p → needs_someone p ≡ true) → is_met_by names o ≡ true → names ≡ [] → ⊥
+met_by_someone None names need met none = absurd cc
+met_by_someone (Some p) names need met none =
+    not_both (is_satisfied p []) (ap (is_satisfied p) (sym none) ∙ met) (need p refl)
 
-pub carries : (r : Listed) (e : Envelope) → do_need_someone r.policies ≡ true → is_endorsed r e ≡ true → CarriesRight r.orgs e
-carries r e need met =
+listed_needs : (policies : List ChaincodePolicy) (name : Name) → do_need_someone policies ≡ true → (p : Policy) → listed_policy policies name ≡ Some p →
+    needs_someone p ≡ true
+listed_needs policies name need p e = by_found (find (is_policy_of name) policies) refl e
+  where
+    by_found : (o : Option ChaincodePolicy) → find (is_policy_of name) policies ≡ o → option_map (λ q. q.policy) o ≡ Some p → needs_someone p ≡ true
+    by_found None is f = absurd cc
+    by_found (Some q) is f =
+        subst (λ (z : Policy). needs_someone z ≡ true) (same_Some q.policy p f)
+        (found_passes (is_policy_of name) (λ x. needs_someone x.policy) policies q need is)
+
+by_definition : (r : Listed) (name : Name) (value : Option Bytes) → do_need_someone r.policies ≡ true → (p : Policy)
+    → definition_by (listed_policy r.policies name) (defined_policy r.installed) value ≡ Some p
+    → needs_someone p ≡ true
+by_definition r name None need p e = listed_needs r.policies name need p e
+by_definition r name (Some bytes) need p e = defined_needs r.installed bytes p e
+
+-- an envelope that is endorsed is so by somebody
+by_someone : (q : Proposal) (r : Listed) (m : Plain) (e : Envelope) → do_need_someone r.policies ≡ true → needs_someone r.upgrade ≡ true →
+    is_endorsed_as q r m e ≡ true → right_orgs r.orgs e ≡ [] → ⊥
+by_someone (proposal.Call c) r m e need upgrade met =
+    met_by_someone (policy_in r m c.chaincode) (right_orgs r.orgs e) (by_definition r c.chaincode (get m (definition_key c.chaincode)) need)
+    (both (reads_own e.payload && names_no_other e.payload) (is_met_by (right_orgs r.orgs e) (policy_in r m c.chaincode)) met).1
+by_someone (proposal.Upgrade u) r m e need upgrade met =
+    met_by_someone (Some r.upgrade) (right_orgs r.orgs e) (λ p is. subst (λ (z : Policy). needs_someone z ≡ true) (same_Some r.upgrade p is) upgrade)
+    (both (is_upgrade_payload u e.payload && is_ok (usable_by r.installed u.definition)) (is_satisfied r.upgrade (right_orgs r.orgs e)) met).1
+
+pub carries : (r : Listed) (m : Plain) (e : Envelope) → do_need_someone r.policies ≡ true → needs_someone r.upgrade ≡ true → is_endorsed r m e ≡ true →
+    CarriesRight r.orgs e
+carries r m e need upgrade met =
     elim (none_or_one (is_right r.orgs e.payload) e.endorsements) [
-      | inl h ↦ absurd (met_by_someone r.policies e.payload.proposal.chaincode (right_orgs r.orgs e)
-          (find (is_policy_of e.payload.proposal.chaincode) r.policies) refl need met (ap (map (λ x. x.org)) h))
+      | inl h ↦ absurd (by_someone e.payload.proposal r m e need upgrade met (ap (map (λ x. x.org)) h))
       | inr h ↦ record { place = h.place; endorsement = h.one; stands = h.there; right = h.passes }
     ]

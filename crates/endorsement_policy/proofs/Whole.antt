@@ -106,7 +106,7 @@ module _ (orgs : Names) where
               absurd (read_anyway m (all_known _ (λ name. refl) (alone p)) (all_fit _ (λ n c. refl) (alone p)) (omega arith) (none m refl)))
         ]
 
-  strictly : (text : List ℕ) (p : Policy) → IsText orgs p text → whole_at (policy_by orgs strict 8) text ≡ Some p
+  pub strictly : (text : List ℕ) (p : Policy) → IsText orgs p text → whole_at (policy_by orgs strict 8) text ≡ Some p
   strictly text p h = whole_read text p h.spelled h.length strict (known_by orgs _ (λ name k. k) (alone p) h.organisations) (rules_kept (alone p) h.thresholds)
       h.depth
 

@@ -1,20 +1,34 @@
 -- Whose tags are right, and which envelopes are endorsed.
-use Rattle.std.specs.Prelude.{◌≡◌, ℕ, List, [], Option, Some, None, Bool, true, false, not, map, bytes_eq, slice_get}
-use Rattle.std.specs.List.{find, filter, list_all}
+use Rattle.std.specs.Prelude.{◌≡◌, ℕ, List, [], ◌∷◌, Option, Some, None, Bool, true, false, not, ◌&&◌, ◌||◌, map, option_map, bytes_eq, slice_get}
+use Rattle.std.specs.List.{find, filter, list_all, list_any}
+use Rattle.std.specs.Result.{is_ok}
+use Rattle.fab_types.specs.Order.{is_shown}
+use Rattle.fab_types.specs.Proposals.{chaincode_of, definition_key}
+use Rattle.fab_types.specs.declared.items.ReadItem.{ReadItem}
+use Rattle.fab_types.specs.declared.items.WriteItem.{WriteItem}
+use Rattle.fab_types.specs.declared.proposal.Call.{Call}
+use Rattle.fab_types.specs.declared.proposal.Upgrade.{Upgrade}
+use Rattle.fab_types.specs.declared.proposal.Proposal.{Proposal}
+use Rattle.fab_types.specs.declared.proposal.Proposal.TheVariants as proposal
 use Rattle.fab_types.specs.declared.payload.Payload.{Payload}
 use Rattle.fab_types.specs.declared.envelope.Endorsement.{Endorsement}
 use Rattle.fab_types.specs.declared.envelope.Envelope.{Envelope}
 use Rattle.hmac_tag.specs.Tag.{tag}
-use Rattle.wire.specs.Spelling.{payload_bytes}
+use Rattle.wire.specs.Spelling.{definition_bytes, payload_bytes}
+use Rattle.ledger_model.specs.Defined.{definition_in}
+use Rattle.ledger_model.specs.Views.{Plain}
 use Rattle.endorsement_policy.specs.GoodSets.{Name, Names, is_satisfied}
+use Rattle.endorsement_policy.specs.Installed.{Installed, usable_by, usable_in}
 use Rattle.endorsement_policy.specs.declared.policy.Policy.{Policy}
 use Rattle.endorsement_policy.specs.declared.rules.Organisation.{Organisation}
 use Rattle.endorsement_policy.specs.declared.rules.ChaincodePolicy.{ChaincodePolicy}
 
--- the organisations with their keys, and the policies of chaincodes
+-- the organisations with their keys, the policies of chaincodes by the genesis, the policy of upgrades, and what every peer has installed
 pub record Listed : Type 0 where
   pub orgs : List Organisation
   pub policies : List ChaincodePolicy
+  pub upgrade : Policy
+  pub installed : Installed
 
 abbrev pub is_org : Name → Organisation → Bool
 is_org name o = bytes_eq o.name name
@@ -54,13 +68,84 @@ is_right orgs p e = is_tag_of (find (is_org e.org) orgs) (payload_bytes p) e.tag
 abbrev pub right_orgs : List Organisation → Envelope → Names
 right_orgs orgs e = map (λ x. x.org) (filter (is_right orgs e.payload) e.endorsements)
 
-abbrev pub is_met_by : Names → Option ChaincodePolicy → Bool
+-- the policy is there, and those organisations satisfy it
+abbrev pub is_met_by : Names → Option Policy → Bool
 is_met_by names None = false
-is_met_by names (Some p) = is_satisfied p.policy names
+is_met_by names (Some policy) = is_satisfied policy names
 
--- the chaincode is known, and its policy is satisfied by those organisations
-abbrev pub is_endorsed : Listed → Envelope → Bool
-is_endorsed r e = is_met_by (right_orgs r.orgs e) (find (is_policy_of e.payload.proposal.chaincode) r.policies)
+-- the policy of a chaincode by the genesis
+abbrev pub listed_policy : List ChaincodePolicy → Name → Option Policy
+listed_policy ps name = option_map (λ p. p.policy) (find (is_policy_of name) ps)
+
+-- the policy of the definition that these bytes are, where it can be used
+abbrev pub defined_policy : Installed → List ℕ → Option Policy
+defined_policy i bytes = option_map (λ u. u.policy) (usable_in i bytes)
+
+-- the policy of a chaincode in a state
+abbrev pub policy_in : Listed → Plain → Name → Option Policy
+policy_in r m name = definition_in (listed_policy r.policies) (defined_policy r.installed) m name
+
+-- the key of the definition of the chaincode that is called or upgraded
+abbrev pub own_key : Payload → List ℕ
+own_key p = definition_key (chaincode_of p.proposal)
+
+-- that key is read
+abbrev pub reads_own : Payload → Bool
+reads_own p = list_any (λ r. bytes_eq r.key (own_key p)) p.reads
+
+-- each other key that is read is shown
+abbrev pub reads_no_other : Payload → Bool
+reads_no_other p = list_all (λ r. bytes_eq r.key (own_key p) || is_shown r.key) p.reads
+
+-- each key that is written is shown
+abbrev pub writes_shown : Payload → Bool
+writes_shown p = list_all (λ w. is_shown w.key) p.writes
+
+-- no key that is not shown is named but that one, and that one is not written
+abbrev pub names_no_other : Payload → Bool
+names_no_other p = reads_no_other p && writes_shown p
+
+abbrev pub is_one_read : List ℕ → List ReadItem → Bool
+is_one_read key [] = false
+is_one_read key (r ∷ []) = bytes_eq r.key key
+is_one_read key (r ∷ s ∷ rs) = false
+
+abbrev pub is_value : List ℕ → Option (List ℕ) → Bool
+is_value bytes None = false
+is_value bytes (Some value) = bytes_eq value bytes
+
+abbrev pub is_one_put : (key value : List ℕ) → List WriteItem → Bool
+is_one_put key value [] = false
+is_one_put key value (w ∷ []) = bytes_eq w.key key && is_value value w.value
+is_one_put key value (w ∷ x ∷ ws) = false
+
+abbrev pub is_none : {X : Type 0} → List X → Bool
+is_none [] = true
+is_none (x ∷ xs) = false
+
+-- an upgrade reads the key of the definition and no more, answers nothing, and puts the new definition there
+abbrev pub is_upgrade_payload : Upgrade → Payload → Bool
+is_upgrade_payload u p =
+    let key = definition_key u.chaincode in
+    is_one_read key p.reads && is_none p.ranges && is_none p.result && is_one_put key (definition_bytes u.definition) p.writes
+
+-- a call falls under the policy that its chaincode has in the state, whose definition it read
+abbrev pub is_call_endorsed : Listed → Plain → Call → Envelope → Bool
+is_call_endorsed r m c e =
+    reads_own e.payload && names_no_other e.payload && is_met_by (right_orgs r.orgs e) (policy_in r m c.chaincode)
+
+-- an upgrade to a definition that can be used falls under the policy of upgrades, whatever the chaincode's own policy is
+abbrev pub is_upgrade_endorsed : Listed → Upgrade → Envelope → Bool
+is_upgrade_endorsed r u e =
+    is_upgrade_payload u e.payload && is_ok (usable_by r.installed u.definition) && is_satisfied r.upgrade (right_orgs r.orgs e)
+
+abbrev pub is_endorsed_as : Proposal → Listed → Plain → Envelope → Bool
+is_endorsed_as (proposal.Call c) r m e = is_call_endorsed r m c e
+is_endorsed_as (proposal.Upgrade u) r m e = is_upgrade_endorsed r u e
+
+-- in a state, under what is listed, the organisations of which the envelope carries a right tag suffice
+abbrev pub is_endorsed : Listed → Plain → Envelope → Bool
+is_endorsed r m e = is_endorsed_as e.payload.proposal r m e
 
 -- a right tag stands on the envelope
 pub record CarriesRight (orgs : List Organisation) (e : Envelope) : Type 0 where

@@ -1,4 +1,4 @@
--- The numbers of faults, and what a fault says of the text.
+-- The numbers of faults, and what a fault of a text says of it.
 use Rattle.std.specs.Prelude.{◌≡◌, ℕ, ◌<◌, Result, Ok, Err}
 use Rattle.endorsement_policy.specs.GoodSets.{Names}
 use Rattle.endorsement_policy.specs.View.{alone}
@@ -6,6 +6,8 @@ use Rattle.endorsement_policy.specs.Limits.{HasKnown, HasRules, depth}
 use Rattle.endorsement_policy.specs.declared.policy.Policy.{Policy}
 use Rattle.endorsement_policy.specs.declared.fault.PolicyFault.{PolicyFault}
 use Rattle.endorsement_policy.specs.declared.fault.PolicyFault.TheVariants.{Memory, Syntax, UnknownOrganisation, Threshold, TooDeep}
+use Rattle.endorsement_policy.specs.declared.fault.DefinitionFault.{DefinitionFault}
+use Rattle.endorsement_policy.specs.declared.fault.DefinitionFault.TheVariants.{NotInstalled, BadPolicy}
 
 -- the number of a fault
 abbrev pub number_of : PolicyFault → ℕ
@@ -14,6 +16,11 @@ number_of (Syntax offset) = 501
 number_of UnknownOrganisation = 502
 number_of Threshold = 503
 number_of TooDeep = 504
+
+-- the number of a fault of a definition
+abbrev pub definition_number : DefinitionFault → ℕ
+definition_number NotInstalled = 406
+definition_number BadPolicy = 407
 
 -- What the fault says of each policy that the text spells. Where the text itself is at fault, there is none.
 abbrev pub HasCause : Names → PolicyFault → Policy → Type 0

@@ -11,5 +11,7 @@ pub mod Faults
 pub mod Parsing
 pub mod Operators
 pub mod TagKeys
+pub mod Installed
 pub mod Endorsed
+pub mod Judge
 pub mod Shares

@@ -1,51 +1,63 @@
 //! Whether envelopes are endorsed.
 
 ghost use Rattle.std.specs.Prelude.{◌≡◌, IfOk, map};
-ghost use Rattle.endorsement_policy.specs.Endorsed.{is_endorsed, right_orgs};
+ghost use Rattle.ledger_model.specs.Chain.{history};
+ghost use Rattle.ledger_model.specs.State.{state};
+ghost use Rattle.ledger_model.specs.Views.{values_of};
+ghost use Rattle.endorsement_policy.specs.Endorsed.{is_endorsed};
+ghost use Rattle.endorsement_policy.specs.Judge.{judges};
 
-use crate::evaluate::is_satisfied_by;
+use crate::judge::Judge;
 use crate::rules::Rules;
-use fab_types::{Envelope, OrgName};
+use fab_types::Envelope;
 use std::alloc::{AllocError, Global};
-use wire::encode_payload;
+use world_state::Snapshot;
 
-/// Whether the envelope's chaincode is known, and its policy is satisfied by the organisations of
-/// which it carries a right tag. The only error is want of memory.
-pub fn is_endorsed(alloc: Global, rules: &Rules, envelope: &Envelope) -> Result<bool, AllocError>
-    ensures { IfOk result (λ b. b ≡ is_endorsed rules.now envelope.now) }
+/// Whether an envelope is endorsed in a state. The only error is want of memory.
+///
+/// A call falls under the policy that its chaincode has there, and is to have read the key of its
+/// chaincode's definition, and to name no other key that is not shown. An upgrade falls under the
+/// policy of upgrades, and is to put a definition that can be used.
+pub fn is_endorsed(
+    alloc: Global,
+    rules: &Rules,
+    snapshot: &Snapshot,
+    envelope: &Envelope,
+) -> Result<bool, AllocError>
+    ensures { IfOk result
+        (λ b. b ≡ is_endorsed rules.now (values_of (state (history snapshot.now))) envelope.now) }
 {
-    let Some(policy) = rules.policy(&envelope.payload.proposal.chaincode) else {
-        return Ok(false);
-    };
-    let orgs = right_orgs(alloc, rules, envelope)?;
-    Ok(is_satisfied_by(&policy.policy, &orgs))
+    let judge = Judge::new(alloc, rules, snapshot, &[])?;
+    judge.is_endorsed(alloc, envelope)
 }
 
-/// The organisations of which the envelope carries a right tag.
-fn right_orgs(alloc: Global, rules: &Rules, envelope: &Envelope) -> Result<Vec<OrgName>, AllocError>
-    ensures { IfOk result (λ v. v.items ≡ right_orgs rules.now.orgs envelope.now) }
-{
-    let bytes = encode_payload(alloc, &envelope.payload)?;
-    let mut names = Vec::new(alloc);
-    for endorsement in envelope.endorsements.as_slice() {
-        if rules.is_tag(endorsement, &bytes) {
-            names.push(endorsement.org.clone()?)?;
-        }
-    }
-    Ok(names)
-}
-
-/// For each envelope whether it is endorsed, by one thread. The only error is want of memory.
+/// For each envelope whether it is endorsed, by one thread. The text of a chaincode's policy is
+/// read once. The only error is want of memory.
 pub fn check_plain(
     alloc: Global,
     rules: &Rules,
+    snapshot: &Snapshot,
     envelopes: &[Envelope],
 ) -> Result<Vec<bool>, AllocError>
-    ensures { IfOk result (λ v. v.items ≡ map (is_endorsed rules.now) envelopes.now) }
+    ensures { IfOk result (λ v. v.items
+        ≡ map (is_endorsed rules.now (values_of (state (history snapshot.now))))
+        envelopes.now) }
+{
+    let judge = Judge::new(alloc, rules, snapshot, envelopes)?;
+    check_each(alloc, &judge, envelopes)
+}
+
+/// For each envelope whether it is endorsed, as the judge says.
+fn check_each(
+    alloc: Global,
+    judge: &Judge<'_>,
+    envelopes: &[Envelope],
+) -> Result<Vec<bool>, AllocError>
+    ensures { IfOk result (λ v. v.items ≡ map (judges judge.now) envelopes.now) }
 {
     let mut answers = Vec::with_capacity(alloc, envelopes.len())?;
     for envelope in envelopes {
-        answers.push(is_endorsed(alloc, rules, envelope)?)?;
+        answers.push(judge.is_endorsed(alloc, envelope)?)?;
     }
     Ok(answers)
 }

@@ -1,8 +1,8 @@
-//! Why a text is no policy.
+//! Why a text is no policy, and why a definition cannot be used.
 
 ghost use Rattle.std.specs.Prelude.{◌≡◌};
 ghost use Rattle.endorsement_policy.specs.declared.fault.PolicyFault.TheVariants.{Memory};
-ghost use Rattle.endorsement_policy.specs.Faults.{number_of};
+ghost use Rattle.endorsement_policy.specs.Faults.{definition_number, number_of};
 
 use std::alloc::{AllocError, AllocFailed};
 use std::error::Error;
@@ -66,3 +66,29 @@ impl<T: Drop> From<AllocFailed<T>> for PolicyFault {
         PolicyFault::Memory
     }
 }
+
+/// Why a definition cannot be used.
+#[derive(Clone, Copy, Debug, Drop, PartialEq, Eq)]
+pub enum DefinitionFault {
+    /// No module of its digest is installed.
+    NotInstalled = 406,
+    /// Its text is no policy.
+    BadPolicy = 407,
+}
+
+impl DefinitionFault {
+    /// The number of the fault: 406 or 407.
+    pub fn number(self) -> u16
+        ensures { result ≡ definition_number self }
+    {
+        self as u16
+    }
+}
+
+impl Display for DefinitionFault {
+    fn fmt<W: Write>(&self, f: &mut Formatter<W>) -> fmt::Result {
+        write!(f, "refused {}", self.number())
+    }
+}
+
+impl Error for DefinitionFault {}

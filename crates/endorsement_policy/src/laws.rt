@@ -1,10 +1,17 @@
 //! Laws of texts and of endorsed envelopes.
 
-ghost use Rattle.std.specs.Prelude.{◌≡◌, List, true, ℕ};
+ghost use Rattle.std.specs.Prelude.{◌≡◌, List, true, ℕ, Some, Ok, slice_get};
+ghost use Rattle.fab_types.specs.Limits.{IsPolicyText};
+ghost use Rattle.fab_types.specs.declared.definition.Definition.{Definition};
 ghost use Rattle.fab_types.specs.declared.envelope.Envelope.{Envelope};
+ghost use Rattle.ledger_model.specs.Views.{Plain};
+ghost use Rattle.wire.specs.Spelling.{definition_bytes};
+ghost use Rattle.wire.specs.Within.{IsDefinition};
 ghost use Rattle.endorsement_policy.specs.Endorsed.{CarriesRight, is_endorsed};
 ghost use Rattle.endorsement_policy.specs.GoodSets.{Names};
+ghost use Rattle.endorsement_policy.specs.Installed.{Installed, place_of, usable_by, usable_in};
 ghost use Rattle.endorsement_policy.specs.Limits.{IsText};
+ghost use Rattle.endorsement_policy.specs.declared.installed.Usable.{Usable};
 ghost use Rattle.endorsement_policy.specs.declared.policy.Policy.{Policy};
 
 use crate::rules::Rules;
@@ -15,9 +22,31 @@ pub fn spelled_once()
         IsText orgs b text → a ≡ b }
 {}
 
-/// Where an envelope is endorsed, a right tag stands on it.
+/// Where an envelope is endorsed, in whatever state, a right tag stands on it.
 pub fn an_endorsed_envelope_carries_a_right_tag(rules: &Rules)
-    ensures { (e : Envelope) → is_endorsed rules.now e ≡ true → CarriesRight rules.now.orgs e }
+    ensures { (m : Plain) (e : Envelope) → is_endorsed rules.now m e ≡ true →
+        CarriesRight rules.now.orgs e }
 {
     let _policies = rules.policies();
+    let _upgrade = rules.upgrade();
 }
+
+/// A definition that can be used has a text that spells its policy within the limits (`spelled`),
+/// and its digest is that of the module at its place (`placed`); where the digest is installed and
+/// the text spells a policy, that is what is found (`found`). What bytes come to is what the one
+/// definition that they spell comes to (`read`, `again`).
+pub fn usable_definitions_are_spelled()
+    ensures spelled { (i : Installed) (d : Definition) (u : Usable) → usable_by i d ≡ Ok u →
+        IsPolicyText d.policy → IsText i.orgs u.policy d.policy }
+    ensures placed { (i : Installed) (d : Definition) (u : Usable) → usable_by i d ≡ Ok u →
+        (slice_get i.digests u.place ≡ Some d.digest) × (u.fuel ≡ d.fuel) }
+    ensures found { (i : Installed) (d : Definition) (place : ℕ) (p : Policy) →
+        place_of i.digests d.digest ≡ Some place → IsText i.orgs p d.policy →
+        usable_by i d ≡ Ok (record { place = place; fuel = d.fuel; policy = p }) }
+    ensures read { (i : Installed) (bytes : List ℕ) (u : Usable) → usable_in i bytes ≡ Some u →
+        (d : Definition) × IsDefinition d × (definition_bytes d ≡ bytes) ×
+        (usable_by i d ≡ Ok u) }
+    ensures again { (i : Installed) (bytes : List ℕ) (u : Usable) (d : Definition) →
+        IsDefinition d → definition_bytes d ≡ bytes → usable_by i d ≡ Ok u →
+        usable_in i bytes ≡ Some u }
+{}

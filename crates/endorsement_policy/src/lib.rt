@@ -7,28 +7,40 @@
 //! organisations that endorsed.
 //!
 //! A text spells a policy by the grammar of `specs/Spelling.antt`, within the limits of
-//! `specs/Limits.antt`. A tag is right where it is that of the organisation that it names, on the
-//! payload's bytes; an envelope is endorsed where its chaincode is known, and its policy is
-//! satisfied by the organisations of which it carries a right tag (`specs/Endorsed.antt`).
+//! `specs/Limits.antt`. A definition of a chaincode can be used where its module is installed and
+//! its text is a policy (`specs/Installed.antt`).
+//!
+//! A tag is right where it is that of the organisation that it names, on the payload's bytes. An
+//! envelope is endorsed where the organisations of which it carries a right tag satisfy a policy
+//! (`specs/Endorsed.antt`): for a call the one that its chaincode has in the state, and for an
+//! upgrade the one of upgrades.
 #![tactic(auto)]
 
 mod check;
 mod evaluate;
 mod fault;
+mod installed;
+mod judge;
 mod laws;
 mod operator;
 mod org_set;
 mod parallel;
+mod payloads;
 mod policy;
 mod reader;
 mod reading;
 mod rules;
+mod source;
 mod tag_key;
+mod tags;
 
 pub use check::{check_plain, is_endorsed};
 pub use evaluate::satisfied;
-pub use fault::PolicyFault;
-pub use laws::{an_endorsed_envelope_carries_a_right_tag, spelled_once};
+pub use fault::{DefinitionFault, PolicyFault};
+pub use installed::{Installed, Usable};
+pub use laws::{
+    an_endorsed_envelope_carries_a_right_tag, spelled_once, usable_definitions_are_spelled,
+};
 pub use org_set::OrgSet;
 pub use parallel::{Gate, check_all};
 pub use policy::{Policies, Policy};

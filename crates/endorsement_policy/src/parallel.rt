@@ -1,15 +1,20 @@
 //! Checks by several threads.
 
 ghost use Rattle.std.specs.Prelude.{◌≡◌, ℕ, ◌+◌, ◌*◌, ◌≤◌, ◌<◌, IfOk, length, map, slice_index_or};
+ghost use Rattle.ledger_model.specs.Chain.{history};
+ghost use Rattle.ledger_model.specs.State.{state};
+ghost use Rattle.ledger_model.specs.Views.{values_of};
 ghost use Rattle.endorsement_policy.specs.Endorsed.{is_endorsed};
+ghost use Rattle.endorsement_policy.specs.Judge.{judges};
 ghost use Rattle.endorsement_policy.specs.Shares.{IsShare};
 
-use crate::check::is_endorsed;
+use crate::judge::Judge;
 use crate::rules::Rules;
 use fab_types::Envelope;
 use std::alloc::{AllocError, Global};
 use std::thread;
 use std::thread::Threads;
+use world_state::Snapshot;
 
 /// What is called round each check of an envelope, by the thread that makes it.
 pub trait Gate: Sync {
@@ -28,13 +33,33 @@ pub fn check_all<R: Threads + Sync, G: Gate>(
     rt: &R,
     alloc: Global,
     rules: &Rules,
+    snapshot: &Snapshot,
     envelopes: &[Envelope],
     workers: usize,
     gate: &G,
 ) -> Result<Vec<bool>, AllocError>
     requires least { 1 ≤ workers }
     requires greatest { workers ≤ 16 }
-    ensures { IfOk result (λ v. v.items ≡ map (is_endorsed rules.now) envelopes.now) }
+    ensures { IfOk result (λ v. v.items
+        ≡ map (is_endorsed rules.now (values_of (state (history snapshot.now))))
+        envelopes.now) }
+{
+    let judge = Judge::new(alloc, rules, snapshot, envelopes)?;
+    check_by(rt, alloc, &judge, envelopes, workers, gate)
+}
+
+/// The same with a judge whom the workers share.
+fn check_by<R: Threads + Sync, G: Gate>(
+    rt: &R,
+    alloc: Global,
+    judge: &Judge<'_>,
+    envelopes: &[Envelope],
+    workers: usize,
+    gate: &G,
+) -> Result<Vec<bool>, AllocError>
+    requires least { 1 ≤ workers }
+    requires greatest { workers ≤ 16 }
+    ensures { IfOk result (λ v. v.items ≡ map (judges judge.now) envelopes.now) }
 {
     let shares = thread::map_indices(
         rt,
@@ -43,18 +68,18 @@ pub fn check_all<R: Threads + Sync, G: Gate>(
         &|worker: usize| -> Result<Vec<bool>, AllocError>
             requires { (worker < workers) × (1 ≤ workers) × (workers ≤ 16) }
             ensures { IfOk result
-                (λ v. IsShare (map (is_endorsed rules.entry.now) envelopes.entry.now) worker workers
+                (λ v. IsShare (map (judges judge.entry.now) envelopes.entry.now) worker workers
                 v.items) }
-        { check_share(alloc, rules, envelopes, worker, workers, gate) },
+        { check_share(alloc, judge, envelopes, worker, workers, gate) },
     )?;
-    gather(alloc, rules, envelopes, &shares)
+    gather(alloc, judge, envelopes, &shares)
 }
 
 /// The answers of one worker: for the envelopes whose places are its number modulo the number of
 /// workers, in their order.
 fn check_share<G: Gate>(
     alloc: Global,
-    rules: &Rules,
+    judge: &Judge<'_>,
     envelopes: &[Envelope],
     worker: usize,
     workers: usize,
@@ -63,7 +88,7 @@ fn check_share<G: Gate>(
     requires worker { worker < workers }
     requires workers { workers ≤ 16 }
     ensures share { IfOk result
-        (λ v. IsShare (map (is_endorsed rules.now) envelopes.now) worker workers v.items) }
+        (λ v. IsShare (map (judges judge.now) envelopes.now) worker workers v.items) }
     ensures no_others { IfOk result
         (λ v. (turn : ℕ) → turn < length v.items → worker + workers * turn < length envelopes.now) }
 {
@@ -71,7 +96,7 @@ fn check_share<G: Gate>(
     let mut index = worker;
     while index < envelopes.len() {
         gate.before(index);
-        let answer = is_endorsed(alloc, rules, &envelopes[index]);
+        let answer = judge.is_endorsed(alloc, &envelopes[index]);
         gate.after(index);
         answers.push(answer?)?;
         index += workers;
@@ -82,16 +107,16 @@ fn check_share<G: Gate>(
 /// The workers' answers by the envelopes' places.
 fn gather(
     alloc: Global,
-    rules: &Rules,
+    judge: &Judge<'_>,
     envelopes: &[Envelope],
     shares: &[Result<Vec<bool>, AllocError>],
 ) -> Result<Vec<bool>, AllocError>
     requires least { 1 ≤ length shares.now }
     requires shares { (worker : ℕ) (none : _) → worker < length shares.now →
         IfOk (slice_index_or shares.now worker none)
-        (λ v. IsShare (map (is_endorsed rules.now) envelopes.now) worker (length shares.now)
+        (λ v. IsShare (map (judges judge.now) envelopes.now) worker (length shares.now)
         v.items) }
-    ensures { IfOk result (λ v. v.items ≡ map (is_endorsed rules.now) envelopes.now) }
+    ensures { IfOk result (λ v. v.items ≡ map (judges judge.now) envelopes.now) }
 {
     let mut answers = Vec::with_capacity(alloc, envelopes.len())?;
     for index in 0..envelopes.len() {

@@ -3,6 +3,7 @@
 ghost use Rattle.std.specs.Prelude.{◌≡◌, ◌≤◌, ◌<◌, true, Err, IfErr, IfOk, length};
 ghost use Rattle.endorsement_policy.specs.Endorsed.{needs_someone};
 ghost use Rattle.endorsement_policy.specs.Faults.{Finds, HasCause};
+ghost use Rattle.endorsement_policy.specs.Installed.{policy_in_text};
 ghost use Rattle.endorsement_policy.specs.Parsing.{MakesBy, ParsesBy};
 ghost use Rattle.endorsement_policy.specs.Limits.{IsText};
 ghost use Rattle.endorsement_policy.specs.Reading.{children_at, is_known_by, leaf_at, policy_by};
@@ -15,7 +16,7 @@ use crate::org_set::is_among;
 use crate::policy::Policy;
 use crate::reader::Reader;
 use fab_types::OrgName;
-use std::alloc::Global;
+use std::alloc::{AllocError, Global};
 
 /// How many bytes a text has at most.
 const MOST_BYTES: usize = 1024;
@@ -47,6 +48,22 @@ pub fn parse(alloc: Global, text: &str, orgs: &[OrgName]) -> Result<Policy, Poli
         return Err(PolicyFault::Syntax(MOST_BYTES));
     }
     whole(alloc, bytes, orgs)
+}
+
+/// The policy that these bytes are, where these organisations are known. The only error is want of
+/// memory.
+pub(crate) fn policy_in_text(
+    alloc: Global,
+    bytes: &[u8],
+    orgs: &[OrgName],
+) -> Result<Option<Policy>, AllocError>
+    ensures { IfOk result (λ p. p ≡ policy_in_text orgs.now bytes.now) }
+{
+    match whole(alloc, bytes, orgs) {
+        Ok(policy) => Ok(Some(policy)),
+        Err(PolicyFault::Memory) => Err(AllocError),
+        Err(_) => Ok(None),
+    }
 }
 
 /// The policy that all of the bytes spell.

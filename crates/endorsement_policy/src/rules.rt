@@ -5,6 +5,7 @@ ghost use Rattle.std.specs.List.{find};
 ghost use Rattle.endorsement_policy.specs.Endorsed.{do_need_someone, is_org, is_policy_of, is_tag_of, key_of, needs_someone};
 
 use crate::evaluate::is_satisfied_by;
+use crate::installed::Installed;
 use crate::policy::Policy;
 use crate::tag_key::TagKey;
 use fab_types::{Endorsement, Name, OrgName};
@@ -24,17 +25,20 @@ pub struct ChaincodePolicy {
     pub policy: Policy,
 }
 
-/// The organisations with their keys, and the policy of each chaincode. Of several of one name the
-/// first counts. Each policy needs at least one endorsement.
+/// The organisations with their keys, the policy of each chaincode by the genesis, the policy of
+/// upgrades, and what every peer has installed. Of several of one name the first counts. Each
+/// policy needs at least one endorsement.
 #[derive(Drop)]
 pub struct Rules {
     organisations: Vec<Organisation>,
     policies: Vec<ChaincodePolicy>,
+    upgrade: Policy,
+    installed: Installed,
 }
 
 impl Model for Rules {
     ghost use Rattle.std.specs.Prelude.{◌≡◌, true};
-    ghost use Rattle.endorsement_policy.specs.Endorsed.{Listed, do_need_someone};
+    ghost use Rattle.endorsement_policy.specs.Endorsed.{Listed, do_need_someone, needs_someone};
     ghost use Rattle.endorsement_policy.specs.Tree.{policies_code};
     ghost use Rattle.std.specs.Coded.{codes};
 
@@ -42,32 +46,53 @@ impl Model for Rules {
 
     ghost coded = { Prim.hlevel (codes, policies_code) };
 
-    ghost view = { λ r. record { orgs = r.organisations.items; policies = r.policies.items } };
+    ghost view = { λ r. record {
+      orgs = r.organisations.items;
+      policies = r.policies.items;
+      upgrade = r.upgrade;
+      installed = r.installed;
+    } };
 
-    ghost invariant = { λ r. do_need_someone r.policies.items ≡ true };
+    ghost invariant = { λ r. (do_need_someone r.policies.items ≡ true) ×
+        (needs_someone r.upgrade ≡ true) };
 }
 
 /// Whether each of these needs at least one endorsement.
 fn do_need_someone(policies: &[ChaincodePolicy]) -> bool
     ensures { result ≡ do_need_someone policies.now }
 {
-    policies.iter().all(|p| p.needs_someone())
+    policies.iter().all(|p| p.policy.needs_someone())
 }
 
 impl Rules {
     /// The rules of these organisations and policies. None where some policy is satisfied without
     /// any endorsement, as one with the threshold 0 is.
-    pub fn new(organisations: Vec<Organisation>, policies: Vec<ChaincodePolicy>) -> Option<Rules>
-        ensures accepted { IsSome result ↔ (do_need_someone policies.items ≡ true) }
-        ensures value { IfSome result
-            (λ r. r ≡ record { orgs = organisations.items; policies = policies.items }) }
+    pub fn new(
+        organisations: Vec<Organisation>,
+        policies: Vec<ChaincodePolicy>,
+        upgrade: Policy,
+        installed: Installed,
+    ) -> Option<Rules>
+        ensures accepted { IsSome result ↔
+            ((do_need_someone policies.items ≡ true) × (needs_someone upgrade ≡ true)) }
+        ensures value { IfSome result (λ r. r ≡ record {
+          orgs = organisations.items;
+          policies = policies.items;
+          upgrade = upgrade;
+          installed = installed;
+        }) }
     {
         if !do_need_someone(&policies) {
+            return None;
+        }
+        if !upgrade.needs_someone() {
             return None;
         }
         Some(Rules {
             organisations,
             policies,
+            upgrade,
+            installed,
         })
     }
 
@@ -77,6 +102,21 @@ impl Rules {
         ensures needed { do_need_someone self.now.policies ≡ true }
     {
         &self.policies
+    }
+
+    /// The policy of upgrades.
+    pub fn upgrade(&self) -> &Policy
+        ensures value { result.now ≡ self.now.upgrade }
+        ensures needed { needs_someone self.now.upgrade ≡ true }
+    {
+        &self.upgrade
+    }
+
+    /// What every peer has installed.
+    pub fn installed(&self) -> &Installed
+        ensures { result.now ≡ self.now.installed }
+    {
+        &self.installed
     }
 
     /// The organisation of this name.
@@ -134,11 +174,13 @@ impl ChaincodePolicy {
     {
         self.chaincode.as_slice() == chaincode.as_slice()
     }
+}
 
+impl Policy {
     /// Whether the policy needs at least one endorsement.
     fn needs_someone(&self) -> bool
-        ensures { result ≡ needs_someone self.now.policy }
+        ensures { result ≡ needs_someone self.now }
     {
-        !is_satisfied_by(&self.policy, &[])
+        !is_satisfied_by(self, &[])
     }
 }

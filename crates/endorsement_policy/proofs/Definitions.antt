@@ -1,0 +1,100 @@
+-- What a definition that can be used comes to.
+use Rattle.std.proofs.Common.{◌≡◌, ℕ, true, cond, eqb, List, length, Option, Some, None, Result, Ok, Err, option_map, slice_get, get_or, refl, ap, subst, ◌∙◌}
+use Rattle.std.specs.Prelude.{bytes_eq}
+use Rattle.std.specs.Result.{result_ok}
+use Rattle.std.proofs.lemmas.List.Quantifiers.{position-Some}
+use Rattle.std.proofs.lemmas.Option.{same_Some, slice_get-get_or}
+use Rattle.std.proofs.lemmas.Slice.Eq.{bytes_eq-Decides}
+use Rattle.fab_types.specs.Limits.{IsPolicyText}
+use Rattle.fab_types.specs.declared.definition.Definition.{Definition}
+use Rattle.grammar.specs.Reading.{whole_at}
+use Rattle.grammar.specs.Laws.Steps.{bind_some, guarded}
+use Rattle.wire.specs.Reading.{definition_at}
+use Rattle.wire.specs.Spelling.{definition_bytes}
+use Rattle.wire.specs.Within.{IsDefinition}
+use Rattle.wire.proofs.Codec.{whole_known, whole_read}
+use Rattle.wire.proofs.DefinitionLaws.{definition}
+use Rattle.endorsement_policy.specs.Endorsed.{needs_someone, defined_policy}
+use Rattle.endorsement_policy.specs.GoodSets.{Names, is_among}
+use Rattle.endorsement_policy.specs.Installed.{Installed, place_of, policy_in_text, used_at, usable_by, usable_in}
+use Rattle.endorsement_policy.specs.Limits.{IsText}
+use Rattle.endorsement_policy.specs.Reading.{policy_at, is_threshold}
+use Rattle.endorsement_policy.specs.declared.installed.Usable.{Usable}
+use Rattle.endorsement_policy.specs.declared.policy.Policy.{Policy}
+use Rattle.endorsement_policy.proofs.Found.{policy_found}
+use Rattle.endorsement_policy.proofs.Needed.{spelled_needs}
+use Rattle.endorsement_policy.proofs.Whole.{whole_found, strictly}
+
+-- what a usable definition was made of
+pub record Used (place : Option ℕ) (fuel : ℕ) (policy : Option Policy) (u : Usable) : Type 0 where
+  pub place_is : place ≡ Some u.place
+  pub fuel_is : u.fuel ≡ fuel
+  pub policy_is : policy ≡ Some u.policy
+
+pub used : (place : Option ℕ) (fuel : ℕ) (policy : Option Policy) (u : Usable) → used_at place fuel policy ≡ Ok u → Used place fuel policy u
+used None fuel policy u e = absurd cc
+used (Some place) fuel None u e = absurd cc
+used (Some place) fuel (Some policy) u e =
+    let made : Usable = record { place = place; fuel = fuel; policy = policy } in
+    let same : made ≡ u = cc in
+    subst (Used (Some place) fuel (Some policy)) same (record { place_is = refl; fuel_is = refl; policy_is = refl })
+
+pub is_ok_of : {X E : Type 0} (r : Result X E) (x : X) → result_ok r ≡ Some x → r ≡ Ok x
+is_ok_of (Ok y) x e = ap Ok (same_Some y x e)
+is_ok_of (Err f) x e = absurd cc
+
+-- what was found first stands there
+pub found_at : (digests : List (List ℕ)) (digest : List ℕ) (place : ℕ) → place_of digests digest ≡ Some place → slice_get digests place ≡ Some digest
+found_at digests digest place e =
+    let h = position-Some (λ d. bytes_eq d digest) digests place digest e in
+    slice_get-get_or digests place digest h.0 ∙ ap Some ((bytes_eq-Decides (get_or digests place digest) digest).0 h.1)
+
+-- a text that is a policy needs somebody
+text_needs : (orgs : Names) (text : List ℕ) (p : Policy) → policy_in_text orgs text ≡ Some p → needs_someone p ≡ true
+text_needs orgs text p e =
+    let s = bind_some (policy_at (is_among orgs) is_threshold 8 text) (λ x. cond (eqb (length x.1) 0) (Some x.0) None) p e in
+    let g = guarded (eqb (length s.0.1) 0) (Some s.0.0) p s.2 in
+    let f = policy_found orgs 8 text s.0.1 s.0.0 s.1 in
+    subst (λ (q : Policy). needs_someone q ≡ true) (same_Some s.0.0 p g.1) (spelled_needs s.0.0 f.text f.spelled f.within.rules)
+
+module _ (i : Installed) (bytes : List ℕ) (u : Usable) where
+  -- the definition that the bytes spell
+  pub read : usable_in i bytes ≡ Some u → (d : Definition) × (whole_at definition_at bytes ≡ Some d) × (usable_by i d ≡ Ok u)
+  read e =
+      let s = bind_some (whole_at definition_at bytes) (λ d. result_ok (usable_by i d)) u e in
+      (s.0, s.1, is_ok_of (usable_by i s.0) u s.2)
+
+  pub known : usable_in i bytes ≡ Some u → (d : Definition) × IsDefinition d × (definition_bytes d ≡ bytes) × (usable_by i d ≡ Ok u)
+  known e =
+      let s = read e in
+      let k = whole_known IsDefinition definition_bytes definition_at definition bytes s.0 s.1 in
+      (s.0, k.0, k.1, s.2)
+
+  pub again : (d : Definition) → IsDefinition d → definition_bytes d ≡ bytes → usable_by i d ≡ Ok u → usable_in i bytes ≡ Some u
+  again d k e is =
+      let some : whole_at definition_at bytes ≡ Some d = whole_read IsDefinition definition_bytes definition_at definition bytes d k e in
+      rw (some, is) refl
+
+pub defined_needs : (i : Installed) (bytes : List ℕ) (p : Policy) → defined_policy i bytes ≡ Some p → needs_someone p ≡ true
+defined_needs i bytes p e = by_usable (usable_in i bytes) refl e
+  where
+    by_usable : (o : Option Usable) → usable_in i bytes ≡ o → option_map (λ u. u.policy) o ≡ Some p → needs_someone p ≡ true
+    by_usable None is f = absurd cc
+    by_usable (Some u) is f =
+        let s = read i bytes u is in
+        let h = used (place_of i.digests s.0.digest) s.0.fuel (policy_in_text i.orgs s.0.policy) u s.2 in
+        text_needs i.orgs s.0.policy p (h.policy_is ∙ f)
+
+module _ (i : Installed) (d : Definition) (u : Usable) (is : usable_by i d ≡ Ok u) where
+  parts : Used (place_of i.digests d.digest) d.fuel (policy_in_text i.orgs d.policy) u
+  parts = used (place_of i.digests d.digest) d.fuel (policy_in_text i.orgs d.policy) u is
+
+  pub spelled : IsPolicyText d.policy → IsText i.orgs u.policy d.policy
+  spelled limits = whole_found i.orgs d.policy u.policy limits.1 parts.policy_is
+
+  pub placed : (slice_get i.digests u.place ≡ Some d.digest) × (u.fuel ≡ d.fuel)
+  placed = (found_at i.digests d.digest u.place parts.place_is, parts.fuel_is)
+
+pub made : (i : Installed) (d : Definition) (place : ℕ) (p : Policy) → place_of i.digests d.digest ≡ Some place → IsText i.orgs p d.policy →
+    usable_by i d ≡ Ok (record { place = place; fuel = d.fuel; policy = p })
+made i d place p e h = rw (e, strictly i.orgs d.policy p h) refl

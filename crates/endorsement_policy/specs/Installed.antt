@@ -1,0 +1,41 @@
+-- Which definitions of chaincodes can be used, and as what.
+use Rattle.std.specs.Prelude.{ℕ, List, Option, Some, None, Result, Ok, Err, bytes_eq}
+use Rattle.std.specs.List.{position}
+use Rattle.std.specs.Result.{result_ok}
+use Rattle.grammar.specs.Reading.{◌>>=◌, whole_at}
+use Rattle.fab_types.specs.declared.definition.Definition.{Definition}
+use Rattle.wire.specs.Reading.{definition_at}
+use Rattle.endorsement_policy.specs.GoodSets.{Names}
+use Rattle.endorsement_policy.specs.Leniency.{strict}
+use Rattle.endorsement_policy.specs.Reading.{policy_by}
+use Rattle.endorsement_policy.specs.declared.policy.Policy.{Policy}
+use Rattle.endorsement_policy.specs.declared.fault.DefinitionFault.{DefinitionFault}
+use Rattle.endorsement_policy.specs.declared.fault.DefinitionFault.TheVariants.{NotInstalled, BadPolicy}
+use Rattle.endorsement_policy.specs.declared.installed.Usable.{Usable}
+
+-- what every peer has installed: the digests of the modules, and the organisations whose names a policy may have
+pub record Installed : Type 0 where
+  pub digests : List (List ℕ)
+  pub orgs : Names
+
+-- where a module of this digest stands; of two modules with one digest the first counts
+abbrev pub place_of : List (List ℕ) → List ℕ → Option ℕ
+place_of digests digest = position (λ d. bytes_eq d digest) digests
+
+-- the policy that a text is
+abbrev pub policy_in_text : Names → List ℕ → Option Policy
+policy_in_text orgs text = whole_at (policy_by orgs strict 8) text
+
+-- what a place, a fuel and a policy come to
+abbrev pub used_at : Option ℕ → ℕ → Option Policy → Result Usable DefinitionFault
+used_at None fuel policy = Err NotInstalled
+used_at (Some place) fuel None = Err BadPolicy
+used_at (Some place) fuel (Some policy) = Ok (record { place = place; fuel = fuel; policy = policy })
+
+-- what a definition comes to: its module is to be installed, and its text to be a policy
+abbrev pub usable_by : Installed → Definition → Result Usable DefinitionFault
+usable_by i d = used_at (place_of i.digests d.digest) d.fuel (policy_in_text i.orgs d.policy)
+
+-- what the bytes of a definition come to, where they spell one that can be used
+abbrev pub usable_in : Installed → List ℕ → Option Usable
+usable_in i bytes = whole_at definition_at bytes >>= λ d. result_ok (usable_by i d)

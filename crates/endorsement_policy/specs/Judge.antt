@@ -1,0 +1,39 @@
+-- What the envelopes of a block are judged by.
+use Rattle.std.specs.Prelude.{◌≡◌, Bool, Option, Some, None, List}
+use Rattle.std.specs.List.{AllByRecursion}
+use Rattle.fab_types.specs.declared.envelope.Envelope.{Envelope}
+use Rattle.ledger_model.specs.Chain.{Chain, history}
+use Rattle.ledger_model.specs.State.{state}
+use Rattle.ledger_model.specs.Views.{Plain, values_of}
+use Rattle.endorsement_policy.specs.GoodSets.{Name}
+use Rattle.endorsement_policy.specs.Endorsed.{Listed, is_endorsed, policy_in}
+use Rattle.endorsement_policy.specs.declared.policy.Policy.{Policy}
+use Rattle.endorsement_policy.specs.declared.source.Source.{Source}
+use Rattle.endorsement_policy.specs.declared.source.Source.TheVariants.{Genesis, Defined, Nowhere}
+use Rattle.endorsement_policy.specs.declared.source.Known.{Known}
+
+-- what is listed, and the chain before their block
+pub record Judge : Type 0 where
+  pub listed : Listed
+  pub chain : Chain
+
+-- the values of the state after a chain
+abbrev pub plain_after : Chain → Plain
+plain_after chain = values_of (state (history chain))
+
+abbrev pub judges : Judge → Envelope → Bool
+judges j e = is_endorsed j.listed (plain_after j.chain) e
+
+-- the policy of a chaincode, as the judge finds it
+abbrev pub judged_policy : Judge → Name → Option Policy
+judged_policy j name = policy_in j.listed (plain_after j.chain) name
+
+-- the policy that was found somewhere
+abbrev pub policy_from : Source → Option Policy
+policy_from (Genesis policy) = Some policy.now
+policy_from (Defined policy) = Some policy
+policy_from Nowhere = None
+
+-- each has the policy that its chaincode has in the state
+abbrev pub AreRight : Judge → List Known → Type 0
+AreRight j known = AllByRecursion (λ k. policy_from k.source ≡ judged_policy j k.chaincode.now) known

@@ -1,0 +1,115 @@
+//! What every peer has installed, and which definitions can be used with it.
+
+ghost use Rattle.std.specs.Prelude.{◌≡◌, IfOk};
+ghost use Rattle.endorsement_policy.specs.Installed.{place_of, usable_by, usable_in};
+
+use crate::fault::DefinitionFault;
+use crate::policy::Policy;
+use crate::reading::policy_in_text;
+use fab_types::{Definition, Fuel, OrgName};
+use std::alloc::{AllocError, Global};
+use std::marker::Model;
+use wire::{WireFault, decode_definition};
+
+/// The digests of the modules, and the organisations whose names a policy may have.
+#[derive(Drop)]
+pub struct Installed {
+    digests: Vec<[u8; 32]>,
+    orgs: Vec<OrgName>,
+}
+
+impl Model for Installed {
+    ghost use Rattle.endorsement_policy.specs.Installed.{Installed};
+
+    ghost Value = { Installed };
+
+    ghost view = { λ i. record { digests = i.digests.items; orgs = i.orgs.items } };
+}
+
+/// How a definition is used.
+#[derive(Drop)]
+pub struct Usable {
+    /// Where its module stands among those that are installed.
+    pub place: usize,
+    /// What a call may spend.
+    pub fuel: Fuel,
+    /// Whose endorsements a transaction needs.
+    pub policy: Policy,
+}
+
+impl Installed {
+    pub fn new(digests: Vec<[u8; 32]>, orgs: Vec<OrgName>) -> Installed
+        ensures { result ≡ record { digests = digests.items; orgs = orgs.items } }
+    {
+        Installed { digests, orgs }
+    }
+
+    /// The SHA-256 of each module's bytes.
+    pub fn digests(&self) -> &[[u8; 32]]
+        ensures { result.now ≡ self.now.digests }
+    {
+        &self.digests
+    }
+
+    /// The organisations whose names a policy may have.
+    pub fn orgs(&self) -> &[OrgName]
+        ensures { result.now ≡ self.now.orgs }
+    {
+        &self.orgs
+    }
+
+    /// Where the first module of this digest stands.
+    fn place(&self, digest: &[u8; 32]) -> Option<usize>
+        ensures { result ≡ place_of self.now.digests digest.now }
+    {
+        self.digests.iter().position(|d| d == digest)
+    }
+
+    /// How a definition is used, or why it cannot be. The only error is want of memory.
+    pub fn usable(
+        &self,
+        alloc: Global,
+        definition: &Definition,
+    ) -> Result<Result<Usable, DefinitionFault>, AllocError>
+        ensures { IfOk result (λ r. r ≡ usable_by self.now definition.now) }
+    {
+        let Some(place) = self.place(&definition.digest) else {
+            return Ok(Err(DefinitionFault::NotInstalled));
+        };
+        let text = definition.policy.as_slice();
+        let Some(policy) = policy_in_text(alloc, text, &self.orgs)? else {
+            return Ok(Err(DefinitionFault::BadPolicy));
+        };
+        Ok(Ok(Usable {
+            place,
+            fuel: definition.fuel,
+            policy,
+        }))
+    }
+
+    /// How the definition that these bytes spell is used. None where they spell none, or one that
+    /// cannot be used. The only error is want of memory.
+    pub fn definition(&self, alloc: Global, bytes: &[u8]) -> Result<Option<Usable>, AllocError>
+        ensures { IfOk result (λ u. u ≡ usable_in self.now bytes.now) }
+    {
+        let definition = match decode_definition(alloc, bytes) {
+            Ok(definition) => definition,
+            Err(WireFault::Memory) => return Err(AllocError),
+            Err(_) => return Ok(None),
+        };
+        Ok(self.usable(alloc, &definition)?.ok())
+    }
+}
+
+impl Clone for Installed {
+    ghost use Rattle.std.specs.Prelude.{◌≡◌};
+
+    ghost is_clone = { λ a b. b ≡ a };
+
+    fn clone(&self) -> Result<Installed, AllocError> {
+        Ok(Installed {
+            digests: self.digests.clone()?,
+            orgs: self.orgs.clone()?,
+        })
+    }
+}

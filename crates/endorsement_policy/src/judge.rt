@@ -1,0 +1,160 @@
+//! The judge of a block's envelopes.
+
+ghost use Rattle.std.specs.Prelude.{◌≡◌, IfOk, IfSome, option_map};
+ghost use Rattle.endorsement_policy.specs.Endorsed.{is_call_endorsed, is_met_by, is_upgrade_endorsed, right_orgs};
+ghost use Rattle.endorsement_policy.specs.Judge.{judged_policy, judges, plain_after, policy_from};
+
+use crate::evaluate::is_satisfied_by;
+use crate::payloads::{is_upgrade_payload, names_no_other, reads_own};
+use crate::policy::Policy;
+use crate::rules::Rules;
+use crate::source::{Known, Source};
+use crate::tags::right_orgs;
+use fab_types::{Call, Envelope, Name, Proposal, Upgrade};
+use std::alloc::{AllocError, Global};
+use std::marker::Model;
+use world_state::Snapshot;
+
+/// The rules, the state before a block, and the policies of the chaincodes that the block calls.
+#[derive(Drop)]
+pub(crate) struct Judge<'a> {
+    rules: &'a Rules,
+    snapshot: &'a Snapshot,
+    known: Vec<Known<'a>>,
+}
+
+impl<'a> Model for Judge<'a> {
+    ghost use Rattle.endorsement_policy.specs.Tree.{policies_code};
+    ghost use Rattle.endorsement_policy.specs.Judge.{AreRight, Judge};
+    ghost use Rattle.std.specs.Coded.{codes};
+
+    ghost Value = { Judge };
+
+    ghost coded = { Prim.hlevel (codes, policies_code) };
+
+    ghost view = { λ j. record { listed = j.rules.now; chain = j.snapshot.now } };
+
+    ghost invariant = { λ j. AreRight (record { listed = j.rules.now; chain = j.snapshot.now })
+        j.known.items };
+}
+
+impl<'a> Judge<'a> {
+    /// A judge who has looked up the policy of each chaincode that these envelopes call, once. The
+    /// only error is want of memory.
+    pub(crate) fn new(
+        alloc: Global,
+        rules: &'a Rules,
+        snapshot: &'a Snapshot,
+        envelopes: &'a [Envelope],
+    ) -> Result<Judge<'a>, AllocError>
+        ensures { IfOk result (λ j. j ≡ record { listed = rules.now; chain = snapshot.now }) }
+    {
+        let known = Vec::new(alloc);
+        let mut judge = Judge {
+            rules,
+            snapshot,
+            known,
+        };
+        for envelope in envelopes {
+            judge.meet(alloc, &envelope.payload.proposal)?;
+        }
+        Ok(judge)
+    }
+
+    /// Looks up the policy of a chaincode that is called, if that is not yet done.
+    fn meet(&mut self, alloc: Global, proposal: &'a Proposal) -> Result<(), AllocError>
+        ensures { self.new ≡ self.old }
+    {
+        let Proposal::Call(call) = proposal else {
+            return Ok(());
+        };
+        if self.known(&call.chaincode).is_some() {
+            return Ok(());
+        }
+        let source = Source::of(alloc, self.rules, self.snapshot, &call.chaincode)?;
+        self.known.push(Known {
+            chaincode: &call.chaincode,
+            source,
+        })?;
+        Ok(())
+    }
+
+    /// The policy of a chaincode, where it was looked up.
+    fn known(&self, chaincode: &Name) -> Option<&Source<'a>>
+        ensures { IfSome result
+            (λ s. policy_from s.now ≡ judged_policy self.now chaincode.now) }
+    {
+        let found = self.known.iter().find(|k| k.is_of(chaincode))?;
+        Some(&found.source)
+    }
+
+    /// Whether an envelope is endorsed. The only error is want of memory.
+    pub(crate) fn is_endorsed(&self, alloc: Global, envelope: &Envelope) -> Result<bool, AllocError>
+        ensures { IfOk result (λ b. b ≡ judges self.now envelope.now) }
+    {
+        match &envelope.payload.proposal {
+            Proposal::Call(call) => self.is_call_endorsed(alloc, call, envelope),
+            Proposal::Upgrade(upgrade) => self.is_upgrade_endorsed(alloc, upgrade, envelope),
+        }
+    }
+
+    /// Whether an envelope with a call is endorsed.
+    fn is_call_endorsed(
+        &self,
+        alloc: Global,
+        call: &Call,
+        envelope: &Envelope,
+    ) -> Result<bool, AllocError>
+        ensures { IfOk result (λ b. b
+            ≡ is_call_endorsed self.now.listed (plain_after self.now.chain) call.now
+            envelope.now) }
+    {
+        if !reads_own(&envelope.payload) || !names_no_other(&envelope.payload) {
+            return Ok(false);
+        }
+        if let Some(source) = self.known(&call.chaincode) {
+            return is_met_by(alloc, self.rules, source.policy(), envelope);
+        }
+        let source = Source::of(alloc, self.rules, self.snapshot, &call.chaincode)?;
+        is_met_by(alloc, self.rules, source.policy(), envelope)
+    }
+
+    /// Whether an envelope with an upgrade is endorsed.
+    fn is_upgrade_endorsed(
+        &self,
+        alloc: Global,
+        upgrade: &Upgrade,
+        envelope: &Envelope,
+    ) -> Result<bool, AllocError>
+        ensures { IfOk result (λ b. b ≡ is_upgrade_endorsed self.now.listed upgrade.now
+            envelope.now) }
+    {
+        if !is_upgrade_payload(alloc, upgrade, &envelope.payload)? {
+            return Ok(false);
+        }
+        let usable = self.rules.installed().usable(alloc, &upgrade.definition)?;
+        if usable.is_err() {
+            return Ok(false);
+        }
+        is_met_by(alloc, self.rules, Some(self.rules.upgrade()), envelope)
+    }
+}
+
+/// Whether the organisations of which the envelope carries a right tag satisfy the policy. No tag
+/// is computed where there is none.
+fn is_met_by(
+    alloc: Global,
+    rules: &Rules,
+    policy: Option<&Policy>,
+    envelope: &Envelope,
+) -> Result<bool, AllocError>
+    ensures { IfOk result (λ b. b
+        ≡ is_met_by (right_orgs rules.now.orgs envelope.now)
+        (option_map (λ p. p.now) policy.entry)) }
+{
+    let Some(policy) = policy else {
+        return Ok(false);
+    };
+    let orgs = right_orgs(alloc, rules, envelope)?;
+    Ok(is_satisfied_by(policy, &orgs))
+}

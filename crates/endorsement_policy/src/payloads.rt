@@ -1,0 +1,91 @@
+//! What the payloads of calls and of upgrades may name.
+
+ghost use Rattle.std.specs.Prelude.{◌≡◌, IfOk};
+ghost use Rattle.fab_types.specs.Proposals.{definition_key};
+ghost use Rattle.endorsement_policy.specs.Endorsed.{is_one_put, is_one_read, is_upgrade_payload, is_value, names_no_other, reads_no_other, reads_own, writes_shown};
+
+use fab_types::{Name, Payload, ReadItem, Upgrade, Value, WriteItem, is_shown};
+use std::alloc::{AllocError, Global};
+use wire::encode_definition;
+
+/// Whether the key of the chaincode's definition is read.
+pub(crate) fn reads_own(payload: &Payload) -> bool
+    ensures { result ≡ reads_own payload.now }
+{
+    let chaincode = payload.proposal.chaincode();
+    let reads = payload.reads.as_slice();
+    reads.iter().any(|r| r.key.is_of_definition(chaincode))
+}
+
+/// Whether each other key that is read is shown.
+fn reads_no_other(payload: &Payload) -> bool
+    ensures { result ≡ reads_no_other payload.now }
+{
+    let chaincode = payload.proposal.chaincode();
+    let reads = payload.reads.as_slice();
+    reads.iter().all(|r| r.key.is_of_definition(chaincode) || is_shown(r.key.as_slice()))
+}
+
+/// Whether each key that is written is shown.
+fn writes_shown(payload: &Payload) -> bool
+    ensures { result ≡ writes_shown payload.now }
+{
+    let writes = payload.writes.as_slice();
+    writes.iter().all(|w| is_shown(w.key.as_slice()))
+}
+
+/// Whether no key that is not shown is named but that of the chaincode's definition, and that one
+/// is not written.
+pub(crate) fn names_no_other(payload: &Payload) -> bool
+    ensures { result ≡ names_no_other payload.now }
+{
+    reads_no_other(payload) && writes_shown(payload)
+}
+
+/// Whether this is what an upgrade makes: it reads the key of the definition and no more, answers
+/// nothing, and puts the new definition there. The only error is want of memory.
+pub(crate) fn is_upgrade_payload(
+    alloc: Global,
+    upgrade: &Upgrade,
+    payload: &Payload,
+) -> Result<bool, AllocError>
+    ensures { IfOk result (λ b. b ≡ is_upgrade_payload upgrade.now payload.now) }
+{
+    let definition = encode_definition(alloc, &upgrade.definition)?;
+    Ok(
+        is_one_read(&upgrade.chaincode, payload.reads.as_slice())
+            && payload.ranges.as_slice().is_empty()
+            && payload.result.as_slice().is_empty()
+            && is_one_put(&upgrade.chaincode, &definition, payload.writes.as_slice()),
+    )
+}
+
+/// Whether the key of the definition is read, and nothing else.
+fn is_one_read(chaincode: &Name, reads: &[ReadItem]) -> bool
+    ensures { result ≡ is_one_read (definition_key chaincode.now) reads.now }
+{
+    match reads {
+        [read] => read.key.is_of_definition(chaincode),
+        _ => false,
+    }
+}
+
+/// Whether these bytes are put at the key of the definition, and nothing else is written.
+fn is_one_put(chaincode: &Name, bytes: &[u8], writes: &[WriteItem]) -> bool
+    ensures { result ≡ is_one_put (definition_key chaincode.now) bytes.now writes.now }
+{
+    match writes {
+        [write] => write.key.is_of_definition(chaincode) && is_value(bytes, &write.value),
+        _ => false,
+    }
+}
+
+/// Whether the value is there, and has these bytes.
+fn is_value(bytes: &[u8], value: &Option<Value>) -> bool
+    ensures { result ≡ is_value bytes.now value.now }
+{
+    match value {
+        Some(value) => value.as_slice() == bytes,
+        None => false,
+    }
+}
