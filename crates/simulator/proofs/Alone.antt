@@ -1,41 +1,84 @@
 -- An execution by a book of valid modules depends only on what it read.
-use Rattle.std.proofs.Common.{◌≡◌, ℕ, Bool, true, false, cond, List, [], ◌∷◌, Option, Some, None, refl}
+use Rattle.std.proofs.Common.{ℕ, zero, suc, Bool, true, false, cond, List, [], ◌∷◌, ◌++◌, map, Option, Some, None, refl, option_map, slice_get}
 use Rattle.std.specs.Prelude.{IfSome}
+use Rattle.std.specs.Option.{option_and_then}
 use Rattle.std.specs.List.{find, AllByRecursion}
-use Rattle.fab_types.specs.declared.payload.Proposal.{Proposal}
+use Rattle.fab_types.specs.declared.proposal.Proposal.{Proposal}
+use Rattle.fab_types.specs.declared.proposal.Proposal.TheVariants as proposal
+use Rattle.wire.specs.Spelling.{definition_bytes}
 use Rattle.ledger_model.specs.Chain.{Bytes}
 use Rattle.ledger_model.specs.Views.{Plain}
 use Rattle.ledger_model.specs.Execution as ledger
+use Rattle.ledger_model.specs.Defined.{IsAlone, called, upgraded, definition_key}
 use Rattle.wasm_ast.specs.declared.module.Module.{Module}
 use Rattle.wasm_validate.specs.ModuleRules.{IsValid}
+use Rattle.endorsement_policy.specs.Installed.{usable_by, usable_in}
+use Rattle.endorsement_policy.specs.declared.installed.Usable.{Usable}
 use Rattle.host_api.specs.Executing as host
 use Rattle.simulator.specs.declared.book.Chaincode.{Chaincode}
-use Rattle.simulator.specs.Books.{AreValid, chaincode_at}
-use Rattle.simulator.specs.Execution.{execute, exec_of}
+use Rattle.simulator.specs.Books.{Book, AreValid, modules_of, chaincode_at}
+use Rattle.simulator.specs.Execution.{Executable, execute, executable_by, genesis_executable, installed_executable, upgrade_ending, exec_of}
 
 all_found : {X : Type 0} (P : X → Type 0) (test : X → Bool) (xs : List X) → AllByRecursion P xs → IfSome (find test xs) P
 all_found P test [] h = tt
 all_found {X} P test (x ∷ xs) h =
     elim (test x) as (λ b. IfSome (cond b (Some x) (find test xs)) P) [ true ↦ h.0 | false ↦ all_found P test xs h.1 ]
 
+all_at : {X : Type 0} (P : X → Type 0) (xs : List X) (n : ℕ) → AllByRecursion P xs → IfSome (slice_get xs n) P
+all_at P [] n h = tt
+all_at P (x ∷ xs) zero h = h.0
+all_at P (x ∷ xs) (suc n) h = all_at P xs n h.1
+
+all_mapped : {X Y : Type 0} (P : Y → Type 0) (f : X → Y) (xs : List X) (ys : List Y) → AllByRecursion (λ x. P (f x)) xs → AllByRecursion P ys →
+    AllByRecursion P (map f xs ++ ys)
+all_mapped P f [] ys h k = k
+all_mapped P f (x ∷ xs) ys h k = (h.0, all_mapped P f xs ys h.1 k)
+
+if_mapped : {X Y : Type 0} (P : Y → Type 0) (f : X → Y) (o : Option X) → IfSome o (λ x. P (f x)) → IfSome (option_map f o) P
+if_mapped P f None h = tt
+if_mapped P f (Some x) h = h
+
+if_then : {X Y : Type 0} (P : Y → Type 0) (f : X → Option Y) (o : Option X) → ((x : X) → IfSome (f x) P) → IfSome (option_and_then f o) P
+if_then P f None h = tt
+if_then P f (Some x) h = h x
+
+-- what a call executes is valid
+abbrev pub IsFit : Option Executable → Type 0
+IsFit found = IfSome found (λ e. IsValid e.module)
+
+module _ (book : Book) (valid : AreValid book) where
+  genesis_fit : (name : Bytes) → IsFit (genesis_executable book name)
+  genesis_fit name =
+      if_mapped (λ (e : Executable). IsValid e.module) (λ (c : Chaincode). record { «module» = c.module; fuel = c.fuel }) (chaincode_at book.chaincodes name)
+      (all_found (λ (c : Chaincode). IsValid c.module) _ book.chaincodes valid.chaincodes)
+
+  installed_fit : (u : Usable) → IsFit (installed_executable book u)
+  installed_fit u =
+      let all : AllByRecursion IsValid (modules_of book) =
+      all_mapped IsValid (λ (c : Chaincode). c.module) book.chaincodes book.modules valid.chaincodes valid.modules in
+      if_mapped (λ (e : Executable). IsValid e.module) (λ (m : Module). record { «module» = m; fuel = u.fuel }) (slice_get (modules_of book) u.place)
+      (all_at IsValid (modules_of book) u.place all)
+
+  pub executable_fit : (name : Bytes) (value : Option Bytes) → IsFit (executable_by book name value)
+  executable_fit name None = genesis_fit name
+  executable_fit name (Some bytes) =
+      if_then (λ (e : Executable). IsValid e.module) (installed_executable book) (usable_in book.installed bytes) installed_fit
+
 -- what is known of each valid module
 module _ (alone : (wasm : Module) (fuel : ℕ) (argument : Bytes) → IsValid wasm → host.ReadsAlone wasm fuel argument) where
-  executed_truthful : (found : Option Chaincode) (argument : Bytes) (m : Plain) → IfSome found (λ c. IsValid c.module) →
-      ledger.Answers m (execute found argument m).seen
-  executed_truthful None argument m h = record { reads = tt; ranges = tt }
-  executed_truthful (Some c) argument m h = (alone c.module c.fuel argument h).truthful m
+  executed_alone : (found : Option Executable) → IsFit found → (argument : Bytes) → IsAlone (execute found argument)
+  executed_alone None fit argument = record { truthful = λ m. record { reads = tt; ranges = tt }; only = λ m n h. refl }
+  executed_alone (Some e) fit argument =
+      let is = alone e.module e.fuel argument fit in record { truthful = λ m. is.truthful m; only = λ m n h. is.only m n h }
 
-  executed_only : (found : Option Chaincode) (argument : Bytes) (m n : Plain) → IfSome found (λ c. IsValid c.module) →
-      ledger.Answers n (execute found argument m).seen → execute found argument n ≡ execute found argument m
-  executed_only None argument m n h seen = refl
-  executed_only (Some c) argument m n h seen = (alone c.module c.fuel argument h).only m n seen
-
-  pub exec_alone : (book : List Chaincode) → AreValid book → ledger.ReadsAlone (exec_of book)
-  unfolding exec_of
-  exec_alone book valid =
-      let found : (p : Proposal) → IfSome (chaincode_at book p.chaincode) (λ (c : Chaincode). IsValid c.module) =
-      λ p. all_found (λ (c : Chaincode). IsValid c.module) _ book valid in
-      record {
-        truthful = λ p m. executed_truthful (chaincode_at book p.chaincode) p.argument m (found p);
-        only = λ p m n seen. executed_only (chaincode_at book p.chaincode) p.argument m n (found p) seen;
-      }
+  -- and of executions that read a definition
+  module _
+      (calls : (key : Bytes) (run : Option Bytes → Plain → ledger.Outcome) → ((value : Option Bytes) → IsAlone (run value)) → IsAlone (called key run))
+      (upgrades : (key value : Bytes) (ending : ledger.Ending) → IsAlone (upgraded key value ending)) (book : Book) (valid : AreValid book) where
+    pub each_alone : (p : Proposal) → IsAlone (exec_of book p)
+    unfolding exec_of
+    each_alone (proposal.Call c) =
+        calls (definition_key c.chaincode) (λ value. execute (executable_by book c.chaincode value) c.argument)
+        (λ value. executed_alone (executable_by book c.chaincode value) (executable_fit book valid c.chaincode value) c.argument)
+    each_alone (proposal.Upgrade u) =
+        upgrades (definition_key u.chaincode) (definition_bytes u.definition) (upgrade_ending (usable_by book.installed u.definition))

@@ -1,10 +1,10 @@
 -- What a run's outcome says of a payload is what the ending of the execution says.
-use Rattle.std.proofs.Common.{◌≡◌, ℕ, ◌-◌, arith, Bool, true, false, cond, List, [], ◌∷◌, Some, None, Result, Ok, Err, refl, sym, ap, ◌∙◌, subst}
+use Rattle.std.proofs.Common.{◌≡◌, ℕ, ◌-◌, arith, Bool, true, false, cond, [], ◌∷◌, Result, Ok, Err, refl, sym, ap, ◌∙◌, subst}
 use Rattle.std.specs.Prelude.{◌==◌}
-use Rattle.fab_types.specs.declared.payload.Proposal.{Proposal}
 use Rattle.interp.specs.declared.outcome.Outcome.{Outcome}
 use Rattle.interp.specs.declared.outcome.Outcome.TheVariants as outcome
 use Rattle.interp.specs.Ended.{Ended}
+use Rattle.ledger_model.specs.Chain.{Bytes}
 use Rattle.ledger_model.specs.Views.{Plain, Versioned, values_of}
 use Rattle.ledger_model.specs.Execution as ledger
 use Rattle.wasm_ast.specs.declared.trap.Trap.{Trap}
@@ -14,13 +14,11 @@ use Rattle.wasm_meaning.specs.Values.{Answer, Next, Trapped, Spent}
 use Rattle.wasm_meaning.specs.Program.{invocation}
 use Rattle.host_api.specs.Recorded.{Recorded, nothing_recorded, seen_on}
 use Rattle.host_api.specs.HostStep.{host_step}
+use Rattle.host_api.specs.Executing as host
 use Rattle.host_api.specs.Executing.{outcome_with, ending_of, outcome_of}
 use Rattle.host_api.specs.Recording.{Opened, Recording}
 use Rattle.host_api.specs.Parts.{parts_of}
-use Rattle.host_api.specs.declared.recorder.Parts.{Parts}
-use Rattle.simulator.specs.declared.book.Chaincode.{Chaincode}
-use Rattle.simulator.specs.Books.{chaincode_at}
-use Rattle.simulator.specs.Execution.{execute, exec_of}
+use Rattle.simulator.specs.Execution.{Executable}
 use Rattle.simulator.specs.Answers.{trap_of, done_or_refusal, Answers}
 use Rattle.simulator.specs.Success.{success_of}
 use Rattle.simulator.specs.declared.refusal.SimRefusal.{SimRefusal}
@@ -66,30 +64,28 @@ done_is {X} x (outcome.Trapped kind used) =
 done_is x outcome.Spent = refl
 
 -- what an execution comes to whose host was opened as `before` and ended as `after`
-module _ {V : Type 0} (state_of : V → Versioned) (book : List Chaincode) (p : Proposal) (v : V) (c : Chaincode) (before after : Recording V) (o : Outcome) where
+module _ {V : Type 0} (state_of : V → Versioned) (e : Executable) (argument : Bytes) (v : V) (before after : Recording V) (o : Outcome) where
   pub record IsRun : Type 0 where
-    pub found : Some c ≡ chaincode_at book p.chaincode
-    pub start : before ≡ record { opened = record { view = v; argument = p.argument }; records = nothing_recorded }
-    pub ends : Ended (invocation c.module (host_step (values_of (state_of before.opened.view)) before.opened.argument) before.records c.fuel) c.fuel o
+    pub start : before ≡ record { opened = record { view = v; argument = argument }; records = nothing_recorded }
+    pub ends : Ended (invocation e.module (host_step (values_of (state_of before.opened.view)) before.opened.argument) before.records e.fuel) e.fuel o
         after.records
     pub keeps : after.opened ≡ before.opened
 
   module _ (run : IsRun) where
-    execution_is : exec_of book p (values_of (state_of v)) ≡ outcome_with (ending_in o) (values_of (state_of v)) after.records
-    unfolding exec_of
-    execution_is =
-        let ends : Ended (invocation c.module (host_step (values_of (state_of v)) p.argument) nothing_recorded c.fuel) c.fuel o after.records =
+    run_is : host.outcome e.module e.fuel argument (values_of (state_of v)) ≡ outcome_with (ending_in o) (values_of (state_of v)) after.records
+    run_is =
+        let ends : Ended (invocation e.module (host_step (values_of (state_of v)) argument) nothing_recorded e.fuel) e.fuel o after.records =
         subst (λ (b : Recording V).
-        Ended (invocation c.module (host_step (values_of (state_of b.opened.view)) b.opened.argument) b.records c.fuel) c.fuel o after.records) run.start
+        Ended (invocation e.module (host_step (values_of (state_of b.opened.view)) b.opened.argument) b.records e.fuel) e.fuel o after.records) run.start
         run.ends in
-        ap (λ found. execute found p.argument (values_of (state_of v))) (sym run.found) ∙ outcome_is c.fuel (values_of (state_of v)) _ o after.records ends
+        outcome_is e.fuel (values_of (state_of v)) _ o after.records ends
 
-    pub answer_is : (r : Result (Unit {0}) SimRefusal) → r ≡ success_of o → let e =
-        exec_of book p (values_of (state_of v)) in
-        done_or_refusal e.ending (parts_of (state_of v) e.seen) ≡ with_value (parts_of (state_of v) (seen_on (values_of (state_of v)) after.records)) r
+    pub answer_is : (r : Result (Unit {0}) SimRefusal) → r ≡ success_of o → let x =
+        host.outcome e.module e.fuel argument (values_of (state_of v)) in
+        done_or_refusal x.ending (parts_of (state_of v) x.seen) ≡ with_value (parts_of (state_of v) (seen_on (values_of (state_of v)) after.records)) r
     answer_is r is =
         let parts = parts_of (state_of v) (seen_on (values_of (state_of v)) after.records) in
-        ap (λ (e : ledger.Outcome). done_or_refusal e.ending (parts_of (state_of v) e.seen)) execution_is ∙ done_is parts o ∙ ap (with_value parts) (sym is)
+        ap (λ (x : ledger.Outcome). done_or_refusal x.ending (parts_of (state_of v) x.seen)) run_is ∙ done_is parts o ∙ ap (with_value parts) (sym is)
 
     view_is : after.opened.view ≡ v
     view_is = ap (λ (b : Opened V). b.view) (run.keeps ∙ ap (λ (b : Recording V). b.opened) run.start)
@@ -107,10 +103,37 @@ answers wanted (Err (refusal.Trapped kind used)) e = e
 answers wanted (Err refusal.Spent) e = e
 answers wanted (Err (refusal.Status n)) e = e
 answers wanted (Err refusal.Stale) e = e
+answers wanted (Err refusal.NotInstalled) e = e
+answers wanted (Err refusal.BadPolicy) e = e
 
--- where no chaincode has the name
-pub unknown_is : {X : Type 0} (of : ledger.Outcome → X) (book : List Chaincode) (p : Proposal) (m : Plain) → None ≡ chaincode_at book p.chaincode → let e =
-    exec_of book p m in done_or_refusal e.ending (of e) ≡ Err refusal.UnknownChaincode
-unfolding exec_of
-unknown_is {X} of book p m h =
-    ap (λ found. let e = execute found p.argument m in done_or_refusal e.ending (of e)) (sym h)
+abbrev pub map_ok : {X Y : Type 0} → (X → Y) → Result X SimRefusal → Result Y SimRefusal
+map_ok f (Ok x) = Ok (f x)
+map_ok f (Err e) = Err e
+
+-- what is made of an answer is made of what it is to be
+pub answers_mapped : {X Y : Type 0} (f : X → Y) (wanted result : Result X SimRefusal) → Answers wanted result →
+    Answers (map_ok f wanted) (map_ok f result)
+answers_mapped f wanted (Ok x) h = ap (map_ok f) h
+answers_mapped f wanted (Err refusal.Memory) h = tt
+answers_mapped f wanted (Err refusal.UnknownChaincode) h = ap (map_ok f) h
+answers_mapped f wanted (Err (refusal.Trapped kind used)) h = ap (map_ok f) h
+answers_mapped f wanted (Err refusal.Spent) h = ap (map_ok f) h
+answers_mapped f wanted (Err (refusal.Status n)) h = ap (map_ok f) h
+answers_mapped f wanted (Err refusal.Stale) h = ap (map_ok f) h
+answers_mapped f wanted (Err refusal.NotInstalled) h = ap (map_ok f) h
+answers_mapped f wanted (Err refusal.BadPolicy) h = ap (map_ok f) h
+
+pub mapped_done : {X Y : Type 0} (f : X → Y) (e : ledger.Ending) (x : X) → map_ok f (done_or_refusal e x) ≡ done_or_refusal e (f x)
+mapped_done f ledger.Done x = refl
+mapped_done f ledger.Unknown x = refl
+mapped_done f ledger.NotInstalled x = refl
+mapped_done f ledger.BadPolicy x = refl
+mapped_done f (ledger.Trapped kind used) x = refl
+mapped_done f ledger.Spent x = refl
+mapped_done f (ledger.Status n) x = refl
+
+-- what is made of what is done answers what is to be made
+pub answers_made : {X Y : Type 0} (f : X → Y) (e : ledger.Ending) (x : X) (result : Result X SimRefusal) → Answers (done_or_refusal e x) result →
+    Answers (done_or_refusal e (f x)) (map_ok f result)
+answers_made f e x result h =
+    subst (λ wanted. Answers wanted (map_ok f result)) (mapped_done f e x) (answers_mapped f (done_or_refusal e x) result h)

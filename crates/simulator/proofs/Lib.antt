@@ -1,3 +1,5 @@
 pub mod Endings
 pub mod Reruns
 pub mod Alone
+pub mod Refusals
+pub mod Calls

@@ -2,12 +2,16 @@
 use Rattle.std.proofs.Common.{◌≡◌, ℕ, Bool, List, [], ◌∷◌, map, Option, Some, None, Result, Ok, Err, refl, sym, ap, ap₂, ◌∙◌, option_map, is_some, subst}
 use Rattle.std.specs.FinMap.{get}
 use Rattle.fab_types.specs.declared.items.RangeEntry.{RangeEntry}
-use Rattle.fab_types.specs.declared.payload.Proposal.{Proposal}
+use Rattle.fab_types.specs.declared.items.WriteItem.{WriteItem}
+use Rattle.fab_types.specs.declared.proposal.Proposal.{Proposal}
+use Rattle.fab_types.specs.declared.proposal.Proposal.TheVariants as proposal
 use Rattle.ledger_model.specs.Chain.{Bytes, Version}
 use Rattle.ledger_model.specs.Views.{Plain, Versioned, first, values_of}
 use Rattle.ledger_model.specs.Flags.{entry_of}
 use Rattle.ledger_model.specs.Execution as ledger
 use Rattle.ledger_model.specs.Execution.{Seen, read_item, range_item}
+use Rattle.ledger_model.specs.Defined.{definition_key, with_read}
+use Rattle.wire.specs.Spelling.{definition_bytes}
 use Rattle.ledger_model.specs.Serial.{seen_key, seen_keys, read_key, range_keys}
 use Rattle.ledger_model.proofs.Views.{get-values_of, first-values_of}
 use Rattle.wasm_meaning.specs.Values.{Answer, Next, Branch, Returns, Trapped, Spent, Stuck}
@@ -15,10 +19,9 @@ use Rattle.host_api.specs.Recorded.{Asked, Recorded, nothing_recorded, key_seen,
 use Rattle.host_api.specs.Executing.{outcome_of, execution}
 use Rattle.host_api.specs.Parts.{parts_of}
 use Rattle.host_api.specs.declared.recorder.Parts.{Parts}
-use Rattle.simulator.specs.declared.book.Chaincode.{Chaincode}
-use Rattle.simulator.specs.declared.refusal.SimRefusal.TheVariants as refusal
-use Rattle.simulator.specs.Books.{chaincode_at}
-use Rattle.simulator.specs.Execution.{execute, exec_of}
+use Rattle.simulator.specs.Books.{Book}
+use Rattle.simulator.specs.Execution.{Executable, executable_by, execute, exec_of}
+use Rattle.simulator.proofs.Endings.{map_ok, answers_made}
 use Rattle.simulator.specs.Answers.{SimRefusal, Answers, done_or_refusal, Rerun, rerun_of, rerun_or_refusal, told_by, told_in}
 
 -- ---- what an execution saw is what a state says of some questions
@@ -36,13 +39,26 @@ outcome_asks fuel m (Trapped why left w) = (w.records, refl)
 outcome_asks fuel m (Spent w) = (w.records, refl)
 outcome_asks fuel m Stuck = (nothing_recorded, refl)
 
-executed_asks : (found : Option Chaincode) (argument : Bytes) (m : Plain) → Asks m (execute found argument m).seen
+executed_asks : (found : Option Executable) (argument : Bytes) (m : Plain) → Asks m (execute found argument m).seen
 executed_asks None argument m = (nothing_recorded, refl)
-executed_asks (Some c) argument m = outcome_asks c.fuel m (execution c.module c.fuel argument m)
+executed_asks (Some e) argument m = outcome_asks e.fuel m (execution e.module e.fuel argument m)
 
-exec_asks : (book : List Chaincode) (p : Proposal) (m : Plain) → Asks m (exec_of book p m).seen
+-- a read in front is one question more
+read_asks : (m : Plain) (key : Bytes) (o : ledger.Outcome) → Asks m o.seen → Asks m (with_read key (get m key) o).seen
+read_asks m key o asks = (
+  record { reads = key ∷ asks.0.reads; ranges = asks.0.ranges; result = asks.0.result; writes = asks.0.writes },
+  ap (λ (s : Seen). (with_read key (get m key) (record { ending = o.ending; seen = s })).seen) asks.1,
+)
+
+exec_asks : (book : Book) (p : Proposal) (m : Plain) → Asks m (exec_of book p m).seen
 unfolding exec_of
-exec_asks book p m = executed_asks (chaincode_at book p.chaincode) p.argument m
+exec_asks book (proposal.Call c) m =
+    let key = definition_key c.chaincode in
+    let found = executable_by book c.chaincode (get m key) in
+    read_asks m key (execute found c.argument m) (executed_asks found c.argument m)
+exec_asks book (proposal.Upgrade u) m =
+    let write : WriteItem = record { key = definition_key u.chaincode; value = Some (definition_bytes u.definition) } in
+    (record { reads = definition_key u.chaincode ∷ []; ranges = []; result = []; writes = write ∷ [] }, refl)
 
 -- ---- what is told of questions on a state with versions and without
 
@@ -95,25 +111,16 @@ module _ (m : Versioned) where
 
 -- ---- what a rerun answers
 
-told_in-done : (e : ledger.Ending) (p : Parts) → told_in (done_or_refusal e p) ≡ done_or_refusal e (told_by p)
-told_in-done ledger.Done p = refl
-told_in-done ledger.Unknown p = refl
-told_in-done (ledger.Trapped kind used) p = refl
-told_in-done ledger.Spent p = refl
-told_in-done (ledger.Status n) p = refl
+told_in-map : (result : Result Parts SimRefusal) → map_ok told_by result ≡ told_in result
+told_in-map (Ok p) = refl
+told_in-map (Err e) = refl
 
-answers_told : (wanted result : Result Parts SimRefusal) → Answers wanted result → Answers (told_in wanted) (told_in result)
-answers_told wanted (Ok p) h = ap told_in h
-answers_told wanted (Err refusal.Memory) h = tt
-answers_told wanted (Err refusal.UnknownChaincode) h = ap told_in h
-answers_told wanted (Err (refusal.Trapped kind used)) h = ap told_in h
-answers_told wanted (Err refusal.Spent) h = ap told_in h
-answers_told wanted (Err (refusal.Status n)) h = ap told_in h
-answers_told wanted (Err refusal.Stale) h = ap told_in h
-
-pub rerun_answers : (book : List Chaincode) (p : Proposal) (m : Versioned) (result : Result Parts SimRefusal) → let o =
+pub rerun_answers : (book : Book) (p : Proposal) (m : Versioned) (result : Result Parts SimRefusal) → let o =
     exec_of book p (values_of m) in Answers (done_or_refusal o.ending (parts_of m o.seen)) result → Answers (rerun_or_refusal o) (told_in result)
 rerun_answers book p m result h =
     let o = exec_of book p (values_of m) in
-    let told = told_in-done o.ending (parts_of m o.seen) ∙ ap (done_or_refusal o.ending) (seen_told m o.seen (exec_asks book p (values_of m))) in
-    subst (λ wanted. Answers wanted (told_in result)) told (answers_told _ result h)
+    let told : done_or_refusal o.ending (told_by (parts_of m o.seen)) ≡ rerun_or_refusal o =
+    ap (done_or_refusal o.ending) (seen_told m o.seen (exec_asks book p (values_of m))) in
+    subst (λ wanted. Answers wanted (told_in result)) told
+    (subst (Answers (done_or_refusal o.ending (told_by (parts_of m o.seen)))) (told_in-map result)
+    (answers_made told_by o.ending (parts_of m o.seen) result h))

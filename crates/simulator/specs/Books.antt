@@ -1,9 +1,22 @@
--- The chaincodes that can be called.
-use Rattle.std.specs.Prelude.{◌≡◌, ◌≤◌, ◌&&◌, ℕ, nat_le, nat_eq, Bool, true, not, List, [], ◌∷◌, length, Option}
+-- The chaincodes that can be called, and the modules that are installed.
+use Rattle.std.specs.Prelude.{◌≡◌, ◌≤◌, ◌+◌, ◌&&◌, ℕ, nat_le, nat_eq, Bool, true, not, List, [], ◌∷◌, ◌++◌, map, length, Option}
 use Rattle.std.specs.List.{find, list_all, list_any, AllByRecursion}
 use Rattle.std.specs.Cmp.Lexicographic.{pointwise}
+use Rattle.wasm_ast.specs.declared.module.Module.{Module}
 use Rattle.wasm_validate.specs.ModuleRules.{IsValid}
+use Rattle.endorsement_policy.specs.Installed.{Installed}
 use Rattle.simulator.specs.declared.book.Chaincode.{Chaincode}
+
+-- the chaincodes of the genesis, more modules, and what a definition can be used with: the digests of the chaincodes' modules, then those of
+-- the modules
+pub record Book : Type 0 where
+  pub chaincodes : List Chaincode
+  pub modules : List Module
+  pub installed : Installed
+
+-- the installed modules, in the order of their digests
+abbrev pub modules_of : Book → List Module
+modules_of book = map (λ c. c.module) book.chaincodes ++ book.modules
 
 abbrev pub is_named : List ℕ → Chaincode → Bool
 is_named name c = pointwise nat_eq c.name name
@@ -17,16 +30,19 @@ abbrev pub have_own_names : List Chaincode → Bool
 have_own_names [] = true
 have_own_names (c ∷ cs) = not (list_any (is_named c.name) cs) && have_own_names cs
 
--- at most 16 chaincodes, each with a name of its own
-pub record IsBook (cs : List Chaincode) : Type 0 where
-  pub count : length cs ≤ 16
-  pub fuels : list_all has_fuel cs ≡ true
-  pub names : have_own_names cs ≡ true
+-- at most 16 chaincodes, each with a name of its own, at most 16 modules more, and a digest for each module
+pub record IsBook (book : Book) : Type 0 where
+  pub count : length book.chaincodes ≤ 16
+  pub fuels : list_all has_fuel book.chaincodes ≡ true
+  pub names : have_own_names book.chaincodes ≡ true
+  pub module_count : length book.modules ≤ 16
+  pub digest_count : length book.installed.digests ≡ length book.chaincodes + length book.modules
 
 -- each module is valid, which its type says
-abbrev pub AreValid : List Chaincode → Type 0
-AreValid cs = AllByRecursion (λ (c : Chaincode). IsValid c.module) cs
+pub record AreValid (book : Book) : Type 0 where
+  pub chaincodes : AllByRecursion (λ (c : Chaincode). IsValid c.module) book.chaincodes
+  pub modules : AllByRecursion IsValid book.modules
 
 -- the chaincode of a name
 abbrev pub chaincode_at : List Chaincode → List ℕ → Option Chaincode
-chaincode_at book name = find (is_named name) book
+chaincode_at chaincodes name = find (is_named name) chaincodes

@@ -1,15 +1,18 @@
-//! The chaincodes that can be called.
+//! The chaincodes that can be called, and the modules that are installed.
 
-ghost use Rattle.std.specs.Prelude.{◌≡◌, ◌↔◌, IsSome, IfSome, true, option_map};
-ghost use Rattle.std.specs.List.{list_all, list_any};
-ghost use Rattle.simulator.specs.Books.{IsBook, AreValid, chaincode_at, is_named, has_fuel, have_own_names};
+ghost use Rattle.std.specs.Prelude.{◌≡◌, ◌↔◌, IsSome, IfSome, true, map, option_map, slice_get};
+ghost use Rattle.std.specs.List.{list_all, list_any, AllByRecursion};
+ghost use Rattle.wasm_validate.specs.ModuleRules.{IsValid};
+ghost use Rattle.simulator.specs.Books.{IsBook, AreValid, chaincode_at, is_named, has_fuel, have_own_names, modules_of};
 
+use endorsement_policy::Installed;
 use fab_types::Name;
-use fab_types::limits::{MOST_CHAINCODES, MOST_FUEL};
+use fab_types::limits::{MOST_CHAINCODES, MOST_FUEL, MOST_MODULES};
+use std::fmt::{self, Debug, Formatter, Write};
 use std::marker::Model;
 use wasm_validate::ValidModule;
 
-/// A chaincode.
+/// A chaincode as the genesis defines it.
 #[derive(Debug, Drop)]
 pub struct Chaincode {
     pub name: Name,
@@ -18,58 +21,131 @@ pub struct Chaincode {
     pub fuel: u64,
 }
 
-/// Up to 16 chaincodes of different names, each with a fuel of 1 to 10,000,000.
-#[derive(Debug, Drop)]
+/// Up to 16 chaincodes of different names, each with a fuel of 1 to 10,000,000, and up to 16
+/// modules more. All these modules are installed, those of the chaincodes first.
+#[derive(Drop)]
 pub struct Book {
     chaincodes: Vec<Chaincode>,
+    modules: Vec<ValidModule>,
+    installed: Installed,
+}
+
+/// The digests are not printed.
+impl Debug for Book {
+    fn fmt<W: Write>(&self, f: &mut Formatter<W>) -> fmt::Result {
+        f.debug_struct("Book")
+            .field("chaincodes", &self.chaincodes)
+            .field("modules", &self.modules)
+            .finish_non_exhaustive()
+    }
 }
 
 impl Model for Book {
-    ghost use Rattle.std.specs.Prelude.{List};
-    ghost use Rattle.simulator.specs.declared.book.Chaincode.{Chaincode};
-    ghost use Rattle.simulator.specs.contracts.book.Chaincode as declared;
-    ghost use Rattle.std.specs.Coded.{coded_list};
-    ghost use Rattle.simulator.specs.Books.{IsBook, AreValid};
+    ghost use Rattle.std.specs.Coded.{codes};
+    ghost use Rattle.simulator.specs.contracts.book.Chaincode as chaincode;
+    ghost use Rattle.wasm_ast.specs.contracts.module.Module as wasm;
+    ghost use Rattle.simulator.specs.Books.{Book, IsBook, AreValid};
 
-    ghost Value = { List Chaincode };
+    ghost Value = { Book };
 
-    ghost coded = { coded_list declared.the_row.coded };
+    ghost coded = { Prim.hlevel (codes, chaincode.the_row.coded, wasm.the_row.coded) };
 
-    ghost view = { λ b. b.chaincodes.items };
+    ghost view = { λ b.
+        record {
+          chaincodes = b.chaincodes.items;
+          modules = b.modules.items;
+          installed = b.installed;
+        } };
 
-    ghost invariant = { λ b. IsBook b.chaincodes.items × AreValid b.chaincodes.items };
+    ghost invariant = { λ b.
+        let book : Book =
+        record {
+          chaincodes = b.chaincodes.items;
+          modules = b.modules.items;
+          installed = b.installed;
+        } in
+        IsBook book × AreValid book };
 }
 
 impl Book {
-    /// The book of these chaincodes. None if there are more than 16, if two have the same name or
-    /// if a fuel is out of its range.
-    pub fn new(chaincodes: Vec<Chaincode>) -> Option<Book>
-        ensures accepted { IsSome result ↔ IsBook chaincodes.items }
-        ensures value { IfSome result (λ b. b ≡ chaincodes.items) }
+    /// The book of these chaincodes and modules. None if there are more than 16 of either, if two
+    /// chaincodes have the same name, if a fuel is out of its range or if there is not one digest
+    /// for each module.
+    pub fn new(
+        chaincodes: Vec<Chaincode>,
+        modules: Vec<ValidModule>,
+        installed: Installed,
+    ) -> Option<Book>
+        ensures accepted { IsSome result
+            ↔ IsBook
+            (record {
+              chaincodes = chaincodes.items;
+              modules = modules.items;
+              installed = installed;
+            }) }
+        ensures value { IfSome result
+            (λ b. b
+            ≡ record {
+              chaincodes = chaincodes.items;
+              modules = modules.items;
+              installed = installed;
+            }) }
     {
+        show_valid(&modules);
         if chaincodes.len() > MOST_CHAINCODES
             || !have_fuel(&chaincodes)
             || !have_own_names(&chaincodes)
+            || modules.len() > MOST_MODULES
+            || installed.digests().len() != chaincodes.len() + modules.len()
         {
             return None;
         }
-        Some(Book { chaincodes })
+        Some(Book {
+            chaincodes,
+            modules,
+            installed,
+        })
     }
 
     /// The chaincodes, in the order in which they were given. The module of each is valid.
     pub fn chaincodes(&self) -> &[Chaincode]
-        ensures value { result.now ≡ self.now }
+        ensures value { result.now ≡ self.now.chaincodes }
         ensures limits { IsBook self.now }
         ensures valid { AreValid self.now }
     {
         &self.chaincodes
     }
 
+    /// The modules that are installed besides those of the chaincodes.
+    pub fn modules(&self) -> &[ValidModule]
+        ensures { result.now ≡ self.now.modules }
+    {
+        &self.modules
+    }
+
+    /// What a definition can be used with: the digests of the chaincodes' modules first, then those
+    /// of the modules.
+    pub fn installed(&self) -> &Installed
+        ensures { result.now ≡ self.now.installed }
+    {
+        &self.installed
+    }
+
     /// The chaincode of a name.
     pub fn get(&self, name: &Name) -> Option<&Chaincode>
-        ensures { option_map (λ c. c.now) result ≡ chaincode_at self.now name.now }
+        ensures { option_map (λ c. c.now) result ≡ chaincode_at self.now.chaincodes name.now }
     {
         self.chaincodes.iter().find(|c| c.is_named(name))
+    }
+
+    /// The installed module at a place.
+    pub(crate) fn module_at(&self, place: usize) -> Option<&ValidModule>
+        ensures { option_map (λ m. m.now) result ≡ slice_get (modules_of self.now) place }
+    {
+        match self.chaincodes.get(place) {
+            Some(chaincode) => Some(&chaincode.module),
+            None => self.modules.get(place - self.chaincodes.len()),
+        }
     }
 }
 
@@ -99,7 +175,7 @@ fn has_name(chaincodes: &[Chaincode], name: &Name) -> bool
 /// Whether no two have the same name. Each module is valid, as the getter of its type tells.
 fn have_own_names(chaincodes: &[Chaincode]) -> bool
     ensures names { result ≡ have_own_names chaincodes.now }
-    ensures valid { result ≡ true → AreValid chaincodes.now }
+    ensures valid { result ≡ true → AllByRecursion (λ c. IsValid c.module) chaincodes.now }
 {
     match chaincodes {
         [] => true,
@@ -107,5 +183,15 @@ fn have_own_names(chaincodes: &[Chaincode]) -> bool
             let _valid = first.module.module();
             !has_name(rest, &first.name) && have_own_names(rest)
         }
+    }
+}
+
+/// Each module is valid, as the getter of its type tells.
+fn show_valid(modules: &[ValidModule])
+    ensures { AllByRecursion IsValid modules.now }
+{
+    if let [first, rest @ ..] = modules {
+        let _valid = first.module();
+        show_valid(rest);
     }
 }

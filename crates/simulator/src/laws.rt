@@ -12,4 +12,5 @@ pub fn reads_alone(book: &Book)
 {
     let _valid = book.chaincodes();
     host_api::reads_alone();
+    ledger_model::definitions_are_read();
 }

@@ -1,18 +1,23 @@
-//! Why a call of a chaincode gives no payload.
+//! Why a proposal gives no payload.
 
 ghost use Rattle.std.specs.Prelude.{◌≡◌};
 ghost use Rattle.simulator.specs.RefusalNumber.{refusal_number};
 
+use endorsement_policy::DefinitionFault;
 use std::alloc::AllocError;
 use std::error::Error;
 use std::fmt::{self, Display, Formatter, Write};
 use wasm_ast::Trap;
 
-/// Why a call of a chaincode gives no payload.
+/// Why a proposal gives no payload.
 #[derive(Clone, Copy, Debug, PartialEq, Eq)]
 pub enum SimRefusal {
-    /// The book has no chaincode of the proposal's name.
+    /// The chaincode that is called has no definition that can be used.
     UnknownChaincode,
+    /// The module of an upgrade's definition is not installed.
+    NotInstalled,
+    /// The policy of an upgrade's definition is refused.
+    BadPolicy,
     /// The execution was cut off, after it had used this fuel.
     Trapped { kind: Trap, used: u64 },
     /// The execution had less fuel than the next cost.
@@ -27,7 +32,7 @@ pub enum SimRefusal {
 }
 
 impl SimRefusal {
-    /// The number by which the program names the refusal: 401 to 405, or 9 for want of memory.
+    /// The number by which the program names the refusal: 401 to 407, or 9 for want of memory.
     pub fn number(self) -> u16
         ensures { result ≡ refusal_number self }
     {
@@ -37,6 +42,8 @@ impl SimRefusal {
             SimRefusal::Spent => 403,
             SimRefusal::Status(_) => 404,
             SimRefusal::Stale => 405,
+            SimRefusal::NotInstalled => 406,
+            SimRefusal::BadPolicy => 407,
             SimRefusal::Memory => 9,
         }
     }
@@ -68,5 +75,19 @@ impl From<AllocError> for SimRefusal {
 
     fn from(_error: AllocError) -> Self {
         SimRefusal::Memory
+    }
+}
+
+impl From<DefinitionFault> for SimRefusal {
+    ghost use Rattle.std.specs.Prelude.{◌≡◌};
+    ghost use Rattle.simulator.specs.Success.{unusable};
+
+    ghost from_gives = { λ e r. r ≡ unusable e };
+
+    fn from(fault: DefinitionFault) -> Self {
+        match fault {
+            DefinitionFault::NotInstalled => SimRefusal::NotInstalled,
+            DefinitionFault::BadPolicy => SimRefusal::BadPolicy,
+        }
     }
 }

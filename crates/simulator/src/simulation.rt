@@ -1,29 +1,47 @@
 //! The simulation of a proposal, and its rerun.
 
-ghost use Rattle.std.specs.Prelude.{◌≡◌, ◌↔◌, None, Err};
+ghost use Rattle.std.specs.Prelude.{◌≡◌, ◌≤◌, IfOk, length, true};
+ghost use Rattle.std.specs.List.{list_all};
+ghost use Rattle.fab_types.specs.Order.{is_shown};
+ghost use Rattle.fab_types.specs.declared.proposal.Proposal.TheVariants as proposals;
+ghost use Rattle.ledger_model.specs.Chain.{history};
+ghost use Rattle.ledger_model.specs.State.{state};
 ghost use Rattle.ledger_model.specs.Views.{values_of};
+ghost use Rattle.ledger_model.specs.Execution.{Done};
+ghost use Rattle.ledger_model.specs.Defined.{definition_key, upgraded};
+ghost use Rattle.wire.specs.Spelling.{definition_bytes};
+ghost use Rattle.endorsement_policy.specs.declared.fault.DefinitionFault.TheVariants as fault;
 ghost use Rattle.world_state.specs.Writing.{as_state};
 ghost use Rattle.host_api.specs.Plain.{plain_of};
 ghost use Rattle.host_api.specs.Parts.{parts_of};
-ghost use Rattle.simulator.specs.Books.{chaincode_at};
-ghost use Rattle.simulator.specs.Execution.{exec_of};
-ghost use Rattle.simulator.specs.Answers.{Answers, done_or_refusal, payload_or_refusal, rerun_or_refusal, told_in};
+ghost use Rattle.host_api.specs.Executing.{outcome};
+ghost use Rattle.simulator.specs.Execution.{IsUnknown, IsUnusable, exec_of};
+ghost use Rattle.simulator.specs.Answers.{Answers, IsToldWhere, done_or_refusal, parts_or_refusal, payload_or_refusal, rerun_or_refusal, told_in};
 ghost use Rattle.simulator.specs.Success.{success_of};
-ghost use Rattle.simulator.specs.declared.refusal.SimRefusal.TheVariants.{UnknownChaincode};
+ghost use Rattle.simulator.specs.declared.refusal.SimRefusal.TheVariants.{UnknownChaincode, NotInstalled, BadPolicy};
 
 use crate::book::Book;
+use crate::executable::Executable;
 use crate::refusal::SimRefusal;
-use fab_types::{Payload, Proposal};
-use host_api::{Parts, PlainMap, Recorder, View};
+use fab_types::{
+    Call, Key, Payload, Proposal, Ranges, ReadItem, ReadSet, Upgrade, Value, Version, WriteItem,
+    WriteSet,
+};
+use host_api::{Parts, PlainMap, Recorder, View, look_up};
 use interp::{Outcome, run};
-use std::alloc::Global;
+use std::alloc::{AllocError, Global};
+use wire::encode_definition;
 use world_state::Snapshot;
 
-/// The payload of a proposal on a snapshot's state: the chaincode is executed once, on a fresh
-/// instance and with the fuel that the book gives it. What was read has the versions of that state.
+/// The payload of a proposal on a snapshot's state. A call is executed once, on a fresh instance
+/// and by the definition of its chaincode: its payload has the read of the definition's key in
+/// front. An upgrade's payload reads that key and puts the new definition there. What was read has
+/// the versions of that state.
 ///
-/// Refused where the book has no such chaincode (401), where the execution traps (402), runs out of
-/// fuel (403) or returns a status that is not 0 (404), and for want of memory (9).
+/// A call is refused where its chaincode has no definition that can be used (401), where the
+/// execution traps (402), runs out of fuel (403) or returns a status that is not 0 (404); an
+/// upgrade where its module is not installed (406) or its policy is refused (407); and both for
+/// want of memory (9).
 pub fn simulate(
     alloc: Global,
     book: &Book,
@@ -32,9 +50,14 @@ pub fn simulate(
 ) -> Result<Payload, SimRefusal>
     ensures answer { Answers (payload_or_refusal (exec_of book.now) proposal.now snapshot.now)
         result }
-    ensures unknown { result ≡ Err UnknownChaincode ↔ chaincode_at book.now proposal.now.chaincode
-        ≡ None }
+    ensures unknown { IsToldWhere UnknownChaincode
+        (IsUnknown book.now (values_of (state (history snapshot.now))) proposal.now) result }
+    ensures not_installed { IsToldWhere NotInstalled
+        (IsUnusable fault.NotInstalled book.now proposal.now) result }
+    ensures bad_policy { IsToldWhere BadPolicy (IsUnusable fault.BadPolicy book.now proposal.now)
+        result }
 {
+    let _valid = book.chaincodes();
     let parts = execute(alloc, book, snapshot, proposal)?;
     Ok(Payload {
         proposal: proposal.clone()?,
@@ -59,9 +82,14 @@ pub fn rerun(
         (told_in result) }
     ensures recorded { let o = exec_of book.now proposal.now (plain_of state.now) in Answers
         (done_or_refusal o.ending (parts_of (as_state state.now) o.seen)) result }
-    ensures unknown { result ≡ Err UnknownChaincode ↔ chaincode_at book.now proposal.now.chaincode
-        ≡ None }
+    ensures unknown { IsToldWhere UnknownChaincode
+        (IsUnknown book.now (plain_of state.now) proposal.now) result }
+    ensures not_installed { IsToldWhere NotInstalled
+        (IsUnusable fault.NotInstalled book.now proposal.now) result }
+    ensures bad_policy { IsToldWhere BadPolicy (IsUnusable fault.BadPolicy book.now proposal.now)
+        result }
 {
+    let _valid = book.chaincodes();
     execute(alloc, book, state, proposal)
 }
 
@@ -72,16 +100,54 @@ fn execute<V: View>(
     view: &V,
     proposal: &Proposal,
 ) -> Result<Parts, SimRefusal>
-    ensures answer { let o = exec_of book.now proposal.now (values_of (V.state view.now)) in Answers
-        (done_or_refusal o.ending (parts_of (V.state view.now) o.seen)) result }
-    ensures unknown { result ≡ Err UnknownChaincode ↔ chaincode_at book.now proposal.now.chaincode
-        ≡ None }
+    ensures { Answers (parts_or_refusal (exec_of book.now proposal.now) (V.state view.now)) result }
 {
-    let Some(chaincode) = book.get(&proposal.chaincode) else {
+    match proposal {
+        Proposal::Call(call) => execute_call(alloc, book, view, call),
+        Proposal::Upgrade(upgrade) => execute_upgrade(alloc, book, view, upgrade),
+    }
+}
+
+/// The same of a call. The read of its definition stands in front of what chaincode reads.
+fn execute_call<V: View>(
+    alloc: Global,
+    book: &Book,
+    view: &V,
+    call: &Call,
+) -> Result<Parts, SimRefusal>
+    ensures { Answers
+        (parts_or_refusal (exec_of book.now (proposals.Call call.now)) (V.state view.now)) result }
+{
+    let key = Key::of_definition(alloc, &call.chaincode)?;
+    let (value, version) = look_up(view, &key);
+    let Some(executable) = book.executable(alloc, &call.chaincode, value)? else {
         return Err(SimRefusal::UnknownChaincode);
     };
-    let mut recorder = Recorder::new(alloc, view, &proposal.argument);
-    let outcome = run(alloc, &chaincode.module, &mut recorder, chaincode.fuel)?;
+    let parts = run_executable(alloc, &executable, view, &call.argument)?;
+    let reads = parts.reads.with_first(ReadItem { key, version })?;
+    Ok(Parts {
+        reads,
+        ranges: parts.ranges,
+        result: parts.result,
+        writes: parts.writes,
+    })
+}
+
+/// What chaincode reads, answers and writes. It reads at most 256 keys, and none of a definition.
+fn run_executable<V: View>(
+    alloc: Global,
+    executable: &Executable<'_>,
+    view: &V,
+    argument: &Value,
+) -> Result<Parts, SimRefusal>
+    ensures answer { Answers
+        (parts_or_refusal (outcome executable.now.module.now executable.now.fuel argument.now)
+        (V.state view.now)) result }
+    ensures shown { IfOk result (λ p. list_all (λ i. is_shown i.key) p.reads ≡ true) }
+    ensures count { IfOk result (λ p. length p.reads ≤ 256) }
+{
+    let mut recorder = Recorder::new(alloc, view, argument);
+    let outcome = run(alloc, executable.module, &mut recorder, executable.fuel)?;
     succeed(outcome)?;
     Ok(recorder.into_parts())
 }
@@ -96,4 +162,51 @@ fn succeed(outcome: Outcome) -> Result<(), SimRefusal>
         Outcome::Trapped { kind, used } => Err(SimRefusal::Trapped { kind, used }),
         Outcome::Spent => Err(SimRefusal::Spent),
     }
+}
+
+/// The same of an upgrade.
+#[tactic(auto, unfolding(crate::specs::Execution::exec_of))]
+fn execute_upgrade<V: View>(
+    alloc: Global,
+    book: &Book,
+    view: &V,
+    upgrade: &Upgrade,
+) -> Result<Parts, SimRefusal>
+    ensures { Answers
+        (parts_or_refusal (exec_of book.now (proposals.Upgrade upgrade.now)) (V.state view.now))
+        result }
+{
+    let _usable = book.installed().usable(alloc, &upgrade.definition)??;
+    Ok(put_definition(alloc, view, upgrade)?)
+}
+
+/// What an upgrade to a definition that can be used reads and writes.
+fn put_definition<V: View>(alloc: Global, view: &V, upgrade: &Upgrade) -> Result<Parts, AllocError>
+    ensures { IfOk result
+        (λ p. p
+        ≡ parts_of (V.state view.now)
+        (upgraded (definition_key upgrade.now.chaincode) (definition_bytes upgrade.now.definition)
+        Done (values_of (V.state view.now))).seen) }
+{
+    let key = Key::of_definition(alloc, &upgrade.chaincode)?;
+    let (_, version) = look_up(view, &key);
+    let value = definition_value(alloc, upgrade)?;
+    let write = WriteItem {
+        key: key.clone()?,
+        value: Some(value),
+    };
+    Ok(Parts {
+        reads: ReadSet::new(vec![in alloc; ReadItem { key, version }]?).unwrap(),
+        ranges: Ranges::new(Vec::new(alloc)).unwrap(),
+        result: Value::new(Vec::new(alloc)).unwrap(),
+        writes: WriteSet::new(vec![in alloc; write]?).unwrap(),
+    })
+}
+
+/// The bytes of an upgrade's definition: at most 1,063.
+fn definition_value(alloc: Global, upgrade: &Upgrade) -> Result<Value, AllocError>
+    ensures { IfOk result (λ v. v ≡ definition_bytes upgrade.now.definition) }
+{
+    let bytes = encode_definition(alloc, &upgrade.definition)?;
+    Ok(Value::new(bytes).unwrap())
 }

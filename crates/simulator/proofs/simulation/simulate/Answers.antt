@@ -1,0 +1,43 @@
+use Rattle.std.proofs.Common.{Ok, Err, refl, ap, sym, ◌∙◌}
+use Rattle.std.proofs.lemmas.Result.{err_from_is_err_and}
+use Rattle.fab_types.specs.declared.payload.Payload.{Payload}
+use Rattle.fab_types.specs.declared.proposal.Proposal.{Proposal}
+use Rattle.host_api.specs.declared.recorder.Parts.{Parts}
+use Rattle.simulator.proofs.Refusals.{then_unknown, then_not_installed, then_bad_policy}
+use Rattle.simulator.proofs.simulation.simulate.Goals as goal
+
+abbrev made : Proposal → Parts → Payload
+made p parts = record { proposal = p; result = parts.result; reads = parts.reads; ranges = parts.ranges; writes = parts.writes }
+
+pub returns-in_err-parts-clause-unknown : goal.returns-in_err-parts-clause-unknown
+returns-in_err-parts-clause-unknown c =
+    let p = err_from_is_err_and c.from_residual.result c.from_residual.ensures.1 in
+    then_unknown (made c.args.proposal.now) c.args.book.now c.chaincodes-valid.ensures.valid c.args.snapshot.now c.args.proposal.now
+    (Err c.in_err-parts.field-0.0) c.in_err-parts.ensures c.from_residual.result (sym (p.1 ∙ ap Err p.2))
+
+pub returns-clause-unknown : goal.returns-clause-unknown
+returns-clause-unknown c =
+    then_unknown (made c.in_ok-clone.field-0) c.args.book.now c.chaincodes-valid.ensures.valid c.args.snapshot.now c.args.proposal.now
+    (Ok c.in_ok-parts.parts) c.in_ok-parts.ensures _ refl
+
+pub returns-in_err-parts-clause-not_installed : goal.returns-in_err-parts-clause-not_installed
+returns-in_err-parts-clause-not_installed c =
+    let p = err_from_is_err_and c.from_residual.result c.from_residual.ensures.1 in
+    then_not_installed (made c.args.proposal.now) c.args.book.now c.chaincodes-valid.ensures.valid c.args.snapshot.now c.args.proposal.now
+    (Err c.in_err-parts.field-0.0) c.in_err-parts.ensures c.from_residual.result (sym (p.1 ∙ ap Err p.2))
+
+pub returns-clause-not_installed : goal.returns-clause-not_installed
+returns-clause-not_installed c =
+    then_not_installed (made c.in_ok-clone.field-0) c.args.book.now c.chaincodes-valid.ensures.valid c.args.snapshot.now c.args.proposal.now
+    (Ok c.in_ok-parts.parts) c.in_ok-parts.ensures _ refl
+
+pub returns-in_err-parts-clause-bad_policy : goal.returns-in_err-parts-clause-bad_policy
+returns-in_err-parts-clause-bad_policy c =
+    let p = err_from_is_err_and c.from_residual.result c.from_residual.ensures.1 in
+    then_bad_policy (made c.args.proposal.now) c.args.book.now c.chaincodes-valid.ensures.valid c.args.snapshot.now c.args.proposal.now
+    (Err c.in_err-parts.field-0.0) c.in_err-parts.ensures c.from_residual.result (sym (p.1 ∙ ap Err p.2))
+
+pub returns-clause-bad_policy : goal.returns-clause-bad_policy
+returns-clause-bad_policy c =
+    then_bad_policy (made c.in_ok-clone.field-0) c.args.book.now c.chaincodes-valid.ensures.valid c.args.snapshot.now c.args.proposal.now
+    (Ok c.in_ok-parts.parts) c.in_ok-parts.ensures _ refl
