@@ -1,17 +1,15 @@
 -- Where blocks are of legal order, conflicts are with what stood before the block.
-use Rattle.std.proofs.Common.{◌≡◌, ℕ, zero, suc, ◌+◌, ◌≤◌, ◌<◌, Bool, true, cond, List, [], ◌∷◌, ◌++◌, take, length, Option, Some, None, option_map, refl, sym}
-use Rattle.std.proofs.Common.{ap, ◌∙◌, subst, slice_get, nat_lt, ◌⊎◌, inl, inr, arith}
+use Rattle.std.proofs.Common.{◌≡◌, ℕ, zero, suc, ◌+◌, ◌≤◌, ◌<◌, Bool, true, List, [], ◌∷◌, ◌++◌, take, length, Option, Some, None, option_map, refl, sym}
+use Rattle.std.proofs.Common.{ap, ◌∙◌, subst, slice_get, inl, inr, arith}
 use Rattle.std.specs.List.{AllByRecursion}
-use Rattle.std.specs.Option.{option_to_list}
 use Rattle.std.proofs.lemmas.Bool.{cases_lt}
 use Rattle.std.proofs.lemmas.List.{take-append-le, take_all}
-use Rattle.fab_types.specs.Touched.{IsLegal}
 use Rattle.fab_types.specs.declared.block.Block.{Block}
-use Rattle.fab_types.specs.declared.payload.Proposal.{Proposal}
+use Rattle.fab_types.specs.declared.proposal.Proposal.{Proposal}
 use Rattle.batch_cutter.specs.Division.{Limits, Mark, message, timeout}
 use Rattle.ledger_model.specs.Chain.{Bytes, Envelope, Committed, Chain, Placed, transactions_from, history}
 use Rattle.ledger_model.specs.State.{state}
-use Rattle.ledger_model.specs.Judged.{BlockRule, table, judge, judge_onto, judged_chain}
+use Rattle.ledger_model.specs.Judged.{BlockRule, table, judge, judge_onto}
 use Rattle.ledger_model.specs.Legal.{DiffersBefore}
 use Rattle.ledger_model.proofs.Kept.{block_legal}
 use Rattle.orderer.specs.Arranged.{plans_of}
@@ -19,8 +17,8 @@ use Rattle.orderer.specs.Blocks.{AddsEach, AreLegal}
 use Rattle.orderer.specs.Ordering.{Ordering, Takes}
 use Rattle.orderer.specs.declared.report.BatchReport.{BatchReport}
 use Rattle.orderer.proofs.Arranging.{takes_legal}
-use Rattle.fabric_core.specs.System.{Rules, PeerState, World, Event, Begin, Finish, Submit, Take, Tick, Commit, Reply, fresh_orderer, opening, Queued}
-use Rattle.fabric_core.specs.System.{QueueFull, Nothing, Ordered, Cut, TooLarge, NoBlockLeft, chain_at, chain_of_first, begin, finish, commit, at_peer, submit}
+use Rattle.fabric_core.specs.System.{Rules, PeerState, World, Event, Begin, Finish, Submit, Take, Tick, Commit, Reply, opening}
+use Rattle.fabric_core.specs.System.{Nothing, Ordered, Cut, TooLarge, NoBlockLeft, chain_at, chain_of_first, begin, finish, commit, at_peer}
 use Rattle.fabric_core.specs.System.{IsTakenIn, TakesFront, IsTicked, IsStep, AreSteps, chain_of}
 use Rattle.fabric_core.specs.Headline.{IsRun, ConflictsAreOlder}
 use Rattle.fabric_core.proofs.Runs.{at_peer_orderer, submit_orderer}

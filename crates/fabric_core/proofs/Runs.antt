@@ -1,23 +1,22 @@
 -- What is handed out in a run was made on a chain that the run's chain begins, or that begins it.
-use Rattle.std.proofs.Common.{◌≡◌, ℕ, zero, suc, ◌+◌, Bool, true, false, cond, List, [], ◌∷◌, ◌++◌, map, take, drop, length, Option, Some, None, Result, Ok}
+use Rattle.std.proofs.Common.{◌≡◌, ℕ, zero, suc, ◌+◌, Bool, true, false, cond, List, [], ◌∷◌, ◌++◌, take, drop, length, Option, Some, None, Result, Ok}
 use Rattle.std.proofs.Common.{Err, option_map, refl, sym, ap, ◌∙◌, subst, ◌⊎◌, inl, inr, append_assoc, append-nil, slice_get, nat_lt, ◌≤◌, ◌<◌, arith, OnOk}
 use Rattle.std.proofs.Common.{OnErr, is_err, length-append}
 use Rattle.std.proofs.lemmas.List.{take-append-drop}
-use Rattle.fab_types.specs.declared.payload.Proposal.{Proposal}
+use Rattle.fab_types.specs.declared.proposal.Proposal.{Proposal}
 use Rattle.fab_types.specs.declared.payload.Payload.{Payload}
-use Rattle.ledger_model.specs.Chain.{Bytes, Envelope, Committed, Valid, MvccReadConflict, Chain, Placed, placed_from, history}
+use Rattle.ledger_model.specs.Chain.{Bytes, Envelope, Committed, Chain, Placed, placed_from, history}
 use Rattle.ledger_model.specs.Views.{Versioned, Plain, values_of}
 use Rattle.mvcc_validate.specs.Current.{is_current}
 use Rattle.ledger_model.specs.State.{state}
-use Rattle.ledger_model.specs.Flags.{reads_current, ranges_current}
-use Rattle.ledger_model.specs.Execution.{Unknown, Trapped, Spent, Status, Done, Exec, ReadsAlone, payload_of, range_item}
+use Rattle.ledger_model.specs.Execution.{Unknown, NotInstalled, BadPolicy, Trapped, Spent, Status, Done, Exec, ReadsAlone, payload_of}
 use Rattle.ledger_model.specs.Serial.{IsPrefix, IsHandedOut, AllHandedOut}
-use Rattle.ledger_model.specs.Judged.{BlockRule, IsCurrent, AllCurrent, AllEndorsed, AreEndorsed, block_of, judged_chain}
+use Rattle.ledger_model.specs.Judged.{BlockRule, AllEndorsed, AreEndorsed, block_of, judged_chain}
 use Rattle.fab_types.specs.declared.block.Block.{Block}
 use Rattle.fab_types.specs.declared.envelope.Endorsement.{Endorsement}
 use Rattle.wire.specs.Ids.{id_of}
 use Rattle.endorsement_policy.specs.Endorsed.{Listed, is_right, is_endorsed, CarriesRight}
-use Rattle.ledger_setting.specs.Rule.{table_of, seal_of}
+use Rattle.ledger_setting.specs.Rule.{table_of}
 use Rattle.ledger_model.proofs.Judged.{flags_judged, judged_onto-append, judged_grows, judged_current, judged_endorsed}
 use Rattle.ledger_model.proofs.Reruns.{reruns_and_map, reruns_same}
 use Rattle.simulator.specs.Answers.{done_or_refusal, payload_or_refusal}
@@ -30,7 +29,7 @@ use Rattle.fabric_core.specs.System.{Rules, Noted, PeerState, World, Event, Begi
 use Rattle.fabric_core.specs.System.{Endorsed, Queued, QueueFull, Nothing, Ordered, Cut, TooLarge, NoBlockLeft, chain_at, begin_seat, begin, finish_reply}
 use Rattle.fabric_core.specs.System.{finish_seat, finish, commit_next, commit, at_peer, submit, IsTakenIn, TakesFront, IsTicked, IsStep, AreSteps, chain_of}
 use Rattle.fabric_core.specs.Inside.{rules_of}
-use Rattle.fabric_core.specs.Headline.{IsRun, queue_after, marks_in, marks_of, IsHonest, IsHandedOutBy, IsGenuine, IsUnforged}
+use Rattle.fabric_core.specs.Headline.{IsRun, queue_after, marks_in, marks_of, IsHonest, IsGenuine, IsUnforged}
 use Rattle.fabric_core.proofs.Lists.{take_next}
 
 -- one list begins another
@@ -147,6 +146,8 @@ answered exec seal proposal now chain p x e =
       | Done ↦ λ d f. subst (IsMade exec chain) (same_endorsed made p (seal made) x (current_endorsed (is_current now made) made p (seal made) x f))
           (record { done = d; payload = refl })
       | Unknown ↦ λ d f. absurd (cc)
+      | NotInstalled ↦ λ d f. absurd (cc)
+      | BadPolicy ↦ λ d f. absurd (cc)
       | Trapped k u ↦ λ d f. absurd (cc)
       | Spent ↦ λ d f. absurd (cc)
       | Status n ↦ λ d f. absurd (cc)
@@ -282,8 +283,12 @@ genuine_of listed endorsed replies before (c ∷ cs) carries h k =
     (genuine_of listed endorsed replies (before ++ c ∷ []) cs carries h.1
     (subst (λ n. IsUnforged (is_right listed.orgs) replies (placed_from n cs)) (sym next) u)))
 
+-- whatever the state, an endorsed envelope carries a right tag
+abbrev pub DoCarry : Listed → Type 0
+DoCarry listed = (m : Plain) (e : Envelope) → is_endorsed listed m e ≡ true → CarriesRight listed.orgs e
+
 -- the chain of a height is honest
-honest_at : (exec : Exec) → ReadsAlone exec → (listed : Listed) → ((e : Envelope) → is_endorsed listed e ≡ true → CarriesRight listed.orgs e) →
+honest_at : (exec : Exec) → ReadsAlone exec → (listed : Listed) → DoCarry listed →
     (capacity : ℕ) (w : World) (es : List Event) (replies : List Reply) (new : World) → AreSteps (rules_of exec listed capacity) w es replies new → (n : ℕ) →
     IsHonest exec (table_of listed) (is_right listed.orgs) replies (chain_at (rules_of exec listed capacity) new n)
 honest_at exec alone listed carries capacity w es replies new steps n =
@@ -291,19 +296,20 @@ honest_at exec alone listed carries capacity w es replies new steps n =
     let blocks = new.orderer.chain in
     let chain = chain_at r new n in
     let flags = flags_judged (table_of listed) (take n blocks) in
+    let endorsed : List Placed → Envelope → Bool = λ before. is_endorsed listed (values_of (state before)) in
     record {
       flags = flags;
       serial = λ genuine.
           let handed = all_handed_out (is_right listed.orgs) r w es replies new steps n (history chain) genuine in
-          let now = judged_current id_of (λ before. is_endorsed listed) chain flags in
+          let now = judged_current id_of endorsed chain flags in
           let both = reruns_and_map exec chain alone now handed in
           record { agree = both.0; same = reruns_same exec chain alone now handed; map = both.1 };
       genuine = λ unforged.
-          let endorsed = judged_endorsed id_of (λ before. is_endorsed listed) [] chain flags in
-          genuine_of listed (λ before. is_endorsed listed) replies [] chain (λ before. carries) endorsed unforged;
+          let all = judged_endorsed id_of endorsed [] chain flags in
+          genuine_of listed endorsed replies [] chain (λ before. carries (values_of (state before))) all unforged;
     }
 
-honest_if : (exec : Exec) → ReadsAlone exec → (listed : Listed) → ((e : Envelope) → is_endorsed listed e ≡ true → CarriesRight listed.orgs e) →
+honest_if : (exec : Exec) → ReadsAlone exec → (listed : Listed) → DoCarry listed →
     (capacity : ℕ) (w : World) (es : List Event) (replies : List Reply) (new : World) → AreSteps (rules_of exec listed capacity) w es replies new →
     (o : Option PeerState) (chain : Chain) → option_map (λ q. chain_at (rules_of exec listed capacity) new q.height) o ≡ Some chain →
     IsHonest exec (table_of listed) (is_right listed.orgs) replies chain
@@ -490,7 +496,7 @@ run_part r orgs seats limits reorder events replies w refused i law start steps 
     }
 
 -- the chains of a run are honest
-pub honest_of : (exec : Exec) → ReadsAlone exec → (listed : Listed) → ((e : Envelope) → is_endorsed listed e ≡ true → CarriesRight listed.orgs e) →
+pub honest_of : (exec : Exec) → ReadsAlone exec → (listed : Listed) → DoCarry listed →
     (capacity : ℕ) (orgs : List Bytes) (seats : ℕ) (limits : Limits) (reorder : Bool) (events : List Event) (replies : List Reply) (w : World)
     (refused : Bool) → IsRun (rules_of exec listed capacity) orgs seats limits reorder events replies w refused → (peer : ℕ) (chain : Chain) →
     chain_of (rules_of exec listed capacity) w peer ≡ Some chain → IsHonest exec (table_of listed) (is_right listed.orgs) replies chain

@@ -4,10 +4,8 @@ use Rattle.std.proofs.Common.{OnErr, option_map, replicate, refl, sym, ap, ◌�
 use Rattle.std.proofs.lemmas.List.{map-append}
 use Rattle.std.specs.List.{AllByRecursion}
 use Rattle.fab_types.specs.declared.payload.Payload.{Payload}
-use Rattle.ledger_model.specs.Chain.{Bytes, Version, Envelope, Committed, Chain, Placed, history}
-use Rattle.ledger_model.specs.State.{state, state_at}
-use Rattle.ledger_model.specs.Flags.{version_at}
-use Rattle.ledger_model.proofs.State.{get-state}
+use Rattle.ledger_model.specs.Chain.{Bytes, Envelope, Flag, Committed, Chain, history}
+use Rattle.ledger_model.specs.State.{state}
 use Rattle.ledger_model.specs.Execution.{Exec}
 use Rattle.fab_types.specs.declared.block.Block.{Block}
 use Rattle.fab_types.specs.declared.envelope.Endorsement.{Endorsement}
@@ -18,13 +16,13 @@ use Rattle.batch_cutter.specs.Division.{Mark, timeout}
 use Rattle.orderer.specs.Ordering.{Ordering, Takes}
 use Rattle.orderer.specs.declared.report.BatchReport.{BatchReport}
 use Rattle.orderer.proofs.Refusing.{takes_begins}
-use Rattle.ledger_setting.specs.Rule.{table_of, seal_of}
+use Rattle.ledger_setting.specs.Rule.{table_of}
 use Rattle.simulator.specs.declared.refusal.SimRefusal.{SimRefusal}
 use Rattle.simulator.specs.Answers.{payload_or_refusal}
 use Rattle.fabric_core.specs.System.{PeerState, World, Reply, Begun as IsBegun, Nothing, IsCommitted, fresh, chain_of_first, begin_seat, begin, finish_reply}
 use Rattle.fabric_core.specs.System.{finish_seat, finish, commit_next, commit, at_peer}
 use Rattle.fabric_core.specs.Inside.{State, noted, seats_of, peer_of, world_of, IsFirst, IsSeatRight, IsPeerRight, IsRight}
-use Rattle.simulator.specs.declared.book.Chaincode.{Chaincode}
+use Rattle.simulator.specs.Books.{Book}
 use Rattle.fabric_core.specs.declared.peer.Begun.{Begun}
 use Rattle.fabric_core.specs.declared.peer.Peer.{Peer}
 use Rattle.fabric_core.proofs.Lists.{slice_get_map, slice_set_map, slice_set_same, all_set, all_get, all_map, at_place, last_of, take_next, get_here}
@@ -88,10 +86,10 @@ peer_set listed peers blocks p old new right there kept =
     all_set P peers p new right (kept chain (all_get P peers p old right there))
 
 -- a system as it is seen
-abbrev pub shown : List Chaincode → Listed → ℕ → List Peer → List Envelope → Ordering → State
+abbrev pub shown : Book → Listed → ℕ → List Peer → List Envelope → Ordering → State
 shown book listed capacity peers queue orderer = record { book = book; rules = listed; capacity = capacity; world = world_of peers queue orderer }
 
-pub unchanged : (book : List Chaincode) (listed : Listed) (capacity : ℕ) (peers : List Peer) (queue : List Envelope) (orderer : Ordering) (p : ℕ)
+pub unchanged : (book : Book) (listed : Listed) (capacity : ℕ) (peers : List Peer) (queue : List Envelope) (orderer : Ordering) (p : ℕ)
     (old new : Peer) → slice_get peers p ≡ Some old → new ≡ old →
     shown book listed capacity (slice_set peers p new) queue orderer ≡ shown book listed capacity peers queue orderer
 unchanged book listed capacity peers queue orderer p old new there same =
@@ -132,6 +130,24 @@ mark_right listed peers old mark reports new right takes =
 pub timed_right : (listed : Listed) (peers : List Peer) (old : Ordering) (report : Option BatchReport) (new : Ordering) → IsRight listed peers old.chain →
     Takes old timeout (option_to_list report) new → IsRight listed peers new.chain
 timed_right listed peers old report new right takes = mark_right listed peers old timeout (option_to_list report) new right takes
+
+-- a chain with the next block, behind the snapshot that shows it
+abbrev with_block : BlockRule → Chain → Block → Chain
+with_block rule chain b = chain ++ record { block = b; flags = judge (rule (history chain)) (history chain) (length chain + 1) 0 b.envelopes } ∷ []
+
+pub put_on : (rule : BlockRule) (chain shown made : Chain) (b : Block) → shown ≡ chain → made ≡ with_block rule shown b → made ≡ with_block rule chain b
+put_on rule chain shown made b same is = is ∙ ap (λ (c : Chain). with_block rule c b) same
+
+-- and what is replied of it
+pub put_reply : (rule : BlockRule) (chain shown made : Chain) (b : Block) (n : ℕ) (flags : List Flag) → shown ≡ chain → made ≡ with_block rule shown b →
+    n ≡ length made → ((before : Chain) (last : Committed) → made ≡ before ++ last ∷ [] → flags ≡ last.flags) →
+    IsCommitted n flags ≡ IsCommitted (length chain + 1) (judge (rule (history chain)) (history chain) (length chain + 1) 0 b.envelopes)
+put_reply rule chain shown made b n flags same is tall told =
+    let next : Committed = record { block = b; flags = judge (rule (history chain)) (history chain) (length chain + 1) 0 b.envelopes } in
+    let whole = put_on rule chain shown made b same is in
+    let number : n ≡ length chain + 1 = tall ∙ ap (λ (c : Chain). length c) whole ∙ length-append chain (next ∷ []) in
+    let marked : flags ≡ next.flags = told chain next whole in
+    λ i. IsCommitted (number i) (marked i)
 
 -- a peer with the next block
 pub committed : (rule : BlockRule) (blocks : List Block) (old new : Peer) (b : Block) (reply : Reply) → IsPeerRight (chain_of_first rule blocks) old →

@@ -5,7 +5,7 @@ use Rattle.fab_types.specs.declared.block.Block.{Block}
 use Rattle.orderer.specs.Ordering.{Ordering}
 use Rattle.ledger_model.specs.Chain.{Envelope, Chain}
 use Rattle.ledger_model.specs.Execution.{Exec}
-use Rattle.simulator.specs.declared.book.Chaincode.{Chaincode}
+use Rattle.simulator.specs.Books.{Book}
 use Rattle.endorsement_policy.specs.Endorsed.{Listed}
 use Rattle.ledger_setting.specs.Rule.{table_of, seal_of}
 use Rattle.simulator.specs.Execution.{exec_of}
@@ -15,7 +15,7 @@ use Rattle.fabric_core.specs.declared.peer.Peer.{Peer}
 
 -- what a system is seen as
 pub record State : Type 0 where
-  pub book : List Chaincode
+  pub book : Book
   pub rules : Listed
   pub capacity : ℕ
   pub world : World

@@ -51,13 +51,13 @@ impl Debug for System {
 
 impl Model for System {
     ghost use Rattle.fabric_core.specs.Inside.{State, world_of, IsRight};
-    ghost use Rattle.simulator.specs.contracts.book.Chaincode as chaincode;
+    ghost use Rattle.simulator.specs.contracts.book.Book as book_type;
     ghost use Rattle.std.specs.Coded.{codes};
     ghost use Rattle.endorsement_policy.specs.contracts.rules.Rules as listed;
 
     ghost Value = { State };
 
-    ghost coded = { Prim.hlevel (codes, chaincode.the_row.coded, listed.the_row.coded) };
+    ghost coded = { Prim.hlevel (codes, book_type.the_row.coded, listed.the_row.coded) };
 
     ghost view = { λ s.
         record {

@@ -12,8 +12,8 @@ use fab_types::Block;
 use std::alloc::Global;
 use world_state::Snapshot;
 
-/// The chain with one block more, whose envelopes are checked under the rules and whose
-/// transactions are marked by the table.
+/// The chain with one block more, whose envelopes are checked under the rules in the state before
+/// it, and whose transactions are marked by the table.
 ///
 /// Refused where the chain is full (604), where the block has not the next number (601), names
 /// another hash than that of the last header (602) or says another hash of its data (603), and for
@@ -36,7 +36,7 @@ pub fn commit_checked(
     ensures fits { OnOk result (Fits (blocks_of snapshot.now) block) }
     ensures refused { IfErr result (λ refusal. IsRefused refusal (blocks_of snapshot.now) block) }
 {
-    let endorsed = check_plain(alloc, rules, block.envelopes.as_slice())?;
+    let endorsed = check_plain(alloc, rules, snapshot, block.envelopes.as_slice())?;
     let next = commit_on(alloc, snapshot, block, &endorsed)?;
     Ok(next)
 }

@@ -9,9 +9,9 @@ use std::sync::Arc;
 /// What a system begins with.
 #[derive(Drop)]
 pub struct Genesis {
-    /// The chaincodes.
+    /// The chaincodes, and more modules that every peer has installed.
     pub book: Arc<Book>,
-    /// The organisations, and the policies of the chaincodes.
+    /// The organisations, the policies of the chaincodes and that of upgrades.
     pub rules: Arc<Rules>,
     /// Each peer's organisation.
     pub peers: Vec<OrgName>,

@@ -1,2 +1,3 @@
 pub mod Committing
+pub mod Refusing
 pub mod Sending

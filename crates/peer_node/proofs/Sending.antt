@@ -21,6 +21,7 @@ use Rattle.wasm_ast.proofs.module.Import.TheSendSync as imported
 use Rattle.wasm_ast.proofs.module.Export.TheSendSync as exported
 use Rattle.wasm_ast.proofs.host_call.HostCall.TheSendSync as host_call
 use Rattle.flat_text.proofs.translation.FlatText.TheSendSync as flat_text
+use Rattle.endorsement_policy.proofs.installed.Installed.TheSendSync as installed
 use Rattle.endorsement_policy.proofs.rules.Organisation.TheSendSync as organisation
 use Rattle.snapshot_cell.proofs.reader.Reader.TheSendSync as reader
 use Rattle.wasm_ast.proofs.body.Body.TheLaws.TheKnot as code_knot
@@ -120,7 +121,7 @@ send_chaincode : IsSend chaincode_type.the_row
 send_chaincode = search (sendable, crosses, name.the_send, send_valid_module) depth 30
 
 send_book : IsSend book_type.the_row
-send_book = search (sendable, crosses, send_chaincode) depth 30
+send_book = search (sendable, crosses, send_chaincode, send_valid_module, installed.the_send) depth 30
 
 send_policy_field : IsSend (policy_type.the_field).row
 send_policy_field = search (sendable, crosses, org_name.the_send, policy_knot.crosses) depth 30
@@ -129,7 +130,7 @@ send_chaincode_policy : IsSend chaincode_policy_type.the_row
 send_chaincode_policy = search (sendable, crosses, name.the_send, send_policy_field) depth 30
 
 send_rules : IsSend rules_type.the_row
-send_rules = search (sendable, crosses, organisation.the_send, send_chaincode_policy) depth 30
+send_rules = search (sendable, crosses, organisation.the_send, send_chaincode_policy, send_policy_field, installed.the_send) depth 30
 
 sync_body : IsSync body_type.the_row
 sync_body = search (sendable, crosses, operators_sync, code_knot.sync-Body) depth 30
@@ -169,7 +170,7 @@ sync_chaincode : IsSync chaincode_type.the_row
 sync_chaincode = search (sendable, crosses, name.the_sync, sync_valid_module) depth 30
 
 sync_book : IsSync book_type.the_row
-sync_book = search (sendable, crosses, sync_chaincode) depth 30
+sync_book = search (sendable, crosses, sync_chaincode, sync_valid_module, installed.the_sync) depth 30
 
 sync_policy_field : IsSync (policy_type.the_field).row
 sync_policy_field = search (sendable, crosses, org_name.the_sync, policy_knot.crosses) depth 30
@@ -178,7 +179,7 @@ sync_chaincode_policy : IsSync chaincode_policy_type.the_row
 sync_chaincode_policy = search (sendable, crosses, name.the_sync, sync_policy_field) depth 30
 
 sync_rules : IsSync rules_type.the_row
-sync_rules = search (sendable, crosses, organisation.the_sync, sync_chaincode_policy) depth 30
+sync_rules = search (sendable, crosses, organisation.the_sync, sync_chaincode_policy, sync_policy_field, installed.the_sync) depth 30
 
 send_endorser_field : IsSend (endorser_type.the_field).row
 send_endorser_field = search (sendable, crosses, org_name.the_send, send_book, sync_book, send_rules, sync_rules) depth 30

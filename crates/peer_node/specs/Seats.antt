@@ -1,17 +1,17 @@
 -- What a clause sees of a seat, and what its calls answer.
-use Rattle.std.specs.Prelude.{◌≡◌, true, false, List, [], Result, Ok, Err}
+use Rattle.std.specs.Prelude.{◌≡◌, true, false, [], Result, Ok, Err}
 use Rattle.std.specs.Arc.{arc_value}
 use mathlib.Core.List.{IsPrefix}
-use Rattle.logbook.specs.Pages.{Book}
-use Rattle.fab_types.specs.declared.payload.Proposal.{Proposal}
+use Rattle.logbook.specs.Pages.{Book as PeerId}
+use Rattle.fab_types.specs.declared.proposal.Proposal.{Proposal}
 use Rattle.fab_types.specs.declared.payload.Payload.{Payload}
 use Rattle.fab_types.specs.declared.envelope.Endorsement.{Endorsement}
 use Rattle.ledger_model.specs.Chain.{Bytes, Chain, history}
 use Rattle.ledger_model.specs.State.{state}
 use Rattle.mvcc_validate.specs.Current.{is_current}
-use Rattle.simulator.specs.declared.book.Chaincode.{Chaincode}
+use Rattle.simulator.specs.Books.{Book}
 use Rattle.simulator.specs.declared.refusal.SimRefusal.{SimRefusal}
-use Rattle.simulator.specs.declared.refusal.SimRefusal.TheVariants.{UnknownChaincode, Trapped, Spent, Status, Stale, Memory}
+use Rattle.simulator.specs.declared.refusal.SimRefusal.TheVariants.{UnknownChaincode, NotInstalled, BadPolicy, Trapped, Spent, Status, Stale, Memory}
 use Rattle.simulator.specs.Execution.{exec_of}
 use Rattle.simulator.specs.Answers.{payload_or_refusal}
 use Rattle.endorsement_policy.specs.Endorsed.{Listed}
@@ -27,19 +27,19 @@ abbrev pub seen_chain : Seat → Chain
 seen_chain s = cell.seen_list s.reader
 
 -- which peer it is of
-abbrev pub peer_of : Seat → Book
+abbrev pub peer_of : Seat → PeerId
 peer_of s = cell.cell_of_reader s.reader
 
 -- what it endorses by is these chaincodes, these rules and this organisation
-abbrev pub Serves : List Chaincode → Listed → Bytes → Endorser → Type 0
+abbrev pub Serves : Book → Listed → Bytes → Endorser → Type 0
 Serves book listed org e = (arc_value e.book ≡ book) × (arc_value e.rules ≡ listed) × (e.org ≡ org)
 
 -- a seat of this peer that has seen these whole blocks
-abbrev pub IsSeatBehind : List Chaincode → Listed → Bytes → Book → Chain → Seat → Type 0
+abbrev pub IsSeatBehind : Book → Listed → Bytes → PeerId → Chain → Seat → Type 0
 IsSeatBehind book listed org peer chain s = (peer_of s ≡ peer) × (seen_chain s ≡ chain) × Serves book listed org s.endorser
 
 -- a seat of this peer that has seen nothing
-abbrev pub IsSeat : List Chaincode → Listed → Bytes → Book → Seat → Type 0
+abbrev pub IsSeat : Book → Listed → Bytes → PeerId → Seat → Type 0
 IsSeat book listed org peer s = IsSeatBehind book listed org peer [] s
 
 -- what a simulation on the state after a chain comes to
@@ -53,6 +53,8 @@ IsFinishRefused e p first before after Stale =
     (payload : Payload) × (simulate_on e p first ≡ Ok payload) × IsPrefix before after × (is_current (state (history after)) payload ≡ false)
 IsFinishRefused e p first before after Memory = IsPrefix before after
 IsFinishRefused e p first before after UnknownChaincode = (simulate_on e p first ≡ Err UnknownChaincode) × (after ≡ before)
+IsFinishRefused e p first before after NotInstalled = (simulate_on e p first ≡ Err NotInstalled) × (after ≡ before)
+IsFinishRefused e p first before after BadPolicy = (simulate_on e p first ≡ Err BadPolicy) × (after ≡ before)
 IsFinishRefused e p first before after (Trapped kind used) = (simulate_on e p first ≡ Err (Trapped kind used)) × (after ≡ before)
 IsFinishRefused e p first before after Spent = (simulate_on e p first ≡ Err Spent) × (after ≡ before)
 IsFinishRefused e p first before after (Status n) = (simulate_on e p first ≡ Err (Status n)) × (after ≡ before)

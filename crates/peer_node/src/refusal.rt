@@ -21,7 +21,7 @@ pub enum FinishRefusal {
 impl FinishRefusal {
     ghost use Rattle.peer_node.specs.Refusals.{finish_number};
 
-    /// The number by which the program names the refusal: 401 to 405, 432, or 9 for want of memory.
+    /// The number by which the program names the refusal: 401 to 407, 432, or 9 for want of memory.
     pub fn number(self) -> u16
         ensures { result ≡ finish_number self }
     {

@@ -68,8 +68,8 @@ impl Seat {
     /// was read is as it was, and endorses the payload. The blocks of the second snapshot begin
     /// with all that this seat has seen or was told of, and are what it has seen afterwards.
     ///
-    /// Refused as the simulation is (401 to 404), where something that was read has changed (405),
-    /// where the cell gave no entry (432), and for want of memory (9).
+    /// Refused as the simulation is (401 to 404, 406 and 407), where something that was read has
+    /// changed (405), where the cell gave no entry (432), and for want of memory (9).
     pub fn finish(&mut self, begun: Begun) -> Result<(Payload, Endorsement), FinishRefusal>
         ensures finished { FinishesBy self.old.endorser begun.proposal (arc_value begun.snapshot)
             (seen_chain self.old) (seen_chain self.new) result }

@@ -156,7 +156,7 @@ impl PeerWriter {
     }
 
     /// Puts one whole block, with the flags of its transactions, after the list in one step, and
-    /// tells of that list. Four workers check the envelopes.
+    /// tells of that list. Four workers check the envelopes on the state after the list.
     ///
     /// Refused as `commit_on` refuses: where the chain is full (604), where the block has not the
     /// next number (601), names another hash than that of the last header (602) or says another
@@ -180,9 +180,18 @@ impl PeerWriter {
         ensures same { (peer_of_writer self.new ≡ peer_of_writer self.old) ×
             (self.new.rules ≡ self.old.rules) }
     {
+        let newest = self.cell.newest();
         let envelopes = block.envelopes.as_slice();
-        let endorsed = check_all(rt, self.alloc, &self.rules, envelopes, WORKERS, &NoGate)?;
-        let next = commit_on(self.alloc, self.cell.newest(), block, &endorsed)?;
+        let endorsed = check_all(
+            rt,
+            self.alloc,
+            &self.rules,
+            newest,
+            envelopes,
+            WORKERS,
+            &NoGate,
+        )?;
+        let next = commit_on(self.alloc, newest, block, &endorsed)?;
         Ok(self.cell.publish(rt, next)?)
     }
 

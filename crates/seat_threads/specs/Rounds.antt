@@ -1,7 +1,8 @@
 -- The rounds of a seat: what each proposes, and how rounds are counted.
 use Rattle.std.specs.Prelude.{ℕ, ◌+◌, ◌==◌, [], ◌++◌, Option, Some, None, if◌then◌else◌}
 use Rattle.std.specs.Int.{w64, to_be_bytes}
-use Rattle.fab_types.specs.declared.payload.Proposal.{Proposal}
+use Rattle.fab_types.specs.declared.proposal.Proposal.{Proposal}
+use Rattle.fab_types.specs.declared.proposal.Proposal.TheVariants.{Call}
 use Rattle.simulator.specs.declared.refusal.SimRefusal.{SimRefusal}
 use Rattle.simulator.specs.declared.refusal.SimRefusal.TheVariants.{Memory}
 use Rattle.peer_node.specs.declared.refusal.FinishRefusal.{FinishRefusal}
@@ -13,7 +14,7 @@ use Rattle.seat_threads.specs.declared.refusal.SeatsRefusal.TheVariants.{OutOfMe
 
 -- a call without an argument, whose nonce is the numbers of the seat and of the round
 abbrev pub proposal_of : Bytes → (seat round : ℕ) → Proposal
-proposal_of chaincode seat round = record { chaincode = chaincode; argument = []; nonce = to_be_bytes w64 seat ++ to_be_bytes w64 round }
+proposal_of chaincode seat round = Call (record { chaincode = chaincode; argument = []; nonce = to_be_bytes w64 seat ++ to_be_bytes w64 round })
 
 -- how many rounds were counted
 abbrev pub rounds_in : Counts → ℕ

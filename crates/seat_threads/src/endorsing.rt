@@ -5,7 +5,7 @@ ghost use Rattle.std.specs.Int.{w64, to_be_bytes};
 ghost use Rattle.peer_node.specs.Seats.{seen_chain, peer_of, Endorses};
 ghost use Rattle.seat_threads.specs.Rounds.{proposal_of};
 
-use fab_types::{Endorsement, Endorsements, Envelope, Name, Proposal, Value};
+use fab_types::{Call, Endorsement, Endorsements, Envelope, Name, Proposal, Value};
 use peer_node::{FinishRefusal, Seat};
 use std::alloc::{AllocError, Global};
 
@@ -29,11 +29,11 @@ pub fn proposal(
 ) -> Result<Proposal, AllocError>
     ensures { IfOk result (λ p. p ≡ proposal_of chaincode.now seat round) }
 {
-    Ok(Proposal {
+    Ok(Proposal::Call(Call {
         chaincode: chaincode.clone()?,
         argument: Value::new(Vec::new(alloc)).unwrap(),
         nonce: nonce(seat, round),
-    })
+    }))
 }
 
 /// The envelope of a proposal, with the seat's endorsement alone. Refused as the seat's endorsement

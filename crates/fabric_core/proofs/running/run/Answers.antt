@@ -1,7 +1,9 @@
-use Rattle.std.proofs.Common.{◌≡◌, ◌∙◌, ap, sym, subst, Some, true, slice_get, take, List, refl, arith}
+use Rattle.std.proofs.Common.{◌≡◌, ◌∙◌, ap, sym, subst, Some, slice_get, take, Bool, List, refl, arith}
 use Rattle.ledger_model.specs.Execution.{ReadsAlone}
-use Rattle.ledger_model.specs.Chain.{Envelope}
-use Rattle.endorsement_policy.specs.Endorsed.{is_endorsed, CarriesRight}
+use Rattle.ledger_model.specs.Chain.{Envelope, Placed}
+use Rattle.ledger_model.specs.State.{state}
+use Rattle.ledger_model.specs.Views.{values_of}
+use Rattle.endorsement_policy.specs.Endorsed.{is_endorsed}
 use Rattle.simulator.specs.Execution.{exec_of}
 use Rattle.ledger_setting.specs.Setting.{limits_of}
 use Rattle.fabric_core.specs.System.{World, Reply, fresh_orderer, IsStep, AreSteps}
@@ -11,7 +13,7 @@ use Rattle.fabric_core.proofs.Lists.{get_here}
 use Rattle.wire.specs.Ids.{id_of}
 use Rattle.fabric_core.proofs.Conflicts.{older_run}
 use Rattle.fabric_core.proofs.Fitting.{fits_if}
-use Rattle.fabric_core.proofs.Runs.{ok_of, err_of, run_more, run_all, run_part, honest_of}
+use Rattle.fabric_core.proofs.Runs.{DoCarry, ok_of, err_of, run_more, run_all, run_part, honest_of}
 use Rattle.fabric_core.proofs.running.run.Goals as goal
 use Rattle.fabric_core.proofs.running.run.Goals.{else-loop-event-test, then-loop-event-test+then-is_err}
 
@@ -78,8 +80,7 @@ returns-clause-honest c peer chain is =
     let alone : ReadsAlone (exec_of genesis.book.value) =
     subst (λ b. ReadsAlone (exec_of b)) c.deref.ensures (record { truthful = c.reads_alone.ensures.truthful; only = c.reads_alone.ensures.only })
     in
-    let carries : (e : Envelope) → is_endorsed genesis.rules.value e ≡ true → CarriesRight genesis.rules.value.orgs e =
-    subst (λ l. (e : Envelope) → is_endorsed l e ≡ true → CarriesRight l.orgs e) c.deref-2.ensures c.an_endorsed_envelope_carries_a_right_tag.ensures
+    let carries : DoCarry genesis.rules.value = subst DoCarry c.deref-2.ensures c.an_endorsed_envelope_carries_a_right_tag.ensures
     in
     honest_of (exec_of genesis.book.value) alone genesis.rules.value carries genesis.queue genesis.peers.items genesis.seats (limits_of genesis) genesis.reorder
     c.args.events.now ran.replies.items ran.system.world ran.refused (returns-clause-run c) peer chain is
@@ -89,7 +90,8 @@ returns-clause-conflicts c on peer chain is =
     let genesis = c.args.genesis.now in
     let ran = c.loop-event-test.ran in
     let r = rules_of (exec_of genesis.book.value) genesis.rules.value genesis.queue in
-    older_run id_of (λ before. is_endorsed genesis.rules.value) r genesis.peers.items genesis.seats (limits_of genesis) genesis.reorder c.args.events.now
+    let endorsed : List Placed → Envelope → Bool = λ before. is_endorsed genesis.rules.value (values_of (state before)) in
+    older_run id_of endorsed r genesis.peers.items genesis.seats (limits_of genesis) genesis.reorder c.args.events.now
     ran.replies.items ran.system.world ran.refused refl (returns-clause-run c) on peer chain is
 
 pub returns-clause-fits : goal.returns-clause-fits

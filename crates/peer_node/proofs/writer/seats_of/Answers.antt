@@ -5,7 +5,6 @@ use Rattle.std.proofs.lemmas.List.Elements.{All-push, All-pop}
 use Rattle.snapshot_cell.specs.declared.reader.Reader.{Reader}
 use Rattle.snapshot_cell.specs.Seats.{seen_list, cell_of_reader}
 use Rattle.peer_node.specs.declared.seat.Seat.{Seat}
-use Rattle.ledger_model.specs.Chain.{Chain}
 use Rattle.peer_node.specs.Seats.{IsSeatBehind}
 use Rattle.peer_node.proofs.writer.seats_of.Goals as goal
 

@@ -1,8 +1,8 @@
-use Rattle.std.proofs.Common.{◌≡◌, ◌<◌, ◌∙◌, ◌++◌, ◌∷◌, [], ap, sym, subst, refl, map, length, arith}
+use Rattle.std.proofs.Common.{◌∙◌, ◌++◌, ◌∷◌, [], ap, sym, subst, refl, map, arith}
 use Rattle.std.proofs.lemmas.List.{map-append}
 use Rattle.std.specs.List.{AllByRecursion}
 use Rattle.ledger_setting.specs.Rule.{table_of}
-use Rattle.fabric_core.specs.System.{PeerState, chain_of_first}
+use Rattle.fabric_core.specs.System.{chain_of_first}
 use Rattle.endorsement_policy.specs.Endorsed.{Listed}
 use Rattle.orderer.specs.Ordering.{Ordering}
 use Rattle.fabric_core.specs.Inside.{peer_of, IsPeerRight, IsRight}

@@ -1,0 +1,16 @@
+use Rattle.std.proofs.Common.{◌∙◌}
+use Rattle.ledger_setting.specs.Rule.{table_of}
+use Rattle.fabric_core.proofs.Steps.{put_on, put_reply}
+use Rattle.fabric_core.proofs.peer.Peer.commit.Goals as goal
+
+pub returns-clause-reply : goal.returns-clause-reply
+returns-clause-reply c =
+    put_reply (table_of c.args.rules.now) c.args.self.now.snapshot.value c.deref.result.now c.in_ok-snapshot.snapshot c.args.block c.height.result
+    c.new-flags.result c.deref.ensures c.in_ok-snapshot.ensures c.height.ensures.value
+    (λ before last is. c.new-flags.ensures ∙ c.in_ok-last_flags.ensures before last is)
+
+pub returns-clause-chain : goal.returns-clause-chain
+returns-clause-chain c =
+    c.in_ok-self.ensures.ok
+    ∙ put_on (table_of c.args.rules.now) c.args.self.now.snapshot.value c.deref.result.now c.in_ok-snapshot.snapshot c.args.block c.deref.ensures
+    c.in_ok-snapshot.ensures
