@@ -1,3 +1,4 @@
 pub mod Refused
 pub mod Spelling
+pub mod Same
 pub mod Bound

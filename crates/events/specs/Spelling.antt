@@ -6,8 +6,12 @@ use Rattle.serde_json.specs.Data.{Data, object, member, no_members, Members, Ite
 use Rattle.serde_json.specs.Read.{read}
 use Rattle.json_fields.specs.Lists.{AreItems}
 use Rattle.hex.specs.Hex.{decode_of, decode_sized}
-use Rattle.fab_types.specs.Limits.{IsName, IsValue}
-use Rattle.fab_types.specs.declared.payload.Proposal.{Proposal}
+use Rattle.fab_types.specs.Limits.{IsFuel, IsName, IsPolicyText, IsValue}
+use Rattle.fab_types.specs.declared.definition.Definition.{Definition}
+use Rattle.fab_types.specs.declared.proposal.Call.{Call}
+use Rattle.fab_types.specs.declared.proposal.Proposal.{Proposal}
+use Rattle.fab_types.specs.declared.proposal.Proposal.TheVariants as proposal
+use Rattle.fab_types.specs.declared.proposal.Upgrade.{Upgrade}
 use Rattle.events.specs.declared.action.Action.{Action}
 use Rattle.events.specs.declared.action.Action.TheVariants.{Begin, Finish, SubmitEndorsed, SubmitBytes, Take, Tick, Commit}
 
@@ -19,10 +23,20 @@ IsHex text bytes = decode_of text ≡ Ok bytes
 abbrev pub IsArgument : List ℕ → List ℕ → Type 0
 IsArgument text bytes = (((text ≡ codes "-") × (bytes ≡ [])) ⊎ IsHex text bytes) × IsValue bytes
 
--- the proposal of these texts; a nonce has 16 bytes
-abbrev pub IsProposal : List ℕ → List ℕ → List ℕ → Proposal → Type 0
-IsProposal arg chaincode nonce p =
-    (p.chaincode ≡ chaincode) × IsName chaincode × IsArgument arg p.argument × (decode_sized nonce 16 ≡ Ok p.nonce)
+-- the call of these texts; a nonce has 16 bytes
+abbrev pub IsCall : List ℕ → List ℕ → List ℕ → Call → Type 0
+IsCall arg chaincode nonce c =
+    (c.chaincode ≡ chaincode) × IsName chaincode × IsArgument arg c.argument × (decode_sized nonce 16 ≡ Ok c.nonce)
+
+-- the definition of a fuel and these texts; a digest has 32 bytes
+abbrev pub IsDefinition : ℕ → List ℕ → List ℕ → Definition → Type 0
+IsDefinition fuel digest policy d =
+    (d.profile ≡ 1) × (decode_sized digest 32 ≡ Ok d.digest) × (d.fuel ≡ fuel) × IsFuel fuel × (d.policy ≡ policy) × IsPolicyText policy
+
+-- the upgrade of a fuel and these texts
+abbrev pub IsUpgrade : ℕ → List ℕ → List ℕ → List ℕ → List ℕ → Upgrade → Type 0
+IsUpgrade fuel digest nonce policy chaincode u =
+    (u.chaincode ≡ chaincode) × IsName chaincode × IsDefinition fuel digest policy u.definition × (decode_sized nonce 16 ≡ Ok u.nonce)
 
 -- the strings that the items are
 abbrev pub AreTexts : Items → List (String Global) → Type 0
@@ -41,6 +55,13 @@ abbrev pub begin_object : List ℕ → List ℕ → List ℕ → ℕ → ℕ →
 begin_object arg chaincode nonce peer seat =
     object (member (codes "arg") (string arg) (member (codes "chaincode") (string chaincode) (member (codes "do") (string (codes "begin"))
     (member (codes "nonce") (string nonce) (seat_members peer seat)))))
+
+-- {"do":"begin", "fuel":141, "module":"..", "nonce":"..", "peer":0, "policy":"..", "seat":0, "upgrade":"kv"}
+abbrev pub upgrade_object : ℕ → List ℕ → List ℕ → ℕ → List ℕ → ℕ → List ℕ → Data
+upgrade_object fuel digest nonce peer policy seat chaincode =
+    object (member (codes "do") (string (codes "begin")) (member (codes "fuel") (number (unsigned fuel)) (member (codes "module") (string digest)
+    (member (codes "nonce") (string nonce) (member (codes "peer") (number (unsigned peer)) (member (codes "policy") (string policy)
+    (member (codes "seat") (number (unsigned seat)) (member (codes "upgrade") (string chaincode) no_members))))))))
 
 -- {"as":"e1", "do":"finish", "peer":0, "seat":0}
 abbrev pub finish_object : List ℕ → ℕ → ℕ → Data
@@ -62,10 +83,17 @@ word_object word = object (member (codes "do") (string word) no_members)
 abbrev pub commit_object : ℕ → Data
 commit_object peer = object (member (codes "do") (string (codes "commit")) (member (codes "peer") (number (unsigned peer)) no_members))
 
+-- the proposal that the data of a line begins at a seat of a peer
+abbrev pub IsBegun : Data → ℕ → ℕ → Proposal → Type 0
+IsBegun d peer seat (proposal.Call c) =
+    (arg : List ℕ) × (chaincode : List ℕ) × (nonce : List ℕ) × (d ≡ begin_object arg chaincode nonce peer seat) × IsCall arg chaincode nonce c
+IsBegun d peer seat (proposal.Upgrade u) =
+    (fuel : ℕ) × (digest : List ℕ) × (nonce : List ℕ) × (policy : List ℕ) × (chaincode : List ℕ)
+    × (d ≡ upgrade_object fuel digest nonce peer policy seat chaincode) × IsUpgrade fuel digest nonce policy chaincode u
+
 -- the action that the data of a line spells
 abbrev pub IsAction : Data → Action → Type 0
-IsAction d (Begin peer seat p) =
-    (arg : List ℕ) × (chaincode : List ℕ) × (nonce : List ℕ) × (d ≡ begin_object arg chaincode nonce peer seat) × IsProposal arg chaincode nonce p
+IsAction d (Begin peer seat p) = IsBegun d peer seat p
 IsAction d (Finish peer seat name) = d ≡ finish_object (string_bytes name) peer seat
 IsAction d (SubmitEndorsed names) = (ds : Items) × (d ≡ use_object ds) × AreNames ds names.items
 IsAction d (SubmitBytes bytes) = (hex : List ℕ) × (d ≡ hex_object hex) × IsHex hex bytes.items

@@ -1,9 +1,9 @@
 //! The fields of each form of a line, which are taken in the order of their names.
 
 ghost use Rattle.std.specs.Prelude.{◌≡◌, ◌≢◌, ℕ, List, codes, MatchOption, MatchBool};
-ghost use Rattle.serde_json.specs.Data.{Items};
+ghost use Rattle.serde_json.specs.Data.{Items, Members, member, number, string, unsigned};
 ghost use Rattle.serde_json.specs.View.{view, items_view, members_view};
-ghost use Rattle.events.specs.Spelling.{begin_object, commit_object, finish_object, hex_object, seat_members, use_object, word_object};
+ghost use Rattle.events.specs.Spelling.{begin_object, commit_object, finish_object, hex_object, seat_members, upgrade_object, use_object, word_object};
 
 use json_fields::{Fields, fields, is_end, items, take, take_number, take_text, take_word};
 use serde_json::Value;
@@ -29,7 +29,7 @@ fn last_place(left: &mut Fields<'_>) -> Option<Place>
     }
 }
 
-/// What the fields of a begin hold.
+/// What the fields of a begin of a call hold.
 #[derive(Clone, Copy)]
 pub(crate) struct BeginFields<'a> {
     pub arg: &'a str,
@@ -38,7 +38,7 @@ pub(crate) struct BeginFields<'a> {
     pub place: Place,
 }
 
-/// The fields of a begin. None where the line is of another form.
+/// The fields of a begin of a call. None where the line is of another form.
 pub(crate) fn begin_fields(value: &Value) -> Option<BeginFields<'_>>
     ensures { MatchOption result
         ((arg chaincode nonce : List ℕ) (peer seat : ℕ) →
@@ -59,6 +59,63 @@ pub(crate) fn begin_fields(value: &Value) -> Option<BeginFields<'_>>
         chaincode,
         nonce,
         place,
+    })
+}
+
+/// Takes the first two fields that are left, which have these names and hold a number and a text.
+fn take_pair<'a>(left: &mut Fields<'a>, first: &str, second: &str) -> Option<(u64, &'a str)>
+    ensures { MatchOption result
+        ((n : ℕ) (s : List ℕ) (rest : Members) →
+        members_view left.old
+        ≢ member first.now (number (unsigned n)) (member second.now (string s) rest))
+        (λ p. members_view left.old
+        ≡ member first.now (number (unsigned p.0))
+        (member second.now (string p.1.now) (members_view left.new))) }
+{
+    let number = take_number(left, first)?;
+    let text = take_text(left, second)?;
+    Some((number, text))
+}
+
+/// What the fields of a begin of an upgrade hold.
+#[derive(Clone, Copy)]
+pub(crate) struct UpgradeFields<'a> {
+    pub fuel: u64,
+    pub digest: &'a str,
+    pub nonce: &'a str,
+    pub policy: &'a str,
+    pub chaincode: &'a str,
+    pub place: Place,
+}
+
+/// The fields of a begin of an upgrade. None where the line is of another form.
+pub(crate) fn upgrade_fields(value: &Value) -> Option<UpgradeFields<'_>>
+    ensures { MatchOption result
+        ((fuel : ℕ) (digest nonce : List ℕ) (peer : ℕ) (policy : List ℕ) (seat : ℕ)
+        (chaincode : List ℕ) →
+        view value.now ≢ upgrade_object fuel digest nonce peer policy seat chaincode)
+        (λ f. view value.now
+        ≡ upgrade_object f.fuel f.digest.now f.nonce.now f.place.peer f.policy.now f.place.seat
+        f.chaincode.now) }
+{
+    let mut left = fields(value)?;
+    if !take_word(&mut left, "do", "begin") {
+        return None;
+    }
+    let (fuel, digest) = take_pair(&mut left, "fuel", "module")?;
+    let nonce = take_text(&mut left, "nonce")?;
+    let (peer, policy) = take_pair(&mut left, "peer", "policy")?;
+    let (seat, chaincode) = take_pair(&mut left, "seat", "upgrade")?;
+    if !is_end(&mut left) {
+        return None;
+    }
+    Some(UpgradeFields {
+        fuel,
+        digest,
+        nonce,
+        policy,
+        chaincode,
+        place: Place { peer, seat },
     })
 }
 

@@ -1,6 +1,7 @@
 //! The events of a run, line by line.
 //!
 //! `read_event` gives the action that a line spells, over the data that `serde_json` reads in it.
+//! A line spells at most one (`a_line_spells_one_action`).
 //! `Bindings` keeps what a run's finishes gave under the names of their `as`, and makes the
 //! envelope that a `use` asks for.
 #![tactic(auto)]
@@ -8,9 +9,11 @@
 mod action;
 mod bindings;
 mod fields;
+mod laws;
 mod line;
 mod values;
 
 pub use action::{Action, BadLine};
 pub use bindings::{Bindings, Endorsed};
+pub use laws::a_line_spells_one_action;
 pub use line::read_event;

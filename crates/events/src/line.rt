@@ -4,12 +4,15 @@ ghost use Rattle.std.specs.Prelude.{◌≡◌, IfOk, IfErr, IfSome, MatchOption}
 ghost use Rattle.serde_json.specs.View.{view};
 ghost use Rattle.events.specs.Refused.{NoneIs};
 ghost use Rattle.events.specs.Spelling.{IsAction, Spells};
+ghost use Rattle.events.specs.declared.action.Action.TheVariants.{Begin};
 
 use crate::action::{Action, BadLine};
 use crate::fields::{
-    begin_fields, committing_peer, finish_fields, is_word, submitted_hex, used_names,
+    Place, begin_fields, committing_peer, finish_fields, is_word, submitted_hex, upgrade_fields,
+    used_names,
 };
-use crate::values::{bytes_of, names, proposal};
+use crate::values::{bytes_of, call, names, upgrade};
+use fab_types::Proposal;
 use serde_json::Value;
 use serde_json::error::Category;
 use std::alloc::Global;
@@ -30,19 +33,27 @@ pub fn read_event(alloc: Global, line: &str) -> Result<Action, BadLine>
     }
 }
 
+/// A seat of a peer begins to simulate a proposal.
+fn begun(place: Place, proposal: Proposal) -> Action
+    ensures { result ≡ Begin place.peer place.seat proposal }
+{
+    Action::Begin {
+        peer: place.peer,
+        seat: place.seat,
+        proposal,
+    }
+}
+
 /// The action that the data of a line spells.
 fn action_of(alloc: Global, value: &Value) -> Result<Action, BadLine>
     ensures ok { IfOk result (λ a. IsAction (view value.now) a) }
     ensures refused { IfErr result (λ r. NoneIs (IsAction (view value.now)) r) }
 {
     if let Some(fields) = begin_fields(value) {
-        let proposal = proposal(alloc, fields.arg, fields.chaincode, fields.nonce)?;
-        let (peer, seat) = (fields.place.peer, fields.place.seat);
-        return Ok(Action::Begin {
-            peer,
-            seat,
-            proposal,
-        });
+        return Ok(begun(fields.place, Proposal::Call(call(alloc, &fields)?)));
+    }
+    if let Some(fields) = upgrade_fields(value) {
+        return Ok(begun(fields.place, Proposal::Upgrade(upgrade(alloc, &fields)?)));
     }
     if let Some(fields) = finish_fields(value) {
         let name = String::from_str(alloc, fields.name)?;

@@ -1,12 +1,14 @@
 //! What the fields of a line hold.
 
-ghost use Rattle.std.specs.Prelude.{◌≡◌, IfOk, IfErr};
+ghost use Rattle.std.specs.Prelude.{◌≡◌, ℕ, List, IfOk, IfErr, MatchOption};
 ghost use Rattle.serde_json.specs.View.{items_view};
+ghost use Rattle.fab_types.specs.Limits.{IsFuel, IsName, IsPolicyText};
 ghost use Rattle.events.specs.Refused.{NoneIs};
-ghost use Rattle.events.specs.Spelling.{AreNames, AreTexts, IsArgument, IsHex, IsProposal};
+ghost use Rattle.events.specs.Spelling.{AreNames, AreTexts, IsArgument, IsCall, IsDefinition, IsHex, IsUpgrade};
 
 use crate::action::BadLine;
-use fab_types::{Name, Proposal, Value as Bytes};
+use crate::fields::{BeginFields, UpgradeFields};
+use fab_types::{Call, Definition, Fuel, Name, PolicyText, Profile, Upgrade, Value as Bytes};
 use hex::{FromHex, FromHexError};
 use serde_json::Value;
 use std::alloc::Global;
@@ -42,26 +44,95 @@ fn argument(alloc: Global, text: &str) -> Result<Bytes, BadLine>
     }
 }
 
-/// The proposal of these texts.
-pub(crate) fn proposal(
-    alloc: Global,
-    arg: &str,
-    chaincode: &str,
-    nonce: &str,
-) -> Result<Proposal, BadLine>
-    ensures ok { IfOk result (λ p. IsProposal arg.now chaincode.now nonce.now p) }
-    ensures refused { IfErr result (λ r. NoneIs (IsProposal arg.now chaincode.now nonce.now) r) }
+/// The chaincode's name that a text is.
+fn name(alloc: Global, text: &str) -> Result<Name, BadLine>
+    ensures ok { IfOk result (λ n. (n ≡ text.now) × IsName text.now) }
+    ensures refused { IfErr result
+        (λ r. NoneIs (λ (n : List ℕ). (n ≡ text.now) × IsName text.now) r) }
 {
-    let Ok(nonce) = <[u8; 16]>::from_hex(nonce) else {
+    match Name::new(text.as_bytes().to_vec(alloc)?) {
+        Some(name) => Ok(name),
+        None => Err(BadLine::NoForm),
+    }
+}
+
+/// The call that the fields of a begin hold.
+pub(crate) fn call(alloc: Global, fields: &BeginFields<'_>) -> Result<Call, BadLine>
+    ensures ok { IfOk result
+        (λ c. IsCall fields.now.arg.now fields.now.chaincode.now fields.now.nonce.now c) }
+    ensures refused { IfErr result
+        (λ r. NoneIs
+        (IsCall fields.now.arg.now fields.now.chaincode.now fields.now.nonce.now) r) }
+{
+    let Ok(nonce) = <[u8; 16]>::from_hex(fields.nonce) else {
         return Err(BadLine::NoForm);
     };
-    let Some(chaincode) = Name::new(chaincode.as_bytes().to_vec(alloc)?) else {
-        return Err(BadLine::NoForm);
-    };
-    let argument = argument(alloc, arg)?;
-    Ok(Proposal {
+    let chaincode = name(alloc, fields.chaincode)?;
+    let argument = argument(alloc, fields.arg)?;
+    Ok(Call {
         chaincode,
         argument,
+        nonce,
+    })
+}
+
+/// The policy's text that a text is.
+fn policy_text(alloc: Global, text: &str) -> Result<PolicyText, BadLine>
+    ensures ok { IfOk result (λ p. (p ≡ text.now) × IsPolicyText text.now) }
+    ensures refused { IfErr result
+        (λ r. NoneIs (λ (p : List ℕ). (p ≡ text.now) × IsPolicyText text.now) r) }
+{
+    match PolicyText::new(text.as_bytes().to_vec(alloc)?) {
+        Some(policy) => Ok(policy),
+        None => Err(BadLine::NoForm),
+    }
+}
+
+/// The fuel of a number.
+fn fuel(units: u64) -> Option<Fuel>
+    ensures { MatchOption result (¬ IsFuel units) (λ f. (f ≡ units) × IsFuel units) }
+{
+    Fuel::new(u32::try_from(units).ok()?)
+}
+
+/// The definition of a fuel and these texts, by the one profile.
+fn definition(alloc: Global, units: u64, digest: &str, policy: &str) -> Result<Definition, BadLine>
+    ensures ok { IfOk result (λ d. IsDefinition units digest.now policy.now d) }
+    ensures refused { IfErr result (λ r. NoneIs (IsDefinition units digest.now policy.now) r) }
+{
+    let (Some(profile), Some(fuel)) = (Profile::new(1), fuel(units)) else {
+        return Err(BadLine::NoForm);
+    };
+    let Ok(digest) = <[u8; 32]>::from_hex(digest) else {
+        return Err(BadLine::NoForm);
+    };
+    let policy = policy_text(alloc, policy)?;
+    Ok(Definition {
+        profile,
+        digest,
+        fuel,
+        policy,
+    })
+}
+
+/// The upgrade that the fields of a begin hold.
+pub(crate) fn upgrade(alloc: Global, fields: &UpgradeFields<'_>) -> Result<Upgrade, BadLine>
+    ensures ok { IfOk result
+        (λ u. IsUpgrade fields.now.fuel fields.now.digest.now fields.now.nonce.now
+        fields.now.policy.now fields.now.chaincode.now u) }
+    ensures refused { IfErr result
+        (λ r. NoneIs
+        (IsUpgrade fields.now.fuel fields.now.digest.now fields.now.nonce.now
+        fields.now.policy.now fields.now.chaincode.now) r) }
+{
+    let Ok(nonce) = <[u8; 16]>::from_hex(fields.nonce) else {
+        return Err(BadLine::NoForm);
+    };
+    let chaincode = name(alloc, fields.chaincode)?;
+    let definition = definition(alloc, fields.fuel, fields.digest, fields.policy)?;
+    Ok(Upgrade {
+        chaincode,
+        definition,
         nonce,
     })
 }

@@ -6,7 +6,9 @@ use Rattle.json_fields.specs.Lists.{AreItems}
 use Rattle.endorsement_policy.specs.GoodSets.{is_among}
 use Rattle.endorsement_policy.specs.declared.rules.ChaincodePolicy.{ChaincodePolicy}
 use Rattle.simulator.specs.declared.book.Chaincode.{Chaincode}
-use Rattle.endorsement_policy.specs.Endorsed.{do_need_someone}
+use Rattle.endorsement_policy.specs.Endorsed.{do_need_someone, needs_someone}
+use Rattle.endorsement_policy.specs.Limits.{IsText}
+use Rattle.endorsement_policy.specs.declared.policy.Policy.{Policy}
 use Rattle.endorsement_policy.proofs.Needed.{spelled_needs}
 use Rattle.genesis.specs.declared.genesis.Definition.{Definition}
 use Rattle.genesis.specs.declared.genesis.GenesisFile.{GenesisFile}
@@ -33,35 +35,37 @@ same_count : (cs : List Definition) → length (chaincodes_of cs) ≡ length cs
 same_count [] = refl
 same_count (c ∷ cs) = ap suc (same_count cs)
 
--- nobody satisfies none of the policies
+-- nobody does not satisfy a policy that a text spells
+pub policy_needed : (orgs : List (List ℕ)) (policy : Policy) (text : List ℕ) → IsText orgs policy text → needs_someone policy ≡ true
+policy_needed orgs policy text h = spelled_needs policy text h.spelled h.thresholds
+
 needed : (orgs : List (List ℕ)) (ds : Items) (cs : List Definition) → AreItems (IsDefinition orgs) ds cs → do_need_someone (policies_of cs) ≡ true
 needed orgs no_items [] h = refl
 needed orgs no_items (c ∷ cs) h = absurd h
 needed orgs (item d ds) [] h = absurd h
-needed orgs (item d ds) (c ∷ cs) h =
-    let text = h.0.7 in
-    rw (spelled_needs c.policy.policy h.0.2 text.spelled text.thresholds, needed orgs ds cs h.1) refl
+needed orgs (item d ds) (c ∷ cs) h = rw (policy_needed orgs c.policy.policy h.0.2 h.0.7, needed orgs ds cs h.1) refl
 
-pub all_needed : (orgs : List (List ℕ)) (d : Data) (cs : List Definition) → IsListOf (IsDefinition orgs) 16 d cs → do_need_someone (policies_of cs) ≡ true
+pub all_needed : (orgs : List (List ℕ)) (d : Data) (cs : List Definition) → IsListOf (IsDefinition orgs) 1 16 d cs → do_need_someone (policies_of cs) ≡ true
 all_needed orgs d cs h = needed orgs h.0 cs h.2
 
 opens : (p : Parts) (g : GenesisFile) → IsGenesis p g → CanOpen g
 opens p g h =
-    let d = h.definitions in
-    let cs = d.0 in
-    let names = same_names _ d.1.0 cs d.1.2 in
+    let b = h.book in
+    let cs = b.0 in
+    let names = same_names _ b.2.0 cs b.2.2 in
     record {
       seats = h.seats.1;
       queue = h.queue.1;
       count = h.count.1;
       preferred = h.preferred.1;
       absolute = h.absolute.1;
-      organisations = h.organisations.3;
-      different = h.different;
+      organisations = h.organisations.0.3;
+      different = h.organisations.1;
       peers = h.peers.3;
       known = known_peers _ h.peers.0 g.peers.items h.peers.2;
-      chaincodes = rw (d.3, same_count cs) d.1.3;
-      policies = rw (d.3, d.4) names;
+      chaincodes = rw (b.5, same_count cs) b.2.3;
+      policies = rw (b.5, b.6) names;
+      installed = h.installed;
     }
 
 pub spelled_opens : (text : List ℕ) (g : GenesisFile) → Spells text g → CanOpen g

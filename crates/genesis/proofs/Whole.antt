@@ -1,28 +1,44 @@
--- The file as a whole: what its organisations and chaincodes are is determined, so a part that is refused
--- leaves no genesis.
+-- The file as a whole: what its parts spell is determined, so a part that is refused leaves no genesis.
 use Rattle.std.proofs.Common.{◌≡◌, ℕ, zero, List, true, false, sym, ap, subst, ◌∙◌}
+use Rattle.endorsement_policy.proofs.Whole.{same}
+use Rattle.endorsement_policy.specs.GoodSets.{Names}
+use Rattle.endorsement_policy.specs.Limits.{IsText}
+use Rattle.endorsement_policy.specs.declared.policy.Policy.{Policy}
+use Rattle.endorsement_policy.specs.declared.rules.ChaincodePolicy.{ChaincodePolicy}
+use Rattle.endorsement_policy.specs.declared.rules.Organisation.{Organisation}
 use Rattle.wasm_decode.proofs.ModuleTheorem.{at_most_one}
 use Rattle.wasm_ast.specs.declared.module.Module.{Module}
 use Rattle.wasm_decode.specs.ModuleSpelling.{IsModule}
-use Rattle.simulator.specs.Books.{IsBook}
+use Rattle.sha2.specs.Sha256.{sha256}
+use Rattle.simulator.specs.Books.{Book, IsBook}
 use Rattle.simulator.specs.declared.book.Chaincode.{Chaincode}
 use Rattle.serde_json.specs.Data.{Data, Num, unsigned, number}
 use Rattle.genesis.specs.declared.genesis.Definition.{Definition}
 use Rattle.genesis.specs.declared.genesis.GenesisFile.{GenesisFile}
-use Rattle.endorsement_policy.specs.declared.rules.Organisation.{Organisation}
+use Rattle.genesis.specs.declared.genesis.InstalledModule.{InstalledModule}
 use Rattle.genesis.specs.declared.refusal.GenesisRefusal.{GenesisRefusal}
 use Rattle.genesis.specs.Lists.{IsListOf}
 use Rattle.genesis.specs.Refused.{NoneIs}
-use Rattle.genesis.specs.Spelling.{IsOrganisation, IsPeer, IsDefinition, IsHexModule, Parts, IsGenesis, names_of, chaincodes_of, are_different}
+use Rattle.genesis.specs.Spelling.{AreOrganisations, IsBookOf, IsDefinition, IsGenesis, IsHex, IsHexModule, IsInstalled, IsOrganisation, IsPolicy, Parts}
+use Rattle.genesis.specs.Spelling.{are_different, book_of}
+use Rattle.genesis.specs.Spelling.{names_of, policies_of}
 use Rattle.genesis.proofs.Items.{IsListOf-same}
 use Rattle.genesis.proofs.Refusals.{same_ok}
-use Rattle.json_fields.proofs.Rests.{members_in, rest, first, text_in}
+use Rattle.json_fields.proofs.Rests.{members_in, rest, rest_of_three, first, text_in}
 
-pub same_name : (d : Data) (x y : Organisation) → IsOrganisation d x → IsOrganisation d y → x.name ≡ y.name
-same_name d x y h k = ap (λ d. text_in (first (rest (members_in d)))) (sym h.1 ∙ k.1)
+-- ---- what data spell is one value
 
-pub names_same : (d : Data) (xs ys : List Organisation) → IsListOf IsOrganisation 16 d xs → IsListOf IsOrganisation 16 d ys → names_of xs ≡ names_of ys
-names_same d xs ys h k = IsListOf-same IsOrganisation (λ (o : Organisation). o.name) same_name 16 d xs ys h k
+same_members : (a b : Organisation) → a.name ≡ b.name → a.key ≡ b.key → a ≡ b
+same_members a b n k = ap (λ x. record a { name = x }) n ∙ ap (λ x. record b { key = x }) k
+
+pub one_organisation : (d : Data) (x y : Organisation) → IsOrganisation d x → IsOrganisation d y → x ≡ y
+one_organisation d x y h k =
+    let e = sym h.1 ∙ k.1 in
+    let text = ap (λ d. text_in (first (members_in d))) e in
+    same_members x y (ap (λ d. text_in (first (rest (members_in d)))) e) (same_ok _ x.key y.key (subst (λ t. IsHex t x.key) text h.2) k.2)
+
+pub one_list : (d : Data) (xs ys : List Organisation) → IsListOf IsOrganisation 1 16 d xs → IsListOf IsOrganisation 1 16 d ys → xs ≡ ys
+one_list d xs ys h k = IsListOf-same IsOrganisation one_organisation 1 16 d xs ys h k
 
 abbrev whole : Num → ℕ
 whole (unsigned n) = n
@@ -35,50 +51,78 @@ number_in d = zero
 pub same_number : (a b : Data) (m n : ℕ) → a ≡ b → a ≡ number (unsigned m) → b ≡ number (unsigned n) → m ≡ n
 same_number a b m n e h k = ap number_in (sym h ∙ e ∙ k)
 
-same_module : (hex : List ℕ) (a b : Module) → IsHexModule hex a → IsHexModule hex b → a ≡ b
-same_module hex a b h k = at_most_one k.0 a b (subst (λ bs. IsModule a bs) (same_ok _ h.0 k.0 h.1 k.1) h.2) k.2
+one_hex_module : (hex : List ℕ) (a b : Module) (x y : List ℕ) → IsHexModule hex a x → IsHexModule hex b y → (a ≡ b) × (x ≡ y)
+one_hex_module hex a b x y h k =
+    let bytes = same_ok _ h.0 k.0 h.1 k.1 in
+    (at_most_one k.0 a b (subst (λ bs. IsModule a bs) bytes h.2) k.2, h.4 ∙ ap sha256 bytes ∙ sym k.4)
 
-same_fields : (a b : Chaincode) → a.name ≡ b.name → a.«module» ≡ b.«module» → a.fuel ≡ b.fuel → a ≡ b
-same_fields a b n m f =
+pub one_installed : (d : Data) (x y : InstalledModule) → IsInstalled d x → IsInstalled d y → x ≡ y
+one_installed d x y h k =
+    let text = ap text_in (sym h.1 ∙ k.1) in
+    let one = one_hex_module k.0 _ _ _ _ (subst (λ t. IsHexModule t x.«module» x.digest) text h.2) k.2 in
+    ap (λ m. record x { «module» = m }) one.0 ∙ ap (λ g. record y { digest = g }) one.1
+
+pub one_policy : (orgs : Names) (d : Data) (x y : Policy) → IsPolicy orgs d x → IsPolicy orgs d y → x ≡ y
+one_policy orgs d x y h k = same orgs k.0 _ _ (subst (λ t. IsText orgs x t) (ap text_in (sym h.1 ∙ k.1)) h.2) k.2
+
+same_chaincode : (a b : Chaincode) → a.name ≡ b.name → a.«module» ≡ b.«module» → a.fuel ≡ b.fuel → a ≡ b
+same_chaincode a b n m f =
     ap (λ x. record a { name = x }) n ∙ ap (λ x. record a { name = b.name; «module» = x }) m ∙ ap (λ x. record b { fuel = x }) f
 
-pub same_chaincode : (orgs : List (List ℕ)) (d : Data) (x y : Definition) → IsDefinition orgs d x → IsDefinition orgs d y → x.chaincode ≡ y.chaincode
-same_chaincode orgs d x y h k =
-    let e = sym h.3 ∙ k.3 in
-    same_fields x.chaincode y.chaincode
-    (ap (λ d. text_in (first (rest (rest (members_in d))))) e)
-    (same_module k.1 _ _ (subst (λ t. IsHexModule t x.chaincode.«module») (ap (λ d. text_in (first (rest (members_in d)))) e) h.5) k.5)
-    (same_number h.0 k.0 _ _ (ap (λ d. first (members_in d)) e) h.4.0 k.4.0)
+same_policy : (a b : ChaincodePolicy) → a.chaincode ≡ b.chaincode → a.policy ≡ b.policy → a ≡ b
+same_policy a b c p = ap (λ x. record a { chaincode = x }) c ∙ ap (λ x. record b { policy = x }) p
 
-pub NoneIs-different : (p : Parts) (os : List Organisation) (orgs : List (List ℕ)) (g : GenesisFile) → IsListOf IsOrganisation 16 p.orgs os
-    → orgs ≡ names_of os → are_different orgs ≡ false → ¬ IsGenesis p g
-NoneIs-different p os orgs g h is not spelled =
-    let same = names_same p.orgs os _ h spelled.organisations in
-    let other : are_different orgs ≡ true = rw (is, same) spelled.different in
+same_definition : (a b : Definition) → a.chaincode ≡ b.chaincode → a.digest ≡ b.digest → a.policy ≡ b.policy → a ≡ b
+same_definition a b c g p =
+    ap (λ x. record a { chaincode = x }) c ∙ ap (λ x. record a { chaincode = b.chaincode; digest = x }) g ∙ ap (λ x. record b { policy = x }) p
+
+pub one_definition : (orgs : Names) (d : Data) (x y : Definition) → IsDefinition orgs d x → IsDefinition orgs d y → x ≡ y
+one_definition orgs d x y h k =
+    let e = sym h.3 ∙ k.3 in
+    let hex = ap (λ d. text_in (first (rest (members_in d)))) e in
+    let name = ap (λ d. text_in (first (rest (rest (members_in d))))) e in
+    let text = ap (λ d. text_in (first (rest_of_three (members_in d)))) e in
+    let one = one_hex_module k.1 _ _ _ _ (subst (λ t. IsHexModule t x.chaincode.«module» x.digest) hex h.5) k.5 in
+    let fuel = same_number h.0 k.0 _ _ (ap (λ d. first (members_in d)) e) h.4.0 k.4.0 in
+    let policy = same orgs k.2 _ _ (subst (λ t. IsText orgs x.policy.policy t) text h.7) k.7 in
+    same_definition x y (same_chaincode _ _ name one.0 fuel) one.1 (same_policy _ _ (h.8 ∙ name ∙ sym k.8) policy)
+
+same_book : (orgs : Names) (d e : Data) (cs cs' : List Definition) (ms ms' : List InstalledModule) → IsListOf (IsDefinition orgs) 1 16 d cs
+    → IsListOf (IsDefinition orgs) 1 16 d cs' → IsListOf IsInstalled 0 16 e ms → IsListOf IsInstalled 0 16 e ms' → book_of orgs cs ms ≡ book_of orgs cs' ms'
+same_book orgs d e cs cs' ms ms' c c' m m' =
+    ap (λ x. book_of orgs x ms) (IsListOf-same (IsDefinition orgs) (one_definition orgs) 1 16 d cs cs' c c') ∙
+    ap (λ x. book_of orgs cs' x) (IsListOf-same IsInstalled one_installed 0 16 e ms ms' m m')
+
+pub one_book : (orgs : Names) (d e : Data) (a b : Book) (ps qs : List ChaincodePolicy) → IsBookOf orgs d e a ps → IsBookOf orgs d e b qs
+    → (a ≡ b) × (ps ≡ qs)
+one_book orgs d e a b ps qs h k = (
+  h.5 ∙ same_book orgs d e _ _ _ _ h.2 k.2 h.3 k.3 ∙ sym k.5,
+  h.6 ∙ ap policies_of (IsListOf-same (IsDefinition orgs) (one_definition orgs) 1 16 d _ _ h.2 k.2) ∙ sym k.6,
+)
+
+-- ---- a part that is refused
+
+-- chaincodes and modules that make no book
+pub NoneIs-book : (orgs : Names) (d e : Data) (cs : List Definition) (ms : List InstalledModule) → IsListOf (IsDefinition orgs) 1 16 d cs
+    → IsListOf IsInstalled 0 16 e ms → ¬ IsBook (book_of orgs cs ms) → (b : Book × List ChaincodePolicy) → ¬ IsBookOf orgs d e b.0 b.1
+NoneIs-book orgs d e cs ms c m not b spelled =
+    not (subst IsBook (spelled.5 ∙ same_book orgs d e _ cs _ ms spelled.2 c spelled.3 m) spelled.4)
+
+-- two organisations of one name
+pub NoneIs-different : (d : Data) (os : List Organisation) → IsListOf IsOrganisation 1 16 d os → are_different (names_of os) ≡ false
+    → (xs : List Organisation) → ¬ AreOrganisations d xs
+NoneIs-different d os h not xs spelled =
+    let same = one_list d xs os spelled.0 h in
+    let other : are_different (names_of os) ≡ true = subst (λ ys. are_different (names_of ys) ≡ true) same spelled.1 in
     cc
 
-pub NoneIs-peers : (p : Parts) (os : List Organisation) (orgs : List (List ℕ)) (r : GenesisRefusal) → IsListOf IsOrganisation 16 p.orgs os
-    → orgs ≡ names_of os → NoneIs (IsListOf (IsPeer orgs) 8 p.peers) r → NoneIs (IsGenesis p) r
-NoneIs-peers p os orgs r h is none = (
+-- a part that rests on the names of the organisations
+pub NoneIs-part : {A : Type 0} (Is : Names → A → Type 0) (part : GenesisFile → A) (p : Parts) (os : List Organisation) (orgs : Names) (r : GenesisRefusal)
+    → ((g : GenesisFile) → IsGenesis p g → Is (names_of g.rules.orgs) (part g)) → AreOrganisations p.orgs os → orgs ≡ names_of os
+    → NoneIs (Is orgs) r → NoneIs (IsGenesis p) r
+NoneIs-part Is part p os orgs r has h is none = (
   none.0,
   λ real g spelled.
-      let same = is ∙ names_same p.orgs os _ h spelled.organisations in
-      none.1 real _ (subst (λ ns. IsListOf (IsPeer ns) 8 p.peers g.peers.items) (sym same) spelled.peers),
+      let same = is ∙ ap names_of (one_list p.orgs os _ h.0 spelled.organisations.0) in
+      none.1 real (part g) (subst (λ ns. Is ns (part g)) (sym same) (has g spelled)),
 )
-
-pub NoneIs-definitions : (p : Parts) (os : List Organisation) (orgs : List (List ℕ)) (r : GenesisRefusal) → IsListOf IsOrganisation 16 p.orgs os
-    → orgs ≡ names_of os → NoneIs (IsListOf (IsDefinition orgs) 16 p.chaincodes) r → NoneIs (IsGenesis p) r
-NoneIs-definitions p os orgs r h is none = (
-  none.0,
-  λ real g spelled.
-      let same = is ∙ names_same p.orgs os _ h spelled.organisations in
-      none.1 real spelled.definitions.0 (subst (λ ns. IsListOf (IsDefinition ns) 16 p.chaincodes spelled.definitions.0) (sym same) spelled.definitions.1),
-)
-
-pub NoneIs-book : (p : Parts) (os : List Organisation) (orgs : List (List ℕ)) (cs : List Definition) (g : GenesisFile) → IsListOf IsOrganisation 16 p.orgs os
-    → orgs ≡ names_of os → IsListOf (IsDefinition orgs) 16 p.chaincodes cs → ¬ IsBook (chaincodes_of cs) → ¬ IsGenesis p g
-NoneIs-book p os orgs cs g h is k not spelled =
-    let same = is ∙ names_same p.orgs os _ h spelled.organisations in
-    let others = subst (λ ns. IsListOf (IsDefinition ns) 16 p.chaincodes spelled.definitions.0) (sym same) spelled.definitions.1 in
-    let one = IsListOf-same (IsDefinition orgs) (λ (c : Definition). c.chaincode) (same_chaincode orgs) 16 p.chaincodes spelled.definitions.0 cs others k in
-    not (subst IsBook one spelled.definitions.2)

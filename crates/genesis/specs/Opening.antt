@@ -9,7 +9,7 @@ use Rattle.genesis.specs.Lists.{IsWithin}
 use Rattle.genesis.specs.Spelling.{are_different, names_of}
 
 -- The numbers are within the ledger's limits, no two organisations have one name, each peer's organisation is known,
--- and the rules have a policy for each chaincode of the book, in its order.
+-- the rules have a policy for each chaincode of the book, in its order, and both say the same of what is installed.
 pub record CanOpen (g : GenesisFile) : Type 0 where
   pub seats : IsWithin 1 64 g.seats
   pub queue : IsWithin 1 4096 g.queue
@@ -20,8 +20,9 @@ pub record CanOpen (g : GenesisFile) : Type 0 where
   pub different : are_different (names_of g.rules.orgs) ≡ true
   pub peers : IsWithin 1 8 (length g.peers.items)
   pub known : list_all (is_among (names_of g.rules.orgs)) g.peers.items ≡ true
-  pub chaincodes : IsWithin 1 16 (length g.book)
-  pub policies : map (λ (p : ChaincodePolicy). p.chaincode) g.rules.policies ≡ map (λ (c : Chaincode). c.name) g.book
+  pub chaincodes : IsWithin 1 16 (length g.book.chaincodes)
+  pub policies : map (λ (p : ChaincodePolicy). p.chaincode) g.rules.policies ≡ map (λ (c : Chaincode). c.name) g.book.chaincodes
+  pub installed : g.rules.installed ≡ g.book.installed
 
 -- Both hold the same. Where their lists of peers lie in memory is not compared.
 pub record HoldsSame (a b : GenesisFile) : Type 0 where

@@ -1,21 +1,24 @@
 -- What a genesis file spells, over the data that it is as JSON. A JSON object has each of its members
 -- once, in the order of their names; so an object with exactly some fields is written out in that order.
-use Rattle.std.specs.Prelude.{◌≡◌, ◌&&◌, ℕ, Bool, true, not, List, [], ◌∷◌, map, codes, Some, Ok}
+use Rattle.std.specs.Prelude.{◌≡◌, ◌&&◌, ℕ, Bool, true, not, List, [], ◌∷◌, ◌++◌, map, codes, Some, Ok}
 use Rattle.serde_json.specs.Data.{Data, object, member, no_members, string, boolean}
 use Rattle.serde_json.specs.Read.{read}
 use Rattle.hex.specs.Hex.{decode_of}
+use Rattle.sha2.specs.Sha256.{sha256}
 use Rattle.fab_types.specs.Limits.{IsName, IsOrgName}
 use Rattle.wasm_ast.specs.declared.module.Module.{Module}
 use Rattle.wasm_decode.specs.ModuleSpelling.{IsModule}
 use Rattle.wasm_validate.specs.ModuleRules.{IsValid}
-use Rattle.endorsement_policy.specs.GoodSets.{is_among}
+use Rattle.endorsement_policy.specs.GoodSets.{Names, is_among}
 use Rattle.endorsement_policy.specs.Limits.{IsText}
 use Rattle.endorsement_policy.specs.TagKeys.{IsTagKey}
+use Rattle.endorsement_policy.specs.declared.policy.Policy.{Policy}
 use Rattle.endorsement_policy.specs.declared.rules.Organisation.{Organisation}
 use Rattle.endorsement_policy.specs.declared.rules.ChaincodePolicy.{ChaincodePolicy}
-use Rattle.simulator.specs.Books.{IsBook}
+use Rattle.simulator.specs.Books.{Book, IsBook}
 use Rattle.simulator.specs.declared.book.Chaincode.{Chaincode}
 use Rattle.genesis.specs.declared.genesis.Definition.{Definition}
+use Rattle.genesis.specs.declared.genesis.InstalledModule.{InstalledModule}
 use Rattle.genesis.specs.declared.genesis.GenesisFile.{GenesisFile}
 use Rattle.genesis.specs.Lists.{IsListOf, IsNumber}
 
@@ -37,6 +40,10 @@ abbrev pub are_different : List (List ℕ) → Bool
 are_different [] = true
 are_different (name ∷ names) = not (is_among names name) && are_different names
 
+-- organisations of different names
+abbrev pub AreOrganisations : Data → List Organisation → Type 0
+AreOrganisations d os = IsListOf IsOrganisation 1 16 d os × (are_different (names_of os) ≡ true)
+
 -- "A": the organisation of a peer, which is one of these
 abbrev pub IsPeer : List (List ℕ) → Data → List ℕ → Type 0
 IsPeer orgs d name = (d ≡ string name) × IsOrgName name × (is_among orgs name ≡ true)
@@ -47,41 +54,76 @@ chaincode_object fuel hex name policy =
     object (member (codes "fuel") fuel (member (codes "module") (string hex)
     (member (codes "name") (string name) (member (codes "policy") (string policy) no_members))))
 
--- the hex is of bytes that spell this module, which is valid
-abbrev pub IsHexModule : List ℕ → Module → Type 0
-IsHexModule hex m = (bytes : List ℕ) × IsHex hex bytes × IsModule m bytes × IsValid m
+-- the hex is of bytes that spell this module, which is valid, and that have this digest
+abbrev pub IsHexModule : List ℕ → Module → List ℕ → Type 0
+IsHexModule hex m digest = (bytes : List ℕ) × IsHex hex bytes × IsModule m bytes × IsValid m × (digest ≡ sha256 bytes)
+
+-- "0061736d01..": one more module
+abbrev pub IsInstalled : Data → InstalledModule → Type 0
+IsInstalled d m = (hex : List ℕ) × (d ≡ string hex) × IsHexModule hex m.«module» m.digest
+
+-- "'A'": a policy over these organisations
+abbrev pub IsPolicy : Names → Data → Policy → Type 0
+IsPolicy orgs d policy = (text : List ℕ) × (d ≡ string text) × IsText orgs policy text
 
 abbrev pub IsDefinition : List (List ℕ) → Data → Definition → Type 0
 IsDefinition orgs d c =
     (fuel : Data) × (hex : List ℕ) × (policy : List ℕ)
     × (d ≡ chaincode_object fuel hex c.chaincode.name policy)
-    × IsNumber 1 10000000 fuel c.chaincode.fuel × IsHexModule hex c.chaincode.«module»
+    × IsNumber 1 10000000 fuel c.chaincode.fuel × IsHexModule hex c.chaincode.«module» c.digest
     × IsName c.chaincode.name × IsText orgs c.policy.policy policy × (c.policy.chaincode ≡ c.chaincode.name)
 
 abbrev pub chaincodes_of : List Definition → List Chaincode
 chaincodes_of cs = map (λ (c : Definition). c.chaincode) cs
 
+abbrev pub digests_of : List Definition → List (List ℕ)
+digests_of cs = map (λ (c : Definition). c.digest) cs
+
 abbrev pub policies_of : List Definition → List ChaincodePolicy
 policies_of cs = map (λ (c : Definition). c.policy) cs
+
+abbrev pub more_modules_of : List InstalledModule → List Module
+more_modules_of ms = map (λ (m : InstalledModule). m.«module») ms
+
+abbrev pub more_digests_of : List InstalledModule → List (List ℕ)
+more_digests_of ms = map (λ (m : InstalledModule). m.digest) ms
+
+-- the book of these chaincodes and more modules, where policies name these organisations
+abbrev pub book_of : Names → List Definition → List InstalledModule → Book
+book_of orgs cs ms = record {
+  chaincodes = chaincodes_of cs;
+  modules = more_modules_of ms;
+  installed = record { digests = digests_of cs ++ more_digests_of ms; orgs = orgs };
+}
+
+-- the book that the fields "chaincodes" and "modules" spell, and the policies of its chaincodes
+abbrev pub IsBookOf : Names → Data → Data → Book → List ChaincodePolicy → Type 0
+IsBookOf orgs chaincodes modules book policies =
+    (cs : List Definition) × (ms : List InstalledModule)
+    × IsListOf (IsDefinition orgs) 1 16 chaincodes cs × IsListOf IsInstalled 0 16 modules ms
+    × IsBook book × (book ≡ book_of orgs cs ms) × (policies ≡ policies_of cs)
 
 -- what the fields of the file hold
 pub record Parts : Type 0 where
   pub absolute : Data
   pub chaincodes : Data
   pub count : Data
+  pub modules : Data
   pub orgs : Data
   pub peers : Data
   pub preferred : Data
   pub queue : Data
   pub reorder : Data
   pub seats : Data
+  pub upgrade : Data
 
 -- the object that has exactly these fields
 abbrev pub object_of : Parts → Data
 object_of p =
     object (member (codes "absolute") p.absolute (member (codes "chaincodes") p.chaincodes (member (codes "count") p.count
-    (member (codes "orgs") p.orgs (member (codes "peers") p.peers (member (codes "preferred") p.preferred
-    (member (codes "queue") p.queue (member (codes "reorder") p.reorder (member (codes "seats") p.seats no_members)))))))))
+    (member (codes "modules") p.modules (member (codes "orgs") p.orgs (member (codes "peers") p.peers
+    (member (codes "preferred") p.preferred (member (codes "queue") p.queue (member (codes "reorder") p.reorder
+    (member (codes "seats") p.seats (member (codes "upgrade") p.upgrade no_members)))))))))))
 
 -- the genesis that the fields spell
 pub record IsGenesis (p : Parts) (g : GenesisFile) : Type 0 where
@@ -91,11 +133,11 @@ pub record IsGenesis (p : Parts) (g : GenesisFile) : Type 0 where
   pub preferred : IsNumber 1 524288 p.preferred g.preferred
   pub absolute : IsNumber 1 524288 p.absolute g.absolute
   pub reorder : p.reorder ≡ boolean g.reorder
-  pub organisations : IsListOf IsOrganisation 16 p.orgs g.rules.orgs
-  pub different : are_different (names_of g.rules.orgs) ≡ true
-  pub peers : IsListOf (IsPeer (names_of g.rules.orgs)) 8 p.peers g.peers.items
-  pub definitions : (cs : List Definition) × IsListOf (IsDefinition (names_of g.rules.orgs)) 16 p.chaincodes cs
-      × IsBook (chaincodes_of cs) × (g.book ≡ chaincodes_of cs) × (g.rules.policies ≡ policies_of cs)
+  pub organisations : AreOrganisations p.orgs g.rules.orgs
+  pub peers : IsListOf (IsPeer (names_of g.rules.orgs)) 1 8 p.peers g.peers.items
+  pub book : IsBookOf (names_of g.rules.orgs) p.chaincodes p.modules g.book g.rules.policies
+  pub upgrade : IsPolicy (names_of g.rules.orgs) p.upgrade g.rules.upgrade
+  pub installed : g.rules.installed ≡ g.book.installed
 
 -- the genesis that the data of a file spells
 abbrev pub IsGenesisOf : Data → GenesisFile → Type 0

@@ -1,20 +1,18 @@
-//! The chaincodes.
+//! The chaincodes and policies.
 
 ghost use Rattle.std.specs.Prelude.{◌≡◌, ◌≢◌, IfOk, IfErr};
-ghost use Rattle.wasm_ast.specs.declared.module.Module.{Module};
-ghost use Rattle.wasm_decode.specs.ModuleSpelling.{IsModule};
-ghost use Rattle.wasm_validate.specs.ModuleRules.{IsValid};
-ghost use Rattle.wasm_validate.specs.declared.fault.ValidateFault.{ValidateFault};
 ghost use Rattle.endorsement_policy.specs.Faults.{Fails};
 ghost use Rattle.endorsement_policy.specs.Limits.{IsText};
+ghost use Rattle.serde_json.specs.View.{view};
 ghost use Rattle.genesis.specs.declared.refusal.GenesisRefusal.TheVariants.{Memory, Json};
 ghost use Rattle.genesis.specs.Refused.{NoneIs};
-ghost use Rattle.genesis.specs.Spelling.{IsHexModule, chaincodes_of, policies_of};
+ghost use Rattle.genesis.specs.Spelling.{IsPolicy, chaincodes_of, digests_of, policies_of};
 
 use crate::each::ReadItem;
 use crate::fields::chaincode_fields;
-use crate::genesis::Definition;
-use crate::numbers::{bytes_of, within};
+use crate::genesis::{Definition, InstalledModule};
+use crate::modules::module;
+use crate::numbers::within;
 use crate::refusal::GenesisRefusal;
 use endorsement_policy::{ChaincodePolicy, Policy, PolicyFault, parse};
 use fab_types::limits::MOST_FUEL;
@@ -22,8 +20,6 @@ use fab_types::{Name, OrgName};
 use serde_json::Value;
 use simulator::Chaincode;
 use std::alloc::{AllocError, Global};
-use wasm_decode::{DecodeFault, decode};
-use wasm_validate::{ValidModule, ValidateFault, validate};
 
 /// Reads a chaincode with its policy over these organisations.
 #[derive(Clone, Copy)]
@@ -46,50 +42,29 @@ impl ReadItem for DefinitionReader<'_> {
         let Some(name) = Name::new(fields.name.as_bytes().to_vec(alloc)?) else {
             return Err(GenesisRefusal::Range);
         };
-        let module = module(alloc, fields.hex)?;
+        let InstalledModule { module, digest } = module(alloc, fields.hex)?;
         let policy = policy(alloc, fields.policy, self.orgs)?;
         let chaincode = name.clone()?;
         Ok(Definition {
             chaincode: Chaincode { name, module, fuel },
+            digest,
             policy: ChaincodePolicy { chaincode, policy },
         })
     }
 }
 
-/// The valid module whose bytes are written in hex.
-fn module(alloc: Global, hex: &str) -> Result<ValidModule, GenesisRefusal>
-    ensures ok { IfOk result (λ m. IsHexModule hex.now m) }
-    ensures refused { IfErr result (λ r. NoneIs (IsHexModule hex.now) r) }
+/// The policy of upgrades over these organisations.
+pub(crate) fn upgrade_policy(
+    alloc: Global,
+    value: &Value,
+    orgs: &[OrgName],
+) -> Result<Policy, GenesisRefusal>
+    ensures ok { IfOk result (λ p. IsPolicy orgs.now (view value.now) p) }
+    ensures refused { IfErr result (λ r. NoneIs (IsPolicy orgs.now (view value.now)) r) }
 {
-    let bytes = bytes_of(alloc, hex)?;
-    module_in(alloc, &bytes)
-}
-
-/// The valid module that bytes spell.
-fn module_in(alloc: Global, bytes: &[u8]) -> Result<ValidModule, GenesisRefusal>
-    ensures ok { IfOk result (λ m. IsModule m bytes.now × IsValid m) }
-    ensures refused { IfErr result
-        (λ r. NoneIs (λ (m : Module). IsModule m bytes.now × IsValid m) r) }
-{
-    let module = match decode(alloc, bytes) {
-        Ok(module) => module,
-        Err(DecodeFault::Memory) => return Err(GenesisRefusal::Memory),
-        Err(DecodeFault::Malformed(..)) => return Err(GenesisRefusal::Module),
-    };
-    match validate(alloc, module) {
-        Ok(valid) => Ok(valid),
-        Err(fault) => Err(refusal_of_module(fault)),
-    }
-}
-
-/// The refusal of a file whose module is not valid.
-fn refusal_of_module(fault: ValidateFault) -> GenesisRefusal
-    ensures read { result ≢ Json }
-    ensures fault { result ≢ Memory → fault ≢ ValidateFault.Memory }
-{
-    match fault {
-        ValidateFault::Memory => GenesisRefusal::Memory,
-        _ => GenesisRefusal::Module,
+    match json_fields::text(value) {
+        Some(text) => policy(alloc, text, orgs),
+        None => Err(GenesisRefusal::Field),
     }
 }
 
@@ -118,20 +93,27 @@ fn refusal_of_policy(fault: PolicyFault) -> GenesisRefusal
     }
 }
 
-/// The chaincodes and the policies apart.
+/// The chaincodes, the digests of their modules and their policies, each apart.
 pub(crate) fn parted(
     alloc: Global,
     definitions: Vec<Definition>,
-) -> Result<(Vec<Chaincode>, Vec<ChaincodePolicy>), AllocError>
+) -> Result<(Vec<Chaincode>, Vec<[u8; 32]>, Vec<ChaincodePolicy>), AllocError>
     ensures { IfOk result (λ p. (p.0.items ≡ chaincodes_of definitions.items)
-        × (p.1.items ≡ policies_of definitions.items)) }
+        × (p.1.items ≡ digests_of definitions.items)
+        × (p.2.items ≡ policies_of definitions.items)) }
 {
     let mut chaincodes = Vec::with_capacity(alloc, definitions.len())?;
+    let mut digests = Vec::with_capacity(alloc, definitions.len())?;
     let mut policies = Vec::with_capacity(alloc, definitions.len())?;
     'definitions: for definition in definitions {
-        let Definition { chaincode, policy } = definition;
+        let Definition {
+            chaincode,
+            digest,
+            policy,
+        } = definition;
         chaincodes.push(chaincode)?;
+        digests.push(digest)?;
         policies.push(policy)?;
     }
-    Ok((chaincodes, policies))
+    Ok((chaincodes, digests, policies))
 }

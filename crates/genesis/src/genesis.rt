@@ -3,14 +3,16 @@
 use endorsement_policy::{ChaincodePolicy, Rules};
 use fab_types::OrgName;
 use simulator::{Book, Chaincode};
+use wasm_validate::ValidModule;
 
 /// What a ledger begins with, as a genesis file says it.
 #[derive(Drop)]
 pub struct GenesisFile {
-    /// The chaincodes, 1 to 16.
+    /// The chaincodes, 1 to 16, up to 16 more modules, and the digests of all of them.
     pub book: Book,
-    /// The organisations, 1 to 16 of different names, with their keys; and the policy of each
-    /// chaincode of the book, in the book's order.
+    /// The organisations, 1 to 16 of different names, with their keys; the policy of each
+    /// chaincode of the book, in the book's order; the policy of upgrades; and what the book has
+    /// installed.
     pub rules: Rules,
     /// Each peer's organisation, which the rules know: 1 to 8 peers.
     pub peers: Vec<OrgName>,
@@ -28,9 +30,19 @@ pub struct GenesisFile {
     pub reorder: bool,
 }
 
-/// One chaincode with its policy, as the file has it.
+/// One chaincode with the digest of its module and its policy, as the file has it.
 #[derive(Drop)]
 pub(crate) struct Definition {
     pub chaincode: Chaincode,
+    /// The SHA-256 of the module's bytes.
+    pub digest: [u8; 32],
     pub policy: ChaincodePolicy,
+}
+
+/// A module, as the file has it.
+#[derive(Drop)]
+pub(crate) struct InstalledModule {
+    pub module: ValidModule,
+    /// The SHA-256 of the module's bytes.
+    pub digest: [u8; 32],
 }

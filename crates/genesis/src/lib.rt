@@ -5,12 +5,14 @@
 //! (`specs/Opening.antt`) holds of each that is read.
 #![tactic(auto)]
 
+mod book;
 mod chaincodes;
 mod each;
 mod fields;
 mod genesis;
 mod laws;
 mod lists;
+mod modules;
 mod numbers;
 mod organisations;
 mod peers;

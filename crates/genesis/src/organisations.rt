@@ -1,21 +1,25 @@
 //! The organisations.
 
-ghost use Rattle.std.specs.Prelude.{◌≡◌, IfOk};
+ghost use Rattle.std.specs.Prelude.{◌≡◌, IfOk, IfErr};
+ghost use Rattle.serde_json.specs.View.{view};
 ghost use Rattle.endorsement_policy.specs.GoodSets.{is_among};
-ghost use Rattle.genesis.specs.Spelling.{IsOrganisation, are_different, names_of};
+ghost use Rattle.genesis.specs.Refused.{NoneIs};
+ghost use Rattle.genesis.specs.Spelling.{AreOrganisations, are_different, names_of};
 
 use crate::each::ReadItem;
 use crate::fields::organisation_fields;
+use crate::lists::read_list;
 use crate::numbers::bytes_of;
 use crate::refusal::GenesisRefusal;
 use endorsement_policy::{Organisation, TagKey};
 use fab_types::OrgName;
+use fab_types::limits::MOST_ORGANISATIONS;
 use serde_json::Value;
 use std::alloc::{AllocError, Global};
 
 /// Reads an organisation.
 #[derive(Clone, Copy)]
-pub(crate) struct OrganisationReader;
+struct OrganisationReader;
 
 impl ReadItem for OrganisationReader {
     type Item = Organisation;
@@ -38,11 +42,25 @@ impl ReadItem for OrganisationReader {
     }
 }
 
-/// The names of organisations, in order.
-pub(crate) fn names(
+/// The organisations that are listed, of different names, and their names.
+pub(crate) fn organisations(
     alloc: Global,
-    organisations: &[Organisation],
-) -> Result<Vec<OrgName>, AllocError>
+    value: &Value,
+) -> Result<(Vec<Organisation>, Vec<OrgName>), GenesisRefusal>
+    ensures ok { IfOk result (λ o. AreOrganisations (view value.now) o.0.items
+        × (o.1.items ≡ names_of o.0.items)) }
+    ensures refused { IfErr result (λ r. NoneIs (AreOrganisations (view value.now)) r) }
+{
+    let organisations = read_list(alloc, &OrganisationReader, value, 1, MOST_ORGANISATIONS)?;
+    let orgs = names(alloc, &organisations)?;
+    if !are_different(&orgs) {
+        return Err(GenesisRefusal::Names);
+    }
+    Ok((organisations, orgs))
+}
+
+/// The names of organisations, in order.
+fn names(alloc: Global, organisations: &[Organisation]) -> Result<Vec<OrgName>, AllocError>
     ensures { IfOk result (λ v. v.items ≡ names_of organisations.now) }
 {
     let mut names = Vec::new(alloc);
@@ -60,7 +78,7 @@ pub(crate) fn is_among(names: &[OrgName], name: &OrgName) -> bool
 }
 
 /// Whether no name stands twice among these.
-pub(crate) fn are_different(names: &[OrgName]) -> bool
+fn are_different(names: &[OrgName]) -> bool
     ensures { result ≡ are_different names.now }
 {
     match names {

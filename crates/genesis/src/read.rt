@@ -8,22 +8,19 @@ ghost use Rattle.genesis.specs.Opening.{CanOpen};
 ghost use Rattle.genesis.specs.Refused.{NoneIs};
 ghost use Rattle.genesis.specs.Spelling.{IsGenesis, IsGenesisOf, Spells};
 
-use crate::chaincodes::{DefinitionReader, parted};
+use crate::book::book;
+use crate::chaincodes::upgrade_policy;
 use crate::fields::{GenesisFields, genesis_fields};
 use crate::genesis::GenesisFile;
 use crate::lists::read_list;
 use crate::numbers::{size_within, truth};
-use crate::organisations::{OrganisationReader, are_different, names};
+use crate::organisations::organisations;
 use crate::peers::PeerReader;
 use crate::refusal::GenesisRefusal;
 use endorsement_policy::Rules;
-use fab_types::limits::{
-    MOST_CHAINCODES, MOST_DATA_BYTES, MOST_ORGANISATIONS, MOST_PEERS, MOST_QUEUED, MOST_SEATS,
-    MOST_TRANSACTIONS,
-};
+use fab_types::limits::{MOST_DATA_BYTES, MOST_PEERS, MOST_QUEUED, MOST_SEATS, MOST_TRANSACTIONS};
 use serde_json::Value;
 use serde_json::error::Category;
-use simulator::Book;
 use std::alloc::Global;
 
 /// The genesis that a text spells.
@@ -66,19 +63,13 @@ fn genesis_from(alloc: Global, fields: &GenesisFields<'_>) -> Result<GenesisFile
     let preferred = size_within(fields.preferred, 1, MOST_DATA_BYTES)?;
     let absolute = size_within(fields.absolute, 1, MOST_DATA_BYTES)?;
     let reorder = truth(fields.reorder)?;
-    let organisations = read_list(alloc, &OrganisationReader, fields.orgs, MOST_ORGANISATIONS)?;
-    let orgs = names(alloc, &organisations)?;
-    if !are_different(&orgs) {
-        return Err(GenesisRefusal::Names);
-    }
-    let peers = read_list(alloc, &PeerReader { orgs: &orgs }, fields.peers, MOST_PEERS)?;
-    let reader = DefinitionReader { orgs: &orgs };
-    let definitions = read_list(alloc, &reader, fields.chaincodes, MOST_CHAINCODES)?;
-    let (chaincodes, policies) = parted(alloc, definitions)?;
-    let Some(book) = Book::new(chaincodes) else {
-        return Err(GenesisRefusal::Names);
-    };
-    let Some(rules) = Rules::new(organisations, policies) else {
+    let (organisations, orgs) = organisations(alloc, fields.orgs)?;
+    let reader = PeerReader { orgs: &orgs };
+    let peers = read_list(alloc, &reader, fields.peers, 1, MOST_PEERS)?;
+    let upgrade = upgrade_policy(alloc, fields.upgrade, &orgs)?;
+    let (book, policies) = book(alloc, fields.chaincodes, fields.modules, orgs)?;
+    let installed = book.installed().clone()?;
+    let Some(rules) = Rules::new(organisations, policies, upgrade, installed) else {
         return Err(GenesisRefusal::Policy);
     };
     Ok(GenesisFile {

@@ -2,15 +2,17 @@
 
 ghost use Rattle.ledger_lines.specs.Told.{Tells};
 
-use ledger_lines::{Failure, Files, Printer, read_at_most};
+use ledger_lines::{Failure, Files, Printer, hex_of, read_at_most};
 use module_file::defined_functions;
+use sha2::{Digest, Sha256};
 use std::alloc::Global;
 use std::io::Write;
 
 /// A module has at most 262,144 bytes. One byte more is read, so that a longer file is told apart.
 const MOST_READ: u64 = 262_145;
 
-/// Prints how many functions the module of a file defines, and how many bytes it has.
+/// Prints how many functions the module of a file defines, how many bytes it has, and their digest,
+/// by which an upgrade names it.
 pub fn check<F: Files, W: Write>(
     alloc: Global,
     files: &mut F,
@@ -22,5 +24,9 @@ pub fn check<F: Files, W: Write>(
     let bytes = read_at_most(alloc, files, module, MOST_READ)?;
     let functions = defined_functions(alloc, &bytes)?;
     let length = bytes.len();
-    writeln!(out, "valid functions={functions} bytes={length}")
+    let digest = hex_of(alloc, &Sha256::digest(bytes.as_slice()))?;
+    writeln!(
+        out,
+        "valid functions={functions} bytes={length} digest={digest}"
+    )
 }

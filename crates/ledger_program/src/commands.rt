@@ -125,6 +125,6 @@ fn do_work<R: Threads + Wait + Sync + Send + Copy + 'static, F: Files, W: Write>
         Work::Run { events, store } => run(alloc, files, genesis, events, *store, out),
         Work::Threads { chaincode, rounds } => threads(rt, alloc, genesis, chaincode, *rounds, out),
         Work::Audit { store } => audit(alloc, files, genesis, store, out),
-        Work::Trace { proposal, most } => trace(alloc, genesis, proposal, *most, out),
+        Work::Trace { call, most } => trace(alloc, genesis, call, *most, out),
     }
 }

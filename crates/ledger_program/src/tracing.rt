@@ -2,7 +2,7 @@
 
 ghost use Rattle.ledger_lines.specs.Told.{Tells};
 
-use fab_types::Proposal;
+use fab_types::Call;
 use host_api::{PlainMap, Recorder};
 use interp::{Host, Outcome};
 use ledger_lines::{Failure, Printer};
@@ -17,17 +17,17 @@ use wasm_trace::Stepper;
 pub fn trace<W: Write>(
     alloc: Global,
     genesis: &Genesis,
-    proposal: &Proposal,
+    call: &Call,
     most: u32,
     out: &mut Printer<'_, W>,
 ) -> Result<(), Failure>
     ensures tells { Tells out.old out.new result }
 {
-    let Some(chaincode) = genesis.book.get(&proposal.chaincode) else {
+    let Some(chaincode) = genesis.book.get(&call.chaincode) else {
         return Err(Failure::Simulation(SimRefusal::UnknownChaincode));
     };
     let state = PlainMap::empty(alloc);
-    let mut recorder = Recorder::new(alloc, &state, &proposal.argument);
+    let mut recorder = Recorder::new(alloc, &state, &call.argument);
     trace_on(alloc, chaincode, &mut recorder, most, out)
 }
 

@@ -1,9 +1,10 @@
-use Rattle.std.proofs.Common.{sym, ap, subst, ◌∙◌, true≢false}
+use Rattle.std.proofs.Common.{sym, ◌∙◌, true≢false}
 use Rattle.std.proofs.lemmas.Result.{err_from_is_err_and}
-use Rattle.simulator.specs.Books.{IsBook}
-use Rattle.genesis.specs.Spelling.{names_of}
-use Rattle.genesis.proofs.Opens.{all_needed}
-use Rattle.genesis.proofs.Whole.{NoneIs-different, NoneIs-peers, NoneIs-definitions, NoneIs-book}
+use Rattle.genesis.specs.Fields.{parts_of}
+use Rattle.genesis.specs.Lists.{IsListOf}
+use Rattle.genesis.specs.Spelling.{IsBookOf, IsPeer, IsPolicy}
+use Rattle.genesis.proofs.Opens.{all_needed, policy_needed}
+use Rattle.genesis.proofs.Whole.{NoneIs-part}
 use Rattle.genesis.proofs.read.genesis_from.Goals as goal
 
 pub returns-in_err-organisations-clause-refused : goal.returns-in_err-organisations-clause-refused
@@ -12,32 +13,36 @@ returns-in_err-organisations-clause-refused c =
     let none = c.in_err-organisations.ensures.refused in
     rw (p.1, p.2) (none.0, λ real g spelled. none.1 real _ spelled.organisations)
 
-pub returns-then-not-are_different-clause-refused : goal.returns-then-not-are_different-clause-refused
-returns-then-not-are_different-clause-refused c =
-    let names = c.deref-2.ensures.value ∙ c.in_ok-orgs.ensures ∙ ap names_of c.deref.ensures.value in
-    (λ e. cc, λ real g. NoneIs-different _ _ _ g c.in_ok-organisations.ensures.ok names (sym c.are_different.ensures ∙ c.if-not-are_different.true))
-
 pub returns-in_err-peers-clause-refused : goal.returns-in_err-peers-clause-refused
 returns-in_err-peers-clause-refused c =
     let p = err_from_is_err_and c.from_residual-in_err-peers.result c.from_residual-in_err-peers.ensures.1 in
-    let names = c.deref-3.ensures.value ∙ c.in_ok-orgs.ensures ∙ ap names_of c.deref.ensures.value in
-    rw (p.1, p.2) (NoneIs-peers _ _ _ _ c.in_ok-organisations.ensures.ok names c.in_err-peers.ensures.refused)
+    let names = c.deref.ensures.value ∙ c.in_ok-organisations.ensures.ok.1 in
+    let d = (parts_of c.args.fields.now).peers in
+    rw (p.1, p.2)
+    (NoneIs-part (λ orgs. IsListOf (IsPeer orgs) 1 8 d) (λ g. g.peers.items) _ _ _ _ (λ g h. h.peers) c.in_ok-organisations.ensures.ok.0 names
+    c.in_err-peers.ensures.refused)
 
-pub returns-in_err-definitions-clause-refused : goal.returns-in_err-definitions-clause-refused
-returns-in_err-definitions-clause-refused c =
-    let p = err_from_is_err_and c.from_residual-in_err-definitions.result c.from_residual-in_err-definitions.ensures.1 in
-    let names = c.deref-4.ensures.value ∙ c.in_ok-orgs.ensures ∙ ap names_of c.deref.ensures.value in
-    rw (p.1, p.2) (NoneIs-definitions _ _ _ _ c.in_ok-organisations.ensures.ok names c.in_err-definitions.ensures.refused)
+pub returns-in_err-upgrade-clause-refused : goal.returns-in_err-upgrade-clause-refused
+returns-in_err-upgrade-clause-refused c =
+    let p = err_from_is_err_and c.from_residual-in_err-upgrade.result c.from_residual-in_err-upgrade.ensures.1 in
+    let names = c.deref-2.ensures.value ∙ c.in_ok-organisations.ensures.ok.1 in
+    let d = (parts_of c.args.fields.now).upgrade in
+    rw (p.1, p.2)
+    (NoneIs-part (λ orgs. IsPolicy orgs d) (λ g. g.rules.upgrade) _ _ _ _ (λ g h. h.upgrade) c.in_ok-organisations.ensures.ok.0 names
+    c.in_err-upgrade.ensures.refused)
+
+pub returns-in_err-book-clause-refused : goal.returns-in_err-book-clause-refused
+returns-in_err-book-clause-refused c =
+    let p = err_from_is_err_and c.from_residual-in_err-book.result c.from_residual-in_err-book.ensures.1 in
+    let names = c.in_ok-organisations.ensures.ok.1 in
+    let parts = parts_of c.args.fields.now in
+    rw (p.1, p.2)
+    (NoneIs-part (λ orgs b. IsBookOf orgs parts.chaincodes parts.modules b.0 b.1) (λ g. (g.book, g.rules.policies)) _ _ _ _ (λ g h. h.book)
+    c.in_ok-organisations.ensures.ok.0 names c.in_err-book.ensures.refused)
 
 pub returns-in_default-clause-refused : goal.returns-in_default-clause-refused
 returns-in_default-clause-refused c =
-    let names = c.deref-4.ensures.value ∙ c.in_ok-orgs.ensures ∙ ap names_of c.deref.ensures.value in (
-      λ e. cc,
-      λ real g. NoneIs-book _ _ _ _ g c.in_ok-organisations.ensures.ok names c.in_ok-definitions.ensures.ok
-          (λ h. true≢false (sym (c.in_default.ensures.accepted.1 (subst IsBook (sym c.in_ok-chaincodes.ensures.0) h)))),
-    )
-
-pub returns-in_default-new-clause-refused : goal.returns-in_default-new-clause-refused
-returns-in_default-new-clause-refused c =
-    let needed = all_needed _ _ _ c.in_ok-definitions.ensures.ok in
-    absurd (true≢false (sym (c.in_default-new.ensures.accepted.1 (rw c.in_ok-chaincodes.ensures.1 needed))))
+    let book = c.in_ok-book.ensures.ok in
+    let needed = all_needed _ _ book.0 book.2 in
+    let upgrade = policy_needed _ _ _ c.in_ok-upgrade.ensures.ok.2 in
+    absurd (true≢false (sym (c.in_default.ensures.accepted.1 (rw book.6 needed, upgrade))))
