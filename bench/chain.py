@@ -51,6 +51,8 @@ genesis = {
             "fuel": 100000,
         }
     ],
+    "modules": [],
+    "upgrade": "OutOf(2, 'A', 'B', 'C')",
 }
 (folder / "genesis.json").write_text(json.dumps(genesis))
 (folder / "events.jsonl").write_text("".join(it + "\n" for it in lines))

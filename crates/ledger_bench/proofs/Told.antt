@@ -1,6 +1,6 @@
 -- The flags of a block.
 use Rattle.std.proofs.Common.{◌≡◌, ℕ, suc, Bool, List, [], ◌∷◌, ◌++◌, length, refl, ap, arith}
-use Rattle.fab_types.specs.declared.payload.Proposal.{Proposal}
+use Rattle.fab_types.specs.declared.proposal.Proposal.{Proposal}
 use Rattle.ledger_model.specs.Chain.{Bytes, Envelope, Placed}
 use Rattle.ledger_model.specs.Flags.{flag_at, flags_told}
 

@@ -102,7 +102,7 @@ fn committed(
     block: &Block,
 ) -> Result<Snapshot, Failure> {
     let block = block.clone()?;
-    let endorsed = check_plain(alloc, rules, block.envelopes.as_slice())?;
+    let endorsed = check_plain(alloc, rules, snapshot, block.envelopes.as_slice())?;
     let next = commit_on(alloc, snapshot, block, &endorsed)?;
     Ok(next)
 }

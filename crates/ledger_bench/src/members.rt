@@ -2,7 +2,9 @@
 
 use crate::failure::Failure;
 use crate::workload::chaincode;
-use endorsement_policy::{ChaincodePolicy, Organisation, Policies, Policy, Rules, TagKey};
+use endorsement_policy::{
+    ChaincodePolicy, Installed, Organisation, Policies, Policy, Rules, TagKey,
+};
 use fab_types::{Endorsement, Endorsements, Envelope, OrgName, Payload};
 use hmac_tag::tag;
 use std::alloc::Global;
@@ -19,11 +21,12 @@ const ENDORSEMENTS_SIZE: usize = 1 + 2 * 34;
 /// How many bytes a tag hashes beside those of the payload: two padded keys and the inner hash.
 const TAG_SIZE: u64 = 64 + 64 + 32;
 
-/// The rules of the organisations.
+/// The rules of the organisations. Nothing is installed.
 pub fn rules(alloc: Global) -> Result<Rules, Failure> {
     let policies = policies(alloc)?;
     let organisations = organisations(alloc)?;
-    Rules::new(organisations, policies).ok_or(Failure::Limit)
+    let installed = Installed::new(Vec::new(alloc), Vec::new(alloc));
+    Rules::new(organisations, policies, two_of_three(alloc)?, installed).ok_or(Failure::Limit)
 }
 
 /// The envelope of a payload, with two right tags.
@@ -58,9 +61,13 @@ fn endorsement(alloc: Global, letter: u8, bytes: &[u8]) -> Result<Endorsement, F
 
 fn policies(alloc: Global) -> Result<Vec<ChaincodePolicy>, Failure> {
     let chaincode = chaincode(alloc)?;
-    let leaves = Policies::new(leaves(alloc)?).ok_or(Failure::Limit)?;
-    let policy = Policy::OutOf(2, leaves);
+    let policy = two_of_three(alloc)?;
     Ok(vec![in alloc; ChaincodePolicy { chaincode, policy }]?)
+}
+
+fn two_of_three(alloc: Global) -> Result<Policy, Failure> {
+    let leaves = Policies::new(leaves(alloc)?).ok_or(Failure::Limit)?;
+    Ok(Policy::OutOf(2, leaves))
 }
 
 fn leaves(alloc: Global) -> Result<Vec<Policy>, Failure> {

@@ -20,7 +20,7 @@ use world_state::Snapshot;
 const KEYS: u32 = 100_000;
 
 /// How many bytes the argument of an envelope of 1,024 bytes has.
-const ARGUMENT: usize = 795;
+const ARGUMENT: usize = 787;
 
 /// How many blocks are committed before they come again.
 const CHAIN: u32 = 8;
@@ -47,8 +47,9 @@ pub fn check<R: Threads + Sync>(
     }
     let rules = rules(alloc)?;
     let batch = batch(alloc, KEYS)?;
+    let snapshot = Snapshot::empty(alloc);
     for _ in 0..count {
-        let answers = check_all(rt, alloc, &rules, &batch, workers, &Open)?;
+        let answers = check_all(rt, alloc, &rules, &snapshot, &batch, workers, &Open)?;
         if answers.contains(&false) {
             return Err(Failure::Invalid);
         }

@@ -5,6 +5,7 @@ use crate::done::Done;
 use crate::failure::Failure;
 use crate::members::{org, rules};
 use crate::workload::key;
+use endorsement_policy::Installed;
 use fab_types::{Block, Key};
 use ledger_setting::Genesis;
 use peer_node::{Peer, PeerWriter, Seat};
@@ -48,7 +49,8 @@ pub fn read<R: Threads + Wait + Clock + Sync>(
 
 /// A genesis without chaincodes.
 fn genesis(alloc: Global) -> Result<Genesis, Failure> {
-    let book = Book::new(Vec::new(alloc)).ok_or(Failure::Limit)?;
+    let installed = Installed::new(Vec::new(alloc), Vec::new(alloc));
+    let book = Book::new(Vec::new(alloc), Vec::new(alloc), installed).ok_or(Failure::Limit)?;
     let rules = rules(alloc)?;
     Ok(Genesis {
         book: Arc::new(alloc, book)?,

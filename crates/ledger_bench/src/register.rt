@@ -4,7 +4,8 @@ ghost use Rattle.std.specs.Prelude.{◌≡◌, ◌+◌, length, IfOk};
 
 use crate::blocks::{envelope_of, judge, next_number};
 use crate::failure::Failure;
-use fab_types::{Block, BlockData, Flag, Header, Name, Proposal, Value};
+use endorsement_policy::Installed;
+use fab_types::{Block, BlockData, Call, Flag, Header, Name, Proposal, Value};
 use simulator::{Book, Chaincode, simulate};
 use std::alloc::Global;
 use wasm_decode::decode;
@@ -59,7 +60,7 @@ impl Register {
     }
 }
 
-/// The book whose only chaincode is the module of these bytes.
+/// The book whose only chaincode is the module of these bytes. No upgrade names its digest.
 fn book_of(alloc: Global, bytes: &[u8]) -> Result<Book, Failure> {
     let Ok(module) = decode(alloc, bytes) else {
         return Err(Failure::Module);
@@ -72,7 +73,9 @@ fn book_of(alloc: Global, bytes: &[u8]) -> Result<Book, Failure> {
         module,
         fuel: 10_000_000,
     };
-    Book::new(vec![in alloc; chaincode]?).ok_or(Failure::Limit)
+    let chaincodes = vec![in alloc; chaincode]?;
+    let installed = Installed::new(vec![in alloc; [0; 32]]?, Vec::new(alloc));
+    Book::new(chaincodes, Vec::new(alloc), installed).ok_or(Failure::Limit)
 }
 
 /// The name of the chaincode.
@@ -83,11 +86,11 @@ fn name(alloc: Global) -> Result<Name, Failure> {
 /// The proposal to create an asset, or to transfer it.
 fn proposal_of(alloc: Global, verb: &str, asset: u32) -> Result<Proposal, Failure> {
     let argument = format!(in alloc; "{verb} asset{asset} alice")?.into_bytes();
-    Ok(Proposal {
+    Ok(Proposal::Call(Call {
         chaincode: name(alloc)?,
         argument: Value::new(argument).ok_or(Failure::Limit)?,
         nonce: [0; 16],
-    })
+    }))
 }
 
 /// The next block: of calls for 500 assets, from this one on.

@@ -2,7 +2,7 @@
 
 use crate::failure::Failure;
 use fab_types::{
-    Key, Name, Payload, Proposal, Ranges, ReadItem, ReadSet, Value, WriteItem, WriteSet,
+    Call, Key, Name, Payload, Proposal, Ranges, ReadItem, ReadSet, Value, WriteItem, WriteSet,
 };
 use std::alloc::{AllocError, Global};
 use world_state::Snapshot;
@@ -36,7 +36,7 @@ impl Workload {
         }
     }
 
-    /// The next transaction, which reads its keys on this state.
+    /// The next transaction, which reads its chaincode's definition and its keys on this state.
     pub fn payload(&mut self, alloc: Global, snapshot: &Snapshot) -> Result<Payload, Failure> {
         let reads = reads(alloc, snapshot, &self.draw(alloc, READS)?)?;
         let writes = writes(alloc, &self.draw(alloc, WRITES)?)?;
@@ -82,11 +82,11 @@ impl Workload {
         nonce[8..].copy_from_slice(&self.made.to_be_bytes());
         let argument = value(alloc, self.argument)?;
         let chaincode = chaincode(alloc)?;
-        Ok(Proposal {
+        Ok(Proposal::Call(Call {
             chaincode,
             argument,
             nonce,
-        })
+        }))
     }
 
     /// The numbers of keys, ascending.
@@ -130,22 +130,22 @@ pub fn key(alloc: Global, number: u64) -> Result<Key, Failure> {
     Key::new(bytes).ok_or(Failure::Limit)
 }
 
-/// Reads of the keys of these numbers.
+/// Reads of the chaincode's definition and of the keys of these numbers.
 fn reads(alloc: Global, snapshot: &Snapshot, numbers: &[u64]) -> Result<ReadSet, Failure> {
-    let mut items = Vec::new(alloc);
+    let definition = Key::of_definition(alloc, &chaincode(alloc)?)?;
+    let mut items = vec![in alloc; read(snapshot, definition)]?;
     for number in numbers {
-        items.push(read(alloc, snapshot, *number)?)?;
+        items.push(read(snapshot, key(alloc, *number)?))?;
     }
     ReadSet::new(items).ok_or(Failure::Limit)
 }
 
-fn read(alloc: Global, snapshot: &Snapshot, number: u64) -> Result<ReadItem, Failure> {
-    let key = key(alloc, number)?;
+fn read(snapshot: &Snapshot, key: Key) -> ReadItem {
     let version = match snapshot.get(&key) {
         Some((_, version)) => Some(version),
         None => None,
     };
-    Ok(ReadItem { key, version })
+    ReadItem { key, version }
 }
 
 /// Writes at the keys of these numbers.

@@ -3,7 +3,9 @@
 use crate::bytes::split_word;
 use crate::calls::call_host;
 use crate::chains::{show_flags, show_key, show_range, show_state};
-use crate::decoding::{show_block, show_envelope, show_hashes, show_id, show_payload, show_tag};
+use crate::decoding::{
+    show_block, show_definition, show_envelope, show_hashes, show_id, show_payload, show_tag,
+};
 use crate::event_lines::event_line;
 use crate::fault::CaseFault;
 use crate::genesis_files::genesis_file;
@@ -37,6 +39,7 @@ fn answer_case(alloc: Global, line: &str) -> Result<String, CaseFault> {
         "payload" => show_payload(alloc, rest),
         "envelope" => show_envelope(alloc, rest),
         "block" => show_block(alloc, rest),
+        "definition" => show_definition(alloc, rest),
         "tx_id" => show_id(alloc, rest),
         "hashes" => show_hashes(alloc, rest),
         "tag" => show_tag(alloc, rest),

@@ -85,7 +85,7 @@ fn write_entry(
 }
 
 /// The snapshot after the blocks of a chain.
-fn state_after(alloc: Global, chain: &str) -> Result<Snapshot, CaseFault> {
+pub fn state_after(alloc: Global, chain: &str) -> Result<Snapshot, CaseFault> {
     judge_chain(alloc, &mut String::new(alloc), chain)
 }
 

@@ -2,14 +2,14 @@
 
 use crate::bytes::{bytes_of, split_word};
 use crate::fault::CaseFault;
-use crate::texts::{write_endorsements, write_payload};
-use fab_types::{Block, Envelope, Payload};
+use crate::texts::{write_definition, write_endorsements, write_payload};
+use fab_types::{Block, Definition, Envelope, Payload};
 use hmac_tag::tag;
 use std::alloc::{AllocError, Global};
 use std::fmt::Write;
 use wire::{
-    data_hash, decode_block, decode_envelope, decode_payload, encode_block, encode_envelope,
-    encode_payload, header_hash, tx_id,
+    data_hash, decode_block, decode_definition, decode_envelope, decode_payload, encode_block,
+    encode_definition, encode_envelope, encode_payload, header_hash, tx_id,
 };
 
 /// The payload that the bytes spell.
@@ -33,6 +33,13 @@ pub fn show_block(alloc: Global, pieces: &str) -> Result<String, CaseFault> {
     Ok(block_text(alloc, &bytes, &block)?)
 }
 
+/// The definition that the bytes spell.
+pub fn show_definition(alloc: Global, pieces: &str) -> Result<String, CaseFault> {
+    let bytes = bytes_of(alloc, pieces)?;
+    let definition = decode_definition(alloc, &bytes)?;
+    Ok(definition_text(alloc, &bytes, &definition)?)
+}
+
 fn payload_text(alloc: Global, bytes: &[u8], payload: &Payload) -> Result<String, AllocError> {
     let mut answer = String::new(alloc);
     write_payload(&mut answer, payload)?;
@@ -51,6 +58,17 @@ fn block_text(alloc: Global, bytes: &[u8], block: &Block) -> Result<String, Allo
     let mut answer = String::new(alloc);
     write_block(&mut answer, block)?;
     write_comparison(&mut answer, bytes, &encode_block(alloc, block)?)?;
+    Ok(answer)
+}
+
+fn definition_text(
+    alloc: Global,
+    bytes: &[u8],
+    definition: &Definition,
+) -> Result<String, AllocError> {
+    let mut answer = String::from_str(alloc, "definition")?;
+    write_definition(&mut answer, definition)?;
+    write_comparison(&mut answer, bytes, &encode_definition(alloc, definition)?)?;
     Ok(answer)
 }
 

@@ -3,8 +3,9 @@
 use crate::bytes::from_digits;
 use crate::fault::CaseFault;
 use fab_types::{
-    Bound, Endorsements, Envelope, Key, Name, Payload, Proposal, RangeEntry, RangeItem, Ranges,
-    ReadItem, ReadSet, Value, Version, WriteItem, WriteSet,
+    Bound, Call, Definition, Endorsements, Envelope, Fuel, Key, Name, Payload, PolicyText, Profile,
+    Proposal, RangeEntry, RangeItem, Ranges, ReadItem, ReadSet, Upgrade, Value, Version, WriteItem,
+    WriteSet,
 };
 use std::alloc::Global;
 
@@ -16,6 +17,8 @@ pub struct Draft {
     pub writes: Vec<WriteItem>,
     pub nonce: [u8; 16],
     pub endorsed: bool,
+    /// What an upgrade defines. None for a call.
+    pub definition: Option<Definition>,
 }
 
 impl Draft {
@@ -27,6 +30,7 @@ impl Draft {
             writes: Vec::new(alloc),
             nonce,
             endorsed: true,
+            definition: None,
         }
     }
 
@@ -47,6 +51,7 @@ impl Draft {
             "d" => self.writes.push(delete_item(alloc, text)?)?,
             "n" => self.nonce = [number_of(text)?; 16],
             "e" => self.endorsed = text != "no",
+            "u" => self.definition = Some(definition_of(alloc, text)?),
             _ => return Err(CaseFault::BadLine),
         }
         Ok(())
@@ -55,13 +60,8 @@ impl Draft {
     /// The transaction, without endorsements. A bad line where its sets are not within their
     /// limits.
     pub fn into_envelope(self, alloc: Global) -> Result<Envelope, CaseFault> {
-        let proposal = Proposal {
-            chaincode: chaincode_name(alloc)?,
-            argument: value_of(alloc, "")?,
-            nonce: self.nonce,
-        };
         let payload = Payload {
-            proposal,
+            proposal: proposal_of(alloc, self.definition, value_of(alloc, "")?, self.nonce)?,
             result: value_of(alloc, "")?,
             reads: ReadSet::new(self.reads).ok_or(CaseFault::BadLine)?,
             ranges: Ranges::new(self.ranges).ok_or(CaseFault::BadLine)?,
@@ -73,6 +73,44 @@ impl Draft {
             endorsements,
         })
     }
+}
+
+/// The upgrade to a definition, or else the call with an argument.
+pub fn proposal_of(
+    alloc: Global,
+    definition: Option<Definition>,
+    argument: Value,
+    nonce: [u8; 16],
+) -> Result<Proposal, CaseFault> {
+    let chaincode = chaincode_name(alloc)?;
+    Ok(match definition {
+        Some(definition) => Proposal::Upgrade(Upgrade {
+            chaincode,
+            definition,
+            nonce,
+        }),
+        None => Proposal::Call(Call {
+            chaincode,
+            argument,
+            nonce,
+        }),
+    })
+}
+
+/// `BYTE,FUEL,POLICY`, where each byte of the digest is the same.
+pub fn definition_of(alloc: Global, text: &str) -> Result<Definition, CaseFault> {
+    let (byte, rest) = text.split_once(',').ok_or(CaseFault::BadLine)?;
+    let (fuel, policy) = rest.split_once(',').ok_or(CaseFault::BadLine)?;
+    let Ok(fuel) = fuel.parse::<u32>() else {
+        return Err(CaseFault::BadLine);
+    };
+    let policy = Vec::from_slice(alloc, policy.as_bytes())?;
+    Ok(Definition {
+        profile: Profile::new(1).ok_or(CaseFault::BadLine)?,
+        digest: [number_of(byte)?; 32],
+        fuel: Fuel::new(fuel).ok_or(CaseFault::BadLine)?,
+        policy: PolicyText::new(policy).ok_or(CaseFault::BadLine)?,
+    })
 }
 
 /// The chaincode that every case calls: `kv`.

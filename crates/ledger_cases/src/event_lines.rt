@@ -1,8 +1,10 @@
 //! Cases `event TEXT`: what a line of an events file asks for.
 
+use crate::texts::write_definition;
 use events::{Action, BadLine, read_event};
 use fab_types::Proposal;
 use std::alloc::{AllocError, Global};
+use std::fmt::Write;
 
 /// The answer of a case.
 pub fn event_line(alloc: Global, text: &str) -> Result<String, AllocError> {
@@ -31,12 +33,22 @@ fn shown(alloc: Global, action: &Action) -> Result<String, AllocError> {
 
 fn begun(alloc: Global, peer: u64, seat: u64, proposal: &Proposal) -> Result<String, AllocError> {
     let mut chaincode = String::new(alloc);
-    for byte in proposal.chaincode.as_slice() {
+    for byte in proposal.chaincode().as_slice() {
         chaincode.push(char::from(*byte))?;
     }
-    let argument = bytes(alloc, proposal.argument.as_slice())?;
-    let nonce = bytes(alloc, proposal.nonce.as_slice())?;
-    format!(in alloc; "begin {peer}.{seat} {chaincode} {argument} {nonce}")
+    let nonce = bytes(alloc, proposal.nonce().as_slice())?;
+    match proposal {
+        Proposal::Call(call) => {
+            let argument = bytes(alloc, call.argument.as_slice())?;
+            format!(in alloc; "begin {peer}.{seat} {chaincode} {argument} {nonce}")
+        }
+        Proposal::Upgrade(upgrade) => {
+            let mut text = format!(in alloc; "begin {peer}.{seat} {chaincode}")?;
+            write_definition(&mut text, &upgrade.definition)?;
+            write!(text, " {nonce}")?;
+            Ok(text)
+        }
+    }
 }
 
 fn used(alloc: Global, names: &[String]) -> Result<String, AllocError> {

@@ -11,13 +11,22 @@ pub fn genesis_file(alloc: Global, text: &str) -> Result<String, AllocError> {
     }
 }
 
-/// How many there are of each, and the numbers.
+/// How many there are of each, the numbers, and the digests of the modules.
 fn contents(alloc: Global, genesis: &GenesisFile) -> Result<String, AllocError> {
-    let chaincodes = genesis.book.chaincodes().len();
-    let policies = genesis.rules.policies().len();
-    let peers = genesis.peers.len();
+    let counts = counts(alloc, genesis)?;
     let numbers = numbers(alloc, genesis)?;
-    format!(in alloc; "read chaincodes={chaincodes} policies={policies} peers={peers} {numbers}")
+    let installed = installed(alloc, genesis)?;
+    format!(in alloc; "read {counts} {numbers} installed={installed}")
+}
+
+fn counts(alloc: Global, genesis: &GenesisFile) -> Result<String, AllocError> {
+    format!(in alloc;
+        "chaincodes={} modules={} policies={} peers={}",
+        genesis.book.chaincodes().len(),
+        genesis.book.modules().len(),
+        genesis.rules.policies().len(),
+        genesis.peers.len()
+    )
 }
 
 fn numbers(alloc: Global, genesis: &GenesisFile) -> Result<String, AllocError> {
@@ -30,4 +39,16 @@ fn numbers(alloc: Global, genesis: &GenesisFile) -> Result<String, AllocError> {
         genesis.absolute,
         genesis.reorder
     )
+}
+
+/// The digests in hex, with commas between them.
+fn installed(alloc: Global, genesis: &GenesisFile) -> Result<String, AllocError> {
+    let mut text = String::new(alloc);
+    for digest in genesis.book.installed().digests() {
+        if !text.is_empty() {
+            text.push(',')?;
+        }
+        text.push_str(&hex::encode(alloc, digest)?)?;
+    }
+    Ok(text)
 }

@@ -6,8 +6,8 @@
 //!
 //! In HEX bytes are pieces with blanks between them; a piece with `*N` behind it stands N times:
 //!
-//! - `payload HEX`, `envelope HEX`, `block HEX`: the value that the bytes spell, and whether its
-//!   own bytes are the same, or `refused NUMBER`;
+//! - `payload HEX`, `envelope HEX`, `block HEX`, `definition HEX`: the value that the bytes spell,
+//!   and whether its own bytes are the same, or `refused NUMBER`;
 //! - `tx_id HEX`: the id of the payload's proposal; `hashes HEX`: those of the block's header and
 //!   data;
 //! - `tag KEY HEX`: the tag of the bytes under the key, which is one piece.
@@ -17,15 +17,19 @@
 //! - `policy NAMES TEXT`: `policy` where the text spells one over the organisations of these names,
 //!   or its fault; `satisfied NAMES NAMES TEXT`: whether the organisations named second satisfy it;
 //! - `endorsed NAMES TAGS TEXT`: whether an envelope with these tags is endorsed, each `NAME/KEY`:
-//!   by name, under the key of another, which is its name.
+//!   by name, under the key of another, which is its name. The text is the policy of calls and of
+//!   upgrades, and of modules one is installed, whose digest has the byte 7. The envelope's
+//!   transaction calls `kv` and reads its definition as absent; ` | WORDS` behind the text is
+//!   another one, and ` / CHAIN` behind these a chain by whose state it is judged.
 //!
 //! `event TEXT` tells what a line of an events file asks for, with bytes in hex and `-` for none,
 //! and `genesis TEXT` what the genesis has that the text spells, or why it spells none.
 //!
 //! A transaction is words: `r:KEY@BLOCK.PLACE` and `r:KEY@-` for a key read and its version or
 //! absence, `q:START..END*LIMIT=KEY@BLOCK.PLACE,..` for a range with the entries seen,
-//! `w:KEY=VALUE` and `d:KEY` for a key put and deleted, `n:BYTE` for its nonce and `e:no` for one
-//! that is not endorsed. Bytes are written as they are where all of them are printed characters or
+//! `w:KEY=VALUE` and `d:KEY` for a key put and deleted, `n:BYTE` for its nonce, `e:no` for one that
+//! is not endorsed, and `u:BYTE,FUEL,POLICY` for an upgrade of `kv` to the module whose digest has
+//! this byte alone, in place of a call. Bytes are written as they are where all of them are printed characters or
 //! blanks, and else in hex behind `0x`. Transactions stand between ` | ` in a block, and blocks
 //! between ` / ` in a chain. Where no nonce is said, each has its own.
 //!
@@ -36,7 +40,9 @@
 //!   that the writes leave, the memory after them, where it changed, and what was recorded. The
 //!   argument and the memory are in hex, and a call is its name and its numbers;
 //! - `simulate NAME FUEL HEX | ARGUMENT | ..`: the payload or the refusal of each call of `kv` by
-//!   the book that has the module under a name, on the state that the earlier calls leave.
+//!   the book that has the module under a name, on the state that the earlier calls leave. What
+//!   begins with `u:` is an upgrade, as above: the module's digest has the byte 7, and `A` is an
+//!   organisation.
 #![tactic(auto)]
 
 mod bytes;

@@ -1,15 +1,18 @@
 //! Policies, and which envelopes they endorse.
 
 use crate::bytes::split_word;
+use crate::chains::state_after;
 use crate::drafts::{Draft, chaincode_name};
 use crate::fault::CaseFault;
 use endorsement_policy::{
-    ChaincodePolicy, OrgSet, Organisation, Policy, Rules, TagKey, is_endorsed, parse, satisfied,
+    ChaincodePolicy, Installed, OrgSet, Organisation, Policy, Rules, TagKey, is_endorsed, parse,
+    satisfied,
 };
 use fab_types::{Endorsement, Endorsements, Envelope, OrgName};
 use hmac_tag::tag;
 use std::alloc::Global;
 use wire::encode_payload;
+use world_state::Snapshot;
 
 /// Whether the text spells a policy over the organisations that the first word lists, or its fault.
 pub fn show_policy(alloc: Global, rest: &str) -> Result<String, CaseFault> {
@@ -30,13 +33,27 @@ pub fn show_satisfied(alloc: Global, rest: &str) -> Result<String, CaseFault> {
     Ok(format!(in alloc; "{}", satisfied(&policy, &set))?)
 }
 
+/// What a call that does nothing reads: its definition, which is absent.
+const NOTHING: &str = "r:0x006b76@-";
+
 /// Whether an envelope with the tags of the second word is endorsed under the policy.
 pub fn show_endorsed(alloc: Global, rest: &str) -> Result<String, CaseFault> {
     let (known, rest) = split_word(rest);
-    let (tags, text) = split_word(rest);
+    let (tags, rest) = split_word(rest);
+    let (text, rest) = rest.split_once(" | ").unwrap_or((rest, NOTHING));
+    let (words, chain) = rest.split_once(" / ").unwrap_or((rest, ""));
     let rules = rules_of(alloc, known, text)?;
-    let envelope = envelope_of(alloc, tags)?;
-    Ok(format!(in alloc; "{}", is_endorsed(alloc, &rules, &envelope)?)?)
+    let envelope = envelope_of(alloc, tags, words)?;
+    let snapshot = snapshot_of(alloc, chain)?;
+    Ok(format!(in alloc; "{}", is_endorsed(alloc, &rules, &snapshot, &envelope)?)?)
+}
+
+/// The state after a chain, which may be empty.
+fn snapshot_of(alloc: Global, chain: &str) -> Result<Snapshot, CaseFault> {
+    if chain.is_empty() {
+        return Ok(Snapshot::empty(alloc));
+    }
+    state_after(alloc, chain)
 }
 
 /// The words between commas. `-` is none.
@@ -64,14 +81,17 @@ fn policy_of(alloc: Global, known: &str, text: &str) -> Result<Policy, CaseFault
     }
 }
 
-/// The organisations with their names as keys, and the policy of the chaincode.
+/// The organisations with their names as keys, the policy of calls and of upgrades, and a module.
 fn rules_of(alloc: Global, known: &str, text: &str) -> Result<Rules, CaseFault> {
     let policy = ChaincodePolicy {
         chaincode: chaincode_name(alloc)?,
         policy: policy_of(alloc, known, text)?,
     };
     let policies = vec![in alloc; policy]?;
-    Rules::new(organisations_of(alloc, known)?, policies).ok_or(CaseFault::BadLine)
+    let upgrade = policy_of(alloc, known, text)?;
+    let installed = Installed::new(vec![in alloc; [7; 32]]?, orgs_of(alloc, known)?);
+    let organisations = organisations_of(alloc, known)?;
+    Rules::new(organisations, policies, upgrade, installed).ok_or(CaseFault::BadLine)
 }
 
 fn organisations_of(alloc: Global, known: &str) -> Result<Vec<Organisation>, CaseFault> {
@@ -89,9 +109,11 @@ fn organisation_of(alloc: Global, name: &str) -> Result<Organisation, CaseFault>
     Ok(Organisation { name, key })
 }
 
-/// A transaction without words, with these tags.
-fn envelope_of(alloc: Global, tags: &str) -> Result<Envelope, CaseFault> {
-    let payload = Draft::new(alloc, [0; 16]).into_envelope(alloc)?.payload;
+/// The transaction of these words, with these tags.
+fn envelope_of(alloc: Global, tags: &str, words: &str) -> Result<Envelope, CaseFault> {
+    let mut draft = Draft::new(alloc, [0; 16]);
+    draft.add_words(alloc, words)?;
+    let payload = draft.into_envelope(alloc)?.payload;
     let bytes = encode_payload(alloc, &payload)?;
     let items = endorsements_of(alloc, &bytes, tags)?;
     let endorsements = Endorsements::new(items).ok_or(CaseFault::BadLine)?;

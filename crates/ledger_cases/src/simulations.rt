@@ -1,11 +1,12 @@
-//! Calls of a chaincode, each on the state that the earlier ones leave.
+//! Calls and upgrades of a chaincode, each on the state that the earlier ones leave.
 
 use crate::bytes::{bytes_of, split_word};
 use crate::chains::{block_of, extended};
-use crate::drafts::{chaincode_name, name_of};
+use crate::drafts::{definition_of, name_of, proposal_of};
 use crate::fault::CaseFault;
 use crate::texts::write_payload;
-use fab_types::{Endorsements, Envelope, Flag, Payload, Proposal, Value};
+use endorsement_policy::Installed;
+use fab_types::{Endorsements, Envelope, Flag, OrgName, Payload, Proposal, Value};
 use simulator::{Book, Chaincode, SimRefusal, simulate};
 use std::alloc::{AllocError, Global};
 use std::fmt::Write;
@@ -23,8 +24,16 @@ pub fn simulate_calls(alloc: Global, text: &str) -> Result<String, CaseFault> {
         module: module_of(alloc, pieces)?,
         fuel: fuel_of(fuel)?,
     };
-    let book = Book::new(vec![in alloc; chaincode]?).ok_or(CaseFault::BadLine)?;
+    let chaincodes = vec![in alloc; chaincode]?;
+    let installed = installed(alloc)?;
+    let book = Book::new(chaincodes, Vec::new(alloc), installed).ok_or(CaseFault::BadLine)?;
     call_each(alloc, &book, calls)
+}
+
+/// A digest of bytes 7, and the organisation A.
+fn installed(alloc: Global) -> Result<Installed, CaseFault> {
+    let org = OrgName::new(b"A".to_vec(alloc)?).ok_or(CaseFault::BadLine)?;
+    Ok(Installed::new(vec![in alloc; [7; 32]]?, vec![in alloc; org]?))
 }
 
 fn fuel_of(text: &str) -> Result<u64, CaseFault> {
@@ -68,7 +77,7 @@ fn call_once(
     snapshot: &Snapshot,
     argument: &str,
 ) -> Result<Option<Snapshot>, CaseFault> {
-    let proposal = proposal_of(alloc, argument)?;
+    let proposal = proposal_in(alloc, argument)?;
     match simulate(alloc, book, snapshot, &proposal) {
         Ok(payload) => {
             write_payload(answer, &payload)?;
@@ -81,15 +90,15 @@ fn call_once(
     }
 }
 
-/// A call of `kv` with the text behind the blank.
-fn proposal_of(alloc: Global, argument: &str) -> Result<Proposal, CaseFault> {
-    let text = argument.strip_prefix(" ").unwrap_or(argument);
-    let bytes = Vec::from_slice(alloc, text.as_bytes())?;
-    Ok(Proposal {
-        chaincode: chaincode_name(alloc)?,
-        argument: Value::new(bytes).ok_or(CaseFault::BadLine)?,
-        nonce: [0; 16],
-    })
+/// The upgrade of `kv`, or the call with the text, behind the blank.
+fn proposal_in(alloc: Global, text: &str) -> Result<Proposal, CaseFault> {
+    let text = text.strip_prefix(" ").unwrap_or(text);
+    let definition = match text.strip_prefix("u:") {
+        Some(text) => Some(definition_of(alloc, text)?),
+        None => None,
+    };
+    let argument = Value::new(Vec::from_slice(alloc, text.as_bytes())?).ok_or(CaseFault::BadLine)?;
+    proposal_of(alloc, definition, argument, [0; 16])
 }
 
 /// The text of a refusal, and the fuel used up to a trap.

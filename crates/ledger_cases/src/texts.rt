@@ -1,8 +1,8 @@
 //! Values as the words of a line.
 
 use fab_types::{
-    Endorsements, Key, Payload, Proposal, RangeEntry, RangeItem, Ranges, ReadItem, ReadSet, Value,
-    Version, WriteItem, WriteSet,
+    Definition, Endorsements, Key, Payload, Proposal, RangeEntry, RangeItem, Ranges, ReadItem,
+    ReadSet, Value, Version, WriteItem, WriteSet,
 };
 use std::alloc::AllocError;
 use std::fmt::Write;
@@ -38,17 +38,35 @@ pub fn write_payload(answer: &mut String, payload: &Payload) -> Result<(), Alloc
     write_words(answer, &payload.reads, &payload.ranges, &payload.writes)
 }
 
-/// A call as `CHAINCODE(ARGUMENT)`, and its nonce where that is not 0.
+/// A call as `CHAINCODE(ARGUMENT)`, an upgrade as `CHAINCODE := DEFINITION`, and the nonce where
+/// that is not 0.
 fn write_proposal(answer: &mut String, proposal: &Proposal) -> Result<(), AllocError> {
-    write_bytes(answer, proposal.chaincode.as_slice())?;
-    answer.push('(')?;
-    write_bytes(answer, proposal.argument.as_slice())?;
-    answer.push(')')?;
-    if proposal.nonce == [0; 16] {
+    write_bytes(answer, proposal.chaincode().as_slice())?;
+    match proposal {
+        Proposal::Call(call) => write_argument(answer, &call.argument)?,
+        Proposal::Upgrade(upgrade) => write_definition(answer, &upgrade.definition)?,
+    }
+    let nonce = proposal.nonce();
+    if nonce == [0; 16] {
         return Ok(());
     }
     answer.push_str(" nonce ")?;
-    write_hex(answer, &proposal.nonce)
+    write_hex(answer, &nonce)
+}
+
+/// An argument in brackets.
+fn write_argument(answer: &mut String, argument: &Value) -> Result<(), AllocError> {
+    answer.push('(')?;
+    write_bytes(answer, argument.as_slice())?;
+    answer.push(')')
+}
+
+/// A definition as ` := PROFILE DIGEST FUEL POLICY`.
+pub fn write_definition(answer: &mut String, definition: &Definition) -> Result<(), AllocError> {
+    write!(answer, " := {} ", definition.profile.get())?;
+    write_hex(answer, &definition.digest)?;
+    write!(answer, " {} ", definition.fuel.get())?;
+    write_bytes(answer, definition.policy.as_slice())
 }
 
 /// A result, if it is not empty.

@@ -1,15 +1,27 @@
 //! The items of values, and what a range holds.
 
 use crate::samples::envelope;
-use fab_types::{Envelope, Payload};
+use fab_types::{Envelope, Payload, Proposal};
 use std::test::Fail;
+
+/// How many bytes the name and the argument of a call have. Those of an upgrade are not counted.
+fn lengths(proposal: Proposal) -> [usize; 2] {
+    match proposal {
+        Proposal::Call(call) => [
+            call.chaincode.into_vec().len(),
+            call.argument.into_vec().len(),
+        ],
+        Proposal::Upgrade(_) => [0, 0],
+    }
+}
 
 /// How many items each part of a transaction has.
 fn counts(envelope: Envelope) -> [usize; 7] {
     let payload = envelope.payload;
+    let [chaincode, argument] = lengths(payload.proposal);
     [
-        payload.proposal.chaincode.into_vec().len(),
-        payload.proposal.argument.into_vec().len(),
+        chaincode,
+        argument,
         payload.result.into_vec().len(),
         payload.reads.into_vec().len(),
         payload.ranges.into_vec().len(),

@@ -3,8 +3,9 @@
 use host_api::{equal_views, reads_alone};
 use ledger_model::{
     a_version_names_one_value, computed_flags_are_right, current_reruns_agree,
-    legal_blocks_conflict_only_with_what_was_before, reruns_agree, state_is_by_the_last_writer,
-    the_table_judges, versions_name_the_entries_of_a_range,
+    definitions_are_read, legal_blocks_conflict_only_with_what_was_before, reruns_agree,
+    state_is_by_the_last_writer, the_table_judges, versions_name_the_entries_of_a_range,
+    what_a_block_does_not_write_is_as_it_was,
 };
 use wire::spellings_differ;
 
@@ -18,6 +19,8 @@ fn laws_hold(_rt: HostRuntime) {
     the_table_judges();
     current_reruns_agree();
     legal_blocks_conflict_only_with_what_was_before();
+    definitions_are_read();
+    what_a_block_does_not_write_is_as_it_was();
     reads_alone();
     equal_views();
     spellings_differ();

@@ -8,7 +8,8 @@ use std::sync::Wait;
 use std::test::Fail;
 
 fn nonce(envelope: &Envelope) -> u8 {
-    envelope.payload.proposal.nonce[0]
+    let nonce = envelope.payload.proposal.nonce();
+    nonce[0]
 }
 
 /// The nonce of a transaction where it is handed back, or 0.

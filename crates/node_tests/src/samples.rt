@@ -16,24 +16,25 @@ use wire::decode_envelope;
 /// One peer and organisation A, which has to endorse the transactions of `kv`. That reads `a`, and
 /// then puts the value `1` there: the module of examples/get_put_a.wat.
 pub const GET_PUT_A: &str =
-    "{\"orgs\":[{\"name\":\"A\",\"key\":\"4a656665\"}],\"peers\":[\"A\"],\"seats\":4,\"queue\":4,\"count\":1,\"preferred\":1000,\"absolute\":1000,\"reorder\":false,\"chaincodes\":[{\"name\":\"kv\",\"module\":\"0061736d01000000010d0260047f7f7f7f017f6000017f02270206666162726963096765745f7374617465000006666162726963097075745f73746174650000030201010503010001070a0106696e766f6b6500020a1c011a00410041014102410010001a410041014101410110011a41000b0b08010041000b026131\",\"policy\":\"'A'\",\"fuel\":141}]}";
+    "{\"orgs\":[{\"name\":\"A\",\"key\":\"4a656665\"}],\"peers\":[\"A\"],\"seats\":4,\"queue\":4,\"count\":1,\"preferred\":1000,\"absolute\":1000,\"reorder\":false,\"chaincodes\":[{\"name\":\"kv\",\"module\":\"0061736d01000000010d0260047f7f7f7f017f6000017f02270206666162726963096765745f7374617465000006666162726963097075745f73746174650000030201010503010001070a0106696e766f6b6500020a1c011a00410041014102410010001a410041014101410110011a41000b0b08010041000b026131\",\"policy\":\"'A'\",\"fuel\":141}],\"modules\":[],\"upgrade\":\"'A'\"}";
 
 /// The same, where `kv` is `(loop (result i32) br 0)`: it goes round until it has spent 10,000,000.
 pub const LOOP: &str =
-    "{\"orgs\":[{\"name\":\"A\",\"key\":\"4a656665\"}],\"peers\":[\"A\"],\"seats\":4,\"queue\":4,\"count\":1,\"preferred\":1000,\"absolute\":1000,\"reorder\":false,\"chaincodes\":[{\"name\":\"kv\",\"module\":\"0061736d010000000105016000017f03020100070a0106696e766f6b6500000a09010700037f0c000b0b\",\"policy\":\"'A'\",\"fuel\":10000000}]}";
+    "{\"orgs\":[{\"name\":\"A\",\"key\":\"4a656665\"}],\"peers\":[\"A\"],\"seats\":4,\"queue\":4,\"count\":1,\"preferred\":1000,\"absolute\":1000,\"reorder\":false,\"chaincodes\":[{\"name\":\"kv\",\"module\":\"0061736d010000000105016000017f03020100070a0106696e766f6b6500000a09010700037f0c000b0b\",\"policy\":\"'A'\",\"fuel\":10000000}],\"modules\":[],\"upgrade\":\"'A'\"}";
 
-/// The bytes of a call of `kv` that read nothing and puts `1` at `a`, with a tag of A of zeros.
-const PUT: [u8; 70] =
-    *b"\x02kv\x00\x00\x00\x00\x00\x00\x00\x00\x00\x00\x00\x00\x00\x00\x00\x00\x00\x00\x00\x00\x00\x00\x00\x00\x00\x01\x01a\x01\x00\x011\x01\x01A\x00\x00\x00\x00\x00\x00\x00\x00\x00\x00\x00\x00\x00\x00\x00\x00\x00\x00\x00\x00\x00\x00\x00\x00\x00\x00\x00\x00\x00\x00\x00\x00";
+/// The bytes of a call of `kv` that read its definition as absent and nothing else, and puts `1` at
+/// `a`, with a tag of A of zeros.
+const PUT: [u8; 75] =
+    *b"\x02kv\x00\x00\x00\x00\x00\x00\x00\x00\x00\x00\x00\x00\x00\x00\x00\x00\x00\x00\x00\x00\x00\x01\x03\x00kv\x00\x00\x00\x00\x01\x01a\x01\x00\x011\x01\x01A\x00\x00\x00\x00\x00\x00\x00\x00\x00\x00\x00\x00\x00\x00\x00\x00\x00\x00\x00\x00\x00\x00\x00\x00\x00\x00\x00\x00\x00\x00\x00\x00";
 
 /// Where the nonce, the key and the tag begin, and the payload ends.
 const NONCE: usize = 5;
 
-const KEY: usize = 30;
+const KEY: usize = 35;
 
-const TAG: usize = 38;
+const TAG: usize = 43;
 
-const PAYLOAD: usize = 35;
+const PAYLOAD: usize = 40;
 
 /// What a text spells.
 pub fn genesis(alloc: Global, text: &str) -> Result<Genesis, Fail>
@@ -48,8 +49,8 @@ pub fn genesis(alloc: Global, text: &str) -> Result<Genesis, Fail>
     }
 }
 
-/// A transaction of `kv` that reads nothing and puts `1` at a key, with A's tag. The nonce tells it
-/// from others.
+/// A transaction of `kv` that reads its definition alone and puts `1` at a key, with A's tag. The
+/// nonce tells it from others.
 pub fn transaction(alloc: Global, nonce: u8, key: u8) -> Result<Envelope, Fail> {
     let mut bytes = PUT;
     bytes[NONCE] = nonce;

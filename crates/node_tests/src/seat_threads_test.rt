@@ -27,7 +27,7 @@ fn report_of<R: Threads + Wait + Sync + Send + Copy + 'static>(
         rt,
         alloc,
         &genesis,
-        &call.payload.proposal.chaincode,
+        call.payload.proposal.chaincode(),
         rounds,
     ) {
         Ok(report) => Ok(report),

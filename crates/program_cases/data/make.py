@@ -1,6 +1,9 @@
 #!/usr/bin/env python3
-"""Writes orders*, sizes*, names*, ends.json, scans.jsonl and wrong.store beside this file: events with envelopes,
-modules and a store that are laid out here, by docs/FORMATS.md.
+"""Writes orders*, sizes*, names*, ends.json, scans.jsonl, stranger.jsonl, upgrades*, versions.jsonl, predicted.jsonl
+and stores beside this file: events with envelopes, modules and stores that are laid out here, by docs/FORMATS.md.
+
+older.store is not among them: the program wrote it when calls did not read their definitions yet. It has the blocks of
+whole.store but for these reads.
 """
 import hashlib
 import hmac
@@ -10,7 +13,9 @@ import struct
 
 HERE = pathlib.Path(__file__).parent
 KEYS = {"A": b"Jefe", "B": b"B"}
-PUT_A = bytes.fromhex(json.loads((HERE / "put.json").read_text())["chaincodes"][0]["module"])
+PUT_A, GET_PUT_A = (
+    bytes.fromhex(json.loads((HERE / name).read_text())["chaincodes"][0]["module"]) for name in ("put.json", "get.json")
+)
 
 
 def short(data):
@@ -25,10 +30,10 @@ def version(at):
     return struct.pack(">II", *at)
 
 
-def payload(nonce, reads=(), ranges=(), writes=(), argument=b""):
-    """A call of `kv`. A read is a key and a version or None, a range its start, end, limit and entries, a write a key
-    and a value."""
-    out = short(b"kv") + value(argument) + bytes.fromhex("%032x" % nonce) + value(b"")
+def payload(nonce, reads=(), ranges=(), writes=(), argument=b"", name=b"kv"):
+    """A call. A read is a key and a version or None, a range its start, end, limit and entries, a write a key and a
+    value."""
+    out = short(name) + value(argument) + bytes.fromhex("%032x" % nonce) + value(b"")
     out += struct.pack(">H", len(reads))
     for key, at in reads:
         out += short(key) + (b"\0" if at is None else b"\1" + version(at))
@@ -40,6 +45,11 @@ def payload(nonce, reads=(), ranges=(), writes=(), argument=b""):
     for key, data in writes:
         out += short(key) + b"\1" + value(data)
     return out
+
+
+def call(nonce, reads=(), definition=None, name=b"kv", **rest):
+    """The same, which reads its definition: of this version, or absent."""
+    return payload(nonce, [(b"\0" + name, definition), *reads], name=name, **rest)
 
 
 def envelope(data, orgs="A"):
@@ -59,8 +69,9 @@ def write(name, lines):
 LIMITS = {"queue": 4, "count": 1, "preferred": 65536, "absolute": 524288, "reorder": False}
 
 
-def genesis(name, policy="'A'", more=(), **limits):
-    """Two peers, a chaincode `kv` that puts `1` at `a`, and more chaincodes by their names and modules."""
+def genesis(name, policy="'A'", more=(), modules=(), upgrade=None, **limits):
+    """Two peers, a chaincode `kv` that puts `1` at `a`, more chaincodes by their names and modules, and modules. The
+    policy is that of upgrades too, where these are given no other."""
     chaincodes = [("kv", PUT_A), *more]
     text = {
         "orgs": [{"name": org, "key": key.hex()} for org, key in KEYS.items()],
@@ -71,6 +82,8 @@ def genesis(name, policy="'A'", more=(), **limits):
         "chaincodes": [
             {"name": called, "module": code.hex(), "policy": policy, "fuel": 400} for called, code in chaincodes
         ],
+        "modules": [code.hex() for code in modules],
+        "upgrade": upgrade or policy,
     }
     (HERE / name).write_text(json.dumps(text, separators=(",", ":")))
 
@@ -87,38 +100,38 @@ def puts(*keys):
 
 # Batches that are put in order, or stay as they were cut.
 FIRST = (1, 0)
-orders = batch(payload(1, writes=puts(b"k1", b"k2", b"k3", b"k4", b"k5")))
+orders = batch(call(1, writes=puts(b"k1", b"k2", b"k3", b"k4", b"k5")))
 orders += batch(
-    payload(11, writes=puts(b"k1", b"k2")),
-    payload(12, reads=[(b"k1", FIRST)], writes=puts(b"k3")),
-    payload(13, writes=puts(b"k2")),
-    payload(14, reads=[(b"k2", FIRST)], writes=puts(b"k2")),
-    payload(15, reads=[(b"k5", FIRST)], writes=puts(b"k6")),
+    call(11, writes=puts(b"k1", b"k2")),
+    call(12, reads=[(b"k1", FIRST)], writes=puts(b"k3")),
+    call(13, writes=puts(b"k2")),
+    call(14, reads=[(b"k2", FIRST)], writes=puts(b"k2")),
+    call(15, reads=[(b"k5", FIRST)], writes=puts(b"k6")),
 )
 # Each reads what the other writes.
 orders += batch(
-    payload(21, reads=[(b"x", FIRST)], writes=puts(b"y")), payload(22, reads=[(b"y", FIRST)], writes=puts(b"x"))
+    call(21, reads=[(b"x", FIRST)], writes=puts(b"y")), call(22, reads=[(b"y", FIRST)], writes=puts(b"x"))
 )
 # A range stands before the writers of its keys, with an end and without; one that ends before a key does not hold it.
 for nonce, letter, end in ((30, b"p", b"pc"), (40, b"q", b"qb"), (50, b"r", b"")):
     orders += batch(
-        payload(nonce + 1, writes=puts(letter + b"b")),
-        payload(nonce + 2, writes=puts(letter + b"a")),
-        payload(nonce + 3, ranges=[(letter + b"aa", end, 1, [])], writes=puts(letter + b"!")),
+        call(nonce + 1, writes=puts(letter + b"b")),
+        call(nonce + 2, writes=puts(letter + b"a")),
+        call(nonce + 3, ranges=[(letter + b"aa", end, 1, [])], writes=puts(letter + b"!")),
     )
 # A read that is older than another's; a key that was absent; each has an older one.
-orders += batch(payload(61, reads=[(b"x", (1, 0))]), payload(62, reads=[(b"x", (2, 0))]))
-orders += batch(payload(71, reads=[(b"x", None)]), payload(72, reads=[(b"x", (2, 0))]))
+orders += batch(call(61, reads=[(b"x", (1, 0))]), call(62, reads=[(b"x", (2, 0))]))
+orders += batch(call(71, reads=[(b"x", None)]), call(72, reads=[(b"x", (2, 0))]))
 orders += batch(
-    payload(81, reads=[(b"x", (1, 0)), (b"y", (2, 0))]), payload(82, reads=[(b"x", (2, 0)), (b"y", (1, 0))])
+    call(81, reads=[(b"x", (1, 0)), (b"y", (2, 0))]), call(82, reads=[(b"x", (2, 0)), (b"y", (1, 0))])
 )
 # One that is left out takes no part in the order of the others.
 orders += batch(
-    payload(91, writes=puts(b"s1", b"s2")),
-    payload(92, reads=[(b"s1", None)], writes=puts(b"s3")),
-    payload(93, writes=puts(b"s2")),
-    payload(94, reads=[(b"k1", (1, 0)), (b"s2", None)], writes=puts(b"s2")),
-    payload(95, reads=[(b"k1", (2, 2))], writes=puts(b"s6")),
+    call(91, writes=puts(b"s1", b"s2")),
+    call(92, reads=[(b"s1", None)], writes=puts(b"s3")),
+    call(93, writes=puts(b"s2")),
+    call(94, reads=[(b"k1", (1, 0)), (b"s2", None)], writes=puts(b"s2")),
+    call(95, reads=[(b"k1", (2, 2))], writes=puts(b"s6")),
 )
 write("orders.jsonl", orders + [event("commit", peer=0)] * 10)
 genesis("orders-on.json", queue=5, count=512, reorder=True)
@@ -142,8 +155,14 @@ genesis("sizes.json", count=3, preferred=100, absolute=140)
 # Names that are bound again, and what two names stand for together.
 
 
-def begin(peer, nonce, seat=0, chaincode="kv"):
-    return event("begin", peer=peer, seat=seat, chaincode=chaincode, arg="-", nonce="%032x" % nonce)
+def begin(peer, nonce, seat=0, chaincode="kv", arg="-"):
+    return event("begin", peer=peer, seat=seat, chaincode=chaincode, arg=arg, nonce="%032x" % nonce)
+
+
+def upgrade(peer, nonce, code, fuel=400, policy="'A'", chaincode="kv"):
+    """Begins an upgrade to this module."""
+    definition = {"fuel": fuel, "module": hashlib.sha256(code).hexdigest(), "policy": policy}
+    return event("begin", **definition, nonce="%032x" % nonce, peer=peer, seat=0, upgrade=chaincode)
 
 
 def finish(peer, name, seat=0):
@@ -167,7 +186,7 @@ def section(number, data):
 
 def module(code, imports=()):
     """A module whose `invoke` is this code, with a memory that begins with `ac`."""
-    types = [b"\x60\x00\x01\x7f", b"\x60\x02\x7f\x7f\x01\x7f", b"\x60\x07" + b"\x7f" * 7 + b"\x01\x7f"]
+    types = [b"\x60" + short(b"\x7f" * parameters) + b"\x01\x7f" for parameters in (0, 2, 7, 4)]
     named = b"".join(short(b"fabric") + short(name) + bytes([0, kind]) for name, kind in imports)
     body = b"\0" + code + b"\x0b"
     return (
@@ -202,14 +221,92 @@ scans = [begin(0, 1, chaincode="scan"), begin(0, 2, seat=1), finish(0, "e1", sea
 scans += [event("commit", peer=0), finish(0, "e2"), begin(0, 3, chaincode="scan"), finish(0, "e2"), *use("e2")]
 write("scans.jsonl", scans + [event("commit", peer=0)])
 
-# A store whose second block has other data than its header says.
-link = bytes(32)
-store = b""
-for number in (1, 2):
-    one = envelope(payload(number, writes=puts(b"a")))
+# An envelope of a chaincode that the genesis does not have.
+stranger = event("submit", hex=envelope(call(1, writes=puts(b"a"), name=b"zz")).hex())
+write("stranger.jsonl", [stranger, event("take"), event("commit", peer=0)])
+
+# Upgrades. `kv` puts `1` at `a`; `key` puts the byte of its argument at itself. A endorses calls, and B upgrades.
+KEY = module(
+    constants(0, 1) + b"\x10\x00\x1a" + constants(0, 1, 0, 1) + b"\x10\x01\x1a" + constants(0),
+    [(b"get_arg", 1), (b"put_state", 3)],
+)
+UPGRADES = {"more": [("key", KEY)], "upgrade": "'B'"}
+genesis("upgrades-on.json", modules=[GET_PUT_A], queue=5, count=512, reorder=True, **UPGRADES)
+genesis("upgrades-off.json", modules=[GET_PUT_A], queue=5, count=512, **UPGRADES)
+genesis("upgrades.json", modules=[GET_PUT_A], **UPGRADES)
+genesis("upgrades-bare.json", **UPGRADES)
+
+
+def submitted(begun, peer=0):
+    """Begins a proposal at a peer, finishes it there, and has what it endorsed taken."""
+    return [begun, finish(peer, "e"), *use("e")]
+
+
+def committed(begun, peer=0):
+    """The same, with its block committed at both peers."""
+    return submitted(begun, peer) + [event("commit", peer=0), event("commit", peer=1)]
+
+
+# In a batch: an upgrade before two calls; one before another; one to a policy of B, before a call that B endorsed and
+# one that A endorsed.
+upgrades = submitted(upgrade(1, 1, GET_PUT_A, chaincode="key"), 1)
+upgrades += submitted(begin(0, 2, chaincode="key", arg="62")) + submitted(begin(0, 3, chaincode="key", arg="63"))
+upgrades += [event("tick"), event("commit", peer=0), event("commit", peer=1)]
+upgrades += submitted(upgrade(1, 4, KEY), 1) + submitted(upgrade(1, 5, GET_PUT_A), 1)
+upgrades += [event("tick"), event("commit", peer=0), event("commit", peer=1)]
+upgrades += submitted(upgrade(1, 6, PUT_A, policy="'B'", chaincode="new"), 1)
+upgrades += [event("tick"), event("commit", peer=0), event("commit", peer=1)]
+upgrades += submitted(upgrade(1, 7, PUT_A, chaincode="new"), 1)
+upgrades += submitted(begin(1, 8, chaincode="new"), 1) + submitted(begin(0, 9, chaincode="new"))
+upgrades += [event("tick"), event("commit", peer=0), event("commit", peer=1)]
+write("upgrades.jsonl", upgrades)
+
+# Block after block: the first version is called, and the second, by which `a` is read, with a call between them that is
+# begun before the upgrade is committed, and finished behind it; the second with too little fuel; an unknown name, which
+# is then defined; upgrades that are refused, and one that A endorsed.
+versions = committed(begin(0, 1)) + [begin(0, 13, seat=1)]
+versions += committed(upgrade(1, 2, GET_PUT_A, 141), 1) + [finish(0, "e", seat=1)] + committed(begin(0, 3))
+versions += committed(upgrade(1, 4, GET_PUT_A, 140), 1) + [begin(0, 5), finish(0, "e")]
+versions += [begin(0, 6, chaincode="nw"), finish(0, "e")]
+versions += committed(upgrade(1, 7, PUT_A, 71, chaincode="nw"), 1) + committed(begin(0, 8, chaincode="nw"))
+versions += [upgrade(1, 9, b"another module"), finish(1, "e"), upgrade(1, 10, PUT_A, policy="'C'"), finish(1, "e")]
+versions += [upgrade(1, 11, b"another module", policy="'C'"), finish(1, "e")]
+versions += committed(upgrade(0, 12, PUT_A))
+write("versions.jsonl", versions)
+
+# Two calls behind an upgrade, in its block, of which the second claims to have read the version that the upgrade gets.
+predicted = submitted(upgrade(1, 1, GET_PUT_A), 1)
+for nonce, at in ((2, (1, 1)), (3, (1, 0))):
+    predicted += [event("submit", hex=envelope(call(nonce, definition=at, writes=puts(b"a"))).hex()), event("take")]
+write("predicted.jsonl", predicted + [event("tick"), event("commit", peer=0)])
+
+# Stores of two blocks that each put `1` at `a`.
+
+
+def record(number, link, flag=0, data_hash=None):
+    """A block as it is stored, behind a header with this hash, and the hash of its own header."""
+    one = envelope(call(number, writes=puts(b"a")))
     data = struct.pack(">HI", 1, len(one)) + one
-    header = struct.pack(">I", number) + link + hashlib.sha256(data if number == 1 else b"").digest()
-    link = hashlib.sha256(header).digest()
-    record = struct.pack(">I", len(header + data)) + header + data + b"\0"
-    store += record + hashlib.sha256(record).digest()
-(HERE / "wrong.store").write_bytes(store)
+    header = struct.pack(">I", number) + link + (data_hash or hashlib.sha256(data).digest())
+    stored = struct.pack(">I", len(header + data)) + header + data + bytes([flag])
+    return stored + hashlib.sha256(stored).digest(), hashlib.sha256(header).digest()
+
+
+NO_LINK = bytes(32)
+first, link = record(1, NO_LINK)
+second, _ = record(2, link)
+STORES = {
+    "whole": first + second,
+    # Its last byte is missing.
+    "torn": first + second[:-1],
+    # The second block's flag is 2.
+    "differs": first + record(2, link, flag=2)[0],
+    # The second block is behind no other.
+    "unlinked": first + record(2, NO_LINK)[0],
+    # The first digest's last bit is turned.
+    "damaged": first[:-1] + bytes([first[-1] ^ 1]) + second,
+    # The second block has other data than its header says.
+    "wrong": first + record(2, link, data_hash=hashlib.sha256(b"").digest())[0],
+}
+for name, store in STORES.items():
+    (HERE / f"{name}.store").write_bytes(store)

@@ -1,8 +1,8 @@
 //! Policies and rules that no text spells, and checks of envelopes by several workers.
 
 use endorsement_policy::{
-    ChaincodePolicy, Gate, OrgSet, Organisation, Policies, Policy, Rules, TagKey, check_all,
-    check_plain, parse, satisfied,
+    ChaincodePolicy, Gate, Installed, OrgSet, Organisation, Policies, Policy, Rules, TagKey,
+    check_all, check_plain, parse, satisfied,
 };
 use fab_types::{Envelope, Name, OrgName};
 use hmac_tag::{check, tag};
@@ -12,20 +12,21 @@ use std::test::Fail;
 use std::thread;
 use std::thread::Threads;
 use wire::decode_envelope;
+use world_state::Snapshot;
 
-/// The bytes of a call of `kv` without an argument, which reads and writes nothing, and two
-/// endorsements by `A`: one under its own key, whose tag is that of another program, and one with a
-/// tag of zeros.
-const CALL: [u8; 98] =
-    *b"\x02kv\x00\x00\x00\x00\x00\x00\x00\x00\x00\x00\x00\x00\x00\x00\x00\x00\x00\x00\x00\x00\x00\x00\x00\x00\x00\x00\x02\x01A\xe2\x40\x74\xe4\x37\x2f\xec\x7d\xc1\xd8\x2d\xc4\x88\x06\xb4\x4e\xa2\x3c\x4c\x4d\x9d\x08\x9f\x84\xa4\xcc\x3a\xea\x30\x89\x1c\xe8\x01A\x00\x00\x00\x00\x00\x00\x00\x00\x00\x00\x00\x00\x00\x00\x00\x00\x00\x00\x00\x00\x00\x00\x00\x00\x00\x00\x00\x00\x00\x00\x00\x00";
+/// The bytes of a call of `kv` without an argument, which reads its definition as absent and writes
+/// nothing, and two endorsements by `A`: one under its own key, whose tag is that of another
+/// program, and one with a tag of zeros.
+const CALL: [u8; 103] =
+    *b"\x02kv\x00\x00\x00\x00\x00\x00\x00\x00\x00\x00\x00\x00\x00\x00\x00\x00\x00\x00\x00\x00\x00\x01\x03\x00kv\x00\x00\x00\x00\x00\x02\x01A\x6e\x4b\x9d\x54\xb4\xe8\x7e\x4b\x99\xa6\xf7\xdf\xe3\x62\x05\x46\x82\xc1\x6c\x3e\xaf\xf4\x09\x0e\xc7\x73\xa7\xfe\xba\x73\x07\x5e\x01A\x00\x00\x00\x00\x00\x00\x00\x00\x00\x00\x00\x00\x00\x00\x00\x00\x00\x00\x00\x00\x00\x00\x00\x00\x00\x00\x00\x00\x00\x00\x00\x00";
 
 /// How many of them are the payload's.
-const PAYLOAD: usize = 29;
+const PAYLOAD: usize = 34;
 
 /// Where the name and the tag of the second endorsement begin.
-const NAME: usize = 65;
+const NAME: usize = 70;
 
-const TAG: usize = 66;
+const TAG: usize = 71;
 
 fn org(alloc: Global, letter: u8) -> Option<OrgName> {
     OrgName::new(vec![in alloc; letter].ok()?)
@@ -74,10 +75,17 @@ fn of_kv(alloc: Global, policy: Policy) -> Option<Vec<ChaincodePolicy>> {
     vec![in alloc; ChaincodePolicy { chaincode, policy }].ok()
 }
 
-/// A, B and C, of which two have to endorse a transaction of `kv`.
+/// A module of this digest alone, and the organisations A, B and C.
+fn installed(alloc: Global) -> Option<Installed> {
+    let digests = vec![in alloc; [7; 32]].ok()?;
+    Some(Installed::new(digests, orgs(alloc, b"ABC")?))
+}
+
+/// A, B and C, of which two have to endorse a transaction of `kv` or an upgrade.
 fn rules(alloc: Global) -> Option<Rules> {
     let policies = of_kv(alloc, two_of_three(alloc)?)?;
-    Rules::new(organisations(alloc)?, policies)
+    let (upgrade, installed) = (two_of_three(alloc)?, installed(alloc)?);
+    Rules::new(organisations(alloc)?, policies, upgrade, installed)
 }
 
 /// The call with endorsements by A under its own key, and by a name under the key of another's.
@@ -123,10 +131,11 @@ fn is_same_by_workers<R: Threads + Sync>(
     rules: &Rules,
     envelopes: &[Envelope],
 ) -> Result<bool, AllocError> {
-    let plain = check_plain(alloc, rules, envelopes)?;
-    let one = check_all(rt, alloc, rules, envelopes, 1, &Open)?;
-    let two = check_all(rt, alloc, rules, envelopes, 2, &Open)?;
-    let sixteen = check_all(rt, alloc, rules, envelopes, 16, &Open)?;
+    let snapshot = &Snapshot::empty(alloc);
+    let plain = check_plain(alloc, rules, snapshot, envelopes)?;
+    let one = check_all(rt, alloc, rules, snapshot, envelopes, 1, &Open)?;
+    let two = check_all(rt, alloc, rules, snapshot, envelopes, 2, &Open)?;
+    let sixteen = check_all(rt, alloc, rules, snapshot, envelopes, 16, &Open)?;
     let same = one == plain && two == plain && sixteen == plain;
     Ok(same && plain.len() == envelopes.len() && is_first_of_four(&plain))
 }
@@ -178,7 +187,7 @@ fn is_met<R: Threads + Sync>(
         came: [AtomicBool::new(false), AtomicBool::new(false)],
         met: [AtomicBool::new(false), AtomicBool::new(false)],
     };
-    let answers = check_all(rt, alloc, rules, pair, 2, &meeting)?;
+    let answers = check_all(rt, alloc, rules, &Snapshot::empty(alloc), pair, 2, &meeting)?;
     let met = meeting.met[0].load(Ordering::SeqCst) && meeting.met[1].load(Ordering::SeqCst);
     Ok(met && is_first_of_four(&answers))
 }
@@ -213,7 +222,15 @@ fn is_in_turn<R: Threads + Sync>(
         next: [AtomicUsize::new(0), AtomicUsize::new(1)],
         strayed: AtomicUsize::new(0),
     };
-    let _answers = check_all(rt, alloc, rules, envelopes, 2, &turns)?;
+    let _answers = check_all(
+        rt,
+        alloc,
+        rules,
+        &Snapshot::empty(alloc),
+        envelopes,
+        2,
+        &turns,
+    )?;
     let even = turns.next[0].load(Ordering::SeqCst);
     let odd = turns.next[1].load(Ordering::SeqCst);
     Ok(even == 6 && odd == 5 && turns.strayed.load(Ordering::SeqCst) == 0)
@@ -242,6 +259,8 @@ fn is_of_three(rules: &Rules, b: &OrgName, d: &OrgName, kv: &Name) -> bool {
         && rules.key(d).is_empty()
         && rules.policy(kv).is_some()
         && rules.policies().len() == 1
+        && rules.installed().orgs().len() == 3
+        && rules.installed().digests() == [[7; 32]].as_slice()
 }
 
 fn are_looked_up(alloc: Global) -> Option<bool> {
@@ -270,10 +289,22 @@ fn is_by_two(alloc: Global) -> Option<bool> {
     Some(is_one && is_satisfied(&Policy::Or(leaf), &two, &orgs(alloc, b"BC")?))
 }
 
-/// Whether there are no rules with a policy that needs nobody: none of A.
+/// Whether there are no rules with these policies, of `kv` and of upgrades.
+fn are_no_rules(alloc: Global, policy: Policy, upgrade: Policy) -> Option<bool> {
+    let policies = of_kv(alloc, policy)?;
+    Some(Rules::new(Vec::new(alloc), policies, upgrade, installed(alloc)?).is_none())
+}
+
+/// A policy that needs nobody: none of A.
+fn nobody(alloc: Global) -> Option<Policy> {
+    Some(Policy::OutOf(0, leaf(alloc)?))
+}
+
+/// Whether there are no rules where either policy needs nobody.
 fn is_no_rule(alloc: Global) -> Option<bool> {
-    let policies = of_kv(alloc, Policy::OutOf(0, leaf(alloc)?))?;
-    Some(Rules::new(Vec::new(alloc), policies).is_none())
+    let calls = are_no_rules(alloc, nobody(alloc)?, two_of_three(alloc)?)?;
+    let upgrades = are_no_rules(alloc, two_of_three(alloc)?, nobody(alloc)?)?;
+    Some(calls && upgrades)
 }
 
 /// Whether a tag is that of its key alone: test case 2 of RFC 4231.

@@ -1,6 +1,6 @@
 use denote.Param.Send.{sendable}
 use Rattle.std.proofs.Crossing.{crosses}
-use Rattle.fab_types.proofs.payload.Proposal.TheSendSync as proposal
+use Rattle.fab_types.proofs.proposal.Proposal.TheSendSync as proposal
 use Rattle.peer_node.proofs.Sending.{send_seat_field}
 use Rattle.node_tests.proofs.concurrent_reads_test.endorse_and_read.Goals as goal
 

@@ -1,7 +1,7 @@
 use denote.Param.Send.{sendable}
 use Rattle.std.proofs.Crossing.{crosses}
 use Rattle.fab_types.proofs.key.Key.TheSendSync as key
-use Rattle.fab_types.proofs.payload.Proposal.TheSendSync as proposal
+use Rattle.fab_types.proofs.proposal.Proposal.TheSendSync as proposal
 use Rattle.peer_node.proofs.Sending.{send_seat_field}
 use Rattle.node_tests.proofs.concurrent_reads_test.meet.Goals as goal
 
