@@ -1,9 +1,11 @@
 #!/usr/bin/env python3
-"""Writes genesis.json and events.jsonl beside this file: three organisations that share a register of pallets.
+"""Writes genesis.json and events.jsonl beside this file: three organisations that share a register of pallets, and put
+its second version in the place of the first.
 
-The chaincode is ../chaincode/asset_register.wasm. The forged envelope is laid out here, by docs/FORMATS.md, since no
-peer hands one out.
+The versions are ../chaincode/asset_register.wasm and asset_register_2.wasm. The forged envelope is laid out here, by
+docs/FORMATS.md, since no peer hands one out.
 """
+import hashlib
 import json
 import pathlib
 import struct
@@ -13,28 +15,41 @@ KEYS = {"Maker": b"maker's key", "Carrier": b"carrier's key", "Shop": b"shop's k
 PEERS = list(KEYS)
 MAKER, CARRIER, SHOP = range(3)
 CHAINCODE = "assets"
+FIRST, SECOND = ((HERE / f"../chaincode/{name}.wasm").read_bytes() for name in ("asset_register", "asset_register_2"))
+TWO_OF_THREE = "OutOf(2, 'Maker', 'Carrier', 'Shop')"
+FUEL = 100000
 
 lines = []
-calls = 0
+proposals = 0
 
 
 def line(do, **fields):
     lines.append(json.dumps({"do": do, **fields}, separators=(",", ":")))
 
 
-def begin(name, peers, argument):
-    """Begins one call at these peers, each at a seat of its own, and answers what finishes it."""
-    global calls
-    calls += 1
-    seat = calls % 4
+def begin(name, peers, **proposal):
+    """Begins one proposal at these peers, each at a seat of its own, and answers what finishes it."""
+    global proposals
+    proposals += 1
+    seat = proposals % 4
     for peer in peers:
-        line("begin", peer=peer, seat=seat, chaincode=CHAINCODE, arg=argument.encode().hex(), nonce="%032x" % calls)
+        line("begin", peer=peer, seat=seat, **proposal, nonce="%032x" % proposals)
     return name, peers, seat
 
 
-def finish(call):
-    """Finishes a call at its peers and submits what they endorsed as one envelope."""
-    name, peers, seat = call
+def call(name, peers, argument):
+    return begin(name, peers, chaincode=CHAINCODE, arg=argument.encode().hex())
+
+
+def upgrade(name, peers, module):
+    return begin(
+        name, peers, upgrade=CHAINCODE, module=hashlib.sha256(module).hexdigest(), fuel=FUEL, policy=TWO_OF_THREE
+    )
+
+
+def finish(begun):
+    """Finishes a proposal at its peers and submits what they endorsed as one envelope."""
+    name, peers, seat = begun
     names = [f"{name}-{PEERS[peer].lower()}" for peer in peers]
     for peer, bound in zip(peers, names):
         line("finish", peer=peer, seat=seat, **{"as": bound})
@@ -61,37 +76,52 @@ def forged():
     """A transfer of pallet-8 that no peer has seen, with tags that nobody made."""
     key = b"asset/pallet-8"
     proposal = short(CHAINCODE.encode()) + value(b"transfer pallet-8 Thief") + bytes.fromhex("%032x" % 99)
-    read = short(key) + b"\1" + struct.pack(">II", 1, 1)
+    reads = short(b"\0" + CHAINCODE.encode()) + b"\0" + short(key) + b"\1" + struct.pack(">II", 1, 1)
     write = short(key) + b"\1" + value(b"Thief")
-    payload = proposal + value(b"") + struct.pack(">H", 1) + read + struct.pack(">H", 0) + struct.pack(">H", 1) + write
+    payload = proposal + value(b"") + struct.pack(">H", 2) + reads + struct.pack(">H", 0) + struct.pack(">H", 1) + write
     tags = [short(org.encode()) + bytes(32) for org in ("Maker", "Carrier")]
     return payload + bytes([len(tags)]) + b"".join(tags)
 
 
 # Two pallets are created, each endorsed by two of the three organisations.
-first = begin("create-7", [MAKER, CARRIER], "create pallet-7 Maker")
-second = begin("create-8", [MAKER, SHOP], "create pallet-8 Maker")
+first = call("create-7", [MAKER, CARRIER], "create pallet-7 Maker")
+second = call("create-8", [MAKER, SHOP], "create pallet-8 Maker")
 finish(first)
 finish(second)
 commit(2)
 
 # Two transfers of one pallet race: both read the same version, and the second in the block is a conflict.
-to_carrier = begin("to-carrier", [MAKER, CARRIER], "transfer pallet-7 Carrier")
-to_shop = begin("to-shop", [MAKER, SHOP], "transfer pallet-7 Shop")
+to_carrier = call("to-carrier", [MAKER, CARRIER], "transfer pallet-7 Carrier")
+to_shop = call("to-shop", [MAKER, SHOP], "transfer pallet-7 Shop")
 finish(to_carrier)
 finish(to_shop)
 commit(2)
 
 # A list is made before a new pallet comes in, and ordered behind it: its range has a phantom.
-create = begin("create-9", [CARRIER, SHOP], "create pallet-9 Carrier")
-listed = begin("list", [MAKER, CARRIER], "list")
+create = call("create-9", [CARRIER, SHOP], "create pallet-9 Carrier")
+listed = call("list", [MAKER, CARRIER], "list")
 finish(create)
 finish(listed)
 commit(2)
 
 # A forged transfer does not satisfy the policy, nor does one that a single organisation endorsed.
 line("submit", hex=forged().hex())
-finish(begin("alone", [CARRIER], "transfer pallet-9 Carrier"))
+finish(call("alone", [CARRIER], "transfer pallet-9 Carrier"))
+commit(2)
+
+# The second version of the register takes the first's place: two organisations endorse it, as the genesis asks for. A
+# transfer that was simulated by the first version, and is ordered behind the upgrade, is a conflict.
+second_version = upgrade("upgrade", [MAKER, SHOP], SECOND)
+late = call("late", [CARRIER, SHOP], "transfer pallet-9 Shop")
+finish(second_version)
+finish(late)
+commit(2)
+
+# The second version makes the transfer, and an inspection of a pallet that the first wrote, which the first could not do.
+again = call("again", [CARRIER, SHOP], "transfer pallet-9 Shop")
+inspect = call("inspect", [MAKER, CARRIER], "inspect pallet-7 Shop 2026-11-25")
+finish(again)
+finish(inspect)
 commit(2)
 
 genesis = {
@@ -106,11 +136,13 @@ genesis = {
     "chaincodes": [
         {
             "name": CHAINCODE,
-            "module": (HERE / "../chaincode/asset_register.wasm").read_bytes().hex(),
-            "policy": "OutOf(2, 'Maker', 'Carrier', 'Shop')",
-            "fuel": 100000,
+            "module": FIRST.hex(),
+            "policy": TWO_OF_THREE,
+            "fuel": FUEL,
         }
     ],
+    "modules": [SECOND.hex()],
+    "upgrade": TWO_OF_THREE,
 }
 (HERE / "genesis.json").write_text(json.dumps(genesis, indent=1) + "\n")
 (HERE / "events.jsonl").write_text("".join(it + "\n" for it in lines))

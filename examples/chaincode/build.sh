@@ -11,6 +11,7 @@ build() {
 }
 
 build asset_register -Oz
+build asset_register_2 -Oz
 build sort -O2
 build sha256 -O2
 wat2wasm fibonacci.wat -o fibonacci.wasm
