@@ -2,51 +2,12 @@
 
 ghost use Rattle.std.specs.Prelude.{◌≡◌, ◌↔◌, IsSome, IfSome};
 ghost use Rattle.std.specs.List.{list_all};
-ghost use Rattle.fab_types.specs.Limits.{IsFuel, IsPolicyText, IsProfile, is_policy_byte};
+ghost use Rattle.fab_types.specs.Limits.{IsFuel, IsPolicyText, is_policy_byte};
 
 use crate::limits::{MOST_FUEL, MOST_POLICY_BYTES};
 use std::alloc::AllocError;
 use std::marker::Model;
-
-/// The number of a profile: which modules are read, and how one is executed. Only 1 is known.
-#[derive(Clone, Copy, PartialEq, Eq, Debug)]
-pub struct Profile {
-    number: u8,
-}
-
-impl Model for Profile {
-    ghost use Rattle.std.specs.Prelude.{ℕ};
-    ghost use Rattle.fab_types.specs.Limits.{IsProfile};
-
-    ghost Value = { ℕ };
-
-    ghost view = { λ p. p.number };
-
-    ghost invariant = { λ p. IsProfile p.number };
-
-    ghost inverse = { λ n. record { number = n } };
-}
-
-impl Profile {
-    /// The profile of this number. None unless it is 1.
-    pub fn new(number: u8) -> Option<Profile>
-        ensures accepted { IsSome result ↔ IsProfile number }
-        ensures value { IfSome result (λ p. p ≡ number) }
-    {
-        if number != 1 {
-            return None;
-        }
-        Some(Profile { number })
-    }
-
-    /// The number, which is 1.
-    pub fn get(self) -> u8
-        ensures value { result ≡ self }
-        ensures limits { IsProfile self }
-    {
-        self.number
-    }
-}
+use wasm_profile::Profile;
 
 /// How much fuel a call may spend: 1 to 10,000,000.
 #[derive(Clone, Copy, PartialEq, Eq, Debug)]
