@@ -47,7 +47,7 @@ pub(crate) fn commands<'a>(alloc: Global) -> Result<Command<'a>, AllocError> {
     let ledger = Command::new(alloc, "ledger")
         .no_binary_name(true)
         .subcommand_required(true);
-    let ledger = with_command(alloc, ledger, "check", &["MODULE"], &[])?;
+    let ledger = with_command(alloc, ledger, "check", &["MODULE"], &["profile"])?;
     let ledger = with_command(alloc, ledger, "sim", &call, &["nonce", "store"])?;
     let ledger = with_command(alloc, ledger, "run", &["GENESIS", "EVENTS"], &["store"])?;
     let ledger = with_command(

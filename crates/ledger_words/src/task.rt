@@ -6,6 +6,7 @@ use clap::error::ErrorKind;
 use fab_types::{Call, Name, Proposal, Value};
 use hex::{FromHex, FromHexError};
 use std::alloc::{AllocError, Global};
+use wasm_profile::Profile;
 
 /// How many rounds `threads` runs at most, and how many steps `trace` shows at most.
 const MOST_COUNT: u32 = 1_000;
@@ -13,8 +14,8 @@ const MOST_COUNT: u32 = 1_000;
 /// What the words ask for. Texts are names of files.
 #[derive(Drop)]
 pub enum Task<'a> {
-    /// Tell whether the bytes of a file are a valid module.
-    Check { module: &'a str },
+    /// Tell whether the bytes of a file are a valid module of a profile.
+    Check { module: &'a str, profile: Profile },
     /// Do this with the chaincodes, organisations and peers of a genesis.
     Work { genesis: &'a str, work: Work<'a> },
 }
@@ -82,8 +83,8 @@ impl From<clap::Error> for WordsFault {
 
 /// The task that the words name, the command first.
 ///
-/// Usage where they are no command, or a word is missing, left over, or no hex, count or name
-/// within its limits.
+/// Usage where they are no command, or a word is missing, left over, or no hex, count, name or
+/// profile within its limits.
 pub fn parse<'a>(alloc: Global, words: &'a [String]) -> Result<Task<'a>, WordsFault> {
     let matches = commands(alloc)?.try_get_matches_from(words)?;
     task_of(alloc, &matches)
@@ -96,7 +97,8 @@ fn task_of<'a>(alloc: Global, matches: &ArgMatches<'a>) -> Result<Task<'a>, Word
     };
     if name == "check" {
         let module = text(command, "MODULE")?;
-        return Ok(Task::Check { module });
+        let profile = profile(command.get_str("profile").unwrap_or("1"))?;
+        return Ok(Task::Check { module, profile });
     }
     let genesis = text(command, "GENESIS")?;
     let work = work_of(alloc, name, command)?;
@@ -142,6 +144,15 @@ fn text<'a>(matches: &ArgMatches<'a>, name: &str) -> Result<&'a str, WordsFault>
 fn count(digits: &str) -> Result<u32, WordsFault> {
     match digits.parse::<u32>() {
         Ok(count) if (1..=MOST_COUNT).contains(&count) => Ok(count),
+        _ => Err(WordsFault::Usage),
+    }
+}
+
+/// The profile of a number, which is `1` or `2`.
+fn profile(number: &str) -> Result<Profile, WordsFault> {
+    match number {
+        "1" => Ok(Profile::Core1),
+        "2" => Ok(Profile::SignExtension),
         _ => Err(WordsFault::Usage),
     }
 }

@@ -32,6 +32,12 @@ pub enum UnaryOp {
     Clz,
     Ctz,
     Popcnt,
+    /// The word with the signed reading of the low 8 bits (Core 2.0).
+    Extend8S,
+    /// The word with the signed reading of the low 16 bits (Core 2.0).
+    Extend16S,
+    /// The word with the signed reading of the low 32 bits (Core 2.0): of a word of 32 bits itself.
+    Extend32S,
 }
 
 /// A comparison of two words of one width, which gives 1 or 0 as a word of 32 bits.

@@ -53,7 +53,8 @@ fn remainder_signed(a: u32, b: u32) -> Result<u32, Trap>
     Ok(remainder.cast_unsigned())
 }
 
-/// A word from one: how many zeros it begins with, ends with, or how many ones it has, in binary.
+/// A word from one: how many zeros it begins with, ends with, or how many ones it has, in binary;
+/// or the word with the signed reading of its low 8 or 16 bits, or of all 32, which is itself.
 #[inline(always)]
 pub fn unary(op: UnaryOp, a: u32) -> u32
     ensures { result ≡ unary I32 op a }
@@ -62,6 +63,9 @@ pub fn unary(op: UnaryOp, a: u32) -> u32
         UnaryOp::Clz => a.leading_zeros(),
         UnaryOp::Ctz => a.trailing_zeros(),
         UnaryOp::Popcnt => a.count_ones(),
+        UnaryOp::Extend8S => i32::from(((a % (1 << 8)) as u8).cast_signed()).cast_unsigned(),
+        UnaryOp::Extend16S => i32::from(((a % (1 << 16)) as u16).cast_signed()).cast_unsigned(),
+        UnaryOp::Extend32S => a,
     }
 }
 

@@ -61,7 +61,8 @@ fn places(count: u64) -> u32
     (count % 64) as u32
 }
 
-/// A word from one: how many zeros it begins with, ends with, or how many ones it has, in binary.
+/// A word from one: how many zeros it begins with, ends with, or how many ones it has, in binary;
+/// or the word with the signed reading of its low 8, 16 or 32 bits.
 #[inline(always)]
 pub fn unary(op: UnaryOp, a: u64) -> u64
     ensures { result ≡ unary I64 op a }
@@ -70,6 +71,9 @@ pub fn unary(op: UnaryOp, a: u64) -> u64
         UnaryOp::Clz => u64::from(a.leading_zeros()),
         UnaryOp::Ctz => u64::from(a.trailing_zeros()),
         UnaryOp::Popcnt => u64::from(a.count_ones()),
+        UnaryOp::Extend8S => i64::from(((a % (1 << 8)) as u8).cast_signed()).cast_unsigned(),
+        UnaryOp::Extend16S => i64::from(((a % (1 << 16)) as u16).cast_signed()).cast_unsigned(),
+        UnaryOp::Extend32S => i64::from(((a % (1 << 32)) as u32).cast_signed()).cast_unsigned(),
     }
 }
 

@@ -1,7 +1,7 @@
 -- Each result is a word of its type, where the operands are words.
 use Rattle.std.proofs.Common.{◌≡◌, ℕ, zero, suc, ◌+◌, ◌-◌, ◌*◌, ◌/◌, ◌%◌, ◌^◌, ◌<◌, ◌≤◌, Bool, true, false, leb, nat_eq, nat_lt, bit_or, bit_xor, ℤ, pos}
 use Rattle.std.proofs.Common.{negsuc, neg_ℤ, ◌-ℤ◌, int_le, int_div, int_rem, if◌then◌else◌, Result, Ok, Err, IfOk, refl, sym, ap, subst, ◌∙◌, arith, mod-lt}
-use Rattle.std.proofs.Common.{lt_of_le_of_lt, le_of_lt, leb-false}
+use Rattle.std.proofs.Common.{lt_of_le_of_lt, le_of_lt, le_trans, leb-false, pow_pos, pow_mono}
 use Rattle.std.proofs.Math.Nat.{mod-le, div-le_self}
 use Rattle.std.proofs.lemmas.Int.{ints}
 use Rattle.std.specs.Int.{int_shr}
@@ -14,12 +14,12 @@ use Rattle.wasm_ast.specs.declared.trap.Trap.TheVariants.{DivideByZero, IntegerO
 use Rattle.wasm_ast.specs.declared.operators.BinaryOp.{BinaryOp}
 use Rattle.wasm_ast.specs.declared.operators.BinaryOp.TheVariants.{Add, Sub, Mul, DivS, DivU, RemS, RemU, And, Or, Xor, Shl, ShrS, ShrU, Rotl, Rotr}
 use Rattle.wasm_ast.specs.declared.operators.UnaryOp.{UnaryOp}
-use Rattle.wasm_ast.specs.declared.operators.UnaryOp.TheVariants.{Clz, Ctz, Popcnt}
+use Rattle.wasm_ast.specs.declared.operators.UnaryOp.TheVariants.{Clz, Ctz, Popcnt, Extend8S, Extend16S, Extend32S}
 use Rattle.wasm_ast.specs.declared.operators.CompareOp.{CompareOp}
 use Rattle.wasm_ast.specs.declared.operators.CompareOp.TheVariants.{Eq, Ne, LtS, LtU, GtS, GtU, LeS, LeU, GeS, GeU}
 use Rattle.wasm_ast.specs.declared.operators.ConvertOp.{ConvertOp}
 use Rattle.wasm_ast.specs.declared.operators.ConvertOp.TheVariants.{WrapI64, ExtendI32S, ExtendI32U}
-use Rattle.wasm_num.specs.Operators.{signed, unsigned, places, around, binary, unary, truth, compare, convert, operand_type, result_type}
+use Rattle.wasm_num.specs.Operators.{signed, unsigned, places, around, binary, unary, extended, truth, compare, convert, operand_type, result_type}
 use Rattle.wasm_num.specs.Laws.Rotations.{around_lt}
 use Rattle.wasm_num.specs.Laws.Digits.{sum_digits_le, zeros_before_digits_le, zeros_before_reverse_digits_le}
 
@@ -87,6 +87,19 @@ around_fits : (t : ValueType) (a k : ℕ) → k ≤ bits t → a < words t → a
 around_fits t a k h f =
     subst (λ (n : ℕ). (a * 2 ^ k) % n + (a * 2 ^ k) / n < n) (sym (words-is t)) (around_lt (bits t) k a h (below t a f))
 
+-- a number below w that is read as one from -w/2 on fits where w numbers do
+reading_fits : (t : ValueType) (w a : ℕ) (low : Bool) → a < w → w ≤ words t → unsigned t (if low then pos a else pos a -ℤ pos w) < words t
+reading_fits t w a true h k = omega (arith, h, k)
+reading_fits t w a false h k = subst (λ (z : ℤ). unsigned t z < words t) (sym (minus_words w a h)) (negative_fits t (w - suc a))
+
+-- 32 bits and fewer are those of a word
+up_to_32 : (t : ValueType) (m : ℕ) → m ≤ 32 → 2 ^ m ≤ words t
+up_to_32 I32 m h = pow_mono h
+up_to_32 I64 m h = le_trans (pow_mono h) (omega arith)
+
+extended_fits : (t : ValueType) (m a : ℕ) → 2 ^ m ≤ words t → extended t m a < words t
+extended_fits t m a k = reading_fits t (2 ^ m) (a % 2 ^ m) _ (mod-lt a (pow_pos m)) k
+
 -- ---- the operators
 
 pub binary_fits : (t : ValueType) (o : BinaryOp) (a b : ℕ) → a < words t → b < words t → IfOk (binary t o a b) (λ r. r < words t)
@@ -116,6 +129,9 @@ pub unary_fits : (t : ValueType) (o : UnaryOp) (a : ℕ) → a < words t → una
 unary_fits t Clz a h = bits_lt t _ (zeros_before_digits_le (bits t) a (below t a h))
 unary_fits t Ctz a h = bits_lt t _ (zeros_before_reverse_digits_le (bits t) a)
 unary_fits t Popcnt a h = bits_lt t _ (sum_digits_le (bits t) a (below t a h))
+unary_fits t Extend8S a h = extended_fits t 8 a (up_to_32 t 8 (omega arith))
+unary_fits t Extend16S a h = extended_fits t 16 a (up_to_32 t 16 (omega arith))
+unary_fits t Extend32S a h = extended_fits t 32 a (up_to_32 t 32 (omega arith))
 
 truth_fits : (b : Bool) → truth b < words I32
 truth_fits true = omega arith
@@ -133,12 +149,7 @@ compare_fits t LeU a b = truth_fits _
 compare_fits t GeS a b = truth_fits _
 compare_fits t GeU a b = truth_fits _
 
-extended_fits : (a : ℕ) (low : Bool) → a < words I32 → unsigned I64 (if low then pos a else pos a -ℤ pos (words I32)) < words I64
-extended_fits a true h = omega (arith, h)
-extended_fits a false h =
-    subst (λ (z : ℤ). unsigned I64 z < words I64) (sym (minus_words (words I32) a h)) (negative_fits I64 (words I32 - suc a))
-
 pub convert_fits : (o : ConvertOp) (a : ℕ) → a < words (operand_type o) → convert o a < words (result_type o)
 convert_fits WrapI64 a h = omega arith
-convert_fits ExtendI32S a h = extended_fits a (nat_lt a (words I32 / 2)) h
+convert_fits ExtendI32S a h = reading_fits I64 (words I32) a (nat_lt a (words I32 / 2)) h (omega arith)
 convert_fits ExtendI32U a h = omega (arith, h)
