@@ -42,14 +42,14 @@ built_all=true
 if find_rustc wasm32v1-none || find_rustc wasm32-unknown-unknown; then
     build_rust asset_register asset_register_rust
 else
-    echo "asset_register_rust is not built: no rustc has a target of WebAssembly. Install rustc and" \
-        "libstd-rust-dev-wasm32, or by rustup the target wasm32v1-none." >&2
+    echo "asset_register_rust is not built: no rustc has a target of WebAssembly. Install rustc" \
+        "and libstd-rust-dev-wasm32, or by rustup the target wasm32v1-none." >&2
     built_all=false
 fi
 
 # All keep to profile 1, which code of a compiler's own library might not.
 for module in *.wasm; do
-    wasm-validate --disable-sign-extension --disable-bulk-memory --disable-saturating-float-to-int \
-        --disable-multi-value --disable-reference-types --disable-simd "$module"
+    wasm-validate --disable-sign-extension --disable-bulk-memory --disable-multi-value \
+        --disable-saturating-float-to-int --disable-reference-types --disable-simd "$module"
 done
 $built_all

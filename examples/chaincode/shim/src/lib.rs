@@ -1,7 +1,7 @@
 //! What chaincode in Rust calls: the six functions of the module `fabric`, without allocation.
 //!
-//! A chaincode is a function that reads its argument and the committed state, and says what it writes and answers. What
-//! it reads comes into buffers of its own.
+//! A chaincode is a function that reads its argument and the committed state, and says what it
+//! writes and answers. What it reads comes into buffers of its own.
 //!
 //! ```
 //! enum Status {
@@ -37,8 +37,9 @@
 //! assert_eq!(ledger.call(invoke, b"pallet-8").status, 2);
 //! ```
 //!
-//! On `wasm32` the calls go to the ledger that runs the module. On any other target they go to `testing::Ledger`, so
-//! that `cargo test` tries a chaincode as it stands. docs/CHAINCODE.md says how to build one.
+//! On `wasm32` the calls go to the ledger that runs the module. On any other target they go to
+//! `testing::Ledger`, so that `cargo test` tries a chaincode as it stands. docs/CHAINCODE.md says
+//! how to build one.
 
 #![cfg_attr(target_arch = "wasm32", no_std)]
 #![warn(missing_docs)]
@@ -67,7 +68,8 @@ pub const MOST_LIMIT: usize = 64;
 /// Why a call of the ledger gave nothing. Unless it is `Capacity`, nothing was recorded either.
 #[derive(Clone, Copy, PartialEq, Eq, Debug)]
 pub enum Refusal {
-    /// -2: a key has not 1 to 64 bytes or begins with the byte 0, or a bound of a range has more than 64.
+    /// -2: a key has not 1 to 64 bytes or begins with the byte 0, or a bound of a range has more
+    /// than 64.
     Key,
     /// -3: one more key read than 256, key written than 64, or range than 16.
     Count,
@@ -75,12 +77,13 @@ pub enum Refusal {
     Length,
     /// -5: the limit of a range is not 1 to 64.
     Limit,
-    /// The buffer is too small for what was asked for, which has so many bytes. A key or a range counts as read.
+    /// The buffer is too small for what was asked for, which has so many bytes. A key or a range
+    /// counts as read.
     Capacity(usize),
 }
 
-/// The committed value of a key, also after this call wrote the key; `None` where the key is absent. Either way the key
-/// counts as read.
+/// The committed value of a key, also after this call wrote the key; `None` where the key is
+/// absent. Either way the key counts as read.
 ///
 /// Refused by `Key`, `Count` and `Capacity`.
 pub fn get<'a>(key: &[u8], buffer: &'a mut [u8]) -> Result<Option<&'a [u8]>, Refusal> {
@@ -115,9 +118,9 @@ pub fn delete(key: &[u8]) -> Result<(), Refusal> {
     done(host::del_state(key))
 }
 
-/// The first `limit` committed entries from the key `start` on, or from the first key where it is empty, and below the
-/// key `end`, or without a bound where it is empty. The range counts as read. [`capacity_for`] says how large a buffer
-/// has to be.
+/// The first `limit` committed entries from the key `start` on, or from the first key where it is
+/// empty, and below the key `end`, or without a bound where it is empty. The range counts as read.
+/// [`capacity_for`] says how large a buffer has to be.
 ///
 /// Refused by `Key`, `Limit`, `Count` and `Capacity`.
 pub fn range<'a>(
@@ -153,7 +156,8 @@ pub fn answer(bytes: &[u8]) -> Result<(), Refusal> {
     done(host::set_result(bytes))
 }
 
-/// The parts, one behind the other: a key of a prefix and a name, or a line of an answer. The ledger is not asked.
+/// The parts, one behind the other: a key of a prefix and a name, or a line of an answer. The
+/// ledger is not asked.
 ///
 /// Refused by `Capacity`.
 pub fn join<'a>(parts: &[&[u8]], buffer: &'a mut [u8]) -> Result<&'a [u8], Refusal> {
@@ -179,8 +183,8 @@ pub struct Entry<'a> {
 /// The entries of a range, by ascending keys.
 #[derive(Clone, Debug)]
 pub struct Entries<'a> {
-    /// For each entry that is left the key's length in one byte, the key, the value's length in two bytes, the least
-    /// first, and the value.
+    /// For each entry that is left the key's length in one byte, the key, the value's length in two
+    /// bytes, the least first, and the value.
     left: &'a [u8],
 }
 
@@ -204,8 +208,9 @@ fn first(bytes: &[u8], count: usize) -> Option<(&[u8], &[u8])> {
     Some((bytes.get(..count)?, bytes.get(count..)?))
 }
 
-/// Makes a function the module's `invoke`. It takes nothing and gives a `Result<(), S>`: `Ok` where the call is done,
-/// else its status, a number from `S: Into<i32>` that is not 0. A panic ends the run with trap 1 (unreachable).
+/// Makes a function the module's `invoke`. It takes nothing and gives a `Result<(), S>`: `Ok` where
+/// the call is done, else its status, a number from `S: Into<i32>` that is not 0. A panic ends the
+/// run with trap 1 (unreachable).
 #[macro_export]
 macro_rules! start {
     ($invoke:path) => {

@@ -1,8 +1,9 @@
 //! A ledger in memory, on which a chaincode's calls are tried natively.
 //!
-//! It answers as the ledger does: a call reads the committed state alone, also where it wrote before, keys that begin
-//! with the byte 0 are refused and stand in no range, and every limit counts. What it does not have is fuel, and memory
-//! that ends: a run of the module may be refused where a call here is done.
+//! It answers as the ledger does: a call reads the committed state alone, also where it wrote
+//! before, keys that begin with the byte 0 are refused and stand in no range, and every limit
+//! counts. What it does not have is fuel, and memory that ends: a run of the module may be refused
+//! where a call here is done.
 
 use crate::{ABSENT, BAD_COUNT, BAD_KEY, BAD_LENGTH, BAD_LIMIT};
 use crate::{MOST_KEY, MOST_LIMIT, MOST_RANGES, MOST_READ, MOST_VALUE, MOST_WRITTEN};
@@ -22,11 +23,13 @@ pub struct Ledger {
 /// How a call ended.
 #[derive(Clone, PartialEq, Eq, Debug)]
 pub struct Call {
-    /// What `invoke` answered: 0 where the call is done. Nothing is kept of any other, and the rest here is empty.
+    /// What `invoke` answered: 0 where the call is done. Nothing is kept of any other, and the rest
+    /// here is empty.
     pub status: i32,
     /// The result that the call set last.
     pub answer: Vec<u8>,
-    /// The keys that the call read, present and absent ones. Those of a range's entries are not among them.
+    /// The keys that the call read, present and absent ones. Those of a range's entries are not
+    /// among them.
     pub reads: BTreeSet<Vec<u8>>,
     /// What each key that the call wrote will have: a value, or `None` where it is deleted.
     pub writes: BTreeMap<Vec<u8>, Option<Vec<u8>>>,
@@ -60,7 +63,8 @@ impl Ledger {
 
     /// Calls `invoke` with this argument on the state, which stays as it is.
     ///
-    /// Panics where the argument has more than 4,096 bytes, where `invoke` does, or where it calls this.
+    /// Panics where the argument has more than 4,096 bytes, where `invoke` does, or where it calls
+    /// this.
     pub fn call<S: Into<i32>>(
         &self,
         invoke: impl FnOnce() -> Result<(), S>,
@@ -98,7 +102,8 @@ thread_local! {
     static RECORD: RefCell<Option<Record>> = const { RefCell::new(None) };
 }
 
-/// That a call runs on this thread. None runs any more when this is gone, also by a panic of the call.
+/// That a call runs on this thread. None runs any more when this is gone, also by a panic of the
+/// call.
 struct Running;
 
 impl Running {
