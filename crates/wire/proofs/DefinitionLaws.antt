@@ -1,19 +1,51 @@
 -- Definitions are read from their spelling alone.
-use Rattle.std.proofs.Common.{◌≡◌, ℕ, ◌≤◌, ◌<◌, ◌^◌, ◌++◌, ◌∷◌, [], ◌&&◌, true, leb, leb-true, le-leb, arith, List, length, Option, refl, append_assoc}
+use Rattle.std.proofs.Common.{◌≡◌, ℕ, ◌≤◌, ◌<◌, ◌^◌, ◌++◌, ◌∷◌, [], ◌&&◌, true, leb, leb-true, le-leb, eqb, cond, arith, List, length, Some, None}
+use Rattle.std.proofs.Common.{refl, ap, ap₂, ◌∙◌, append_assoc}
+use Rattle.std.proofs.lemmas.Bool.{eqb-true}
+use Rattle.std.proofs.lemmas.Option.{some_pair_parts}
 use Rattle.std.specs.List.{list_all}
 use Rattle.std.specs.Int.{w16, w32, to_be_bytes}
-use Rattle.grammar.specs.Reading.{byte_at}
-use Rattle.fab_types.specs.Limits.{IsProfile, IsFuel, IsPolicyText, is_policy_byte}
+use Rattle.grammar.specs.Reading.{◌>>=◌, byte_at}
+use Rattle.grammar.specs.Laws.Steps.{bind_some, chosen, byte_taken}
+use Rattle.wasm_profile.specs.Numbers.{number_of, profile_of}
+use Rattle.wasm_profile.specs.declared.profile.Profile.{Profile}
+use Rattle.wasm_profile.specs.declared.profile.Profile.TheVariants.{Core1, SignExtension}
+use Rattle.fab_types.specs.Limits.{IsFuel, IsPolicyText, is_policy_byte}
 use Rattle.fab_types.specs.declared.definition.Definition.{Definition}
 use Rattle.wire.specs.Spelling.{long_bytes, definition_bytes}
 use Rattle.wire.specs.Within.{IsDefinition}
 use Rattle.wire.specs.Reading.{pair_at, front_and_rest, number_at, text_at, between_at, profile_at, fuel_at, policy_text_at, definition_at}
 use Rattle.wire.proofs.Codec.{Codec, respelled, checked, pair, made}
-use Rattle.wire.proofs.Measured.{both, and_both, fixed, number16, number32, between, text}
+use Rattle.wire.proofs.Measured.{both, and_both, fixed, number16, number32, text}
 
-profile : Codec IsProfile (λ n. n ∷ []) profile_at
+numbered : (n : ℕ) (p : Profile) → profile_of n ≡ Some p → n ≡ number_of p
+numbered n p e =
+    chosen (eqb n 1) Core1 (cond (eqb n 2) (Some SignExtension) None) p (n ≡ number_of p) (λ one same. eqb-true n 1 one ∙ ap number_of same)
+    (chosen (eqb n 2) SignExtension None p (n ≡ number_of p) (λ two same. eqb-true n 2 two ∙ ap number_of same) (λ none. absurd (cc none)))
+    e
+
+abbrev AnyProfile : Profile → Type 0
+AnyProfile p = Unit {0}
+
+abbrev profile_bytes : Profile → List ℕ
+profile_bytes p = number_of p ∷ []
+
+profile_takes : (bytes : List ℕ) (p : Profile) (rest : List ℕ) → profile_at bytes ≡ Some (p, rest) → AnyProfile p × (bytes ≡ profile_bytes p ++ rest)
 unfolding profile_at
-profile = between 1 1
+profile_takes bytes p rest e =
+    let s = bind_some (byte_at bytes) (λ n. profile_of n.0 >>= λ p. Some (p, n.1)) (p, rest) e in
+    let t = bind_some (profile_of s.0.0) (λ p. Some (p, s.0.1)) (p, rest) s.2 in
+    let same = some_pair_parts t.0 p s.0.1 rest t.2 in
+    let number = numbered s.0.0 t.0 t.1 ∙ ap number_of same.0 in
+    (tt, byte_taken bytes s.0.0 s.0.1 s.1 ∙ ap₂ (λ (n : ℕ) (r : List ℕ). n ∷ r) number same.1)
+
+profile_again : (p : Profile) (rest : List ℕ) → AnyProfile p → profile_at (profile_bytes p ++ rest) ≡ Some (p, rest)
+unfolding profile_at
+profile_again Core1 rest k = refl
+profile_again SignExtension rest k = refl
+
+profile : Codec AnyProfile profile_bytes profile_at
+profile = record { takes = profile_takes; again = profile_again }
 
 fuel : Codec IsFuel (to_be_bytes w32) fuel_at
 unfolding fuel_at
@@ -49,16 +81,16 @@ abbrev Digest : List ℕ → Type 0
 Digest t = length t ≡ 32
 
 abbrev Parts : Type 0
-Parts = ℕ × (List ℕ × (ℕ × List ℕ))
+Parts = Profile × (List ℕ × (ℕ × List ℕ))
 
 abbrev parts : Definition → Parts
 parts d = (d.profile, (d.digest, (d.fuel, d.policy)))
 
 abbrev AreParts : Parts → Type 0
-AreParts p = IsProfile p.0 × (Digest p.1.0 × (IsFuel p.1.1.0 × IsPolicyText p.1.1.1))
+AreParts p = AnyProfile p.0 × (Digest p.1.0 × (IsFuel p.1.1.0 × IsPolicyText p.1.1.1))
 
 abbrev parts_bytes : Parts → List ℕ
-parts_bytes p = (p.0 ∷ []) ++ (p.1.0 ++ (to_be_bytes w32 p.1.1.0 ++ long_bytes p.1.1.1))
+parts_bytes p = profile_bytes p.0 ++ (p.1.0 ++ (to_be_bytes w32 p.1.1.0 ++ long_bytes p.1.1.1))
 
 four : (a b c d : List ℕ) → a ++ (b ++ (c ++ d)) ≡ a ++ b ++ c ++ d
 four a b c d = simp append_assoc
@@ -69,11 +101,11 @@ definition =
     let fuel_and_policy = λ (p : ℕ × List ℕ). IsFuel p.0 × IsPolicyText p.1 in
     let fuel_and_policy_bytes = λ (p : ℕ × List ℕ). to_be_bytes w32 p.0 ++ long_bytes p.1 in
     respelled (λ d. AreParts (parts d)) IsDefinition (λ d. parts_bytes (parts d)) definition_bytes definition_at
-    (λ d k. record { profile = k.0; digest = k.1.0; fuel = k.1.1.0; policy = k.1.1.1 }) (λ d k. (k.profile, (k.digest, (k.fuel, k.policy))))
-    (λ d. four (d.profile ∷ []) d.digest (to_be_bytes w32 d.fuel) (long_bytes d.policy))
+    (λ d k. record { digest = k.1.0; fuel = k.1.1.0; policy = k.1.1.1 }) (λ d k. (tt, (k.digest, (k.fuel, k.policy))))
+    (λ d. four (profile_bytes d.profile) d.digest (to_be_bytes w32 d.fuel) (long_bytes d.policy))
     (made (λ p. let made : Definition = record { profile = p.0; digest = p.1.0; fuel = p.1.1.0; policy = p.1.1.1 } in made) parts AreParts parts_bytes
     (pair_at profile_at (λ _. pair_at (front_and_rest 32) (λ _. pair_at fuel_at (λ _. policy_text_at)))) (λ p. refl) (λ d. refl)
-    (pair IsProfile (λ n. n ∷ []) profile_at (λ _ p. Digest p.0 × fuel_and_policy p.1) (λ p. p.0 ++ fuel_and_policy_bytes p.1)
+    (pair AnyProfile profile_bytes profile_at (λ _ p. Digest p.0 × fuel_and_policy p.1) (λ p. p.0 ++ fuel_and_policy_bytes p.1)
     (λ _. pair_at (front_and_rest 32) (λ _. pair_at fuel_at (λ _. policy_text_at))) profile
     (λ _. pair Digest (λ t. t) (front_and_rest 32) (λ _. fuel_and_policy) fuel_and_policy_bytes (λ _. pair_at fuel_at (λ _. policy_text_at)) (fixed 32)
     (λ _. pair IsFuel (to_be_bytes w32) fuel_at (λ _. IsPolicyText) long_bytes (λ _. policy_text_at) fuel (λ _. policy_text)))))
