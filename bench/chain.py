@@ -49,6 +49,7 @@ genesis = {
             "module": module.read_bytes().hex(),
             "policy": "OutOf(2, 'A', 'B', 'C')",
             "fuel": 100000,
+            "profile": 1,
         }
     ],
     "modules": [],

@@ -18,6 +18,7 @@ CHAINCODE = "assets"
 FIRST, SECOND = ((HERE / f"../chaincode/{name}.wasm").read_bytes() for name in ("asset_register", "asset_register_2"))
 TWO_OF_THREE = "OutOf(2, 'Maker', 'Carrier', 'Shop')"
 FUEL = 100000
+PROFILE = 1
 
 lines = []
 proposals = 0
@@ -42,9 +43,8 @@ def call(name, peers, argument):
 
 
 def upgrade(name, peers, module):
-    return begin(
-        name, peers, upgrade=CHAINCODE, module=hashlib.sha256(module).hexdigest(), fuel=FUEL, policy=TWO_OF_THREE
-    )
+    digest = hashlib.sha256(module).hexdigest()
+    return begin(name, peers, upgrade=CHAINCODE, module=digest, fuel=FUEL, policy=TWO_OF_THREE, profile=PROFILE)
 
 
 def finish(begun):
@@ -139,9 +139,10 @@ genesis = {
             "module": FIRST.hex(),
             "policy": TWO_OF_THREE,
             "fuel": FUEL,
+            "profile": PROFILE,
         }
     ],
-    "modules": [SECOND.hex()],
+    "modules": [{"module": SECOND.hex(), "profile": PROFILE}],
     "upgrade": TWO_OF_THREE,
 }
 (HERE / "genesis.json").write_text(json.dumps(genesis, indent=1) + "\n")

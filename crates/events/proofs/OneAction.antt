@@ -10,6 +10,9 @@ use Rattle.fab_types.specs.declared.definition.Definition.{Definition}
 use Rattle.fab_types.specs.declared.proposal.Call.{Call}
 use Rattle.fab_types.specs.declared.proposal.Upgrade.{Upgrade}
 use Rattle.fab_types.specs.declared.proposal.Proposal.TheVariants as proposal
+use Rattle.wasm_profile.specs.Numbers.{number_of}
+use Rattle.wasm_profile.specs.declared.profile.Profile.{Profile}
+use Rattle.wasm_profile.specs.declared.profile.Profile.TheVariants.{Core1, SignExtension}
 use Rattle.events.specs.declared.action.Action.{Action}
 use Rattle.events.specs.declared.action.Action.TheVariants.{Begin, Finish, SubmitEndorsed, SubmitBytes, Take, Tick, Commit}
 use Rattle.events.specs.Same.{AsksSame}
@@ -40,7 +43,7 @@ form_of (Commit peer) = 6
 
 of_its_form : (d : Data) (a : Action) → IsAction d a → form_in d ≡ form_of a
 of_its_form d (Begin peer seat (proposal.Call c)) h = ap form_in h.3
-of_its_form d (Begin peer seat (proposal.Upgrade u)) h = ap form_in h.5
+of_its_form d (Begin peer seat (proposal.Upgrade u)) h = ap form_in h.6
 of_its_form d (Finish peer seat name) h = ap form_in h
 of_its_form d (SubmitEndorsed names) h = ap form_in h.1
 of_its_form d (SubmitBytes bytes) h = ap form_in h.1
@@ -86,24 +89,31 @@ one_call d p q s t a b h k =
     let same = same_call a b (h.4.0 ∙ chaincode ∙ sym k.4.0) argument bytes in
     cc
 
-one_definition : (fuel : ℕ) (digest policy : List ℕ) (a b : Definition)
-    → IsDefinition fuel digest policy a → IsDefinition fuel digest policy b → a ≡ b
-one_definition fuel digest policy a b h k =
-    same_definition a b (h.0 ∙ sym k.0) (same_ok _ _ _ h.1 k.1) (h.2 ∙ sym k.2) (h.4 ∙ sym k.4)
+one_profile : (a b : Profile) → number_of a ≡ number_of b → a ≡ b
+one_profile Core1 Core1 e = refl
+one_profile Core1 SignExtension e = cc
+one_profile SignExtension Core1 e = cc
+one_profile SignExtension SignExtension e = refl
+
+one_definition : (fuel : ℕ) (digest policy : List ℕ) (profile : ℕ) (a b : Definition)
+    → IsDefinition fuel digest policy profile a → IsDefinition fuel digest policy profile b → a ≡ b
+one_definition fuel digest policy profile a b h k =
+    same_definition a b (one_profile _ _ (h.0 ∙ sym k.0)) (same_ok _ _ _ h.1 k.1) (h.2 ∙ sym k.2) (h.4 ∙ sym k.4)
 
 one_upgrade : (d : Data) (p q s t : ℕ) (a b : Upgrade) → IsBegun d p s (proposal.Upgrade a) → IsBegun d q t (proposal.Upgrade b)
     → Begin p s (proposal.Upgrade a) ≡ Begin q t (proposal.Upgrade b)
 one_upgrade d p q s t a b h k =
-    let e = sym h.5 ∙ k.5 in
+    let e = sym h.6 ∙ k.6 in
     let fuel : h.0 ≡ k.0 = cc in
     let digest : h.1 ≡ k.1 = cc in
     let nonce : h.2 ≡ k.2 = cc in
     let policy : h.3 ≡ k.3 = cc in
-    let chaincode : h.4 ≡ k.4 = cc in
-    let spelled : IsDefinition k.0 k.1 k.3 a.definition = rw (sym fuel, sym digest, sym policy) h.6.2 in
-    let definition = one_definition k.0 k.1 k.3 _ _ spelled k.6.2 in
-    let bytes = same_ok _ _ _ (subst (λ x. decode_sized x 16 ≡ Ok a.nonce) nonce h.6.3) k.6.3 in
-    let same = same_upgrade a b (h.6.0 ∙ chaincode ∙ sym k.6.0) definition bytes in
+    let profile : h.4 ≡ k.4 = cc in
+    let chaincode : h.5 ≡ k.5 = cc in
+    let spelled : IsDefinition k.0 k.1 k.3 k.4 a.definition = rw (sym fuel, sym digest, sym policy, sym profile) h.7.2 in
+    let definition = one_definition k.0 k.1 k.3 k.4 _ _ spelled k.7.2 in
+    let bytes = same_ok _ _ _ (subst (λ x. decode_sized x 16 ≡ Ok a.nonce) nonce h.7.3) k.7.3 in
+    let same = same_upgrade a b (h.7.0 ∙ chaincode ∙ sym k.7.0) definition bytes in
     cc
 
 one_list : (ds : Items) (xs ys : List (String Global)) → AreTexts ds xs → AreTexts ds ys → map string_bytes xs ≡ map string_bytes ys
@@ -120,8 +130,8 @@ one_list (item d ds) (x ∷ xs) (y ∷ ys) h k =
 
 one_action : (d : Data) (a b : Action) → IsAction d a → IsAction d b → form_of a ≡ form_of b → AsksSame a b
 one_action d (Begin p s (proposal.Call a)) (Begin q t (proposal.Call b)) h k same = one_call d p q s t a b h k
-one_action d (Begin p s (proposal.Call a)) (Begin q t (proposal.Upgrade b)) h k same = let e = sym h.3 ∙ k.5 in cc
-one_action d (Begin p s (proposal.Upgrade a)) (Begin q t (proposal.Call b)) h k same = let e = sym h.5 ∙ k.3 in cc
+one_action d (Begin p s (proposal.Call a)) (Begin q t (proposal.Upgrade b)) h k same = let e = sym h.3 ∙ k.6 in cc
+one_action d (Begin p s (proposal.Upgrade a)) (Begin q t (proposal.Call b)) h k same = let e = sym h.6 ∙ k.3 in cc
 one_action d (Begin p s (proposal.Upgrade a)) (Begin q t (proposal.Upgrade b)) h k same = one_upgrade d p q s t a b h k
 one_action d (Finish p s a) (Finish q t b) h k same = let e = sym h ∙ k in (a, cc, cc)
 one_action d (SubmitEndorsed a) (SubmitEndorsed b) h k same =

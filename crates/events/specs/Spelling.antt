@@ -12,6 +12,7 @@ use Rattle.fab_types.specs.declared.proposal.Call.{Call}
 use Rattle.fab_types.specs.declared.proposal.Proposal.{Proposal}
 use Rattle.fab_types.specs.declared.proposal.Proposal.TheVariants as proposal
 use Rattle.fab_types.specs.declared.proposal.Upgrade.{Upgrade}
+use Rattle.wasm_profile.specs.Numbers.{number_of}
 use Rattle.events.specs.declared.action.Action.{Action}
 use Rattle.events.specs.declared.action.Action.TheVariants.{Begin, Finish, SubmitEndorsed, SubmitBytes, Take, Tick, Commit}
 
@@ -28,15 +29,16 @@ abbrev pub IsCall : List ℕ → List ℕ → List ℕ → Call → Type 0
 IsCall arg chaincode nonce c =
     (c.chaincode ≡ chaincode) × IsName chaincode × IsArgument arg c.argument × (decode_sized nonce 16 ≡ Ok c.nonce)
 
--- the definition of a fuel and these texts; a digest has 32 bytes
-abbrev pub IsDefinition : ℕ → List ℕ → List ℕ → Definition → Type 0
-IsDefinition fuel digest policy d =
-    (d.profile ≡ 1) × (decode_sized digest 32 ≡ Ok d.digest) × (d.fuel ≡ fuel) × IsFuel fuel × (d.policy ≡ policy) × IsPolicyText policy
+-- the definition of a fuel, these texts and the number of a profile; a digest has 32 bytes
+abbrev pub IsDefinition : ℕ → List ℕ → List ℕ → ℕ → Definition → Type 0
+IsDefinition fuel digest policy profile d =
+    (number_of d.profile ≡ profile) × (decode_sized digest 32 ≡ Ok d.digest) × (d.fuel ≡ fuel) × IsFuel fuel
+    × (d.policy ≡ policy) × IsPolicyText policy
 
--- the upgrade of a fuel and these texts
-abbrev pub IsUpgrade : ℕ → List ℕ → List ℕ → List ℕ → List ℕ → Upgrade → Type 0
-IsUpgrade fuel digest nonce policy chaincode u =
-    (u.chaincode ≡ chaincode) × IsName chaincode × IsDefinition fuel digest policy u.definition × (decode_sized nonce 16 ≡ Ok u.nonce)
+-- the upgrade of a fuel, these texts and the number of a profile
+abbrev pub IsUpgrade : ℕ → List ℕ → List ℕ → List ℕ → ℕ → List ℕ → Upgrade → Type 0
+IsUpgrade fuel digest nonce policy profile chaincode u =
+    (u.chaincode ≡ chaincode) × IsName chaincode × IsDefinition fuel digest policy profile u.definition × (decode_sized nonce 16 ≡ Ok u.nonce)
 
 -- the strings that the items are
 abbrev pub AreTexts : Items → List (String Global) → Type 0
@@ -56,12 +58,13 @@ begin_object arg chaincode nonce peer seat =
     object (member (codes "arg") (string arg) (member (codes "chaincode") (string chaincode) (member (codes "do") (string (codes "begin"))
     (member (codes "nonce") (string nonce) (seat_members peer seat)))))
 
--- {"do":"begin", "fuel":141, "module":"..", "nonce":"..", "peer":0, "policy":"..", "seat":0, "upgrade":"kv"}
-abbrev pub upgrade_object : ℕ → List ℕ → List ℕ → ℕ → List ℕ → ℕ → List ℕ → Data
-upgrade_object fuel digest nonce peer policy seat chaincode =
+-- {"do":"begin", "fuel":141, "module":"..", "nonce":"..", "peer":0, "policy":"..", "profile":1, "seat":0, "upgrade":"kv"}
+abbrev pub upgrade_object : ℕ → List ℕ → List ℕ → ℕ → List ℕ → ℕ → ℕ → List ℕ → Data
+upgrade_object fuel digest nonce peer policy profile seat chaincode =
     object (member (codes "do") (string (codes "begin")) (member (codes "fuel") (number (unsigned fuel)) (member (codes "module") (string digest)
     (member (codes "nonce") (string nonce) (member (codes "peer") (number (unsigned peer)) (member (codes "policy") (string policy)
-    (member (codes "seat") (number (unsigned seat)) (member (codes "upgrade") (string chaincode) no_members))))))))
+    (member (codes "profile") (number (unsigned profile)) (member (codes "seat") (number (unsigned seat))
+    (member (codes "upgrade") (string chaincode) no_members)))))))))
 
 -- {"as":"e1", "do":"finish", "peer":0, "seat":0}
 abbrev pub finish_object : List ℕ → ℕ → ℕ → Data
@@ -88,8 +91,8 @@ abbrev pub IsBegun : Data → ℕ → ℕ → Proposal → Type 0
 IsBegun d peer seat (proposal.Call c) =
     (arg : List ℕ) × (chaincode : List ℕ) × (nonce : List ℕ) × (d ≡ begin_object arg chaincode nonce peer seat) × IsCall arg chaincode nonce c
 IsBegun d peer seat (proposal.Upgrade u) =
-    (fuel : ℕ) × (digest : List ℕ) × (nonce : List ℕ) × (policy : List ℕ) × (chaincode : List ℕ)
-    × (d ≡ upgrade_object fuel digest nonce peer policy seat chaincode) × IsUpgrade fuel digest nonce policy chaincode u
+    (fuel : ℕ) × (digest : List ℕ) × (nonce : List ℕ) × (policy : List ℕ) × (profile : ℕ) × (chaincode : List ℕ)
+    × (d ≡ upgrade_object fuel digest nonce peer policy profile seat chaincode) × IsUpgrade fuel digest nonce policy profile chaincode u
 
 -- the action that the data of a line spells
 abbrev pub IsAction : Data → Action → Type 0

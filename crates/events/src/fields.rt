@@ -84,6 +84,7 @@ pub(crate) struct UpgradeFields<'a> {
     pub digest: &'a str,
     pub nonce: &'a str,
     pub policy: &'a str,
+    pub profile: u64,
     pub chaincode: &'a str,
     pub place: Place,
 }
@@ -91,12 +92,12 @@ pub(crate) struct UpgradeFields<'a> {
 /// The fields of a begin of an upgrade. None where the line is of another form.
 pub(crate) fn upgrade_fields(value: &Value) -> Option<UpgradeFields<'_>>
     ensures { MatchOption result
-        ((fuel : ℕ) (digest nonce : List ℕ) (peer : ℕ) (policy : List ℕ) (seat : ℕ)
+        ((fuel : ℕ) (digest nonce : List ℕ) (peer : ℕ) (policy : List ℕ) (profile seat : ℕ)
         (chaincode : List ℕ) →
-        view value.now ≢ upgrade_object fuel digest nonce peer policy seat chaincode)
+        view value.now ≢ upgrade_object fuel digest nonce peer policy profile seat chaincode)
         (λ f. view value.now
-        ≡ upgrade_object f.fuel f.digest.now f.nonce.now f.place.peer f.policy.now f.place.seat
-        f.chaincode.now) }
+        ≡ upgrade_object f.fuel f.digest.now f.nonce.now f.place.peer f.policy.now f.profile
+        f.place.seat f.chaincode.now) }
 {
     let mut left = fields(value)?;
     if !take_word(&mut left, "do", "begin") {
@@ -105,6 +106,7 @@ pub(crate) fn upgrade_fields(value: &Value) -> Option<UpgradeFields<'_>>
     let (fuel, digest) = take_pair(&mut left, "fuel", "module")?;
     let nonce = take_text(&mut left, "nonce")?;
     let (peer, policy) = take_pair(&mut left, "peer", "policy")?;
+    let profile = take_number(&mut left, "profile")?;
     let (seat, chaincode) = take_pair(&mut left, "seat", "upgrade")?;
     if !is_end(&mut left) {
         return None;
@@ -114,6 +116,7 @@ pub(crate) fn upgrade_fields(value: &Value) -> Option<UpgradeFields<'_>>
         digest,
         nonce,
         policy,
+        profile,
         chaincode,
         place: Place { peer, seat },
     })

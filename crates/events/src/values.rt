@@ -1,17 +1,20 @@
 //! What the fields of a line hold.
 
-ghost use Rattle.std.specs.Prelude.{◌≡◌, ℕ, List, IfOk, IfErr, MatchOption};
+ghost use Rattle.std.specs.Prelude.{◌≡◌, ◌≢◌, ℕ, List, IfOk, IfErr, MatchOption};
 ghost use Rattle.serde_json.specs.View.{items_view};
 ghost use Rattle.fab_types.specs.Limits.{IsFuel, IsName, IsPolicyText};
+ghost use Rattle.wasm_profile.specs.Numbers.{number_of};
+ghost use Rattle.wasm_profile.specs.declared.profile.Profile.{Profile};
 ghost use Rattle.events.specs.Refused.{NoneIs};
 ghost use Rattle.events.specs.Spelling.{AreNames, AreTexts, IsArgument, IsCall, IsDefinition, IsHex, IsUpgrade};
 
 use crate::action::BadLine;
 use crate::fields::{BeginFields, UpgradeFields};
-use fab_types::{Call, Definition, Fuel, Name, PolicyText, Profile, Upgrade, Value as Bytes};
+use fab_types::{Call, Definition, Fuel, Name, PolicyText, Upgrade, Value as Bytes};
 use hex::{FromHex, FromHexError};
 use serde_json::Value;
 use std::alloc::Global;
+use wasm_profile::Profile;
 
 /// How many endorsements an envelope has at most.
 const MOST_NAMES: usize = 32;
@@ -95,18 +98,31 @@ fn fuel(units: u64) -> Option<Fuel>
     Fuel::new(u32::try_from(units).ok()?)
 }
 
-/// The definition of a fuel and these texts, by the one profile.
-fn definition(alloc: Global, units: u64, digest: &str, policy: &str) -> Result<Definition, BadLine>
-    ensures ok { IfOk result (λ d. IsDefinition units digest.now policy.now d) }
-    ensures refused { IfErr result (λ r. NoneIs (IsDefinition units digest.now policy.now) r) }
+/// The profile of a number.
+fn profile(number: u64) -> Option<Profile>
+    ensures { MatchOption result ((p : Profile) → number_of p ≢ number)
+        (λ p. number_of p ≡ number) }
 {
-    let (Some(profile), Some(fuel)) = (Profile::new(1), fuel(units)) else {
+    Profile::of_number(u8::try_from(number).ok()?)
+}
+
+/// The definition that the fields of a begin hold.
+fn definition(alloc: Global, fields: &UpgradeFields<'_>) -> Result<Definition, BadLine>
+    ensures ok { IfOk result
+        (λ d. IsDefinition fields.now.fuel fields.now.digest.now fields.now.policy.now
+        fields.now.profile d) }
+    ensures refused { IfErr result
+        (λ r. NoneIs
+        (IsDefinition fields.now.fuel fields.now.digest.now fields.now.policy.now
+        fields.now.profile) r) }
+{
+    let (Some(profile), Some(fuel)) = (profile(fields.profile), fuel(fields.fuel)) else {
         return Err(BadLine::NoForm);
     };
-    let Ok(digest) = <[u8; 32]>::from_hex(digest) else {
+    let Ok(digest) = <[u8; 32]>::from_hex(fields.digest) else {
         return Err(BadLine::NoForm);
     };
-    let policy = policy_text(alloc, policy)?;
+    let policy = policy_text(alloc, fields.policy)?;
     Ok(Definition {
         profile,
         digest,
@@ -119,17 +135,17 @@ fn definition(alloc: Global, units: u64, digest: &str, policy: &str) -> Result<D
 pub(crate) fn upgrade(alloc: Global, fields: &UpgradeFields<'_>) -> Result<Upgrade, BadLine>
     ensures ok { IfOk result
         (λ u. IsUpgrade fields.now.fuel fields.now.digest.now fields.now.nonce.now
-        fields.now.policy.now fields.now.chaincode.now u) }
+        fields.now.policy.now fields.now.profile fields.now.chaincode.now u) }
     ensures refused { IfErr result
         (λ r. NoneIs
         (IsUpgrade fields.now.fuel fields.now.digest.now fields.now.nonce.now
-        fields.now.policy.now fields.now.chaincode.now) r) }
+        fields.now.policy.now fields.now.profile fields.now.chaincode.now) r) }
 {
     let Ok(nonce) = <[u8; 16]>::from_hex(fields.nonce) else {
         return Err(BadLine::NoForm);
     };
     let chaincode = name(alloc, fields.chaincode)?;
-    let definition = definition(alloc, fields.fuel, fields.digest, fields.policy)?;
+    let definition = definition(alloc, fields)?;
     Ok(Upgrade {
         chaincode,
         definition,

@@ -29,7 +29,7 @@ same_names : (orgs : List (List ℕ)) (ds : Items) (cs : List Definition) → Ar
 same_names orgs no_items [] h = refl
 same_names orgs no_items (c ∷ cs) h = absurd h
 same_names orgs (item d ds) [] h = absurd h
-same_names orgs (item d ds) (c ∷ cs) h = rw (h.0.8, same_names orgs ds cs h.1) refl
+same_names orgs (item d ds) (c ∷ cs) h = rw (h.0.10, same_names orgs ds cs h.1) refl
 
 same_count : (cs : List Definition) → length (chaincodes_of cs) ≡ length cs
 same_count [] = refl
@@ -43,7 +43,7 @@ needed : (orgs : List (List ℕ)) (ds : Items) (cs : List Definition) → AreIte
 needed orgs no_items [] h = refl
 needed orgs no_items (c ∷ cs) h = absurd h
 needed orgs (item d ds) [] h = absurd h
-needed orgs (item d ds) (c ∷ cs) h = rw (policy_needed orgs c.policy.policy h.0.2 h.0.7, needed orgs ds cs h.1) refl
+needed orgs (item d ds) (c ∷ cs) h = rw (policy_needed orgs c.policy.policy h.0.2 h.0.9, needed orgs ds cs h.1) refl
 
 pub all_needed : (orgs : List (List ℕ)) (d : Data) (cs : List Definition) → IsListOf (IsDefinition orgs) 1 16 d cs → do_need_someone (policies_of cs) ≡ true
 all_needed orgs d cs h = needed orgs h.0 cs h.2

@@ -1,56 +1,95 @@
--- A chaincode of which a part is refused is no chaincode.
-use Rattle.std.proofs.Common.{◌≡◌, ℕ, List, Result, Ok, sym, ap, subst, ◌∙◌}
+-- A chaincode or a module of which a part is refused is none.
+use Rattle.std.proofs.Common.{◌≡◌, ℕ, List, Result, Ok, refl, sym, ap, subst, ◌∙◌, arith}
 use Rattle.hex.specs.declared.error.FromHexError.{FromHexError}
 use Rattle.serde_json.specs.Data.{Data, string}
+use Rattle.wasm_profile.specs.Numbers.{number_of}
+use Rattle.wasm_profile.specs.declared.profile.Profile.{Profile}
+use Rattle.wasm_profile.specs.declared.profile.Profile.TheVariants.{Core1, SignExtension}
 use Rattle.wasm_ast.specs.declared.module.Module.{Module}
 use Rattle.wasm_decode.specs.ModuleSpelling.{IsModule}
 use Rattle.wasm_validate.specs.ModuleRules.{IsValid}
-use Rattle.genesis.specs.declared.genesis.InstalledModule.{InstalledModule}
 use Rattle.genesis.specs.declared.refusal.GenesisRefusal.{GenesisRefusal}
-use Rattle.genesis.specs.Lists.{IsNumber}
+use Rattle.genesis.specs.Lists.{IsNumber, IsWithin}
 use Rattle.endorsement_policy.specs.Limits.{IsText}
 use Rattle.genesis.specs.Refused.{NoneIs}
-use Rattle.genesis.specs.Spelling.{IsDefinition, IsHex, IsHexModule, chaincode_object}
-use Rattle.json_fields.proofs.Rests.{members_in, rest, first, text_in}
+use Rattle.genesis.specs.Spelling.{IsDefinition, IsHex, IsHexModule, IsInstalled, IsModuleOf, IsProfile, chaincode_object, module_object}
+use Rattle.json_fields.proofs.Rests.{members_in, rest, rest_of_three, first, text_in}
 
 pub same_ok : (r : Result (List ℕ) FromHexError) (a b : List ℕ) → r ≡ Ok a → r ≡ Ok b → a ≡ b
 same_ok r a b e f = let h = sym e ∙ f in cc
 
-pub NoneIs-fuel : (orgs : List (List ℕ)) (d fuel : Data) (hex name policy : List ℕ) (r : GenesisRefusal)
-    → d ≡ chaincode_object fuel hex name policy → NoneIs (IsNumber 1 10000000 fuel) r → NoneIs (IsDefinition orgs d) r
-NoneIs-fuel orgs d fuel hex name policy r is none = (
+-- ---- profiles
+
+number_within : (p : Profile) → IsWithin 1 2 (number_of p)
+number_within Core1 = (omega arith, omega arith)
+number_within SignExtension = (omega arith, omega arith)
+
+-- a number out of 1 and 2 is of no profile
+pub NoneIs-profile : (d : Data) (r : GenesisRefusal) → NoneIs (IsNumber 1 2 d) r → NoneIs (IsProfile d) r
+NoneIs-profile d r none = (none.0, λ real p is. none.1 real (number_of p) (is, number_within p))
+
+pub one_profile : (d : Data) (p q : Profile) → IsProfile d p → IsProfile d q → p ≡ q
+one_profile d Core1 Core1 h k = refl
+one_profile d Core1 SignExtension h k = let e = sym h ∙ k in cc
+one_profile d SignExtension Core1 h k = let e = sym h ∙ k in cc
+one_profile d SignExtension SignExtension h k = refl
+
+-- ---- parts of a chaincode
+
+pub NoneIs-fuel : (orgs : List (List ℕ)) (d fuel : Data) (hex name policy : List ℕ) (profile : Data) (r : GenesisRefusal)
+    → d ≡ chaincode_object fuel hex name policy profile → NoneIs (IsNumber 1 10000000 fuel) r → NoneIs (IsDefinition orgs d) r
+NoneIs-fuel orgs d fuel hex name policy profile r is none = (
   none.0,
   λ real c spelled.
-      let same = ap (λ d. first (members_in d)) (sym spelled.3 ∙ is) in
-      none.1 real c.chaincode.fuel (subst (λ x. IsNumber 1 10000000 x c.chaincode.fuel) same spelled.4),
+      let same = ap (λ d. first (members_in d)) (sym spelled.4 ∙ is) in
+      none.1 real c.chaincode.fuel (subst (λ x. IsNumber 1 10000000 x c.chaincode.fuel) same spelled.5),
 )
 
-pub NoneIs-module : (orgs : List (List ℕ)) (d fuel : Data) (hex name policy : List ℕ) (r : GenesisRefusal)
-    → d ≡ chaincode_object fuel hex name policy → NoneIs (λ (m : InstalledModule). IsHexModule hex m.«module» m.digest) r → NoneIs (IsDefinition orgs d) r
-NoneIs-module orgs d fuel hex name policy r is none = (
+pub NoneIs-module : (orgs : List (List ℕ)) (d fuel : Data) (hex name policy : List ℕ) (profile : Data) (r : GenesisRefusal)
+    → d ≡ chaincode_object fuel hex name policy profile → NoneIs (IsModuleOf hex profile) r → NoneIs (IsDefinition orgs d) r
+NoneIs-module orgs d fuel hex name policy profile r is none = (
   none.0,
   λ real c spelled.
-      let same = ap (λ d. text_in (first (rest (members_in d)))) (sym spelled.3 ∙ is) in
-      none.1 real (record { «module» = c.chaincode.«module»; digest = c.digest })
-      (subst (λ x. IsHexModule x c.chaincode.«module» c.digest) same spelled.5),
+      let e = sym spelled.4 ∙ is in
+      let text = ap (λ d. text_in (first (rest (members_in d)))) e in
+      let number = ap (λ d. first (rest (rest_of_three (members_in d)))) e in
+      none.1 real (record { «module» = c.chaincode.«module»; id = c.id }) (
+        subst (λ n. IsProfile n c.id.profile) number spelled.6,
+        subst (λ x. IsHexModule x c.chaincode.«module» c.id) text spelled.7,
+      ),
 )
 
-pub NoneIs-policy : (orgs : List (List ℕ)) (d fuel : Data) (hex name policy : List ℕ) (r : GenesisRefusal)
-    → d ≡ chaincode_object fuel hex name policy → NoneIs (λ p. IsText orgs p policy) r → NoneIs (IsDefinition orgs d) r
-NoneIs-policy orgs d fuel hex name policy r is none = (
+pub NoneIs-policy : (orgs : List (List ℕ)) (d fuel : Data) (hex name policy : List ℕ) (profile : Data) (r : GenesisRefusal)
+    → d ≡ chaincode_object fuel hex name policy profile → NoneIs (λ p. IsText orgs p policy) r → NoneIs (IsDefinition orgs d) r
+NoneIs-policy orgs d fuel hex name policy profile r is none = (
   none.0,
   λ real c spelled.
-      let same = ap (λ d. text_in (first (rest (rest (rest (members_in d)))))) (sym spelled.3 ∙ is) in
-      none.1 real c.policy.policy (subst (λ x. IsText orgs c.policy.policy x) same spelled.7),
+      let same = ap (λ d. text_in (first (rest_of_three (members_in d)))) (sym spelled.4 ∙ is) in
+      none.1 real c.policy.policy (subst (λ x. IsText orgs c.policy.policy x) same spelled.9),
 )
 
--- where the bytes of a hex text spell no valid module, the text has none
-pub NoneIs-hex : (hex bytes : List ℕ) (r : GenesisRefusal) → IsHex hex bytes → NoneIs (λ (m : Module). IsModule m bytes × IsValid m) r →
-    NoneIs (λ (m : InstalledModule). IsHexModule hex m.«module» m.digest) r
-NoneIs-hex hex bytes r is none = (
+-- ---- modules
+
+-- where an object's hex is of no module by its profile, the object is none
+pub NoneIs-installed : (d : Data) (hex : List ℕ) (profile : Data) (r : GenesisRefusal)
+    → d ≡ module_object hex profile → NoneIs (IsModuleOf hex profile) r → NoneIs (IsInstalled d) r
+NoneIs-installed d hex profile r is none = (
   none.0,
   λ real m spelled.
-      none.1 real m.«module» (subst (λ bs. IsModule m.«module» bs) (same_ok _ spelled.0 bytes spelled.1 is) spelled.2, spelled.3),
+      let e = sym spelled.2 ∙ is in
+      let text = ap (λ d. text_in (first (members_in d))) e in
+      let number = ap (λ d. first (rest (members_in d))) e in
+      none.1 real m (subst (λ n. IsProfile n m.id.profile) number spelled.3, subst (λ x. IsHexModule x m.«module» m.id) text spelled.4),
+)
+
+-- where the bytes of a hex text spell no valid module of a profile, the text has none
+pub NoneIs-hex : (hex bytes : List ℕ) (d : Data) (profile : Profile) (r : GenesisRefusal) → IsHex hex bytes → IsProfile d profile
+    → NoneIs (λ (m : Module). IsModule profile m bytes × IsValid m) r → NoneIs (IsModuleOf hex d) r
+NoneIs-hex hex bytes d profile r is of none = (
+  none.0,
+  λ real m spelled.
+      let here = subst (λ bs. IsModule m.id.profile m.«module» bs) (same_ok _ spelled.1 bytes spelled.2 is) spelled.3 in
+      none.1 real m.«module» (subst (λ p. IsModule p m.«module» bytes) (one_profile d _ _ spelled.0 of) here, spelled.4),
 )
 
 -- where the text in a field is of no such kind, nor is the field

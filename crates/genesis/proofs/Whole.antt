@@ -3,6 +3,7 @@ use Rattle.std.proofs.Common.{◌≡◌, ℕ, zero, List, true, false, sym, ap, 
 use Rattle.endorsement_policy.proofs.Whole.{same}
 use Rattle.endorsement_policy.specs.GoodSets.{Names}
 use Rattle.endorsement_policy.specs.Limits.{IsText}
+use Rattle.endorsement_policy.specs.declared.installed.ModuleId.{ModuleId}
 use Rattle.endorsement_policy.specs.declared.policy.Policy.{Policy}
 use Rattle.endorsement_policy.specs.declared.rules.ChaincodePolicy.{ChaincodePolicy}
 use Rattle.endorsement_policy.specs.declared.rules.Organisation.{Organisation}
@@ -19,11 +20,11 @@ use Rattle.genesis.specs.declared.genesis.InstalledModule.{InstalledModule}
 use Rattle.genesis.specs.declared.refusal.GenesisRefusal.{GenesisRefusal}
 use Rattle.genesis.specs.Lists.{IsListOf}
 use Rattle.genesis.specs.Refused.{NoneIs}
-use Rattle.genesis.specs.Spelling.{AreOrganisations, IsBookOf, IsDefinition, IsGenesis, IsHex, IsHexModule, IsInstalled, IsOrganisation, IsPolicy, Parts}
+use Rattle.genesis.specs.Spelling.{AreOrganisations, IsBookOf, IsDefinition, IsGenesis, IsHex, IsHexModule, IsInstalled, IsOrganisation, IsPolicy, IsProfile, Parts}
 use Rattle.genesis.specs.Spelling.{are_different, book_of}
 use Rattle.genesis.specs.Spelling.{names_of, policies_of}
 use Rattle.genesis.proofs.Items.{IsListOf-same}
-use Rattle.genesis.proofs.Refusals.{same_ok}
+use Rattle.genesis.proofs.Refusals.{one_profile, same_ok}
 use Rattle.json_fields.proofs.Rests.{members_in, rest, rest_of_three, first, text_in}
 
 -- ---- what data spell is one value
@@ -51,16 +52,23 @@ number_in d = zero
 pub same_number : (a b : Data) (m n : ℕ) → a ≡ b → a ≡ number (unsigned m) → b ≡ number (unsigned n) → m ≡ n
 same_number a b m n e h k = ap number_in (sym h ∙ e ∙ k)
 
-one_hex_module : (hex : List ℕ) (a b : Module) (x y : List ℕ) → IsHexModule hex a x → IsHexModule hex b y → (a ≡ b) × (x ≡ y)
-one_hex_module hex a b x y h k =
+same_id : (a b : ModuleId) → a.digest ≡ b.digest → a.profile ≡ b.profile → a ≡ b
+same_id a b d p = ap (λ x. record a { digest = x }) d ∙ ap (λ x. record b { profile = x }) p
+
+one_hex_module : (hex : List ℕ) (a b : Module) (x y : ModuleId) → x.profile ≡ y.profile → IsHexModule hex a x → IsHexModule hex b y → (a ≡ b) × (x ≡ y)
+one_hex_module hex a b x y p h k =
     let bytes = same_ok _ h.0 k.0 h.1 k.1 in
-    (at_most_one k.0 a b (subst (λ bs. IsModule a bs) bytes h.2) k.2, h.4 ∙ ap sha256 bytes ∙ sym k.4)
+    let spelled = subst (λ q. IsModule q a k.0) p (subst (λ bs. IsModule x.profile a bs) bytes h.2) in
+    (at_most_one y.profile k.0 a b spelled k.2, same_id x y (h.4 ∙ ap sha256 bytes ∙ sym k.4) p)
 
 pub one_installed : (d : Data) (x y : InstalledModule) → IsInstalled d x → IsInstalled d y → x ≡ y
 one_installed d x y h k =
-    let text = ap text_in (sym h.1 ∙ k.1) in
-    let one = one_hex_module k.0 _ _ _ _ (subst (λ t. IsHexModule t x.«module» x.digest) text h.2) k.2 in
-    ap (λ m. record x { «module» = m }) one.0 ∙ ap (λ g. record y { digest = g }) one.1
+    let e = sym h.2 ∙ k.2 in
+    let text = ap (λ d. text_in (first (members_in d))) e in
+    let number = ap (λ d. first (rest (members_in d))) e in
+    let profile = one_profile k.1 _ _ (subst (λ n. IsProfile n x.id.profile) number h.3) k.3 in
+    let one = one_hex_module k.0 _ _ _ _ profile (subst (λ t. IsHexModule t x.«module» x.id) text h.4) k.4 in
+    ap (λ m. record x { «module» = m }) one.0 ∙ ap (λ i. record y { id = i }) one.1
 
 pub one_policy : (orgs : Names) (d : Data) (x y : Policy) → IsPolicy orgs d x → IsPolicy orgs d y → x ≡ y
 one_policy orgs d x y h k = same orgs k.0 _ _ (subst (λ t. IsText orgs x t) (ap text_in (sym h.1 ∙ k.1)) h.2) k.2
@@ -72,20 +80,22 @@ same_chaincode a b n m f =
 same_policy : (a b : ChaincodePolicy) → a.chaincode ≡ b.chaincode → a.policy ≡ b.policy → a ≡ b
 same_policy a b c p = ap (λ x. record a { chaincode = x }) c ∙ ap (λ x. record b { policy = x }) p
 
-same_definition : (a b : Definition) → a.chaincode ≡ b.chaincode → a.digest ≡ b.digest → a.policy ≡ b.policy → a ≡ b
-same_definition a b c g p =
-    ap (λ x. record a { chaincode = x }) c ∙ ap (λ x. record a { chaincode = b.chaincode; digest = x }) g ∙ ap (λ x. record b { policy = x }) p
+same_definition : (a b : Definition) → a.chaincode ≡ b.chaincode → a.id ≡ b.id → a.policy ≡ b.policy → a ≡ b
+same_definition a b c i p =
+    ap (λ x. record a { chaincode = x }) c ∙ ap (λ x. record a { chaincode = b.chaincode; id = x }) i ∙ ap (λ x. record b { policy = x }) p
 
 pub one_definition : (orgs : Names) (d : Data) (x y : Definition) → IsDefinition orgs d x → IsDefinition orgs d y → x ≡ y
 one_definition orgs d x y h k =
-    let e = sym h.3 ∙ k.3 in
+    let e = sym h.4 ∙ k.4 in
     let hex = ap (λ d. text_in (first (rest (members_in d)))) e in
     let name = ap (λ d. text_in (first (rest (rest (members_in d))))) e in
     let text = ap (λ d. text_in (first (rest_of_three (members_in d)))) e in
-    let one = one_hex_module k.1 _ _ _ _ (subst (λ t. IsHexModule t x.chaincode.«module» x.digest) hex h.5) k.5 in
-    let fuel = same_number h.0 k.0 _ _ (ap (λ d. first (members_in d)) e) h.4.0 k.4.0 in
-    let policy = same orgs k.2 _ _ (subst (λ t. IsText orgs x.policy.policy t) text h.7) k.7 in
-    same_definition x y (same_chaincode _ _ name one.0 fuel) one.1 (same_policy _ _ (h.8 ∙ name ∙ sym k.8) policy)
+    let number = ap (λ d. first (rest (rest_of_three (members_in d)))) e in
+    let profile = one_profile k.3 _ _ (subst (λ n. IsProfile n x.id.profile) number h.6) k.6 in
+    let one = one_hex_module k.1 _ _ _ _ profile (subst (λ t. IsHexModule t x.chaincode.«module» x.id) hex h.7) k.7 in
+    let fuel = same_number h.0 k.0 _ _ (ap (λ d. first (members_in d)) e) h.5.0 k.5.0 in
+    let policy = same orgs k.2 _ _ (subst (λ t. IsText orgs x.policy.policy t) text h.9) k.9 in
+    same_definition x y (same_chaincode _ _ name one.0 fuel) one.1 (same_policy _ _ (h.10 ∙ name ∙ sym k.10) policy)
 
 same_book : (orgs : Names) (d e : Data) (cs cs' : List Definition) (ms ms' : List InstalledModule) → IsListOf (IsDefinition orgs) 1 16 d cs
     → IsListOf (IsDefinition orgs) 1 16 d cs' → IsListOf IsInstalled 0 16 e ms → IsListOf IsInstalled 0 16 e ms' → book_of orgs cs ms ≡ book_of orgs cs' ms'

@@ -1,10 +1,12 @@
 -- What a genesis file spells, over the data that it is as JSON. A JSON object has each of its members
 -- once, in the order of their names; so an object with exactly some fields is written out in that order.
 use Rattle.std.specs.Prelude.{◌≡◌, ◌&&◌, ℕ, Bool, true, not, List, [], ◌∷◌, ◌++◌, map, codes, Some, Ok}
-use Rattle.serde_json.specs.Data.{Data, object, member, no_members, string, boolean}
+use Rattle.serde_json.specs.Data.{Data, object, member, no_members, string, boolean, number, unsigned}
 use Rattle.serde_json.specs.Read.{read}
 use Rattle.hex.specs.Hex.{decode_of}
 use Rattle.sha2.specs.Sha256.{sha256}
+use Rattle.wasm_profile.specs.Numbers.{number_of}
+use Rattle.wasm_profile.specs.declared.profile.Profile.{Profile}
 use Rattle.fab_types.specs.Limits.{IsName, IsOrgName}
 use Rattle.wasm_ast.specs.declared.module.Module.{Module}
 use Rattle.wasm_decode.specs.ModuleSpelling.{IsModule}
@@ -12,6 +14,7 @@ use Rattle.wasm_validate.specs.ModuleRules.{IsValid}
 use Rattle.endorsement_policy.specs.GoodSets.{Names, is_among}
 use Rattle.endorsement_policy.specs.Limits.{IsText}
 use Rattle.endorsement_policy.specs.TagKeys.{IsTagKey}
+use Rattle.endorsement_policy.specs.declared.installed.ModuleId.{ModuleId}
 use Rattle.endorsement_policy.specs.declared.policy.Policy.{Policy}
 use Rattle.endorsement_policy.specs.declared.rules.Organisation.{Organisation}
 use Rattle.endorsement_policy.specs.declared.rules.ChaincodePolicy.{ChaincodePolicy}
@@ -48,19 +51,31 @@ AreOrganisations d os = IsListOf IsOrganisation 1 16 d os × (are_different (nam
 abbrev pub IsPeer : List (List ℕ) → Data → List ℕ → Type 0
 IsPeer orgs d name = (d ≡ string name) × IsOrgName name × (is_among orgs name ≡ true)
 
--- {"fuel":71,"module":"..","name":"kv","policy":"'A'"}
-abbrev pub chaincode_object : Data → List ℕ → List ℕ → List ℕ → Data
-chaincode_object fuel hex name policy =
-    object (member (codes "fuel") fuel (member (codes "module") (string hex)
-    (member (codes "name") (string name) (member (codes "policy") (string policy) no_members))))
+-- {"fuel":71,"module":"..","name":"kv","policy":"'A'","profile":1}
+abbrev pub chaincode_object : Data → List ℕ → List ℕ → List ℕ → Data → Data
+chaincode_object fuel hex name policy profile =
+    object (member (codes "fuel") fuel (member (codes "module") (string hex) (member (codes "name") (string name)
+    (member (codes "policy") (string policy) (member (codes "profile") profile no_members)))))
 
--- the hex is of bytes that spell this module, which is valid, and that have this digest
-abbrev pub IsHexModule : List ℕ → Module → List ℕ → Type 0
-IsHexModule hex m digest = (bytes : List ℕ) × IsHex hex bytes × IsModule m bytes × IsValid m × (digest ≡ sha256 bytes)
+-- {"module":"..","profile":2}
+abbrev pub module_object : List ℕ → Data → Data
+module_object hex profile = object (member (codes "module") (string hex) (member (codes "profile") profile no_members))
 
--- "0061736d01..": one more module
+-- 1 or 2: the number of this profile
+abbrev pub IsProfile : Data → Profile → Type 0
+IsProfile d profile = d ≡ number (unsigned (number_of profile))
+
+-- the hex is of bytes that spell this module by the id's profile, which is valid, and that have the id's digest
+abbrev pub IsHexModule : List ℕ → Module → ModuleId → Type 0
+IsHexModule hex m id = (bytes : List ℕ) × IsHex hex bytes × IsModule id.profile m bytes × IsValid m × (id.digest ≡ sha256 bytes)
+
+-- the hex is of this module by the profile that the data name
+abbrev pub IsModuleOf : List ℕ → Data → InstalledModule → Type 0
+IsModuleOf hex profile m = IsProfile profile m.id.profile × IsHexModule hex m.«module» m.id
+
+-- one more module
 abbrev pub IsInstalled : Data → InstalledModule → Type 0
-IsInstalled d m = (hex : List ℕ) × (d ≡ string hex) × IsHexModule hex m.«module» m.digest
+IsInstalled d m = (hex : List ℕ) × (profile : Data) × (d ≡ module_object hex profile) × IsModuleOf hex profile m
 
 -- "'A'": a policy over these organisations
 abbrev pub IsPolicy : Names → Data → Policy → Type 0
@@ -68,16 +83,16 @@ IsPolicy orgs d policy = (text : List ℕ) × (d ≡ string text) × IsText orgs
 
 abbrev pub IsDefinition : List (List ℕ) → Data → Definition → Type 0
 IsDefinition orgs d c =
-    (fuel : Data) × (hex : List ℕ) × (policy : List ℕ)
-    × (d ≡ chaincode_object fuel hex c.chaincode.name policy)
-    × IsNumber 1 10000000 fuel c.chaincode.fuel × IsHexModule hex c.chaincode.«module» c.digest
+    (fuel : Data) × (hex : List ℕ) × (policy : List ℕ) × (profile : Data)
+    × (d ≡ chaincode_object fuel hex c.chaincode.name policy profile)
+    × IsNumber 1 10000000 fuel c.chaincode.fuel × IsProfile profile c.id.profile × IsHexModule hex c.chaincode.«module» c.id
     × IsName c.chaincode.name × IsText orgs c.policy.policy policy × (c.policy.chaincode ≡ c.chaincode.name)
 
 abbrev pub chaincodes_of : List Definition → List Chaincode
 chaincodes_of cs = map (λ (c : Definition). c.chaincode) cs
 
-abbrev pub digests_of : List Definition → List (List ℕ)
-digests_of cs = map (λ (c : Definition). c.digest) cs
+abbrev pub ids_of : List Definition → List ModuleId
+ids_of cs = map (λ (c : Definition). c.id) cs
 
 abbrev pub policies_of : List Definition → List ChaincodePolicy
 policies_of cs = map (λ (c : Definition). c.policy) cs
@@ -85,15 +100,15 @@ policies_of cs = map (λ (c : Definition). c.policy) cs
 abbrev pub more_modules_of : List InstalledModule → List Module
 more_modules_of ms = map (λ (m : InstalledModule). m.«module») ms
 
-abbrev pub more_digests_of : List InstalledModule → List (List ℕ)
-more_digests_of ms = map (λ (m : InstalledModule). m.digest) ms
+abbrev pub more_ids_of : List InstalledModule → List ModuleId
+more_ids_of ms = map (λ (m : InstalledModule). m.id) ms
 
 -- the book of these chaincodes and more modules, where policies name these organisations
 abbrev pub book_of : Names → List Definition → List InstalledModule → Book
 book_of orgs cs ms = record {
   chaincodes = chaincodes_of cs;
   modules = more_modules_of ms;
-  installed = record { digests = digests_of cs ++ more_digests_of ms; orgs = orgs };
+  installed = record { modules = ids_of cs ++ more_ids_of ms; orgs = orgs };
 }
 
 -- the book that the fields "chaincodes" and "modules" spell, and the policies of its chaincodes

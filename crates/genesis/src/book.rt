@@ -35,9 +35,9 @@ pub(crate) fn book(
     let reader = DefinitionReader { orgs: &orgs };
     let definitions = read_list(alloc, &reader, chaincodes, 1, MOST_CHAINCODES)?;
     let installed = read_list(alloc, &ModuleReader, modules, 0, MOST_MODULES)?;
-    let (chaincodes, digests, policies) = parted(alloc, definitions)?;
-    let (modules, digests) = modules_apart(alloc, installed, digests)?;
-    match Book::new(chaincodes, modules, Installed::new(digests, orgs)) {
+    let (chaincodes, ids, policies) = parted(alloc, definitions)?;
+    let (modules, ids) = modules_apart(alloc, installed, ids)?;
+    match Book::new(chaincodes, modules, Installed::new(ids, orgs)) {
         Some(book) => Ok((book, policies)),
         None => Err(GenesisRefusal::Names),
     }

@@ -6,7 +6,7 @@ ghost use Rattle.endorsement_policy.specs.Limits.{IsText};
 ghost use Rattle.serde_json.specs.View.{view};
 ghost use Rattle.genesis.specs.declared.refusal.GenesisRefusal.TheVariants.{Memory, Json};
 ghost use Rattle.genesis.specs.Refused.{NoneIs};
-ghost use Rattle.genesis.specs.Spelling.{IsPolicy, chaincodes_of, digests_of, policies_of};
+ghost use Rattle.genesis.specs.Spelling.{IsPolicy, chaincodes_of, ids_of, policies_of};
 
 use crate::each::ReadItem;
 use crate::fields::chaincode_fields;
@@ -14,7 +14,7 @@ use crate::genesis::{Definition, InstalledModule};
 use crate::modules::module;
 use crate::numbers::within;
 use crate::refusal::GenesisRefusal;
-use endorsement_policy::{ChaincodePolicy, Policy, PolicyFault, parse};
+use endorsement_policy::{ChaincodePolicy, ModuleId, Policy, PolicyFault, parse};
 use fab_types::limits::MOST_FUEL;
 use fab_types::{Name, OrgName};
 use serde_json::Value;
@@ -42,12 +42,12 @@ impl ReadItem for DefinitionReader<'_> {
         let Some(name) = Name::new(fields.name.as_bytes().to_vec(alloc)?) else {
             return Err(GenesisRefusal::Range);
         };
-        let InstalledModule { module, digest } = module(alloc, fields.hex)?;
+        let InstalledModule { module, id } = module(alloc, fields.hex, fields.profile)?;
         let policy = policy(alloc, fields.policy, self.orgs)?;
         let chaincode = name.clone()?;
         Ok(Definition {
             chaincode: Chaincode { name, module, fuel },
-            digest,
+            id,
             policy: ChaincodePolicy { chaincode, policy },
         })
     }
@@ -93,27 +93,27 @@ fn refusal_of_policy(fault: PolicyFault) -> GenesisRefusal
     }
 }
 
-/// The chaincodes, the digests of their modules and their policies, each apart.
+/// The chaincodes, the ids of their modules and their policies, each apart.
 pub(crate) fn parted(
     alloc: Global,
     definitions: Vec<Definition>,
-) -> Result<(Vec<Chaincode>, Vec<[u8; 32]>, Vec<ChaincodePolicy>), AllocError>
+) -> Result<(Vec<Chaincode>, Vec<ModuleId>, Vec<ChaincodePolicy>), AllocError>
     ensures { IfOk result (λ p. (p.0.items ≡ chaincodes_of definitions.items)
-        × (p.1.items ≡ digests_of definitions.items)
+        × (p.1.items ≡ ids_of definitions.items)
         × (p.2.items ≡ policies_of definitions.items)) }
 {
     let mut chaincodes = Vec::with_capacity(alloc, definitions.len())?;
-    let mut digests = Vec::with_capacity(alloc, definitions.len())?;
+    let mut ids = Vec::with_capacity(alloc, definitions.len())?;
     let mut policies = Vec::with_capacity(alloc, definitions.len())?;
     'definitions: for definition in definitions {
         let Definition {
             chaincode,
-            digest,
+            id,
             policy,
         } = definition;
         chaincodes.push(chaincode)?;
-        digests.push(digest)?;
+        ids.push(id)?;
         policies.push(policy)?;
     }
-    Ok((chaincodes, digests, policies))
+    Ok((chaincodes, ids, policies))
 }

@@ -1,6 +1,6 @@
 //! What a ledger begins with.
 
-use endorsement_policy::{ChaincodePolicy, Rules};
+use endorsement_policy::{ChaincodePolicy, ModuleId, Rules};
 use fab_types::OrgName;
 use simulator::{Book, Chaincode};
 use wasm_validate::ValidModule;
@@ -8,7 +8,8 @@ use wasm_validate::ValidModule;
 /// What a ledger begins with, as a genesis file says it.
 #[derive(Drop)]
 pub struct GenesisFile {
-    /// The chaincodes, 1 to 16, up to 16 more modules, and the digests of all of them.
+    /// The chaincodes, 1 to 16, up to 16 more modules, and the ids of all their modules, those of
+    /// the chaincodes first.
     pub book: Book,
     /// The organisations, 1 to 16 of different names, with their keys; the policy of each
     /// chaincode of the book, in the book's order; the policy of upgrades; and what the book has
@@ -30,12 +31,11 @@ pub struct GenesisFile {
     pub reorder: bool,
 }
 
-/// One chaincode with the digest of its module and its policy, as the file has it.
+/// One chaincode with the id of its module and its policy, as the file has it.
 #[derive(Drop)]
 pub(crate) struct Definition {
     pub chaincode: Chaincode,
-    /// The SHA-256 of the module's bytes.
-    pub digest: [u8; 32],
+    pub id: ModuleId,
     pub policy: ChaincodePolicy,
 }
 
@@ -43,6 +43,6 @@ pub(crate) struct Definition {
 #[derive(Drop)]
 pub(crate) struct InstalledModule {
     pub module: ValidModule,
-    /// The SHA-256 of the module's bytes.
-    pub digest: [u8; 32],
+    /// The SHA-256 of the module's bytes, and the profile by which they are read.
+    pub id: ModuleId,
 }

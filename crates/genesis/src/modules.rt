@@ -1,6 +1,7 @@
 //! The modules.
 
 ghost use Rattle.std.specs.Prelude.{◌≡◌, ◌≢◌, ◌++◌, IfOk, IfErr};
+ghost use Rattle.serde_json.specs.View.{view};
 ghost use Rattle.wasm_ast.specs.declared.module.Module.{Module};
 ghost use Rattle.wasm_decode.specs.ModuleSpelling.{IsModule};
 ghost use Rattle.wasm_validate.specs.ModuleRules.{IsValid};
@@ -8,16 +9,19 @@ ghost use Rattle.wasm_validate.specs.declared.fault.ValidateFault.{ValidateFault
 ghost use Rattle.genesis.specs.declared.genesis.InstalledModule.{InstalledModule};
 ghost use Rattle.genesis.specs.declared.refusal.GenesisRefusal.TheVariants.{Memory, Json};
 ghost use Rattle.genesis.specs.Refused.{NoneIs};
-ghost use Rattle.genesis.specs.Spelling.{IsHexModule, more_digests_of, more_modules_of};
+ghost use Rattle.genesis.specs.Spelling.{IsModuleOf, more_ids_of, more_modules_of};
 
 use crate::each::ReadItem;
+use crate::fields::module_fields;
 use crate::genesis::InstalledModule;
-use crate::numbers::bytes_of;
+use crate::numbers::{bytes_of, profile};
 use crate::refusal::GenesisRefusal;
+use endorsement_policy::ModuleId;
 use serde_json::Value;
 use sha2::{Digest, Sha256};
 use std::alloc::{AllocError, Global};
-use wasm_decode::{DecodeFault, decode};
+use wasm_decode::{DecodeFault, decode_as};
+use wasm_profile::Profile;
 use wasm_validate::{ValidModule, ValidateFault, validate};
 
 /// Reads a module.
@@ -32,32 +36,38 @@ impl ReadItem for ModuleReader {
     ghost spells = { λ _. IsInstalled };
 
     fn read(&self, alloc: Global, value: &Value) -> Result<InstalledModule, GenesisRefusal> {
-        match json_fields::text(value) {
-            Some(hex) => module(alloc, hex),
+        match module_fields(value) {
+            Some(fields) => module(alloc, fields.hex, fields.profile),
             None => Err(GenesisRefusal::Field),
         }
     }
 }
 
-/// The valid module whose bytes are written in hex, with their digest.
-pub(crate) fn module(alloc: Global, hex: &str) -> Result<InstalledModule, GenesisRefusal>
-    ensures ok { IfOk result (λ m. IsHexModule hex.now m.module m.digest) }
-    ensures refused { IfErr result
-        (λ r. NoneIs (λ (m : InstalledModule). IsHexModule hex.now m.module m.digest) r) }
+/// The valid module whose bytes are written in hex, read by the profile that a field holds, with
+/// what it is known by.
+pub(crate) fn module(
+    alloc: Global,
+    hex: &str,
+    number: &Value,
+) -> Result<InstalledModule, GenesisRefusal>
+    ensures ok { IfOk result (λ m. IsModuleOf hex.now (view number.now) m) }
+    ensures refused { IfErr result (λ r. NoneIs (IsModuleOf hex.now (view number.now)) r) }
 {
+    let profile = profile(number)?;
     let bytes = bytes_of(alloc, hex)?;
-    let module = module_in(alloc, &bytes)?;
+    let module = module_in(alloc, &bytes, profile)?;
     let digest = Sha256::digest(bytes.as_slice());
-    Ok(InstalledModule { module, digest })
+    let id = ModuleId { digest, profile };
+    Ok(InstalledModule { module, id })
 }
 
-/// The valid module that bytes spell.
-fn module_in(alloc: Global, bytes: &[u8]) -> Result<ValidModule, GenesisRefusal>
-    ensures ok { IfOk result (λ m. IsModule m bytes.now × IsValid m) }
+/// The valid module of a profile that bytes spell.
+fn module_in(alloc: Global, bytes: &[u8], profile: Profile) -> Result<ValidModule, GenesisRefusal>
+    ensures ok { IfOk result (λ m. IsModule profile m bytes.now × IsValid m) }
     ensures refused { IfErr result
-        (λ r. NoneIs (λ (m : Module). IsModule m bytes.now × IsValid m) r) }
+        (λ r. NoneIs (λ (m : Module). IsModule profile m bytes.now × IsValid m) r) }
 {
-    let module = match decode(alloc, bytes) {
+    let module = match decode_as(alloc, bytes, profile) {
         Ok(module) => module,
         Err(DecodeFault::Memory) => return Err(GenesisRefusal::Memory),
         Err(DecodeFault::Malformed(..)) => return Err(GenesisRefusal::Module),
@@ -79,21 +89,21 @@ fn refusal_of_module(fault: ValidateFault) -> GenesisRefusal
     }
 }
 
-/// The modules apart from their digests, which come behind those that are given.
+/// The modules apart from their ids, which come behind those that are given.
 pub(crate) fn modules_apart(
     alloc: Global,
     installed: Vec<InstalledModule>,
-    digests: Vec<[u8; 32]>,
-) -> Result<(Vec<ValidModule>, Vec<[u8; 32]>), AllocError>
+    ids: Vec<ModuleId>,
+) -> Result<(Vec<ValidModule>, Vec<ModuleId>), AllocError>
     ensures { IfOk result (λ p. (p.0.items ≡ more_modules_of installed.items)
-        × (p.1.items ≡ digests.items ++ more_digests_of installed.items)) }
+        × (p.1.items ≡ ids.items ++ more_ids_of installed.items)) }
 {
     let mut modules = Vec::with_capacity(alloc, installed.len())?;
-    let mut digests = digests;
+    let mut ids = ids;
     'modules: for each in installed {
-        let InstalledModule { module, digest } = each;
+        let InstalledModule { module, id } = each;
         modules.push(module)?;
-        digests.push(digest)?;
+        ids.push(id)?;
     }
-    Ok((modules, digests))
+    Ok((modules, ids))
 }

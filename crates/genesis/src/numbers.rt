@@ -1,16 +1,17 @@
-//! Numbers, truth values and hex.
+//! Numbers, profiles, truth values and hex.
 
 ghost use Rattle.std.specs.Prelude.{◌≡◌, IfOk, IfErr};
 ghost use Rattle.serde_json.specs.Data.{boolean};
 ghost use Rattle.serde_json.specs.View.{view};
 ghost use Rattle.genesis.specs.Lists.{IsNumber};
 ghost use Rattle.genesis.specs.Refused.{NoneIs};
-ghost use Rattle.genesis.specs.Spelling.{IsHex};
+ghost use Rattle.genesis.specs.Spelling.{IsHex, IsProfile};
 
 use crate::refusal::GenesisRefusal;
 use hex::FromHexError;
 use serde_json::Value;
 use std::alloc::Global;
+use wasm_profile::Profile;
 
 /// A whole number from the least to the greatest. Of the wrong kind where the value is no number,
 /// out of range where it is another one.
@@ -38,6 +39,15 @@ pub(crate) fn size_within(
         Ok(n) => Ok(n as usize),
         Err(refusal) => Err(refusal),
     }
+}
+
+/// The profile that a field names, whose number is read as `within` reads it.
+pub(crate) fn profile(value: &Value) -> Result<Profile, GenesisRefusal>
+    ensures ok { IfOk result (λ p. IsProfile (view value.now) p) }
+    ensures refused { IfErr result (λ r. NoneIs (IsProfile (view value.now)) r) }
+{
+    let number = within(value, 1, 2)?;
+    Profile::of_number(number as u8).ok_or(GenesisRefusal::Range)
 }
 
 /// The truth value that a field holds.

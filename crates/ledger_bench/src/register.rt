@@ -4,11 +4,12 @@ ghost use Rattle.std.specs.Prelude.{◌≡◌, ◌+◌, length, IfOk};
 
 use crate::blocks::{envelope_of, judge, next_number};
 use crate::failure::Failure;
-use endorsement_policy::Installed;
+use endorsement_policy::{Installed, ModuleId};
 use fab_types::{Block, BlockData, Call, Flag, Header, Name, Proposal, Value};
 use simulator::{Book, Chaincode, simulate};
 use std::alloc::Global;
 use wasm_decode::decode;
+use wasm_profile::Profile;
 use wasm_validate::validate;
 use world_state::Snapshot;
 
@@ -74,7 +75,11 @@ fn book_of(alloc: Global, bytes: &[u8]) -> Result<Book, Failure> {
         fuel: 10_000_000,
     };
     let chaincodes = vec![in alloc; chaincode]?;
-    let installed = Installed::new(vec![in alloc; [0; 32]]?, Vec::new(alloc));
+    let id = ModuleId {
+        digest: [0; 32],
+        profile: Profile::Core1,
+    };
+    let installed = Installed::new(vec![in alloc; id]?, Vec::new(alloc));
     Book::new(chaincodes, Vec::new(alloc), installed).ok_or(Failure::Limit)
 }
 

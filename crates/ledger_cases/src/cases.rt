@@ -12,6 +12,7 @@ use crate::genesis_files::genesis_file;
 use crate::policies::{show_endorsed, show_policy, show_satisfied};
 use crate::simulations::simulate_calls;
 use std::alloc::{AllocError, Global};
+use wasm_profile::Profile;
 
 /// The answer to a line: a comment itself, what a case gives, or its fault.
 pub fn answer(alloc: Global, line: &str) -> Result<String, AllocError> {
@@ -53,7 +54,8 @@ fn answer_case(alloc: Global, line: &str) -> Result<String, CaseFault> {
         "get" => show_key(alloc, rest),
         "range" => show_range(alloc, rest),
         "call" => call_host(alloc, rest),
-        "simulate" => simulate_calls(alloc, rest),
+        "simulate" => simulate_calls(alloc, rest, Profile::Core1),
+        "simulate2" => simulate_calls(alloc, rest, Profile::SignExtension),
         _ => Err(CaseFault::BadLine),
     }
 }

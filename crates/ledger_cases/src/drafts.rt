@@ -3,11 +3,12 @@
 use crate::bytes::from_digits;
 use crate::fault::CaseFault;
 use fab_types::{
-    Bound, Call, Definition, Endorsements, Envelope, Fuel, Key, Name, Payload, PolicyText, Profile,
+    Bound, Call, Definition, Endorsements, Envelope, Fuel, Key, Name, Payload, PolicyText,
     Proposal, RangeEntry, RangeItem, Ranges, ReadItem, ReadSet, Upgrade, Value, Version, WriteItem,
     WriteSet,
 };
 use std::alloc::Global;
+use wasm_profile::Profile;
 
 /// A transaction as its words say it.
 #[derive(Drop)]
@@ -51,8 +52,7 @@ impl Draft {
             "d" => self.writes.push(delete_item(alloc, text)?)?,
             "n" => self.nonce = [number_of(text)?; 16],
             "e" => self.endorsed = text != "no",
-            "u" => self.definition = Some(definition_of(alloc, text)?),
-            _ => return Err(CaseFault::BadLine),
+            _ => self.definition = Some(definition_of(alloc, kind, text)?),
         }
         Ok(())
     }
@@ -97,8 +97,17 @@ pub fn proposal_of(
     })
 }
 
-/// `BYTE,FUEL,POLICY`, where each byte of the digest is the same.
-pub fn definition_of(alloc: Global, text: &str) -> Result<Definition, CaseFault> {
+/// The profile of an upgrade's first word: `u` for 1, `u2` for 2.
+fn profile_of(kind: &str) -> Result<Profile, CaseFault> {
+    match kind {
+        "u" => Ok(Profile::Core1),
+        "u2" => Ok(Profile::SignExtension),
+        _ => Err(CaseFault::BadLine),
+    }
+}
+
+/// `BYTE,FUEL,POLICY` behind such a word, where each byte of the digest is the same.
+pub fn definition_of(alloc: Global, kind: &str, text: &str) -> Result<Definition, CaseFault> {
     let (byte, rest) = text.split_once(',').ok_or(CaseFault::BadLine)?;
     let (fuel, policy) = rest.split_once(',').ok_or(CaseFault::BadLine)?;
     let Ok(fuel) = fuel.parse::<u32>() else {
@@ -106,7 +115,7 @@ pub fn definition_of(alloc: Global, text: &str) -> Result<Definition, CaseFault>
     };
     let policy = Vec::from_slice(alloc, policy.as_bytes())?;
     Ok(Definition {
-        profile: Profile::new(1).ok_or(CaseFault::BadLine)?,
+        profile: profile_of(kind)?,
         digest: [number_of(byte)?; 32],
         fuel: Fuel::new(fuel).ok_or(CaseFault::BadLine)?,
         policy: PolicyText::new(policy).ok_or(CaseFault::BadLine)?,

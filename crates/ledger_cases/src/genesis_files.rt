@@ -2,6 +2,7 @@
 
 use genesis::{GenesisFile, read_genesis};
 use std::alloc::{AllocError, Global};
+use wasm_profile::Profile;
 
 /// The answer of a case.
 pub fn genesis_file(alloc: Global, text: &str) -> Result<String, AllocError> {
@@ -41,14 +42,17 @@ fn numbers(alloc: Global, genesis: &GenesisFile) -> Result<String, AllocError> {
     )
 }
 
-/// The digests in hex, with commas between them.
+/// The digests in hex, with `/2` behind those of profile 2, and commas between them.
 fn installed(alloc: Global, genesis: &GenesisFile) -> Result<String, AllocError> {
     let mut text = String::new(alloc);
-    for digest in genesis.book.installed().digests() {
+    for id in genesis.book.installed().modules() {
         if !text.is_empty() {
             text.push(',')?;
         }
-        text.push_str(&hex::encode(alloc, digest)?)?;
+        text.push_str(&hex::encode(alloc, id.digest)?)?;
+        if id.profile == Profile::SignExtension {
+            text.push_str("/2")?;
+        }
     }
     Ok(text)
 }

@@ -18,9 +18,9 @@
 //!   or its fault; `satisfied NAMES NAMES TEXT`: whether the organisations named second satisfy it;
 //! - `endorsed NAMES TAGS TEXT`: whether an envelope with these tags is endorsed, each `NAME/KEY`:
 //!   by name, under the key of another, which is its name. The text is the policy of calls and of
-//!   upgrades, and of modules one is installed, whose digest has the byte 7. The envelope's
-//!   transaction calls `kv` and reads its definition as absent; ` | WORDS` behind the text is
-//!   another one, and ` / CHAIN` behind these a chain by whose state it is judged.
+//!   upgrades, and of modules one is installed, of profile 1, whose digest has the byte 7. The
+//!   envelope's transaction calls `kv` and reads its definition as absent; ` | WORDS` behind the text
+//!   is another one, and ` / CHAIN` behind these a chain by whose state it is judged.
 //!
 //! `event TEXT` tells what a line of an events file asks for, with bytes in hex and `-` for none,
 //! and `genesis TEXT` what the genesis has that the text spells, or why it spells none.
@@ -28,10 +28,11 @@
 //! A transaction is words: `r:KEY@BLOCK.PLACE` and `r:KEY@-` for a key read and its version or
 //! absence, `q:START..END*LIMIT=KEY@BLOCK.PLACE,..` for a range with the entries seen,
 //! `w:KEY=VALUE` and `d:KEY` for a key put and deleted, `n:BYTE` for its nonce, `e:no` for one that
-//! is not endorsed, and `u:BYTE,FUEL,POLICY` for an upgrade of `kv` to the module whose digest has
-//! this byte alone, in place of a call. Bytes are written as they are where all of them are printed characters or
-//! blanks, and else in hex behind `0x`. Transactions stand between ` | ` in a block, and blocks
-//! between ` / ` in a chain. Where no nonce is said, each has its own.
+//! is not endorsed, and `u:BYTE,FUEL,POLICY` for an upgrade of `kv` to the module of profile 1
+//! whose digest has this byte alone, in place of a call; `u2:` in place of `u:` is for profile 2.
+//! Bytes are written as they are where all of them are printed characters or blanks, and else in
+//! hex behind `0x`. Transactions stand between ` | ` in a block, and blocks between ` / ` in a
+//! chain. Where no nonce is said, each has its own.
 //!
 //! - `flags CHAIN`: the flags of each block, each judged after those before it;
 //! - `state CHAIN`, `get KEY CHAIN`, `range START..END*LIMIT CHAIN`: the state after the chain so
@@ -40,9 +41,9 @@
 //!   that the writes leave, the memory after them, where it changed, and what was recorded. The
 //!   argument and the memory are in hex, and a call is its name and its numbers;
 //! - `simulate NAME FUEL HEX | ARGUMENT | ..`: the payload or the refusal of each call of `kv` by
-//!   the book that has the module under a name, on the state that the earlier calls leave. What
-//!   begins with `u:` is an upgrade, as above: the module's digest has the byte 7, and `A` is an
-//!   organisation.
+//!   the book that has the module of profile 1 under a name, on the state that the earlier calls
+//!   leave; `simulate2 ..` the same of profile 2. What begins with `u:` or `u2:` is an upgrade, as
+//!   above: the module's digest has the byte 7, and `A` is an organisation.
 #![tactic(auto)]
 
 mod bytes;

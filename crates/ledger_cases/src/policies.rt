@@ -5,12 +5,13 @@ use crate::chains::state_after;
 use crate::drafts::{Draft, chaincode_name};
 use crate::fault::CaseFault;
 use endorsement_policy::{
-    ChaincodePolicy, Installed, OrgSet, Organisation, Policy, Rules, TagKey, is_endorsed, parse,
-    satisfied,
+    ChaincodePolicy, Installed, ModuleId, OrgSet, Organisation, Policy, Rules, TagKey, is_endorsed,
+    parse, satisfied,
 };
 use fab_types::{Endorsement, Endorsements, Envelope, OrgName};
 use hmac_tag::tag;
 use std::alloc::Global;
+use wasm_profile::Profile;
 use wire::encode_payload;
 use world_state::Snapshot;
 
@@ -89,9 +90,18 @@ fn rules_of(alloc: Global, known: &str, text: &str) -> Result<Rules, CaseFault> 
     };
     let policies = vec![in alloc; policy]?;
     let upgrade = policy_of(alloc, known, text)?;
-    let installed = Installed::new(vec![in alloc; [7; 32]]?, orgs_of(alloc, known)?);
+    let installed = installed(alloc, known)?;
     let organisations = organisations_of(alloc, known)?;
     Rules::new(organisations, policies, upgrade, installed).ok_or(CaseFault::BadLine)
+}
+
+/// A module of profile 1 whose digest has bytes 7, and the organisations.
+fn installed(alloc: Global, known: &str) -> Result<Installed, CaseFault> {
+    let id = ModuleId {
+        digest: [7; 32],
+        profile: Profile::Core1,
+    };
+    Ok(Installed::new(vec![in alloc; id]?, orgs_of(alloc, known)?))
 }
 
 fn organisations_of(alloc: Global, known: &str) -> Result<Vec<Organisation>, CaseFault> {

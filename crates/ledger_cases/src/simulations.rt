@@ -5,35 +5,38 @@ use crate::chains::{block_of, extended};
 use crate::drafts::{definition_of, name_of, proposal_of};
 use crate::fault::CaseFault;
 use crate::texts::write_payload;
-use endorsement_policy::Installed;
+use endorsement_policy::{Installed, ModuleId};
 use fab_types::{Endorsements, Envelope, Flag, OrgName, Payload, Proposal, Value};
 use simulator::{Book, Chaincode, SimRefusal, simulate};
 use std::alloc::{AllocError, Global};
 use std::fmt::Write;
-use wasm_decode::decode;
+use wasm_decode::decode_as;
+use wasm_profile::Profile;
 use wasm_validate::{ValidModule, validate};
 use world_state::Snapshot;
 
-/// The payload or the refusal of each call.
-pub fn simulate_calls(alloc: Global, text: &str) -> Result<String, CaseFault> {
+/// The payload or the refusal of each call of a module of a profile.
+pub fn simulate_calls(alloc: Global, text: &str, profile: Profile) -> Result<String, CaseFault> {
     let (head, calls) = text.split_once(" |").ok_or(CaseFault::BadLine)?;
     let (name, rest) = split_word(head);
     let (fuel, pieces) = split_word(rest);
     let chaincode = Chaincode {
         name: name_of(alloc, name)?,
-        module: module_of(alloc, pieces)?,
+        module: module_of(alloc, pieces, profile)?,
         fuel: fuel_of(fuel)?,
     };
     let chaincodes = vec![in alloc; chaincode]?;
-    let installed = installed(alloc)?;
+    let installed = installed(alloc, profile)?;
     let book = Book::new(chaincodes, Vec::new(alloc), installed).ok_or(CaseFault::BadLine)?;
     call_each(alloc, &book, calls)
 }
 
-/// A digest of bytes 7, and the organisation A.
-fn installed(alloc: Global) -> Result<Installed, CaseFault> {
+/// A module of this profile whose digest has bytes 7, and the organisation A.
+fn installed(alloc: Global, profile: Profile) -> Result<Installed, CaseFault> {
+    let digest = [7; 32];
     let org = OrgName::new(b"A".to_vec(alloc)?).ok_or(CaseFault::BadLine)?;
-    Ok(Installed::new(vec![in alloc; [7; 32]]?, vec![in alloc; org]?))
+    let modules = vec![in alloc; ModuleId { digest, profile }]?;
+    Ok(Installed::new(modules, vec![in alloc; org]?))
 }
 
 fn fuel_of(text: &str) -> Result<u64, CaseFault> {
@@ -43,10 +46,10 @@ fn fuel_of(text: &str) -> Result<u64, CaseFault> {
     }
 }
 
-/// The valid module that the bytes spell.
-fn module_of(alloc: Global, pieces: &str) -> Result<ValidModule, CaseFault> {
+/// The valid module of a profile that the bytes spell.
+fn module_of(alloc: Global, pieces: &str, profile: Profile) -> Result<ValidModule, CaseFault> {
     let bytes = bytes_of(alloc, pieces)?;
-    let Ok(module) = decode(alloc, &bytes) else {
+    let Ok(module) = decode_as(alloc, &bytes, profile) else {
         return Err(CaseFault::BadLine);
     };
     match validate(alloc, module) {
@@ -90,11 +93,11 @@ fn call_once(
     }
 }
 
-/// The upgrade of `kv`, or the call with the text, behind the blank.
+/// The upgrade of `kv` where the text has a colon, or the call with the text, behind the blank.
 fn proposal_in(alloc: Global, text: &str) -> Result<Proposal, CaseFault> {
     let text = text.strip_prefix(" ").unwrap_or(text);
-    let definition = match text.strip_prefix("u:") {
-        Some(text) => Some(definition_of(alloc, text)?),
+    let definition = match text.split_once(':') {
+        Some((kind, text)) => Some(definition_of(alloc, kind, text)?),
         None => None,
     };
     let argument = Value::new(Vec::from_slice(alloc, text.as_bytes())?).ok_or(CaseFault::BadLine)?;

@@ -63,7 +63,7 @@ fn write_argument(answer: &mut String, argument: &Value) -> Result<(), AllocErro
 
 /// A definition as ` := PROFILE DIGEST FUEL POLICY`.
 pub fn write_definition(answer: &mut String, definition: &Definition) -> Result<(), AllocError> {
-    write!(answer, " := {} ", definition.profile.get())?;
+    write!(answer, " := {} ", definition.profile)?;
     write_hex(answer, &definition.digest)?;
     write!(answer, " {} ", definition.fuel.get())?;
     write_bytes(answer, definition.policy.as_slice())

@@ -19,13 +19,14 @@ use std::io::Write;
 use std::sync::Wait;
 use std::thread::Threads;
 
-const USAGE: &str = "usage: ledger check MODULE
+const USAGE: &str = "usage: ledger check MODULE [--profile N]
        ledger sim GENESIS CHAINCODE ARG [--nonce HEX] [--store FILE]
        ledger run GENESIS EVENTS [--store FILE]
        ledger threads GENESIS CHAINCODE ROUNDS
        ledger audit GENESIS STORE
        ledger trace GENESIS CHAINCODE ARG [--steps N]
-  check    tells whether the file MODULE is a valid module
+  check    tells whether the file MODULE is a valid module of profile N: 1, the default, or 2, which
+           has the sign-extension operators too
   sim      simulates a call of CHAINCODE with the argument ARG (hex, or - for none) on the empty
            state, or on that after the store FILE; the nonce is 16 bytes of hex, zeros by default
   run      runs the events of the file EVENTS, one JSON object a line, on the system that the
@@ -81,7 +82,7 @@ fn carry_out<R: Threads + Wait + Sync + Send + Copy + 'static, F: Files, W: Writ
     ensures tells { Tells out.old out.new result }
 {
     match parse(alloc, words) {
-        Ok(Task::Check { module }) => check(alloc, files, module, out),
+        Ok(Task::Check { module, profile }) => check(alloc, files, module, profile, out),
         Ok(Task::Work { genesis, work }) => { with_genesis(rt, alloc, files, genesis, &work, out) }
         Err(WordsFault::Memory) => Err(Failure::Memory),
         Err(WordsFault::Usage) => Err(Failure::Usage),

@@ -1,7 +1,7 @@
 //! The program of the ledger: all of it but the machine that it runs on.
 //!
-//! - `check MODULE` tells whether the bytes of a file are a valid module, how many functions it
-//!   defines, and its digest.
+//! - `check MODULE` tells whether the bytes of a file are a valid module of a profile, how many
+//!   functions it defines, and its digest.
 //! - `sim GENESIS CHAINCODE ARG` simulates one call, on the empty state or on that after a store.
 //! - `run GENESIS EVENTS` runs the events of a file on the system that the genesis opens, and
 //!   writes the chain of its first peer.

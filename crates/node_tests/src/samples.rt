@@ -16,11 +16,11 @@ use wire::decode_envelope;
 /// One peer and organisation A, which has to endorse the transactions of `kv`. That reads `a`, and
 /// then puts the value `1` there: the module of examples/get_put_a.wat.
 pub const GET_PUT_A: &str =
-    "{\"orgs\":[{\"name\":\"A\",\"key\":\"4a656665\"}],\"peers\":[\"A\"],\"seats\":4,\"queue\":4,\"count\":1,\"preferred\":1000,\"absolute\":1000,\"reorder\":false,\"chaincodes\":[{\"name\":\"kv\",\"module\":\"0061736d01000000010d0260047f7f7f7f017f6000017f02270206666162726963096765745f7374617465000006666162726963097075745f73746174650000030201010503010001070a0106696e766f6b6500020a1c011a00410041014102410010001a410041014101410110011a41000b0b08010041000b026131\",\"policy\":\"'A'\",\"fuel\":141}],\"modules\":[],\"upgrade\":\"'A'\"}";
+    "{\"orgs\":[{\"name\":\"A\",\"key\":\"4a656665\"}],\"peers\":[\"A\"],\"seats\":4,\"queue\":4,\"count\":1,\"preferred\":1000,\"absolute\":1000,\"reorder\":false,\"chaincodes\":[{\"name\":\"kv\",\"module\":\"0061736d01000000010d0260047f7f7f7f017f6000017f02270206666162726963096765745f7374617465000006666162726963097075745f73746174650000030201010503010001070a0106696e766f6b6500020a1c011a00410041014102410010001a410041014101410110011a41000b0b08010041000b026131\",\"policy\":\"'A'\",\"fuel\":141,\"profile\":1}],\"modules\":[],\"upgrade\":\"'A'\"}";
 
 /// The same, where `kv` is `(loop (result i32) br 0)`: it goes round until it has spent 10,000,000.
 pub const LOOP: &str =
-    "{\"orgs\":[{\"name\":\"A\",\"key\":\"4a656665\"}],\"peers\":[\"A\"],\"seats\":4,\"queue\":4,\"count\":1,\"preferred\":1000,\"absolute\":1000,\"reorder\":false,\"chaincodes\":[{\"name\":\"kv\",\"module\":\"0061736d010000000105016000017f03020100070a0106696e766f6b6500000a09010700037f0c000b0b\",\"policy\":\"'A'\",\"fuel\":10000000}],\"modules\":[],\"upgrade\":\"'A'\"}";
+    "{\"orgs\":[{\"name\":\"A\",\"key\":\"4a656665\"}],\"peers\":[\"A\"],\"seats\":4,\"queue\":4,\"count\":1,\"preferred\":1000,\"absolute\":1000,\"reorder\":false,\"chaincodes\":[{\"name\":\"kv\",\"module\":\"0061736d010000000105016000017f03020100070a0106696e766f6b6500000a09010700037f0c000b0b\",\"policy\":\"'A'\",\"fuel\":10000000,\"profile\":1}],\"modules\":[],\"upgrade\":\"'A'\"}";
 
 /// The bytes of a call of `kv` that read its definition as absent and nothing else, and puts `1` at
 /// `a`, with a tag of A of zeros.

@@ -1,8 +1,8 @@
 //! Policies and rules that no text spells, and checks of envelopes by several workers.
 
 use endorsement_policy::{
-    ChaincodePolicy, Gate, Installed, OrgSet, Organisation, Policies, Policy, Rules, TagKey,
-    check_all, check_plain, parse, satisfied,
+    ChaincodePolicy, Gate, Installed, ModuleId, OrgSet, Organisation, Policies, Policy, Rules,
+    TagKey, check_all, check_plain, parse, satisfied,
 };
 use fab_types::{Envelope, Name, OrgName};
 use hmac_tag::{check, tag};
@@ -11,6 +11,7 @@ use std::sync::atomic::{AtomicBool, AtomicUsize, Ordering};
 use std::test::Fail;
 use std::thread;
 use std::thread::Threads;
+use wasm_profile::Profile;
 use wire::decode_envelope;
 use world_state::Snapshot;
 
@@ -75,10 +76,16 @@ fn of_kv(alloc: Global, policy: Policy) -> Option<Vec<ChaincodePolicy>> {
     vec![in alloc; ChaincodePolicy { chaincode, policy }].ok()
 }
 
-/// A module of this digest alone, and the organisations A, B and C.
+/// What the one module is known by.
+const MODULE: ModuleId = ModuleId {
+    digest: [7; 32],
+    profile: Profile::SignExtension,
+};
+
+/// That module alone, and the organisations A, B and C.
 fn installed(alloc: Global) -> Option<Installed> {
-    let digests = vec![in alloc; [7; 32]].ok()?;
-    Some(Installed::new(digests, orgs(alloc, b"ABC")?))
+    let modules = vec![in alloc; MODULE].ok()?;
+    Some(Installed::new(modules, orgs(alloc, b"ABC")?))
 }
 
 /// A, B and C, of which two have to endorse a transaction of `kv` or an upgrade.
@@ -260,7 +267,7 @@ fn is_of_three(rules: &Rules, b: &OrgName, d: &OrgName, kv: &Name) -> bool {
         && rules.policy(kv).is_some()
         && rules.policies().len() == 1
         && rules.installed().orgs().len() == 3
-        && rules.installed().digests() == [[7; 32]].as_slice()
+        && rules.installed().modules() == [MODULE].as_slice()
 }
 
 fn are_looked_up(alloc: Global) -> Option<bool> {
