@@ -1,4 +1,4 @@
-//! The valid module that the bytes of a file spell: the decoder and the validator, one after the
+//! The valid module of a profile that the bytes of a file spell: the decoder and the validator, one after the
 //! other.
 #![tactic(auto)]
 

@@ -10,7 +10,8 @@ ghost use Rattle.module_file.specs.declared.module.ModuleRefusal.TheVariants.{Me
 use std::alloc::{AllocError, AllocFailed, Global};
 use std::error::Error;
 use std::fmt::{self, Display, Formatter, Write};
-use wasm_decode::{DecodeFault, FaultKind, decode};
+use wasm_decode::{DecodeFault, FaultKind, decode_as};
+use wasm_profile::Profile;
 use wasm_validate::{ValidModule, ValidateFault, validate};
 
 /// Why bytes give no chaincode.
@@ -52,14 +53,18 @@ impl<T: Drop> From<AllocFailed<T>> for ModuleRefusal {
     }
 }
 
-/// The valid module that the bytes spell.
+/// The valid module of a profile that the bytes spell.
 ///
 /// Refused where they spell none of the profile, where it is not valid, and for want of memory.
-pub fn valid_module(alloc: Global, bytes: &[u8]) -> Result<ValidModule, ModuleRefusal>
-    ensures ok { IfOk result (λ v. IsModule v bytes.now × IsValid v) }
-    ensures refused { IfErr result (λ r. NoModule bytes.now r) }
+pub fn valid_module(
+    alloc: Global,
+    bytes: &[u8],
+    profile: Profile,
+) -> Result<ValidModule, ModuleRefusal>
+    ensures ok { IfOk result (λ v. IsModule profile v bytes.now × IsValid v) }
+    ensures refused { IfErr result (λ r. NoModule profile bytes.now r) }
 {
-    let module = match decode(alloc, bytes) {
+    let module = match decode_as(alloc, bytes, profile) {
         Ok(module) => module,
         Err(DecodeFault::Memory) => return Err(ModuleRefusal::Memory),
         Err(DecodeFault::Malformed(kind, offset)) => return Err(ModuleRefusal::Malformed(
@@ -73,14 +78,19 @@ pub fn valid_module(alloc: Global, bytes: &[u8]) -> Result<ValidModule, ModuleRe
     }
 }
 
-/// How many functions the valid module of these bytes defines. Imports are not among them.
+/// How many functions the valid module of a profile that the bytes spell defines. Imports are not
+/// among them.
 ///
 /// Refused where the bytes spell no module of the profile, where the module is not valid, and for
 /// want of memory.
-pub fn defined_functions(alloc: Global, bytes: &[u8]) -> Result<usize, ModuleRefusal>
-    ensures ok { IfOk result (λ n. IsDefinedBy bytes.now n) }
-    ensures refused { IfErr result (λ r. NoModule bytes.now r) }
+pub fn defined_functions(
+    alloc: Global,
+    bytes: &[u8],
+    profile: Profile,
+) -> Result<usize, ModuleRefusal>
+    ensures ok { IfOk result (λ n. IsDefinedBy profile bytes.now n) }
+    ensures refused { IfErr result (λ r. NoModule profile bytes.now r) }
 {
-    let module = valid_module(alloc, bytes)?;
+    let module = valid_module(alloc, bytes, profile)?;
     Ok(module.module().functions.len())
 }

@@ -16,6 +16,8 @@
 //! - `binary32 OP A B`, `compare32 OP A B`, `unary32 OP A`, `eqz32 A`, the same with 64, and
 //!   `convert OP A`: what an operator gives for words in hex.
 //!
+//! A module is read by profile 1, and by profile N where `by N` stands in front of the verb.
+//!
 //! A module that is refused is answered by `fault NUMBER at OFFSET` or `invalid NUMBER`.
 #![tactic(auto)]
 

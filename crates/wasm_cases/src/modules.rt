@@ -4,34 +4,35 @@ use crate::bytes::bytes_of;
 use crate::fault::CaseFault;
 use std::alloc::{AllocError, Global};
 use wasm_ast::Module;
-use wasm_decode::decode;
+use wasm_decode::decode_as;
+use wasm_profile::Profile;
 use wasm_validate::{ValidModule, validate};
 
 /// How many parts of each kind the module has.
-pub fn count_parts(alloc: Global, pieces: &str) -> Result<String, CaseFault> {
+pub fn count_parts(alloc: Global, profile: Profile, pieces: &str) -> Result<String, CaseFault> {
     let bytes = bytes_of(alloc, pieces)?;
-    let module = decode(alloc, &bytes)?;
+    let module = decode_as(alloc, &bytes, profile)?;
     Ok(part_counts(alloc, &module)?)
 }
 
 /// The module as it is printed for debugging.
-pub fn show_module(alloc: Global, pieces: &str) -> Result<String, CaseFault> {
+pub fn show_module(alloc: Global, profile: Profile, pieces: &str) -> Result<String, CaseFault> {
     let bytes = bytes_of(alloc, pieces)?;
-    let module = decode(alloc, &bytes)?;
+    let module = decode_as(alloc, &bytes, profile)?;
     Ok(format!(in alloc; "{module:?}")?)
 }
 
 /// The index of the valid module's entry, and the host calls that it imports.
-pub fn validate_module(alloc: Global, pieces: &str) -> Result<String, CaseFault> {
-    let valid = module_of(alloc, pieces)?;
+pub fn validate_module(alloc: Global, profile: Profile, pieces: &str) -> Result<String, CaseFault> {
+    let valid = module_of(alloc, profile, pieces)?;
     let (invoke, calls) = (valid.invoke(), valid.host_calls());
     Ok(format!(in alloc; "valid invoke={invoke} calls={calls:?}")?)
 }
 
-/// The valid module that the bytes spell.
-pub fn module_of(alloc: Global, pieces: &str) -> Result<ValidModule, CaseFault> {
+/// The valid module of a profile that the bytes spell.
+pub fn module_of(alloc: Global, profile: Profile, pieces: &str) -> Result<ValidModule, CaseFault> {
     let bytes = bytes_of(alloc, pieces)?;
-    let module = decode(alloc, &bytes)?;
+    let module = decode_as(alloc, &bytes, profile)?;
     Ok(validate(alloc, module)?)
 }
 

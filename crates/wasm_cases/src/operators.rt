@@ -46,9 +46,23 @@ const COMPARE: [CompareOp; 10] = [
     CompareOp::GeU,
 ];
 
-const UNARY_NAMES: [&str; 3] = ["clz", "ctz", "popcnt"];
+const UNARY_NAMES: [&str; 6] = [
+    "clz",
+    "ctz",
+    "popcnt",
+    "extend8_s",
+    "extend16_s",
+    "extend32_s",
+];
 
-const UNARY: [UnaryOp; 3] = [UnaryOp::Clz, UnaryOp::Ctz, UnaryOp::Popcnt];
+const UNARY: [UnaryOp; 6] = [
+    UnaryOp::Clz,
+    UnaryOp::Ctz,
+    UnaryOp::Popcnt,
+    UnaryOp::Extend8S,
+    UnaryOp::Extend16S,
+    UnaryOp::Extend32S,
+];
 
 /// An operator's name and the digits of its operands; those that a line lacks are empty.
 #[derive(Clone, Copy)]

@@ -8,6 +8,7 @@ use fab_types::{Value, WriteItem, WriteSet};
 use host_api::{PlainMap, Recorder};
 use interp::{Outcome, run};
 use std::alloc::{AllocError, Global};
+use wasm_profile::Profile;
 use wasm_trace::run_by_reduction;
 use wasm_validate::ValidModule;
 
@@ -24,16 +25,16 @@ pub enum Runner {
 
 /// How `invoke` ends with the fuel that the first word is, what it used, and the keys that it wrote
 /// with their values.
-pub fn run_module(alloc: Global, text: &str) -> Result<String, CaseFault> {
+pub fn run_module(alloc: Global, profile: Profile, text: &str) -> Result<String, CaseFault> {
     let (fuel, pieces) = split_fuel(text)?;
-    let valid = module_of(alloc, pieces)?;
+    let valid = module_of(alloc, profile, pieces)?;
     Ok(run_invoke(alloc, &valid, fuel, Runner::Flat)?)
 }
 
 /// Whether all runners answer the same with every fuel up to what the first word is.
-pub fn compare_runs(alloc: Global, text: &str) -> Result<String, CaseFault> {
+pub fn compare_runs(alloc: Global, profile: Profile, text: &str) -> Result<String, CaseFault> {
     let (last, pieces) = split_fuel(text)?;
-    let valid = module_of(alloc, pieces)?;
+    let valid = module_of(alloc, profile, pieces)?;
     Ok(compared(alloc, &valid, last)?)
 }
 

@@ -7,14 +7,15 @@ use fab_types::Value;
 use host_api::{PlainMap, Recorder};
 use interp::{Host, Outcome};
 use std::alloc::{AllocError, Global};
+use wasm_profile::Profile;
 use wasm_trace::Stepper;
 use wasm_validate::ValidModule;
 
 /// What each step executes and the fuel that it leaves, where it costs fuel, and how `invoke` ends
 /// with the fuel that the first word is.
-pub fn trace_module(alloc: Global, text: &str) -> Result<String, CaseFault> {
+pub fn trace_module(alloc: Global, profile: Profile, text: &str) -> Result<String, CaseFault> {
     let (fuel, pieces) = split_fuel(text)?;
-    let valid = module_of(alloc, pieces)?;
+    let valid = module_of(alloc, profile, pieces)?;
     Ok(trace_invoke(alloc, &valid, fuel)?)
 }
 

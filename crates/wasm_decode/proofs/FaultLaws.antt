@@ -1,6 +1,8 @@
 -- What a fault inside a part says of the whole.
 use Rattle.std.proofs.Common.{◌≡◌, ℕ, ◌+◌, ◌≤◌, inl, inr, List, ◌++◌, length, Option, Some, None, slice_get, refl, sym, ap, ◌∙◌, subst}
 use Rattle.std.specs.Prelude.{MatchOption, option_map}
+use Rattle.wasm_profile.specs.declared.profile.Profile.{Profile}
+use Rattle.wasm_profile.specs.declared.profile.Profile.TheVariants.{Core1, SignExtension}
 use Rattle.wasm_bytes.specs.declared.fault.FaultKind.{FaultKind as ByteFaultKind}
 use Rattle.wasm_bytes.specs.declared.fault.FaultKind.TheVariants as byte
 use Rattle.wasm_bytes.specs.Spelling.{IsU32}
@@ -16,7 +18,8 @@ use Rattle.wasm_decode.specs.Faults.{HasByte, PartEnds, IsReserved, Stands, Says
 use Rattle.grammar.specs.Table.{row_at}
 use Rattle.wasm_ast.specs.declared.operators.LoadOp.{LoadOp}
 use Rattle.wasm_ast.specs.declared.operators.StoreOp.{StoreOp}
-use Rattle.wasm_decode.specs.Operators.{operator_rows, comparison_rows, arithmetic_32_rows, arithmetic_64_rows, conversion_rows, load_rows, store_rows}
+use Rattle.wasm_decode.specs.Operators.{operator_rows, comparison_rows, arithmetic_32_rows, arithmetic_64_rows, conversion_rows, sign_extension_rows, load_rows}
+use Rattle.wasm_decode.specs.Operators.{store_rows}
 use Rattle.wasm_decode.specs.Opcodes.{Form, bare, access, load_of, store_of, with_form, other_rows, opcodes}
 use Rattle.wasm_decode.specs.OpReading.{alone}
 use Rattle.wasm_decode.proofs.Rows.{first_of, row_at-append, row_at-map}
@@ -29,61 +32,66 @@ pub part_ends : (p mid content : Place) (n : ℕ) → Spans IsU32 n p.whole (off
     content.end ≤ length p.whole → PartEnds p.whole content.end
 part_ends p mid content n spans e le = (offset_of p, le, (n, offset_of mid, spans, e))
 
-stands_in_part : (kind : FaultKind) (offset inner end : ℕ) (bytes : List ℕ) → PartEnds bytes inner → Stands kind offset inner bytes →
-    Stands kind offset end bytes
-stands_in_part EndedEarly offset inner end bytes part (inl e) = inr (subst (PartEnds bytes) (sym e) part)
-stands_in_part EndedEarly offset inner end bytes part (inr h) = inr h
-stands_in_part Magic offset inner end bytes part h = h
-stands_in_part Version offset inner end bytes part h = h
-stands_in_part BadNumber offset inner end bytes part h = h
-stands_in_part SectionOrder offset inner end bytes part h = h
-stands_in_part Length offset inner end bytes part h = h
-stands_in_part Opcode offset inner end bytes part h = h
-stands_in_part TypeByte offset inner end bytes part h = h
-stands_in_part NotUtf8 offset inner end bytes part h = h
-stands_in_part Float offset inner end bytes part h = h
-stands_in_part Limit offset inner end bytes part h = h
-stands_in_part CountsDiffer offset inner end bytes part h = h
-stands_in_part StartSection offset inner end bytes part h = h
+stands_in_part : (profile : Profile) (kind : FaultKind) (offset inner end : ℕ) (bytes : List ℕ) → PartEnds bytes inner →
+    Stands profile kind offset inner bytes →
+    Stands profile kind offset end bytes
+stands_in_part profile EndedEarly offset inner end bytes part (inl e) = inr (subst (PartEnds bytes) (sym e) part)
+stands_in_part profile EndedEarly offset inner end bytes part (inr h) = inr h
+stands_in_part profile Magic offset inner end bytes part h = h
+stands_in_part profile Version offset inner end bytes part h = h
+stands_in_part profile BadNumber offset inner end bytes part h = h
+stands_in_part profile SectionOrder offset inner end bytes part h = h
+stands_in_part profile Length offset inner end bytes part h = h
+stands_in_part profile Opcode offset inner end bytes part h = h
+stands_in_part profile TypeByte offset inner end bytes part h = h
+stands_in_part profile NotUtf8 offset inner end bytes part h = h
+stands_in_part profile Float offset inner end bytes part h = h
+stands_in_part profile Limit offset inner end bytes part h = h
+stands_in_part profile CountsDiffer offset inner end bytes part h = h
+stands_in_part profile StartSection offset inner end bytes part h = h
 
 -- a fault in the content of a part
-pub in_part : (e : DecodeFault) (content p : Place) → content.whole ≡ p.whole → PartEnds p.whole content.end → Says e content.end content.whole →
-    Says e p.end p.whole
-in_part Memory content p same part h = tt
-in_part (Malformed kind offset) content p same part h =
-    stands_in_part kind offset content.end p.end p.whole part (subst (Stands kind offset content.end) same h)
+pub in_part : (profile : Profile) (e : DecodeFault) (content p : Place) → content.whole ≡ p.whole → PartEnds p.whole content.end →
+    Says profile e content.end content.whole →
+    Says profile e p.end p.whole
+in_part profile Memory content p same part h = tt
+in_part profile (Malformed kind offset) content p same part h =
+    stands_in_part profile kind offset content.end p.end p.whole part (subst (Stands profile kind offset content.end) same h)
 
-pub of_bytes : (kind : ByteFaultKind) (offset end : ℕ) (bytes : List ℕ) → BytesSay kind offset end bytes → Stands (kind_of kind) offset end bytes
-of_bytes byte.EndedEarly offset end bytes h = inl h
-of_bytes byte.BadNumber offset end bytes h = h
-of_bytes byte.NotUtf8 offset end bytes h = h
+pub of_bytes : (profile : Profile) (kind : ByteFaultKind) (offset end : ℕ) (bytes : List ℕ) → BytesSay kind offset end bytes →
+    Stands profile (kind_of kind) offset end bytes
+of_bytes profile byte.EndedEarly offset end bytes h = inl h
+of_bytes profile byte.BadNumber offset end bytes h = h
+of_bytes profile byte.NotUtf8 offset end bytes h = h
 
 none_mapped : {A B : Type 0} (f : A → B) (o : Option A) → None ≡ option_map f o → o ≡ None
 none_mapped f None e = refl
 none_mapped f (Some x) e = absurd cc
 
-pub no_operator : (b : ℕ) → None ≡ option_map alone (row_at operator_rows b) → row_at operator_rows b ≡ None
-no_operator b e = none_mapped alone (row_at operator_rows b) e
+pub no_operator : (profile : Profile) (b : ℕ) → None ≡ option_map alone (row_at (operator_rows profile) b) → row_at (operator_rows profile) b ≡ None
+no_operator profile b e = none_mapped alone (row_at (operator_rows profile) b) e
 
 -- a byte that is in no table of opcodes
-pub unlisted : (b : ℕ) → row_at operator_rows b ≡ None → row_at load_rows b ≡ None → row_at store_rows b ≡ None → row_at other_rows b ≡ None →
-    row_at opcodes b ≡ None
+pub unlisted : (profile : Profile) (b : ℕ) → row_at (operator_rows profile) b ≡ None → row_at load_rows b ≡ None → row_at store_rows b ≡ None →
+    row_at other_rows b ≡ None →
+    row_at (opcodes profile) b ≡ None
 unfolding opcodes
-unlisted b operator load store other =
+unlisted profile b operator load store other =
     let access_load : LoadOp → Form = λ o. access (load_of o) in
     let access_store : StoreOp → Form = λ o. access (store_of o) in
-    let first = row_at-map bare operator_rows b ∙ ap (option_map bare) operator in
+    let first = row_at-map bare (operator_rows profile) b ∙ ap (option_map bare) operator in
     let second = row_at-map access_load load_rows b ∙ ap (option_map access_load) load in
     let third = row_at-map access_store store_rows b ∙ ap (option_map access_store) store in
     let last = row_at-append (with_form access_store store_rows) other_rows b ∙ ap (λ o. first_of o (row_at other_rows b)) third ∙ other in
     let rest = row_at-append (with_form access_load load_rows) (with_form access_store store_rows ++ other_rows) b ∙
     ap (λ o. first_of o (row_at (with_form access_store store_rows ++ other_rows) b)) second ∙ last in
-    row_at-append (with_form bare operator_rows) (with_form access_load load_rows ++ (with_form access_store store_rows ++ other_rows)) b ∙
+    row_at-append (with_form bare (operator_rows profile)) (with_form access_load load_rows ++ (with_form access_store store_rows ++ other_rows)) b ∙
     ap (λ o. first_of o (row_at (with_form access_load load_rows ++ (with_form access_store store_rows ++ other_rows)) b)) first ∙ rest
 
-pub else_unlisted : row_at opcodes 0x05 ≡ None
-unfolding opcodes operator_rows comparison_rows arithmetic_32_rows arithmetic_64_rows conversion_rows load_rows store_rows other_rows
-else_unlisted = refl
+pub else_unlisted : (profile : Profile) → row_at (opcodes profile) 0x05 ≡ None
+unfolding opcodes operator_rows comparison_rows arithmetic_32_rows arithmetic_64_rows conversion_rows sign_extension_rows load_rows store_rows other_rows
+else_unlisted Core1 = refl
+else_unlisted SignExtension = refl
 
 -- behind the index of a `call_indirect`
 pub behind_index : (old mid : Place) (n start : ℕ) → HasByte (λ o. o ≡ 0x11) old.whole start → offset_of old ≡ start + 1 →

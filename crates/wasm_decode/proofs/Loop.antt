@@ -3,6 +3,7 @@ use Rattle.std.proofs.Common.{◌≡◌, ℕ, suc, ◌+◌, ◌≤◌, ◌<◌, 
 use Rattle.std.proofs.Common.{◌∙◌, add-one, drop-cons}
 use Rattle.std.proofs.lemmas.List.{append-nil, drop_all}
 use Rattle.std.proofs.lemmas.Bool.{eqb-true, eq-eqb}
+use Rattle.wasm_profile.specs.declared.profile.Profile.{Profile}
 use Rattle.grammar.specs.Reading.{byte_at, text_at}
 use Rattle.grammar.specs.Laws.Loops.{with_front, regroup}
 use Rattle.wasm_ast.specs.declared.module.Func.{Func}
@@ -13,30 +14,31 @@ use Rattle.wasm_decode.specs.FunctionReading.{code_at, codes_at}
 
 -- ---- the codes of functions whose types are given
 
-module _ (front : List Func) (types : List ℕ) (i : ℕ) (bytes : List ℕ) (total : Option (List Func × List ℕ))
-    (so_far : with_front front (codes_at (drop i types) bytes) ≡ total) where
-  here : i < length types → with_front front (codes_at (get_or types i 0 ∷ drop (suc i) types) bytes) ≡ total
-  here lt = ap (λ (is : List ℕ). with_front front (codes_at is bytes)) (sym (drop-cons types i 0 lt)) ∙ so_far
+module _ (profile : Profile) (front : List Func) (types : List ℕ) (i : ℕ) (bytes : List ℕ) (total : Option (List Func × List ℕ))
+    (so_far : with_front front (codes_at profile (drop i types) bytes) ≡ total) where
+  here : i < length types → with_front front (codes_at profile (get_or types i 0 ∷ drop (suc i) types) bytes) ≡ total
+  here lt = ap (λ (is : List ℕ). with_front front (codes_at profile is bytes)) (sym (drop-cons types i 0 lt)) ∙ so_far
 
-  pub code_goes_on : (f : Func) (after : List ℕ) → i < length types → code_at (get_or types i 0) bytes ≡ Some (f, after) →
-      with_front (front ++ f ∷ []) (codes_at (drop (i + 1) types) after) ≡ total
+  pub code_goes_on : (f : Func) (after : List ℕ) → i < length types → code_at profile (get_or types i 0) bytes ≡ Some (f, after) →
+      with_front (front ++ f ∷ []) (codes_at profile (drop (i + 1) types) after) ≡ total
   unfolding codes_at
   code_goes_on f after lt h =
-      let one : with_front front (codes_at (get_or types i 0 ∷ drop (suc i) types) bytes) ≡ with_front (front ++ f ∷ []) (codes_at (drop (suc i) types) after) =
-      rw h (regroup front f (codes_at (drop (suc i) types) after)) in
+      let one : with_front front (codes_at profile (get_or types i 0 ∷ drop (suc i) types) bytes) ≡
+      with_front (front ++ f ∷ []) (codes_at profile (drop (suc i) types) after) =
+      rw h (regroup front f (codes_at profile (drop (suc i) types) after)) in
       rw add-one (sym one ∙ here lt)
 
-  pub code_refused : i < length types → code_at (get_or types i 0) bytes ≡ None → total ≡ None
+  pub code_refused : i < length types → code_at profile (get_or types i 0) bytes ≡ None → total ≡ None
   unfolding codes_at
   code_refused lt h =
-      let one : with_front front (codes_at (get_or types i 0 ∷ drop (suc i) types) bytes) ≡ None = rw h refl in
+      let one : with_front front (codes_at profile (get_or types i 0 ∷ drop (suc i) types) bytes) ≡ None = rw h refl in
       sym (here lt) ∙ one
 
   pub codes_done : length types ≤ i → total ≡ Some (front, bytes)
   unfolding codes_at
   codes_done le =
       let none : drop i types ≡ [] = drop_all i types le in
-      sym so_far ∙ ap (λ (is : List ℕ). with_front front (codes_at is bytes)) none ∙ ap (λ (fs : List Func). Some (fs, bytes)) (append-nil front)
+      sym so_far ∙ ap (λ (is : List ℕ). with_front front (codes_at profile is bytes)) none ∙ ap (λ (fs : List Func). Some (fs, bytes)) (append-nil front)
 
 -- ---- a given text
 

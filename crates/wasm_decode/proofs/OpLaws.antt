@@ -2,6 +2,8 @@
 use Rattle.std.proofs.Common.{◌≡◌, ℕ, ◌^◌, true, false, eqb, List, [], ◌∷◌, ◌++◌, Option, Some, None, refl, sym, ap, ap₂, ◌∙◌}
 use Rattle.std.specs.Prelude.{option_map}
 use Rattle.std.proofs.lemmas.Option.{some_pair_parts}
+use Rattle.wasm_profile.specs.declared.profile.Profile.{Profile}
+use Rattle.wasm_profile.specs.declared.profile.Profile.TheVariants.{Core1, SignExtension}
 use Rattle.grammar.specs.Spelling.{IsByte}
 use Rattle.grammar.specs.Reading.{◌>>=◌}
 use Rattle.grammar.specs.Table.{row_at, is_unique}
@@ -17,7 +19,8 @@ use Rattle.wasm_ast.specs.declared.operators.StoreOp.{StoreOp}
 use Rattle.wasm_ast.specs.declared.body.MemoryArgument.{MemoryArgument}
 use Rattle.wasm_ast.specs.Op.{Op, CallIndirect}
 use Rattle.wasm_ast.specs.Code.{Code, Do, End}
-use Rattle.wasm_decode.specs.Operators.{load_rows, store_rows, comparison_rows, arithmetic_32_rows, arithmetic_64_rows, conversion_rows, operator_rows}
+use Rattle.wasm_decode.specs.Operators.{load_rows, store_rows, comparison_rows, arithmetic_32_rows, arithmetic_64_rows, conversion_rows, sign_extension_rows}
+use Rattle.wasm_decode.specs.Operators.{operator_rows}
 use Rattle.wasm_decode.specs.Opcodes.{Form, bare, indexed, labelled, indirect, reserved, access, constant_32, constant_64, other_rows, with_form, opcodes}
 use Rattle.wasm_decode.specs.Opcodes.{load_of, store_of, constant_32_of, constant_64_of, branch_table_of, IsBranchTable, IsMemoryArgument, IsReservedIndex}
 use Rattle.wasm_decode.specs.Opcodes.{IsAfter, IsOp}
@@ -97,84 +100,87 @@ by_groups None (Some o) s f bytes = made_alone (load_of o) (argument_at bytes)
 by_groups None None (Some o) f bytes = made_alone (store_of o) (argument_at bytes)
 by_groups None None None f bytes = refl
 
-in_groups : (op : ℕ) →
-    row_at opcodes op ≡ first_of (option_map bare (row_at operator_rows op))
-    (first_of (option_map (λ o. access (load_of o)) (row_at load_rows op))
-    (first_of (option_map (λ o. access (store_of o)) (row_at store_rows op)) (row_at other_rows op)))
-unfolding opcodes
-in_groups op =
-    let loads = with_form (λ o. access (load_of o)) load_rows in
-    let stores = with_form (λ o. access (store_of o)) store_rows in
-    row_at-append (with_form bare operator_rows) (loads ++ (stores ++ other_rows)) op
-    ∙ ap₂ first_of (row_at-map bare operator_rows op)
-    (row_at-append loads (stores ++ other_rows) op ∙
-    ap₂ first_of (row_at-map (λ o. access (load_of o)) load_rows op)
-    (row_at-append stores other_rows op ∙ ap (λ o. first_of o (row_at other_rows op)) (row_at-map (λ o. access (store_of o)) store_rows op)))
-
-plain_by_row : (op : ℕ) (bytes : List ℕ) → plain_at op bytes ≡ (row_at opcodes op >>= λ f. op_read f bytes)
-unfolding plain_at other_at
-plain_by_row op bytes =
-    by_groups (row_at operator_rows op) (row_at load_rows op) (row_at store_rows op) (row_at other_rows op) bytes ∙
-    ap (λ (f : Option Form). f >>= λ f. op_read f bytes) (sym (in_groups op))
-
--- What was read is spelled by the opcode and what was taken.
-pub record IsPlain (op : ℕ) (bytes : List ℕ) (c : Code) (rest : List ℕ) : Type 0 where
-  pub instruction : Op
-  pub text : List ℕ
-  pub spelled : IsOp instruction (op ∷ text)
-  pub code : Do instruction End ≡ c
-  pub split : bytes ≡ text ++ rest
-
-pub plain_takes : (op : ℕ) (bytes : List ℕ) (c : Code) (rest : List ℕ) → plain_at op bytes ≡ Some (c, rest) → IsPlain op bytes c rest
-plain_takes op bytes c rest e =
-    let coded = λ (o : Op × List ℕ). Some (Do o.0 End, o.1) in
-    let f = bind_some (row_at opcodes op) (λ f. op_after f bytes >>= coded) (c, rest) (sym (plain_by_row op bytes) ∙ e) in
-    let o = bind_some (op_after f.0 bytes) coded (c, rest) f.2 in
-    let parts = some_pair_parts (Do o.0.0 End) c o.0.1 rest o.2 in
-    let one = (op_after_reads f.0).takes bytes o.0.0 o.0.1 o.1 in
-    record {
-      instruction = o.0.0;
-      text = one.1;
-      spelled = (op, f.0, has_row opcodes op f.0 f.1, (op ∷ [], one.1, refl, one.2, refl));
-      code = parts.0;
-      split = one.3 ∙ ap (λ (x : List ℕ). one.1 ++ x) parts.1;
-    }
-
--- the opcode of a spelling, which opens or ends no block, and what is read after it
-pub record IsRead (o : Op) (text rest : List ℕ) : Type 0 where
-  pub opcode : ℕ
-  pub after : List ℕ
-  pub split : text ≡ opcode ∷ after
-  pub goes_on : is_last opcode ≡ false
-  pub not_block : eqb opcode 0x02 ≡ false
-  pub not_loop : eqb opcode 0x03 ≡ false
-  pub not_if : eqb opcode 0x04 ≡ false
-  pub read : plain_at opcode (after ++ rest) ≡ Some (Do o End, rest)
-
-opcodes_unique : is_unique opcodes ≡ true
-unfolding opcodes other_rows operator_rows load_rows store_rows comparison_rows arithmetic_32_rows arithmetic_64_rows conversion_rows
-opcodes_unique = refl
+opcodes_unique : (profile : Profile) → is_unique (opcodes profile) ≡ true
+unfolding opcodes other_rows operator_rows load_rows store_rows comparison_rows arithmetic_32_rows arithmetic_64_rows conversion_rows sign_extension_rows
+opcodes_unique Core1 = refl
+opcodes_unique SignExtension = refl
 
 -- opcodes that open or end a block are in no row
-absent : (row_at opcodes 0x0b ≡ None) × (row_at opcodes 0x05 ≡ None) × (row_at opcodes 0x02 ≡ None) × (row_at opcodes 0x03 ≡ None) ×
-    (row_at opcodes 0x04 ≡ None)
-unfolding opcodes other_rows operator_rows load_rows store_rows comparison_rows arithmetic_32_rows arithmetic_64_rows conversion_rows
-absent = (refl, refl, refl, refl, refl)
+absent : (profile : Profile) → (row_at (opcodes profile) 0x0b ≡ None) × (row_at (opcodes profile) 0x05 ≡ None) × (row_at (opcodes profile) 0x02 ≡ None) ×
+    (row_at (opcodes profile) 0x03 ≡ None) × (row_at (opcodes profile) 0x04 ≡ None)
+unfolding opcodes other_rows operator_rows load_rows store_rows comparison_rows arithmetic_32_rows arithmetic_64_rows conversion_rows sign_extension_rows
+absent Core1 = (refl, refl, refl, refl, refl)
+absent SignExtension = (refl, refl, refl, refl, refl)
 
-pub plain_again : (o : Op) (text rest : List ℕ) → IsOp o text → IsRead o text rest
-plain_again o text rest h =
-    let b = h.0 in
-    let f = h.1 in
-    let found : row_at opcodes b ≡ Some f = row_found opcodes b f opcodes_unique h.2 in
-    let s = h.3 in
-    record {
-      opcode = b;
-      after = s.1;
-      split = s.4 ∙ ap (λ (x : List ℕ). x ++ s.1) s.2;
-      goes_on = rw (row_is_not opcodes b 0x0b f absent.0 found, row_is_not opcodes b 0x05 f absent.1 found) refl;
-      not_block = row_is_not opcodes b 0x02 f absent.2 found;
-      not_loop = row_is_not opcodes b 0x03 f absent.3 found;
-      not_if = row_is_not opcodes b 0x04 f absent.4 found;
-      read = plain_by_row b (s.1 ++ rest) ∙ ap (λ (g : Option Form). g >>= λ f. op_read f (s.1 ++ rest)) found
-          ∙ ap (λ (p : Option (Op × List ℕ)). p >>= λ o. Some (alone o.0, o.1)) ((op_after_reads f).again o s.1 rest tt s.3);
-    }
+module _ (profile : Profile) where
+  in_groups : (op : ℕ) →
+      row_at (opcodes profile) op ≡ first_of (option_map bare (row_at (operator_rows profile) op))
+      (first_of (option_map (λ o. access (load_of o)) (row_at load_rows op))
+      (first_of (option_map (λ o. access (store_of o)) (row_at store_rows op)) (row_at other_rows op)))
+  unfolding opcodes
+  in_groups op =
+      let loads = with_form (λ o. access (load_of o)) load_rows in
+      let stores = with_form (λ o. access (store_of o)) store_rows in
+      row_at-append (with_form bare (operator_rows profile)) (loads ++ (stores ++ other_rows)) op
+      ∙ ap₂ first_of (row_at-map bare (operator_rows profile) op)
+      (row_at-append loads (stores ++ other_rows) op ∙
+      ap₂ first_of (row_at-map (λ o. access (load_of o)) load_rows op)
+      (row_at-append stores other_rows op ∙ ap (λ o. first_of o (row_at other_rows op)) (row_at-map (λ o. access (store_of o)) store_rows op)))
+
+  plain_by_row : (op : ℕ) (bytes : List ℕ) → plain_at profile op bytes ≡ (row_at (opcodes profile) op >>= λ f. op_read f bytes)
+  unfolding plain_at other_at
+  plain_by_row op bytes =
+      by_groups (row_at (operator_rows profile) op) (row_at load_rows op) (row_at store_rows op) (row_at other_rows op) bytes ∙
+      ap (λ (f : Option Form). f >>= λ f. op_read f bytes) (sym (in_groups op))
+
+  -- What was read is spelled by the opcode and what was taken.
+  pub record IsPlain (op : ℕ) (bytes : List ℕ) (c : Code) (rest : List ℕ) : Type 0 where
+    pub instruction : Op
+    pub text : List ℕ
+    pub spelled : IsOp profile instruction (op ∷ text)
+    pub code : Do instruction End ≡ c
+    pub split : bytes ≡ text ++ rest
+
+  pub plain_takes : (op : ℕ) (bytes : List ℕ) (c : Code) (rest : List ℕ) → plain_at profile op bytes ≡ Some (c, rest) → IsPlain op bytes c rest
+  plain_takes op bytes c rest e =
+      let coded = λ (o : Op × List ℕ). Some (Do o.0 End, o.1) in
+      let f = bind_some (row_at (opcodes profile) op) (λ f. op_after f bytes >>= coded) (c, rest) (sym (plain_by_row op bytes) ∙ e) in
+      let o = bind_some (op_after f.0 bytes) coded (c, rest) f.2 in
+      let parts = some_pair_parts (Do o.0.0 End) c o.0.1 rest o.2 in
+      let one = (op_after_reads f.0).takes bytes o.0.0 o.0.1 o.1 in
+      record {
+        instruction = o.0.0;
+        text = one.1;
+        spelled = (op, f.0, has_row (opcodes profile) op f.0 f.1, (op ∷ [], one.1, refl, one.2, refl));
+        code = parts.0;
+        split = one.3 ∙ ap (λ (x : List ℕ). one.1 ++ x) parts.1;
+      }
+
+  -- the opcode of a spelling, which opens or ends no block, and what is read after it
+  pub record IsRead (o : Op) (text rest : List ℕ) : Type 0 where
+    pub opcode : ℕ
+    pub after : List ℕ
+    pub split : text ≡ opcode ∷ after
+    pub goes_on : is_last opcode ≡ false
+    pub not_block : eqb opcode 0x02 ≡ false
+    pub not_loop : eqb opcode 0x03 ≡ false
+    pub not_if : eqb opcode 0x04 ≡ false
+    pub read : plain_at profile opcode (after ++ rest) ≡ Some (Do o End, rest)
+
+  pub plain_again : (o : Op) (text rest : List ℕ) → IsOp profile o text → IsRead o text rest
+  plain_again o text rest h =
+      let b = h.0 in
+      let f = h.1 in
+      let found : row_at (opcodes profile) b ≡ Some f = row_found (opcodes profile) b f (opcodes_unique profile) h.2 in
+      let s = h.3 in
+      record {
+        opcode = b;
+        after = s.1;
+        split = s.4 ∙ ap (λ (x : List ℕ). x ++ s.1) s.2;
+        goes_on = rw (row_is_not (opcodes profile) b 0x0b f (absent profile).0 found, row_is_not (opcodes profile) b 0x05 f (absent profile).1 found) refl;
+        not_block = row_is_not (opcodes profile) b 0x02 f (absent profile).2 found;
+        not_loop = row_is_not (opcodes profile) b 0x03 f (absent profile).3 found;
+        not_if = row_is_not (opcodes profile) b 0x04 f (absent profile).4 found;
+        read = plain_by_row b (s.1 ++ rest) ∙ ap (λ (g : Option Form). g >>= λ f. op_read f (s.1 ++ rest)) found
+            ∙ ap (λ (p : Option (Op × List ℕ)). p >>= λ o. Some (alone o.0, o.1)) ((op_after_reads f).again o s.1 rest tt s.3);
+      }

@@ -2,6 +2,7 @@
 use Rattle.std.proofs.Common.{◌≡◌, ℕ, zero, suc, ◌-◌, ◌<◌, Bool, true, false, ◌||◌, ◌≢◌, eqb, List, [], ◌∷◌, ◌++◌, Option, Some, None, refl, sym, ap, ◌∙◌}
 use Rattle.std.proofs.Common.{arith}
 use Rattle.std.proofs.lemmas.Bool.{eqb-true, eq-eqb}
+use Rattle.wasm_profile.specs.declared.profile.Profile.{Profile}
 use Rattle.grammar.specs.Reading.{◌>>=◌, byte_at}
 use Rattle.wasm_ast.specs.Code as tree
 use Rattle.wasm_ast.specs.Code.{Code}
@@ -32,28 +33,29 @@ append-End (tree.Block t i a) = ap (tree.Block t i) (append-End a)
 append-End (tree.Loop t i a) = ap (tree.Loop t i) (append-End a)
 append-End (tree.If t y n a) = ap (tree.If t y n) (append-End a)
 
-pub body_is : (d left : ℕ) (bytes : List ℕ) → body_at d left bytes ≡ code_at (step_at (below d)) (suc left) left bytes
+pub body_is : (profile : Profile) (d left : ℕ) (bytes : List ℕ) →
+    body_at profile d left bytes ≡ code_at (step_at profile (below profile d)) (suc left) left bytes
 unfolding body_at
-body_is zero left bytes = refl
-body_is (suc d) left bytes = refl
+body_is profile zero left bytes = refl
+body_is profile (suc d) left bytes = refl
 
-pub below_is : (n : ℕ) → n ≢ 0 → below n ≡ body_at (n - 1)
-below_is zero some = absurd (some refl)
-below_is (suc n) some =
+pub below_is : (profile : Profile) (n : ℕ) → n ≢ 0 → below profile n ≡ body_at profile (n - 1)
+below_is profile zero some = absurd (some refl)
+below_is profile (suc n) some =
     let k : suc n - 1 ≡ n = omega arith in
-    ap body_at (sym k)
+    ap (body_at profile) (sym k)
 
 none_either_way : {A B : Type 0} (o : Option A) (f : A → Option B) → ((x : A) → f x ≡ None) → (o >>= f) ≡ None
 none_either_way (Some x) f h = h x
 none_either_way None f h = refl
 
-pub no_block : (n left : ℕ) (bytes : List ℕ) → n ≡ 0 → block_at (below n) left bytes ≡ None
+pub no_block : (profile : Profile) (n left : ℕ) (bytes : List ℕ) → n ≡ 0 → block_at (below profile n) left bytes ≡ None
 unfolding block_at closed_at
-no_block n left bytes e = ap (λ (m : ℕ). block_at (below m) left bytes) e ∙ none_either_way _ _ (λ t. refl)
+no_block profile n left bytes e = ap (λ (m : ℕ). block_at (below profile m) left bytes) e ∙ none_either_way _ _ (λ t. refl)
 
-pub no_conditional : (n left : ℕ) (bytes : List ℕ) → n ≡ 0 → conditional_at (below n) left bytes ≡ None
+pub no_conditional : (profile : Profile) (n left : ℕ) (bytes : List ℕ) → n ≡ 0 → conditional_at (below profile n) left bytes ≡ None
 unfolding conditional_at
-no_conditional n left bytes e = ap (λ (m : ℕ). conditional_at (below m) left bytes) e ∙ none_either_way _ _ (λ t. refl)
+no_conditional profile n left bytes e = ap (λ (m : ℕ). conditional_at (below profile m) left bytes) e ∙ none_either_way _ _ (λ t. refl)
 
 pub nothing_before : (read : Option (Instructions × List ℕ)) → before tree.End read ≡ read
 nothing_before (Some c) = refl

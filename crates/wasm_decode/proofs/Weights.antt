@@ -6,6 +6,8 @@ use Rattle.std.specs.List.{list_all}
 use Rattle.std.proofs.lemmas.Bool.{eqb-true}
 use Rattle.std.proofs.lemmas.List.{length-append}
 use Rattle.std.proofs.lemmas.List.Sums.{sum_by-cons}
+use Rattle.wasm_profile.specs.declared.profile.Profile.{Profile}
+use Rattle.wasm_profile.specs.declared.profile.Profile.TheVariants.{Core1, SignExtension}
 use Rattle.grammar.specs.Spelling.{◌⟫◌, Repeats}
 use Rattle.grammar.specs.Reading.{at_most}
 use Rattle.grammar.specs.Table.{HasRow}
@@ -17,7 +19,8 @@ use Rattle.wasm_ast.specs.declared.body.MemoryArgument.{MemoryArgument}
 use Rattle.wasm_ast.specs.Op.{Op}
 use Rattle.wasm_ast.specs.Code.{Code, End, Do, Block, Loop, If, code_size}
 use Rattle.wasm_ast.specs.Sizes.{labels_of, code_labels, func_weight, IsSmall, AreSmall}
-use Rattle.wasm_decode.specs.Operators.{load_rows, store_rows, comparison_rows, arithmetic_32_rows, arithmetic_64_rows, conversion_rows, operator_rows}
+use Rattle.wasm_decode.specs.Operators.{load_rows, store_rows, comparison_rows, arithmetic_32_rows, arithmetic_64_rows, conversion_rows, sign_extension_rows}
+use Rattle.wasm_decode.specs.Operators.{operator_rows}
 use Rattle.wasm_decode.specs.Opcodes.{Form, bare, indexed, labelled, indirect, reserved, access, constant_32, constant_64}
 use Rattle.wasm_decode.specs.Opcodes.{other_rows, with_form, opcodes, load_of, store_of, IsAfter, IsOp}
 use Rattle.wasm_decode.specs.TypeSpelling.{IsValueType}
@@ -38,6 +41,12 @@ u32_length n (b ∷ bs) h = omega arith
 u32s_length : (ns : List ℕ) (text : List ℕ) → Repeats IsU32 ns text → length ns ≤ length text
 u32s_length [] text h = omega arith
 u32s_length (n ∷ ns) text h = omega (arith, u32_length n h.0 h.2, u32s_length ns h.1 h.3, parts_length text h.0 h.1 h.4)
+
+-- the parameters of a type
+pub parameters_few : (bytes : List ℕ) (ts : List ValueType) (rest : List ℕ) → list_at 64 value_type_at bytes ≡ Some (ts, rest) → length ts < 2 ^ 30
+parameters_few bytes ts rest e =
+    let t = (list_reads 64 IsValueType value_type_at value_type_reads).takes bytes ts rest e in
+    omega (arith, t.2.2.0)
 
 -- ---- instructions
 
@@ -88,20 +97,6 @@ light_others =
     let same : (n : ℕ) → n ≡ n = λ n. refl in
     assumption (one, none, same)
 
-light_operators : list_all (λ r. eqb (labels_of r.1) 0) operator_rows ≡ true
-unfolding operator_rows comparison_rows arithmetic_32_rows arithmetic_64_rows conversion_rows
-light_operators = refl
-
-all_light : AreLight opcodes
-unfolding opcodes
-all_light =
-    let loads = with_form (λ o. access (load_of o)) load_rows in
-    let stores = with_form (λ o. access (store_of o)) store_rows in
-    let light_loads : AreLight loads = light_access load_of (λ k a. refl) load_rows in
-    let light_stores : AreLight stores = light_access store_of (λ k a. refl) store_rows in
-    let not_bare = light_append loads (stores ++ other_rows) light_loads (light_append stores other_rows light_stores light_others) in
-    light_append (with_form bare operator_rows) (loads ++ (stores ++ other_rows)) (light_bare operator_rows light_operators) not_bare
-
 after_length : (f : Form) (o : Op) (text : List ℕ) → IsLight f → IsAfter f o text → labels_of o ≤ length text
 after_length (bare p) o text l h = omega (arith, ap labels_of h.0, l)
 after_length (indexed make) o text l h = omega (arith, ap labels_of h.1, l h.0, u32_length h.0 text h.2)
@@ -116,78 +111,94 @@ after_length (access make) o text l h = omega (arith, ap labels_of h.1, l h.0)
 after_length constant_32 o text l h = omega (arith, ap labels_of h.1)
 after_length constant_64 o text l h = omega (arith, ap labels_of h.1)
 
-op_length : (o : Op) (text : List ℕ) → IsOp o text → labels_of o < length text
-op_length o text h =
-    let s = h.3 in
-    omega (arith, after_length h.1 o s.1 (light_row opcodes h.0 h.1 all_light h.2) s.3, ap (λ (x : List ℕ). length x) s.2, parts_length text s.0 s.1 s.4)
+light_operators : (profile : Profile) → list_all (λ r. eqb (labels_of r.1) 0) (operator_rows profile) ≡ true
+unfolding operator_rows comparison_rows arithmetic_32_rows arithmetic_64_rows conversion_rows sign_extension_rows
+light_operators Core1 = refl
+light_operators SignExtension = refl
 
--- ---- code
+module _ (profile : Profile) where
+  all_light : AreLight (opcodes profile)
+  unfolding opcodes
+  all_light =
+      let loads = with_form (λ o. access (load_of o)) load_rows in
+      let stores = with_form (λ o. access (store_of o)) store_rows in
+      let light_loads : AreLight loads = light_access load_of (λ k a. refl) load_rows in
+      let light_stores : AreLight stores = light_access store_of (λ k a. refl) store_rows in
+      let not_bare = light_append loads (stores ++ other_rows) light_loads (light_append stores other_rows light_stores light_others) in
+      light_append (with_form bare (operator_rows profile)) (loads ++ (stores ++ other_rows)) (light_bare (operator_rows profile) (light_operators profile))
+      not_bare
 
--- two bodies after an opcode and a type
-bodies_length : {P Q R S : List ℕ → Type 0} (text : List ℕ) (h : (P ⟫ Q ⟫ R ⟫ S) text) → length h.3.3.0 + length h.3.3.1 ≤ length text
-bodies_length text h =
-    let k = h.3 in
-    let s = k.3 in
-    omega (arith, parts_length text h.0 h.1 h.4, parts_length h.1 k.0 k.1 k.4, parts_length k.1 s.0 s.1 s.4)
+  op_length : (o : Op) (text : List ℕ) → IsOp profile o text → labels_of o < length text
+  op_length o text h =
+      let s = h.3 in
+      omega (
+        arith,
+        after_length h.1 o s.1 (light_row (opcodes profile) h.0 h.1 all_light h.2) s.3,
+        ap (λ (x : List ℕ). length x) s.2,
+        parts_length text s.0 s.1 s.4,
+      )
 
-code_length : (last : ℕ) (c : Code) (text : List ℕ) → IsCode last c text → code_size c + code_labels c < length text
-code_length last End text h = omega (arith, ap (λ (x : List ℕ). length x) h)
-code_length last (Do o c) text h = omega (arith, op_length o h.0 h.2, code_length last c h.1 h.3, parts_length text h.0 h.1 h.4)
-code_length last (Block t b c) text h =
-    let s = h.3.3 in
-    omega (arith, bodies_length text h, code_length 0x0b b s.0 s.2, code_length last c s.1 s.3)
-code_length last (Loop t b c) text h =
-    let s = h.3.3 in
-    omega (arith, bodies_length text h, code_length 0x0b b s.0 s.2, code_length last c s.1 s.3)
-code_length last (If t a b c) text h =
-    let s = h.3.3 in
-    let both : code_size a + code_labels a + (code_size b + code_labels b) < length s.0 = elim s.2 [
-      | inl e ↦ omega (arith, ap code_size e.0, ap code_labels e.0, code_length 0x0b a s.0 e.1)
-      | inr e ↦ omega (arith, code_length 0x05 a e.0 e.2, code_length 0x0b b e.1 e.3, parts_length s.0 e.0 e.1 e.4)
-    ] in
-    omega (arith, bodies_length text h, both, code_length last c s.1 s.3)
+  -- ---- code
 
--- ---- functions
+  -- two bodies after an opcode and a type
+  bodies_length : {P Q R S : List ℕ → Type 0} (text : List ℕ) (h : (P ⟫ Q ⟫ R ⟫ S) text) → length h.3.3.0 + length h.3.3.1 ≤ length text
+  bodies_length text h =
+      let k = h.3 in
+      let s = k.3 in
+      omega (arith, parts_length text h.0 h.1 h.4, parts_length h.1 k.0 k.1 k.4, parts_length k.1 s.0 s.1 s.4)
 
-function_small : (f : Func) (text : List ℕ) → IsFunctionCode f text → IsSmall f
-function_small f text h =
-    let p = h.1 in
-    record { size = omega (arith, p.3.1); locals = omega (arith, p.2.2) }
+  code_length : (last : ℕ) (c : Code) (text : List ℕ) → IsCode profile last c text → code_size c + code_labels c < length text
+  code_length last End text h = omega (arith, ap (λ (x : List ℕ). length x) h)
+  code_length last (Do o c) text h = omega (arith, op_length o h.0 h.2, code_length last c h.1 h.3, parts_length text h.0 h.1 h.4)
+  code_length last (Block t b c) text h =
+      let s = h.3.3 in
+      omega (arith, bodies_length text h, code_length 0x0b b s.0 s.2, code_length last c s.1 s.3)
+  code_length last (Loop t b c) text h =
+      let s = h.3.3 in
+      omega (arith, bodies_length text h, code_length 0x0b b s.0 s.2, code_length last c s.1 s.3)
+  code_length last (If t a b c) text h =
+      let s = h.3.3 in
+      let both : code_size a + code_labels a + (code_size b + code_labels b) < length s.0 = elim s.2 [
+        | inl e ↦ omega (arith, ap code_size e.0, ap code_labels e.0, code_length 0x0b a s.0 e.1)
+        | inr e ↦ omega (arith, code_length 0x05 a e.0 e.2, code_length 0x0b b e.1 e.3, parts_length s.0 e.0 e.1 e.4)
+      ] in
+      omega (arith, bodies_length text h, both, code_length last c s.1 s.3)
 
-function_weight : (f : Func) (text : List ℕ) → IsFunctionCode f text → func_weight f ≤ length text
-function_weight f text h =
-    let p = h.1 in
-    let s = h.2 in
-    let content : length h.0 ≤ length text = omega (arith, ap (λ (x : List ℕ). length x) s.3, parts_length text s.0 s.1 s.4) in
-    omega (arith, content, code_length 0x0b f.body p.1 p.3.2, parts_length h.0 p.0 p.1 p.4)
+  -- ---- functions
 
-functions_weight : (fs : List Func) (text : List ℕ) → Repeats IsFunctionCode fs text → sum_by func_weight fs ≤ length text
-functions_weight [] text h = omega arith
-functions_weight (f ∷ fs) text h =
-    omega (arith, sum_by-cons func_weight f fs, function_weight f h.0 h.2, functions_weight fs h.1 h.3, parts_length text h.0 h.1 h.4)
+  function_small : (f : Func) (text : List ℕ) → IsFunctionCode profile f text → IsSmall f
+  function_small f text h =
+      let p = h.1 in
+      record { size = omega (arith, p.3.1); locals = omega (arith, p.2.2) }
 
-each_small : (fs : List Func) (text : List ℕ) → Repeats IsFunctionCode fs text → (i : ℕ) (f : Func) → slice_get fs i ≡ Some f → IsSmall f
-each_small [] text h i f e = absurd cc
-each_small (g ∷ fs) text h zero f e =
-    let same : g ≡ f = cc in
-    subst IsSmall same (function_small g h.0 h.2)
-each_small (g ∷ fs) text h (suc i) f e = each_small fs h.1 h.3 i f e
+  function_weight : (f : Func) (text : List ℕ) → IsFunctionCode profile f text → func_weight f ≤ length text
+  function_weight f text h =
+      let p = h.1 in
+      let s = h.2 in
+      let content : length h.0 ≤ length text = omega (arith, ap (λ (x : List ℕ). length x) s.3, parts_length text s.0 s.1 s.4) in
+      omega (arith, content, code_length 0x0b f.body p.1 p.3.2, parts_length h.0 p.0 p.1 p.4)
 
--- ---- what was read
+  functions_weight : (fs : List Func) (text : List ℕ) → Repeats (IsFunctionCode profile) fs text → sum_by func_weight fs ≤ length text
+  functions_weight [] text h = omega arith
+  functions_weight (f ∷ fs) text h =
+      omega (arith, sum_by-cons func_weight f fs, function_weight f h.0 h.2, functions_weight fs h.1 h.3, parts_length text h.0 h.1 h.4)
 
--- the functions of a module that is within its limit
-pub functions_small : (is : List ℕ) (bytes : List ℕ) (n : ℕ) (middle : List ℕ) (fs : List Func) (rest : List ℕ)
-    → length bytes ≤ 262144 → at_most 1024 u32_at bytes ≡ Some (n, middle) → codes_at is middle ≡ Some (fs, rest) → AreSmall fs
-functions_small is bytes n middle fs rest le count e =
-    let one = (number_reads 1024).takes bytes n middle count in
-    let two = codes_take is middle fs rest e in
-    record {
-      each = each_small fs two.1 two.2;
-      together = omega (arith, functions_weight fs two.1 two.2, parts_length bytes one.1 middle one.3, parts_length middle two.1 rest two.3);
-    }
+  each_small : (fs : List Func) (text : List ℕ) → Repeats (IsFunctionCode profile) fs text → (i : ℕ) (f : Func) → slice_get fs i ≡ Some f → IsSmall f
+  each_small [] text h i f e = absurd cc
+  each_small (g ∷ fs) text h zero f e =
+      let same : g ≡ f = cc in
+      subst IsSmall same (function_small g h.0 h.2)
+  each_small (g ∷ fs) text h (suc i) f e = each_small fs h.1 h.3 i f e
 
--- the parameters of a type
-pub parameters_few : (bytes : List ℕ) (ts : List ValueType) (rest : List ℕ) → list_at 64 value_type_at bytes ≡ Some (ts, rest) → length ts < 2 ^ 30
-parameters_few bytes ts rest e =
-    let t = (list_reads 64 IsValueType value_type_at value_type_reads).takes bytes ts rest e in
-    omega (arith, t.2.2.0)
+  -- ---- what was read
+
+  -- the functions of a module that is within its limit
+  pub functions_small : (is : List ℕ) (bytes : List ℕ) (n : ℕ) (middle : List ℕ) (fs : List Func) (rest : List ℕ)
+      → length bytes ≤ 262144 → at_most 1024 u32_at bytes ≡ Some (n, middle) → codes_at profile is middle ≡ Some (fs, rest) → AreSmall fs
+  functions_small is bytes n middle fs rest le count e =
+      let one = (number_reads 1024).takes bytes n middle count in
+      let two = codes_take profile is middle fs rest e in
+      record {
+        each = each_small fs two.1 two.2;
+        together = omega (arith, functions_weight fs two.1 two.2, parts_length bytes one.1 middle one.3, parts_length middle two.1 rest two.3);
+      }

@@ -1,5 +1,6 @@
 -- Reading expressions from left to right.
 use Rattle.std.specs.Prelude.{ℕ, zero, suc, ◌-◌, Bool, ◌||◌, List, Option, Some, None, ◌==◌, if◌then◌else◌}
+use Rattle.wasm_profile.specs.declared.profile.Profile.{Profile}
 use Rattle.grammar.specs.Reading.{◌>>=◌, byte_at}
 use Rattle.grammar.specs.Table.{row_byte_at}
 use Rattle.wasm_ast.specs.Code.{BlockType, Code, End, Do, Block, Loop, If}
@@ -65,12 +66,12 @@ abbrev pub as_step : ℕ → Option (Code × List ℕ) → Option (Step × List 
 as_step left read = read >>= λ c. Some (record { code = c.0; left = left }, c.1)
 
 -- an instruction after its opcode
-unfoldable pub step_at : Inner → ℕ → ℕ → List ℕ → Option (Step × List ℕ)
-step_at inner op left bytes =
+unfoldable pub step_at : Profile → Inner → ℕ → ℕ → List ℕ → Option (Step × List ℕ)
+step_at profile inner op left bytes =
     if op == 0x02 then as_block Block (block_at inner left bytes)
     else (if op == 0x03 then as_block Loop (block_at inner left bytes)
     else (if op == 0x04 then as_if (conditional_at inner left bytes)
-    else as_step left (plain_at op bytes)))
+    else as_step left (plain_at profile op bytes)))
 
 -- the step before other instructions
 abbrev pub before : Code → Option (Instructions × List ℕ) → Option (Instructions × List ℕ)
@@ -88,14 +89,14 @@ code_at one (suc n) left bytes =
     else (if left == 0 then None else (one op.0 (left - 1) op.1 >>= λ i. before i.0.code (code_at one n i.0.left i.1)))
 
 -- instructions in which blocks nest no deeper than the number, and the byte that ends them
-unfoldable pub body_at : ℕ → Inner
-body_at zero left bytes = code_at (step_at (λ _ _. None)) (suc left) left bytes
-body_at (suc d) left bytes = code_at (step_at (body_at d)) (suc left) left bytes
+unfoldable pub body_at : Profile → ℕ → Inner
+body_at profile zero left bytes = code_at (step_at profile (λ _ _. None)) (suc left) left bytes
+body_at profile (suc d) left bytes = code_at (step_at profile (body_at profile d)) (suc left) left bytes
 
 -- how to read what is inside a block
-abbrev pub below : ℕ → Inner
-below zero left bytes = None
-below (suc d) left bytes = body_at d left bytes
+abbrev pub below : Profile → ℕ → Inner
+below profile zero left bytes = None
+below profile (suc d) left bytes = body_at profile d left bytes
 
-unfoldable pub expression_at : List ℕ → Option (Code × List ℕ)
-expression_at bytes = closed_at (body_at 64) 8192 bytes >>= λ b. Some (b.0.code, b.1)
+unfoldable pub expression_at : Profile → List ℕ → Option (Code × List ℕ)
+expression_at profile bytes = closed_at (body_at profile 64) 8192 bytes >>= λ b. Some (b.0.code, b.1)

@@ -1,5 +1,6 @@
 -- What a fault says of the bytes: what stands, or does not, at its offset (Core 1.0, chapter 5).
 use Rattle.std.specs.Prelude.{◌≡◌, ◌≢◌, ℕ, ◌+◌, ◌<◌, ◌≤◌, ◌⊎◌, List, length, drop, slice_get, Some, None, MatchOption, Result, Ok, Err}
+use Rattle.wasm_profile.specs.declared.profile.Profile.{Profile}
 use Rattle.wasm_bytes.specs.Spelling.{IsU32}
 use Rattle.wasm_bytes.specs.Place.{Place}
 use Rattle.wasm_bytes.specs.Stands.{Spans, NoNumber, NoText}
@@ -63,43 +64,48 @@ IsReserved bytes offset =
     ⊎ (HasByte (λ o. o ≡ 0x11) bytes start
     × HasNumber (λ _ behind. offset ≡ behind) bytes (start + 1)))
 
--- what a kind of fault says of an offset, where the input ends at `end`
-abbrev pub Stands : FaultKind → (offset end : ℕ) → List ℕ → Type 0
-Stands Magic offset end bytes = (offset < 4) × Differs bytes offset
-Stands Version offset end bytes = (4 ≤ offset) × Differs bytes offset
-Stands EndedEarly offset end bytes = IsEnd bytes end offset
-Stands BadNumber offset end bytes = NoNumber (drop offset bytes)
+-- what a kind of fault says of an offset, where the input is read by a profile and ends at `end`
+abbrev pub Stands : Profile → FaultKind → (offset end : ℕ) → List ℕ → Type 0
+Stands profile Magic offset end bytes = (offset < 4) × Differs bytes offset
+Stands profile Version offset end bytes = (4 ≤ offset) × Differs bytes offset
+Stands profile EndedEarly offset end bytes = IsEnd bytes end offset
+Stands profile BadNumber offset end bytes = NoNumber (drop offset bytes)
 -- the id of a section that is not custom
-Stands SectionOrder offset end bytes = HasByte (λ id. 0 < id) bytes offset
+Stands profile SectionOrder offset end bytes = HasByte (λ id. 0 < id) bytes offset
 -- the length of a section or of a body
-Stands Length offset end bytes = HasNumber (λ _ _. Unit {0}) bytes offset
--- a byte that is no opcode (as an `else` of no `if` is none), or a reserved byte that is not 0
-Stands Opcode offset end bytes =
-    HasByte (λ b. (row_at opcodes b ≡ None) ⊎ ((0 < b) × IsReserved bytes offset)) bytes offset
-Stands TypeByte offset end bytes = HasByte (λ _. Unit {0}) bytes offset
-Stands NotUtf8 offset end bytes = NoText (drop offset bytes)
-Stands Float offset end bytes = HasByte IsFloat bytes offset
-Stands Limit offset end bytes = PassesLimit bytes offset
+Stands profile Length offset end bytes = HasNumber (λ _ _. Unit {0}) bytes offset
+-- a byte that is no opcode of the profile (as an `else` of no `if` is none), or a reserved byte that is not 0
+Stands profile Opcode offset end bytes =
+    HasByte (λ b. (row_at (opcodes profile) b ≡ None) ⊎ ((0 < b) × IsReserved bytes offset)) bytes offset
+Stands profile TypeByte offset end bytes = HasByte (λ _. Unit {0}) bytes offset
+Stands profile NotUtf8 offset end bytes = NoText (drop offset bytes)
+Stands profile Float offset end bytes = HasByte IsFloat bytes offset
+Stands profile Limit offset end bytes = PassesLimit bytes offset
 -- how many bodies there are, or the end where there is no code section
-Stands CountsDiffer offset end bytes =
+Stands profile CountsDiffer offset end bytes =
     (offset ≡ length bytes) ⊎ HasNumber (λ _ _. Unit {0}) bytes offset
-Stands StartSection offset end bytes = HasByte (λ id. id ≡ 8) bytes offset
+Stands profile StartSection offset end bytes = HasByte (λ id. id ≡ 8) bytes offset
 
 -- the kind says something true wherever the byte stands
-abbrev pub IsFaultOf : ℕ → FaultKind → Type 0
-IsFaultOf b kind =
-    (offset end : ℕ) (bytes : List ℕ) → slice_get bytes offset ≡ Some b → Stands kind offset end bytes
+abbrev pub IsFaultOf : Profile → ℕ → FaultKind → Type 0
+IsFaultOf profile b kind =
+    (offset end : ℕ) (bytes : List ℕ) → slice_get bytes offset ≡ Some b → Stands profile kind offset end bytes
 
 -- want of memory says nothing of the bytes
-abbrev pub Says : DecodeFault → (end : ℕ) → List ℕ → Type 0
-Says Memory end bytes = Unit {0}
-Says (Malformed kind offset) end bytes = Stands kind offset end bytes
+abbrev pub Says : Profile → DecodeFault → (end : ℕ) → List ℕ → Type 0
+Says profile Memory end bytes = Unit {0}
+Says profile (Malformed kind offset) end bytes = Stands profile kind offset end bytes
 
 -- of the same bytes, with the same end
 abbrev pub Kept : Place → Place → Type 0
 Kept old new = (new.whole ≡ old.whole) × (new.end ≡ old.end)
 
 -- a reader stays in the bytes of its cursor, and its fault says something true of them
+abbrev pub TellsBy : Profile → {X : Type 0} → Result X DecodeFault → Place → Place → Type 0
+TellsBy profile (Ok x) old new = Kept old new
+TellsBy profile (Err e) old new = Says profile e old.end old.whole
+
+-- the same where the reader goes by no profile, so that its fault is true by each
 abbrev pub Tells : {X : Type 0} → Result X DecodeFault → Place → Place → Type 0
 Tells (Ok x) old new = Kept old new
-Tells (Err e) old new = Says e old.end old.whole
+Tells (Err e) old new = (profile : Profile) → Says profile e old.end old.whole

@@ -1,5 +1,6 @@
 -- Which bytes spell which module (Core 1.0, section 5.5), within the limits of the profile.
 use Rattle.std.specs.Prelude.{◌≡◌, ℕ, ◌≤◌, ◌⊎◌, List, [], ◌∷◌, length, map}
+use Rattle.wasm_profile.specs.declared.profile.Profile.{Profile}
 use Rattle.grammar.specs.Spelling.{◌⟫◌, IsByte, IsEmpty, IsText, Repeats}
 use Rattle.wasm_bytes.specs.Spelling.{IsU32, IsName, IsList, IsSized}
 use Rattle.wasm_ast.specs.declared.module.Module.{Module}
@@ -36,19 +37,19 @@ abbrev pub IsHeader : List ℕ → Type 0
 IsHeader = IsText (0x00 ∷ 0x61 ∷ 0x73 ∷ 0x6d ∷ 0x01 ∷ 0x00 ∷ 0x00 ∷ 0x00 ∷ [])
 
 -- 5.5.4 to 5.5.14: the types of functions stand apart from their code. A start section is not in the profile.
-abbrev pub IsSections : List ℕ → Module → List ℕ → Type 0
-IsSections type_indices m =
+abbrev pub IsSections : Profile → List ℕ → Module → List ℕ → Type 0
+IsSections profile type_indices m =
     IsPart 1 (IsList 1024 IsFuncType) m.types
     ⟫ IsPart 2 (IsList 64 IsImport) m.imports
     ⟫ IsPart 3 (IsList 1024 IsU32) type_indices
     ⟫ IsPart 4 (IsList 64 IsTableType) m.tables
     ⟫ IsPart 5 (IsList 64 IsMemoryType) m.memories
-    ⟫ IsPart 6 (IsList 64 IsGlobal) m.globals
+    ⟫ IsPart 6 (IsList 64 (IsGlobal profile)) m.globals
     ⟫ IsPart 7 (IsList 64 IsExport) m.exports
-    ⟫ IsPart 9 (IsList 64 IsElementSegment) m.elements
-    ⟫ IsPart 10 (IsList 1024 IsFunctionCode) m.functions
-    ⟫ IsPart 11 (IsList 64 IsDataSegment) m.«data»
+    ⟫ IsPart 9 (IsList 64 (IsElementSegment profile)) m.elements
+    ⟫ IsPart 10 (IsList 1024 (IsFunctionCode profile)) m.functions
+    ⟫ IsPart 11 (IsList 64 (IsDataSegment profile)) m.«data»
 
 -- 5.5.16, with at most 262,144 bytes
-abbrev pub IsModule : Module → List ℕ → Type 0
-IsModule m bytes = (length bytes ≤ 262144) × (IsHeader ⟫ IsCustoms ⟫ IsSections (map (λ f. f.type_index) m.functions) m) bytes
+abbrev pub IsModule : Profile → Module → List ℕ → Type 0
+IsModule profile m bytes = (length bytes ≤ 262144) × (IsHeader ⟫ IsCustoms ⟫ IsSections profile (map (λ f. f.type_index) m.functions) m) bytes

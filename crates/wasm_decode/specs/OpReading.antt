@@ -1,5 +1,6 @@
 -- Reading an instruction with no instruction inside, from left to right.
 use Rattle.std.specs.Prelude.{ℕ, List, Option, Some, None, option_map}
+use Rattle.wasm_profile.specs.declared.profile.Profile.{Profile}
 use Rattle.grammar.specs.Reading.{◌>>=◌, made_at, tagged_at}
 use Rattle.grammar.specs.Table.{row_at}
 use Rattle.wasm_bytes.specs.Reading.{u32_at, s32_at, s64_at, list_at}
@@ -46,8 +47,8 @@ or_else (Some x) f other = f x
 or_else None f other = other
 
 -- after the opcode
-unfoldable pub plain_at : ℕ → List ℕ → Option (Code × List ℕ)
-plain_at op bytes =
-    or_else (option_map alone (row_at operator_rows op)) (λ c. Some (c, bytes))
+unfoldable pub plain_at : Profile → ℕ → List ℕ → Option (Code × List ℕ)
+plain_at profile op bytes =
+    or_else (option_map alone (row_at (operator_rows profile) op)) (λ c. Some (c, bytes))
     (or_else (row_at load_rows op) (λ o. argument_at bytes >>= λ a. Some (alone (load_of o a.0), a.1))
     (or_else (row_at store_rows op) (λ o. argument_at bytes >>= λ a. Some (alone (store_of o a.0), a.1)) (other_at op bytes)))

@@ -1,6 +1,7 @@
 -- The instructions with no instruction inside (Core 1.0, section 5.4): their opcodes, and what comes after an opcode.
 use Rattle.std.specs.Prelude.{◌≡◌, ℕ, ℤ, List, [], ◌∷◌, ◌++◌, map}
 use Rattle.std.specs.Int.{cast_unsigned, w32, w64}
+use Rattle.wasm_profile.specs.declared.profile.Profile.{Profile}
 use Rattle.grammar.specs.Spelling.{◌⟫◌, IsByte, IsEmpty, IsMade}
 use Rattle.grammar.specs.Table.{IsByRow}
 use Rattle.wasm_bytes.specs.Spelling.{IsU32, IsS32, IsS64, IsList}
@@ -66,10 +67,10 @@ store_of o a = Store o a.align a.offset
 abbrev pub with_form : {K : Type 0} → (K → Form) → List (ℕ × K) → List (ℕ × Form)
 with_form form rows = map (λ r. (r.0, form r.1)) rows
 
--- the opcodes of the profile
-unfoldable pub opcodes : List (ℕ × Form)
-opcodes =
-    with_form bare operator_rows ++ (with_form (λ o. access (load_of o)) load_rows ++ (with_form (λ o. access (store_of o)) store_rows ++ other_rows))
+-- the opcodes of a profile
+unfoldable pub opcodes : Profile → List (ℕ × Form)
+opcodes profile =
+    with_form bare (operator_rows profile) ++ (with_form (λ o. access (load_of o)) load_rows ++ (with_form (λ o. access (store_of o)) store_rows ++ other_rows))
 
 -- a constant is the word with the bits of the number that is spelled
 abbrev pub constant_32_of : ℤ → Op
@@ -106,5 +107,5 @@ IsAfter constant_32 o text = IsMade constant_32_of IsS32 o text
 IsAfter constant_64 o text = IsMade constant_64_of IsS64 o text
 
 -- an opcode, and what comes after it
-abbrev pub IsOp : Op → List ℕ → Type 0
-IsOp = IsByRow opcodes IsAfter
+abbrev pub IsOp : Profile → Op → List ℕ → Type 0
+IsOp profile = IsByRow (opcodes profile) IsAfter

@@ -1,11 +1,14 @@
--- The opcodes of operators on integers and of accesses to memory (Core 1.0, sections 5.4.4 and 5.4.5).
+-- The opcodes of operators on integers and of accesses to memory (Core 1.0, sections 5.4.4 and 5.4.5), and those that a
+-- profile adds.
 use Rattle.std.specs.Prelude.{ℕ, List, [], ◌∷◌, ◌++◌}
+use Rattle.wasm_profile.specs.declared.profile.Profile.{Profile}
+use Rattle.wasm_profile.specs.declared.profile.Profile.TheVariants.{Core1, SignExtension}
 use Rattle.wasm_ast.specs.declared.types.ValueType.TheVariants.{I32, I64}
 use Rattle.wasm_ast.specs.declared.operators.LoadOp.{LoadOp}
 use Rattle.wasm_ast.specs.declared.operators.LoadOp.TheVariants as load
 use Rattle.wasm_ast.specs.declared.operators.StoreOp.{StoreOp}
 use Rattle.wasm_ast.specs.declared.operators.StoreOp.TheVariants as store
-use Rattle.wasm_ast.specs.declared.operators.UnaryOp.TheVariants.{Clz, Ctz, Popcnt}
+use Rattle.wasm_ast.specs.declared.operators.UnaryOp.TheVariants.{Clz, Ctz, Popcnt, Extend8S, Extend16S, Extend32S}
 use Rattle.wasm_ast.specs.declared.operators.CompareOp.TheVariants.{Eq, Ne, LtS, LtU, GtS, GtU, LeS, LeU, GeS, GeU}
 use Rattle.wasm_ast.specs.declared.operators.BinaryOp.TheVariants.{Add, Sub, Mul, DivS, DivU, RemS, RemU, And, Or, Xor, Shl, ShrS, ShrU, Rotl, Rotr}
 use Rattle.wasm_ast.specs.declared.operators.ConvertOp.TheVariants.{WrapI64, ExtendI32S, ExtendI32U}
@@ -121,6 +124,22 @@ conversion_rows =
     ∷ (0xad, Convert ExtendI32U)
     ∷ []
 
--- all operators
-unfoldable pub operator_rows : List (ℕ × Op)
-operator_rows = comparison_rows ++ (arithmetic_32_rows ++ (arithmetic_64_rows ++ conversion_rows))
+-- sign extensions (Core 2.0, section 5.4.7)
+unfoldable pub sign_extension_rows : List (ℕ × Op)
+sign_extension_rows =
+    (0xc0, Unary I32 Extend8S)
+    ∷ (0xc1, Unary I32 Extend16S)
+    ∷ (0xc2, Unary I64 Extend8S)
+    ∷ (0xc3, Unary I64 Extend16S)
+    ∷ (0xc4, Unary I64 Extend32S)
+    ∷ []
+
+-- what a profile has beyond Core 1.0
+abbrev pub added_rows : Profile → List (ℕ × Op)
+added_rows Core1 = []
+added_rows SignExtension = sign_extension_rows
+
+-- all operators of a profile
+unfoldable pub operator_rows : Profile → List (ℕ × Op)
+operator_rows profile =
+    comparison_rows ++ (arithmetic_32_rows ++ (arithmetic_64_rows ++ (conversion_rows ++ added_rows profile)))

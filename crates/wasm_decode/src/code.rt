@@ -5,7 +5,7 @@ ghost use Rattle.grammar.specs.Table.{row_at, row_byte_at};
 ghost use Rattle.grammar.specs.Reading.{byte_at};
 ghost use Rattle.wasm_ast.specs.View.{code_of};
 ghost use Rattle.wasm_decode.specs.Parses.{Parses};
-ghost use Rattle.wasm_decode.specs.Faults.{HasByte, IsFaultOf, IsReserved, Tells};
+ghost use Rattle.wasm_decode.specs.Faults.{HasByte, IsFaultOf, IsReserved, Tells, TellsBy};
 ghost use Rattle.wasm_decode.specs.Opcodes.{opcodes};
 ghost use Rattle.wasm_decode.specs.Operators.{load_rows, store_rows, operator_rows};
 ghost use Rattle.wasm_bytes.specs.Place.{offset_of};
@@ -20,6 +20,7 @@ use crate::types::block_type;
 use std::alloc::Global;
 use wasm_ast::{Block, Body, BranchTable, Conditional, Instr, MemoryArgument};
 use wasm_bytes::Cursor;
+use wasm_profile::Profile;
 
 /// What ends a body: `end`, or `else` after the first body of an `if`.
 const END: u8 = 0x0b;
@@ -45,12 +46,16 @@ fn next_opcode(cursor: &mut Cursor<'_>) -> Result<Opcode, DecodeFault>
 }
 
 #[tactic(auto, unfolding(crate::specs::OpReading::branch_table_at))]
-fn branch_table(alloc: Global, cursor: &mut Cursor<'_>) -> Result<BranchTable, DecodeFault>
+fn branch_table(
+    alloc: Global,
+    cursor: &mut Cursor<'_>,
+    profile: Profile,
+) -> Result<BranchTable, DecodeFault>
     ensures read { Parses (λ t. (t.labels, t.default)) result cursor.new
         (branch_table_at cursor.old.rest) }
-    ensures tells { Tells result cursor.old cursor.new }
+    ensures tells { TellsBy profile result cursor.old cursor.new }
 {
-    let labels = list::<u32>(alloc, cursor, MOST_LABELS)?;
+    let labels = list::<u32>(alloc, cursor, profile, MOST_LABELS)?;
     let default = cursor.u32_leb()?;
     Ok(BranchTable { labels, default })
 }
@@ -94,9 +99,9 @@ fn memory_argument(cursor: &mut Cursor<'_>) -> Result<MemoryArgument, DecodeFaul
 }
 
 /// The fault of an opcode that is not of the profile: those of floats are told apart.
-fn opcode_fault(opcode: u8) -> FaultKind
-    requires { row_at opcodes opcode ≡ None }
-    ensures { IsFaultOf opcode result }
+fn opcode_fault(opcode: u8, profile: Profile) -> FaultKind
+    requires { row_at (opcodes profile) opcode ≡ None }
+    ensures { IsFaultOf profile opcode result }
 {
     match opcode {
         0x2a | 0x2b | 0x38 | 0x39 | 0x43 | 0x44 | 0x5b..=0x66 => FaultKind::Float,
@@ -107,22 +112,27 @@ fn opcode_fault(opcode: u8) -> FaultKind
 
 /// An instruction with no instruction inside that is no operator, load or store, after its opcode.
 #[tactic(auto, unfolding(crate::specs::OpReading::other_at, crate::specs::Opcodes::other_rows))]
-fn other(alloc: Global, cursor: &mut Cursor<'_>, opcode: Opcode) -> Result<Instr, DecodeFault>
+fn other(
+    alloc: Global,
+    cursor: &mut Cursor<'_>,
+    profile: Profile,
+    opcode: Opcode,
+) -> Result<Instr, DecodeFault>
     requires here { slice_get cursor.old.whole opcode.offset ≡ Some opcode.byte }
     requires behind { offset_of cursor.old ≡ opcode.offset + 1 }
-    requires operator { row_at operator_rows opcode.byte ≡ None }
+    requires operator { row_at (operator_rows profile) opcode.byte ≡ None }
     requires load { row_at load_rows opcode.byte ≡ None }
     requires store { row_at store_rows opcode.byte ≡ None }
     ensures read { Parses (λ i. code_of (i ∷ [])) result cursor.new
         (other_at opcode.byte cursor.old.rest) }
-    ensures tells { Tells result cursor.old cursor.new }
+    ensures tells { TellsBy profile result cursor.old cursor.new }
 {
     Ok(match opcode.byte {
         0x00 => Instr::Unreachable,
         0x01 => Instr::Nop,
         0x0c => Instr::Br(cursor.u32_leb()?),
         0x0d => Instr::BrIf(cursor.u32_leb()?),
-        0x0e => Instr::BrTable(Box::new(alloc, branch_table(alloc, cursor)?)?),
+        0x0e => Instr::BrTable(Box::new(alloc, branch_table(alloc, cursor, profile)?)?),
         0x0f => Instr::Return,
         0x10 => Instr::Call(cursor.u32_leb()?),
         0x11 => Instr::CallIndirect(reserved_index(cursor)?),
@@ -143,20 +153,25 @@ fn other(alloc: Global, cursor: &mut Cursor<'_>, opcode: Opcode) -> Result<Instr
         }
         0x41 => Instr::I32Const(cursor.i32_leb()?.cast_unsigned()),
         0x42 => Instr::I64Const(cursor.i64_leb()?.cast_unsigned()),
-        _ => return refuse(opcode_fault(opcode.byte), opcode.offset),
+        _ => return refuse(opcode_fault(opcode.byte, profile), opcode.offset),
     })
 }
 
 /// An instruction with no instruction inside, after its opcode.
 #[tactic(auto, unfolding(crate::specs::OpReading::plain_at))]
-fn plain(alloc: Global, cursor: &mut Cursor<'_>, opcode: Opcode) -> Result<Instr, DecodeFault>
+fn plain(
+    alloc: Global,
+    cursor: &mut Cursor<'_>,
+    profile: Profile,
+    opcode: Opcode,
+) -> Result<Instr, DecodeFault>
     requires here { slice_get cursor.old.whole opcode.offset ≡ Some opcode.byte }
     requires behind { offset_of cursor.old ≡ opcode.offset + 1 }
     ensures read { Parses (λ i. code_of (i ∷ [])) result cursor.new
-        (plain_at opcode.byte cursor.old.rest) }
-    ensures tells { Tells result cursor.old cursor.new }
+        (plain_at profile opcode.byte cursor.old.rest) }
+    ensures tells { TellsBy profile result cursor.old cursor.new }
 {
-    if let Some(instruction) = operator(opcode.byte) {
+    if let Some(instruction) = operator(opcode.byte, profile) {
         return Ok(instruction);
     }
     if let Some(load) = load(opcode.byte) {
@@ -165,7 +180,7 @@ fn plain(alloc: Global, cursor: &mut Cursor<'_>, opcode: Opcode) -> Result<Instr
     if let Some(store) = store(opcode.byte) {
         return Ok(Instr::Store(store, memory_argument(cursor)?));
     }
-    other(alloc, cursor, opcode)
+    other(alloc, cursor, profile, opcode)
 }
 
 /// The body of a `block` or a `loop`, in which blocks may nest one level less.
@@ -174,6 +189,7 @@ fn plain(alloc: Global, cursor: &mut Cursor<'_>, opcode: Opcode) -> Result<Instr
 fn block(
     alloc: Global,
     cursor: &mut Cursor<'_>,
+    profile: Profile,
     opcode: Opcode,
     nesting: u32,
     left: &mut u32,
@@ -181,15 +197,15 @@ fn block(
     requires here { slice_get cursor.old.whole opcode.offset ≡ Some opcode.byte }
     requires opens { (0x02 ≤ opcode.byte) × (opcode.byte ≤ 0x04) }
     ensures read { Parses (λ b. record { result = b.result; body = b.body; left = left.new }) result
-        cursor.new (block_at (below nesting) left.old cursor.old.rest) }
-    ensures tells { Tells result cursor.old cursor.new }
+        cursor.new (block_at (below profile nesting) left.old cursor.old.rest) }
+    ensures tells { TellsBy profile result cursor.old cursor.new }
     ensures fewer { OnOk result (left.new ≤ left.old) }
 {
     if nesting == 0 {
         return refuse(FaultKind::Limit, opcode.offset);
     }
     let result = block_type(cursor)?;
-    let body = closed(alloc, cursor, nesting - 1, left)?;
+    let body = closed(alloc, cursor, profile, nesting - 1, left)?;
     Ok(Block { result, body })
 }
 
@@ -199,6 +215,7 @@ fn block(
 fn conditional(
     alloc: Global,
     cursor: &mut Cursor<'_>,
+    profile: Profile,
     opcode: Opcode,
     nesting: u32,
     left: &mut u32,
@@ -207,20 +224,20 @@ fn conditional(
     requires opens { (0x02 ≤ opcode.byte) × (opcode.byte ≤ 0x04) }
     ensures read { Parses
         (λ c. record { result = c.result; yes = c.yes; no = c.no; left = left.new }) result
-        cursor.new (conditional_at (below nesting) left.old cursor.old.rest) }
-    ensures tells { Tells result cursor.old cursor.new }
+        cursor.new (conditional_at (below profile nesting) left.old cursor.old.rest) }
+    ensures tells { TellsBy profile result cursor.old cursor.new }
     ensures fewer { OnOk result (left.new ≤ left.old) }
 {
     if nesting == 0 {
         return refuse(FaultKind::Limit, opcode.offset);
     }
     let result = block_type(cursor)?;
-    let (yes, last) = instructions(alloc, cursor, nesting - 1, left)?;
+    let (yes, last) = instructions(alloc, cursor, profile, nesting - 1, left)?;
     if last.byte == END {
         let no = Body::new(Vec::new(alloc));
         return Ok(Conditional { result, yes, no });
     }
-    let no = closed(alloc, cursor, nesting - 1, left)?;
+    let no = closed(alloc, cursor, profile, nesting - 1, left)?;
     Ok(Conditional { result, yes, no })
 }
 
@@ -230,6 +247,7 @@ fn conditional(
 fn instruction(
     alloc: Global,
     cursor: &mut Cursor<'_>,
+    profile: Profile,
     opcode: Opcode,
     nesting: u32,
     left: &mut u32,
@@ -237,23 +255,23 @@ fn instruction(
     requires here { slice_get cursor.old.whole opcode.offset ≡ Some opcode.byte }
     requires behind { offset_of cursor.old ≡ opcode.offset + 1 }
     ensures read { Parses (λ i. record { code = code_of (i ∷ []); left = left.new }) result
-        cursor.new (step_at (below nesting) opcode.byte left.old cursor.old.rest) }
-    ensures tells { Tells result cursor.old cursor.new }
+        cursor.new (step_at profile (below profile nesting) opcode.byte left.old cursor.old.rest) }
+    ensures tells { TellsBy profile result cursor.old cursor.new }
     ensures fewer { OnOk result (left.new ≤ left.old) }
 {
     if opcode.byte == 0x02 {
-        let block = block(alloc, cursor, opcode, nesting, left)?;
+        let block = block(alloc, cursor, profile, opcode, nesting, left)?;
         return Ok(Instr::Block(Box::new(alloc, block)?));
     }
     if opcode.byte == 0x03 {
-        let block = block(alloc, cursor, opcode, nesting, left)?;
+        let block = block(alloc, cursor, profile, opcode, nesting, left)?;
         return Ok(Instr::Loop(Box::new(alloc, block)?));
     }
     if opcode.byte == 0x04 {
-        let conditional = conditional(alloc, cursor, opcode, nesting, left)?;
+        let conditional = conditional(alloc, cursor, profile, opcode, nesting, left)?;
         return Ok(Instr::If(Box::new(alloc, conditional)?));
     }
-    plain(alloc, cursor, opcode)
+    plain(alloc, cursor, profile, opcode)
 }
 
 /// Instructions, and the opcode that ends them. Each takes one off what is left.
@@ -261,12 +279,13 @@ fn instruction(
 fn instructions(
     alloc: Global,
     cursor: &mut Cursor<'_>,
+    profile: Profile,
     nesting: u32,
     left: &mut u32,
 ) -> Result<(Body, Opcode), DecodeFault>
     ensures read { Parses (λ x. record { code = x.0; last = x.1.byte; left = left.new }) result
-        cursor.new (body_at nesting left.old cursor.old.rest) }
-    ensures tells { Tells result cursor.old cursor.new }
+        cursor.new (body_at profile nesting left.old cursor.old.rest) }
+    ensures tells { TellsBy profile result cursor.old cursor.new }
     ensures here { IfOk result (λ x. slice_get cursor.old.whole x.1.offset ≡ Some x.1.byte) }
     ensures last { IfOk result (λ x. (x.1.byte ≡ 0x05) ⊎ (x.1.byte ≡ 0x0b)) }
     ensures fewer { OnOk result (left.new ≤ left.old) }
@@ -281,7 +300,7 @@ fn instructions(
             return refuse(FaultKind::Limit, opcode.offset);
         }
         *left -= 1;
-        items.push(instruction(alloc, cursor, opcode, nesting, left)?)?;
+        items.push(instruction(alloc, cursor, profile, opcode, nesting, left)?)?;
     }
 }
 
@@ -291,15 +310,16 @@ fn instructions(
 fn closed(
     alloc: Global,
     cursor: &mut Cursor<'_>,
+    profile: Profile,
     nesting: u32,
     left: &mut u32,
 ) -> Result<Body, DecodeFault>
     ensures read { Parses (λ b. record { code = b; left = left.new }) result cursor.new
-        (closed_at (body_at nesting) left.old cursor.old.rest) }
-    ensures tells { Tells result cursor.old cursor.new }
+        (closed_at (body_at profile nesting) left.old cursor.old.rest) }
+    ensures tells { TellsBy profile result cursor.old cursor.new }
     ensures fewer { OnOk result (left.new ≤ left.old) }
 {
-    let (body, last) = instructions(alloc, cursor, nesting, left)?;
+    let (body, last) = instructions(alloc, cursor, profile, nesting, left)?;
     if last.byte != END {
         return refuse(FaultKind::Opcode, last.offset);
     }
@@ -308,10 +328,14 @@ fn closed(
 
 /// An expression within the limits.
 #[tactic(auto, unfolding(crate::specs::CodeReading::expression_at))]
-pub(crate) fn expression(alloc: Global, cursor: &mut Cursor<'_>) -> Result<Body, DecodeFault>
-    ensures read { Parses (λ b. b) result cursor.new (expression_at cursor.old.rest) }
-    ensures tells { Tells result cursor.old cursor.new }
+pub(crate) fn expression(
+    alloc: Global,
+    cursor: &mut Cursor<'_>,
+    profile: Profile,
+) -> Result<Body, DecodeFault>
+    ensures read { Parses (λ b. b) result cursor.new (expression_at profile cursor.old.rest) }
+    ensures tells { TellsBy profile result cursor.old cursor.new }
 {
     let mut left = MOST_INSTRUCTIONS;
-    closed(alloc, cursor, MOST_NESTING, &mut left)
+    closed(alloc, cursor, profile, MOST_NESTING, &mut left)
 }

@@ -14,6 +14,7 @@ use crate::types::{global_type, memory_type, table_type};
 use std::alloc::Global;
 use wasm_ast::{Export, ExternalKind, Import, ImportKind, Name};
 use wasm_bytes::Cursor;
+use wasm_profile::Profile;
 
 fn name(alloc: Global, cursor: &mut Cursor<'_>) -> Result<Name, DecodeFault>
     ensures read { Parses (λ x. x) result cursor.new (name_at cursor.old.rest) }
@@ -62,10 +63,14 @@ fn import_kind(cursor: &mut Cursor<'_>, kind: ExternalKind) -> Result<ImportKind
 impl Item for Import {
     type Value = Import;
 
-    ghost reads = { import_at };
+    ghost reads = { λ _. import_at };
 
     #[tactic(auto, unfolding(crate::specs::ExternalReading::import_at))]
-    fn read(alloc: Global, cursor: &mut Cursor<'_>) -> Result<Import, DecodeFault> {
+    fn read(
+        alloc: Global,
+        cursor: &mut Cursor<'_>,
+        _profile: Profile,
+    ) -> Result<Import, DecodeFault> {
         let module = name(alloc, cursor)?;
         let name = name(alloc, cursor)?;
         let external = external_kind(cursor)?;
@@ -77,10 +82,14 @@ impl Item for Import {
 impl Item for Export {
     type Value = Export;
 
-    ghost reads = { export_at };
+    ghost reads = { λ _. export_at };
 
     #[tactic(auto, unfolding(crate::specs::ExternalReading::export_at))]
-    fn read(alloc: Global, cursor: &mut Cursor<'_>) -> Result<Export, DecodeFault> {
+    fn read(
+        alloc: Global,
+        cursor: &mut Cursor<'_>,
+        _profile: Profile,
+    ) -> Result<Export, DecodeFault> {
         let name = name(alloc, cursor)?;
         let kind = external_kind(cursor)?;
         let index = cursor.u32_leb()?;

@@ -3,7 +3,7 @@
 
 ghost use Rattle.std.specs.Prelude.{◌≡◌, ◌^◌, ◌-◌, ◌≤◌, ◌++◌, ℕ, List, Option, Some, IfOk, replicate, length};
 ghost use Rattle.wasm_decode.specs.Parses.{Parses};
-ghost use Rattle.wasm_decode.specs.Faults.{Tells};
+ghost use Rattle.wasm_decode.specs.Faults.{Tells, TellsBy};
 ghost use Rattle.wasm_decode.specs.FunctionReading.{groups_at, locals_at, code_parts_at, code_at, codes_at, functions_at, global_at, element_at, data_at};
 
 use crate::code::expression;
@@ -15,6 +15,7 @@ use seq::Seq;
 use std::alloc::{AllocError, Global};
 use wasm_ast::{DataSegment, ElementSegment, Func, Functions, ValueType};
 use wasm_bytes::Cursor;
+use wasm_profile::Profile;
 
 fn push_locals(
     locals: &mut Vec<ValueType>,
@@ -55,12 +56,17 @@ fn locals(alloc: Global, cursor: &mut Cursor<'_>) -> Result<Seq<ValueType>, Deco
     groups(alloc, cursor, count)
 }
 
-fn code_parts(alloc: Global, cursor: &mut Cursor<'_>, type_index: u32) -> Result<Func, DecodeFault>
-    ensures read { Parses (λ x. x) result cursor.new (code_parts_at type_index cursor.old.rest) }
-    ensures tells { Tells result cursor.old cursor.new }
+fn code_parts(
+    alloc: Global,
+    cursor: &mut Cursor<'_>,
+    profile: Profile,
+    type_index: u32,
+) -> Result<Func, DecodeFault>
+    ensures read { Parses (λ x. x) result cursor.new (code_parts_at profile type_index cursor.old.rest) }
+    ensures tells { TellsBy profile result cursor.old cursor.new }
 {
     let locals = locals(alloc, cursor)?;
-    let body = expression(alloc, cursor)?;
+    let body = expression(alloc, cursor, profile)?;
     Ok(Func {
         type_index,
         locals,
@@ -70,16 +76,21 @@ fn code_parts(alloc: Global, cursor: &mut Cursor<'_>, type_index: u32) -> Result
 
 /// The function of a type, by its code.
 #[tactic(auto, unfolding(crate::specs::FunctionReading::code_at, grammar::specs::Reading::measured_at))]
-fn code(alloc: Global, cursor: &mut Cursor<'_>, type_index: u32) -> Result<Func, DecodeFault>
-    ensures read { Parses (λ x. x) result cursor.new (code_at type_index cursor.old.rest) }
-    ensures tells { Tells result cursor.old cursor.new }
+fn code(
+    alloc: Global,
+    cursor: &mut Cursor<'_>,
+    profile: Profile,
+    type_index: u32,
+) -> Result<Func, DecodeFault>
+    ensures read { Parses (λ x. x) result cursor.new (code_at profile type_index cursor.old.rest) }
+    ensures tells { TellsBy profile result cursor.old cursor.new }
 {
     let offset = cursor.offset();
     let size = cursor.u32_leb()?;
     let Some(mut content) = cursor.split(size) else {
         return refuse(FaultKind::Length, offset);
     };
-    let function = code_parts(alloc, &mut content, type_index)?;
+    let function = code_parts(alloc, &mut content, profile, type_index)?;
     if !content.is_at_end() {
         return refuse(FaultKind::Length, offset);
     }
@@ -90,14 +101,15 @@ fn code(alloc: Global, cursor: &mut Cursor<'_>, type_index: u32) -> Result<Func,
 fn codes(
     alloc: Global,
     cursor: &mut Cursor<'_>,
+    profile: Profile,
     type_indices: &[u32],
 ) -> Result<Seq<Func>, DecodeFault>
-    ensures read { Parses (λ x. x) result cursor.new (codes_at type_indices.now cursor.old.rest) }
-    ensures tells { Tells result cursor.old cursor.new }
+    ensures read { Parses (λ x. x) result cursor.new (codes_at profile type_indices.now cursor.old.rest) }
+    ensures tells { TellsBy profile result cursor.old cursor.new }
 {
     let mut functions = Vec::new(alloc);
     for type_index in type_indices {
-        functions.push(code(alloc, cursor, *type_index)?)?;
+        functions.push(code(alloc, cursor, profile, *type_index)?)?;
     }
     Ok(Seq::new(functions))
 }
@@ -107,19 +119,20 @@ fn codes(
 pub(crate) fn functions(
     alloc: Global,
     cursor: &mut Cursor<'_>,
+    profile: Profile,
     type_indices: &[u32],
 ) -> Result<Functions, DecodeFault>
     requires { length cursor.old.rest ≤ MODULE_BYTES }
     ensures read { Parses (λ x. x) result cursor.new
-        (functions_at type_indices.now cursor.old.rest) }
-    ensures tells { Tells result cursor.old cursor.new }
+        (functions_at profile type_indices.now cursor.old.rest) }
+    ensures tells { TellsBy profile result cursor.old cursor.new }
 {
     let offset = cursor.offset();
     let count = number(cursor, MOST_FUNCTIONS)?;
     if count as usize != type_indices.len() {
         return refuse(FaultKind::CountsDiffer, offset);
     }
-    Ok(Functions::new(codes(alloc, cursor, type_indices)?))
+    Ok(Functions::new(codes(alloc, cursor, profile, type_indices)?))
 }
 
 impl Item for wasm_ast::Global {
@@ -128,9 +141,13 @@ impl Item for wasm_ast::Global {
     ghost reads = { global_at };
 
     #[tactic(auto, unfolding(crate::specs::FunctionReading::global_at))]
-    fn read(alloc: Global, cursor: &mut Cursor<'_>) -> Result<wasm_ast::Global, DecodeFault> {
+    fn read(
+        alloc: Global,
+        cursor: &mut Cursor<'_>,
+        profile: Profile,
+    ) -> Result<wasm_ast::Global, DecodeFault> {
         let global_type = global_type(cursor)?;
-        let initializer = expression(alloc, cursor)?;
+        let initializer = expression(alloc, cursor, profile)?;
         Ok(wasm_ast::Global {
             global_type,
             initializer,
@@ -144,10 +161,14 @@ impl Item for ElementSegment {
     ghost reads = { element_at };
 
     #[tactic(auto, unfolding(crate::specs::FunctionReading::element_at))]
-    fn read(alloc: Global, cursor: &mut Cursor<'_>) -> Result<ElementSegment, DecodeFault> {
+    fn read(
+        alloc: Global,
+        cursor: &mut Cursor<'_>,
+        profile: Profile,
+    ) -> Result<ElementSegment, DecodeFault> {
         let table = cursor.u32_leb()?;
-        let offset = expression(alloc, cursor)?;
-        let functions = list::<u32>(alloc, cursor, MOST_ENTRIES)?;
+        let offset = expression(alloc, cursor, profile)?;
+        let functions = list::<u32>(alloc, cursor, profile, MOST_ENTRIES)?;
         Ok(ElementSegment {
             table,
             offset,
@@ -162,10 +183,14 @@ impl Item for DataSegment {
     ghost reads = { data_at };
 
     #[tactic(auto, unfolding(crate::specs::FunctionReading::data_at))]
-    fn read(alloc: Global, cursor: &mut Cursor<'_>) -> Result<DataSegment, DecodeFault> {
+    fn read(
+        alloc: Global,
+        cursor: &mut Cursor<'_>,
+        profile: Profile,
+    ) -> Result<DataSegment, DecodeFault> {
         let memory = cursor.u32_leb()?;
-        let offset = expression(alloc, cursor)?;
-        let bytes = list::<u8>(alloc, cursor, u32::MAX)?;
+        let offset = expression(alloc, cursor, profile)?;
+        let bytes = list::<u8>(alloc, cursor, profile, u32::MAX)?;
         Ok(DataSegment {
             memory,
             offset,

@@ -3,8 +3,9 @@
 ghost use Rattle.std.specs.Prelude.{◌≡◌, ◌^◌, ◌-◌, ℕ, List, Option, IfOk};
 ghost use Rattle.grammar.specs.Reading.{at_most, byte_at, repeats_at};
 ghost use Rattle.wasm_bytes.specs.Reading.{u32_at, list_at};
+ghost use Rattle.wasm_profile.specs.declared.profile.Profile.{Profile};
 ghost use Rattle.wasm_decode.specs.Parses.{Parses};
-ghost use Rattle.wasm_decode.specs.Faults.{Tells};
+ghost use Rattle.wasm_decode.specs.Faults.{Tells, TellsBy};
 ghost use Rattle.wasm_bytes.specs.Spelling.{IsU32};
 ghost use Rattle.wasm_bytes.specs.Place.{offset_of};
 ghost use Rattle.wasm_bytes.specs.Stands.{Spans};
@@ -13,17 +14,22 @@ use crate::fault::{DecodeFault, FaultKind, refuse};
 use seq::Seq;
 use std::alloc::Global;
 use wasm_bytes::Cursor;
+use wasm_profile::Profile;
 
 /// What is read at a cursor.
 pub(crate) trait Item {
     type Value: Drop;
 
-    /// The item at the front of the bytes, and those after it.
-    ghost reads: { List ℕ → Option (Self.Value × List ℕ) };
+    /// The item of a profile at the front of the bytes, and those after it.
+    ghost reads: { Profile → List ℕ → Option (Self.Value × List ℕ) };
 
-    fn read(alloc: Global, cursor: &mut Cursor<'_>) -> Result<Self::Value, DecodeFault>
-        ensures read { Parses (λ x. x) result cursor.new (reads cursor.old.rest) }
-        ensures tells { Tells result cursor.old cursor.new };
+    fn read(
+        alloc: Global,
+        cursor: &mut Cursor<'_>,
+        profile: Profile,
+    ) -> Result<Self::Value, DecodeFault>
+        ensures read { Parses (λ x. x) result cursor.new (reads profile cursor.old.rest) }
+        ensures tells { TellsBy profile result cursor.old cursor.new };
 }
 
 /// A number that is at most so large.
@@ -44,14 +50,15 @@ pub(crate) fn number(cursor: &mut Cursor<'_>, most: u32) -> Result<u32, DecodeFa
 fn repeated<T: Item>(
     alloc: Global,
     cursor: &mut Cursor<'_>,
+    profile: Profile,
     count: u32,
 ) -> Result<Seq<T::Value>, DecodeFault>
-    ensures read { Parses (λ x. x) result cursor.new (repeats_at T.reads count cursor.old.rest) }
-    ensures tells { Tells result cursor.old cursor.new }
+    ensures read { Parses (λ x. x) result cursor.new (repeats_at (T.reads profile) count cursor.old.rest) }
+    ensures tells { TellsBy profile result cursor.old cursor.new }
 {
     let mut items = Vec::new(alloc);
     for _ in 0..count {
-        items.push(T::read(alloc, cursor)?)?;
+        items.push(T::read(alloc, cursor, profile)?)?;
     }
     Ok(Seq::new(items))
 }
@@ -61,21 +68,26 @@ fn repeated<T: Item>(
 pub(crate) fn list<T: Item>(
     alloc: Global,
     cursor: &mut Cursor<'_>,
+    profile: Profile,
     most: u32,
 ) -> Result<Seq<T::Value>, DecodeFault>
-    ensures read { Parses (λ x. x) result cursor.new (list_at most T.reads cursor.old.rest) }
-    ensures tells { Tells result cursor.old cursor.new }
+    ensures read { Parses (λ x. x) result cursor.new (list_at most (T.reads profile) cursor.old.rest) }
+    ensures tells { TellsBy profile result cursor.old cursor.new }
 {
     let count = number(cursor, most)?;
-    repeated::<T>(alloc, cursor, count)
+    repeated::<T>(alloc, cursor, profile, count)
 }
 
 impl Item for u32 {
     type Value = u32;
 
-    ghost reads = { u32_at };
+    ghost reads = { λ _. u32_at };
 
-    fn read(_alloc: Global, cursor: &mut Cursor<'_>) -> Result<u32, DecodeFault> {
+    fn read(
+        _alloc: Global,
+        cursor: &mut Cursor<'_>,
+        _profile: Profile,
+    ) -> Result<u32, DecodeFault> {
         Ok(cursor.u32_leb()?)
     }
 }
@@ -83,9 +95,9 @@ impl Item for u32 {
 impl Item for u8 {
     type Value = u8;
 
-    ghost reads = { byte_at };
+    ghost reads = { λ _. byte_at };
 
-    fn read(_alloc: Global, cursor: &mut Cursor<'_>) -> Result<u8, DecodeFault> {
+    fn read(_alloc: Global, cursor: &mut Cursor<'_>, _profile: Profile) -> Result<u8, DecodeFault> {
         Ok(cursor.byte()?)
     }
 }

@@ -1,13 +1,14 @@
 //! The opcodes of operators on integers and of accesses to memory (WebAssembly Core 1.0, sections
-//! 5.4.4 and 5.4.5).
+//! 5.4.4 and 5.4.5), and of the sign extensions of Core 2.0.
 
 ghost use Rattle.std.specs.Prelude.{◌≡◌, [], ◌∷◌, option_map};
 ghost use Rattle.grammar.specs.Table.{row_at};
 ghost use Rattle.wasm_ast.specs.View.{code_of};
-ghost use Rattle.wasm_decode.specs.Operators.{load_rows, store_rows, comparison_rows, arithmetic_32_rows, arithmetic_64_rows, conversion_rows, operator_rows};
+ghost use Rattle.wasm_decode.specs.Operators.{load_rows, store_rows, comparison_rows, arithmetic_32_rows, arithmetic_64_rows, conversion_rows, sign_extension_rows, operator_rows};
 ghost use Rattle.wasm_decode.specs.OpReading.{alone};
 
 use wasm_ast::{BinaryOp, CompareOp, ConvertOp, Instr, LoadOp, StoreOp, UnaryOp};
+use wasm_profile::Profile;
 
 /// The load of an opcode.
 #[tactic(auto, unfolding(crate::specs::Operators::load_rows))]
@@ -153,10 +154,26 @@ fn conversion(byte: u8) -> Option<Instr>
     }
 }
 
-/// The operator of an opcode.
-pub(crate) fn operator(byte: u8) -> Option<Instr>
+/// The sign extension of an opcode.
+#[tactic(auto, unfolding(crate::specs::Operators::sign_extension_rows))]
+fn sign_extension(byte: u8) -> Option<Instr>
     ensures { option_map (λ i. code_of (i ∷ [])) result
-        ≡ option_map alone (row_at operator_rows byte) }
+        ≡ option_map alone (row_at sign_extension_rows byte) }
+{
+    match byte {
+        0xc0 => Some(Instr::I32Unary(UnaryOp::Extend8S)),
+        0xc1 => Some(Instr::I32Unary(UnaryOp::Extend16S)),
+        0xc2 => Some(Instr::I64Unary(UnaryOp::Extend8S)),
+        0xc3 => Some(Instr::I64Unary(UnaryOp::Extend16S)),
+        0xc4 => Some(Instr::I64Unary(UnaryOp::Extend32S)),
+        _ => None,
+    }
+}
+
+/// The operator of an opcode, which the profile has.
+pub(crate) fn operator(byte: u8, profile: Profile) -> Option<Instr>
+    ensures { option_map (λ i. code_of (i ∷ [])) result
+        ≡ option_map alone (row_at (operator_rows profile) byte) }
 {
     if let Some(operator) = comparison(byte) {
         return Some(operator);
@@ -167,5 +184,11 @@ pub(crate) fn operator(byte: u8) -> Option<Instr>
     if let Some(operator) = arithmetic_64(byte) {
         return Some(operator);
     }
-    conversion(byte)
+    if let Some(operator) = conversion(byte) {
+        return Some(operator);
+    }
+    match profile {
+        Profile::Core1 => None,
+        Profile::SignExtension => sign_extension(byte),
+    }
 }

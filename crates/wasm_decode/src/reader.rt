@@ -3,6 +3,8 @@
 ghost use Rattle.std.specs.Prelude.{◌≡◌, ◌<◌, ◌≤◌, ◌-◌, ℕ, List, Option, Some, IfOk, IfErr, length, drop};
 ghost use Rattle.grammar.specs.Reading.{text_at};
 ghost use Rattle.wasm_ast.specs.declared.module.Module.{Module};
+ghost use Rattle.wasm_profile.specs.declared.profile.Profile.{Profile};
+ghost use Rattle.wasm_profile.specs.declared.profile.Profile.TheVariants.{Core1};
 ghost use Rattle.wasm_decode.specs.Parses.{Parses, Makes};
 ghost use Rattle.wasm_decode.specs.Faults.{Says, Tells};
 ghost use Rattle.wasm_bytes.specs.Place.{offset_of};
@@ -17,6 +19,7 @@ use seq::Seq;
 use std::alloc::Global;
 use wasm_ast::{Functions, Module};
 use wasm_bytes::Cursor;
+use wasm_profile::Profile;
 
 /// What each module begins with: four bytes by which it is known, and the version.
 const HEADER: [u8; 8] = [0x00, 0x61, 0x73, 0x6d, 0x01, 0x00, 0x00, 0x00];
@@ -63,9 +66,9 @@ fn nothing(alloc: Global) -> Parts
 }
 
 #[tactic(auto, unfolding(crate::specs::ModuleReading::module_at))]
-fn module(alloc: Global, bytes: &[u8]) -> Result<Module, DecodeFault>
-    ensures read { Makes (λ m. m) result (module_at bytes.now) }
-    ensures tells { IfErr result (λ e. Says e (length bytes.now) bytes.now) }
+fn module(alloc: Global, bytes: &[u8], profile: Profile) -> Result<Module, DecodeFault>
+    ensures read { Makes (λ m. m) result (module_at profile bytes.now) }
+    ensures tells { IfErr result (λ e. Says profile e (length bytes.now) bytes.now) }
 {
     if bytes.len() > MODULE_BYTES {
         return refuse(FaultKind::Limit, MODULE_BYTES);
@@ -73,29 +76,45 @@ fn module(alloc: Global, bytes: &[u8]) -> Result<Module, DecodeFault>
     let mut cursor = Cursor::new(bytes);
     header(&mut cursor)?;
     let mut parts = nothing(alloc);
-    sections(alloc, &mut cursor, &mut parts)?;
+    sections(alloc, &mut cursor, profile, &mut parts)?;
     if parts.type_indices.len() != parts.module.functions.len() {
         return refuse(FaultKind::CountsDiffer, bytes.len());
     }
     Ok(parts.module)
 }
 
-/// The module that the bytes spell.
+/// The module that the bytes spell, read by profile 1.
 ///
 /// It is refused with the kind and the offset of the first fault where they spell no module of the
 /// profile within its limits, and as [`DecodeFault::Memory`] where a growth of memory was refused.
 pub fn decode(alloc: Global, bytes: &[u8]) -> Result<Module, DecodeFault>
     // What is given is spelled by the bytes.
-    ensures found { IfOk result (λ m. IsModule m bytes.now) }
+    ensures found { IfOk result (λ m. IsModule Core1 m bytes.now) }
     // What is spelled is given, unless memory runs out.
-    ensures only { (m : Module) → IsModule m bytes.now → Makes (λ x. x) result (Some m) }
+    ensures only { (m : Module) → IsModule Core1 m bytes.now → Makes (λ x. x) result (Some m) }
     // What a fault says of its offset is true of the bytes.
-    ensures fault { IfErr result (λ e. Says e (length bytes.now) bytes.now) }
+    ensures fault { IfErr result (λ e. Says Core1 e (length bytes.now) bytes.now) }
 {
-    module(alloc, bytes)
+    decode_as(alloc, bytes, Profile::Core1)
 }
 
-/// Bytes spell at most one module.
+/// The module of a profile that the bytes spell.
+///
+/// It is refused with the kind and the offset of the first fault where they spell no module of the
+/// profile within its limits, and as [`DecodeFault::Memory`] where a growth of memory was refused.
+pub fn decode_as(alloc: Global, bytes: &[u8], profile: Profile) -> Result<Module, DecodeFault>
+    // What is given is spelled by the bytes.
+    ensures found { IfOk result (λ m. IsModule profile m bytes.now) }
+    // What is spelled is given, unless memory runs out.
+    ensures only { (m : Module) → IsModule profile m bytes.now → Makes (λ x. x) result (Some m) }
+    // What a fault says of its offset is true of the bytes.
+    ensures fault { IfErr result (λ e. Says profile e (length bytes.now) bytes.now) }
+{
+    module(alloc, bytes, profile)
+}
+
+/// By one profile, bytes spell at most one module.
 pub fn one_module()
-    ensures { (bytes : List ℕ) (a b : Module) → IsModule a bytes → IsModule b bytes → a ≡ b }
+    ensures { (profile : Profile) (bytes : List ℕ) (a b : Module) →
+        IsModule profile a bytes → IsModule profile b bytes → a ≡ b }
 {}

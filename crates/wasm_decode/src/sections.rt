@@ -4,8 +4,9 @@ ghost use Rattle.std.specs.Prelude.{◌≡◌, ◌<◌, ◌≤◌, ℕ, List, Op
 ghost use Rattle.grammar.specs.Reading.{whole_at};
 ghost use Rattle.grammar.specs.Table.{row_at};
 ghost use Rattle.wasm_bytes.specs.Reading.{sized_at};
+ghost use Rattle.wasm_profile.specs.declared.profile.Profile.{Profile};
 ghost use Rattle.wasm_decode.specs.Parses.{Parses, Makes};
-ghost use Rattle.wasm_decode.specs.Faults.{IsFaultOf, Tells};
+ghost use Rattle.wasm_decode.specs.Faults.{IsFaultOf, Tells, TellsBy};
 ghost use Rattle.wasm_decode.specs.SectionReading.{section_rows, custom_at, fill_at, section_at, sections_at};
 
 use crate::fault::{DecodeFault, FaultKind, refuse};
@@ -17,6 +18,7 @@ use seq::Seq;
 use std::alloc::Global;
 use wasm_ast::{DataSegment, ElementSegment, Export, FuncType, Import, Module};
 use wasm_bytes::Cursor;
+use wasm_profile::Profile;
 
 /// What a section holds.
 #[derive(Clone, Copy, Debug, PartialEq, Eq)]
@@ -61,7 +63,7 @@ fn section_kind(id: u8) -> Option<Kind>
 /// The fault of a section that may not stand here.
 fn order_fault(last: u8, id: u8) -> FaultKind
     requires { 0 < id }
-    ensures { IsFaultOf id result }
+    ensures { (profile : Profile) → IsFaultOf profile id result }
 {
     if id == 8 && last < 8 {
         FaultKind::StartSection
@@ -74,31 +76,46 @@ fn order_fault(last: u8, id: u8) -> FaultKind
 fn fill(
     alloc: Global,
     cursor: &mut Cursor<'_>,
+    profile: Profile,
     kind: Kind,
     parts: &mut Parts,
 ) -> Result<(), DecodeFault>
     requires { length cursor.old.rest ≤ MODULE_BYTES }
     ensures read { Parses (λ _. parts.new) result cursor.new
-        (fill_at kind parts.old cursor.old.rest) }
-    ensures tells { Tells result cursor.old cursor.new }
+        (fill_at profile kind parts.old cursor.old.rest) }
+    ensures tells { TellsBy profile result cursor.old cursor.new }
 {
     match kind {
-        Kind::Types => parts.module.types = list::<FuncType>(alloc, cursor, MOST_TYPES)?,
-        Kind::Imports => parts.module.imports = list::<Import>(alloc, cursor, MOST_PARTS)?,
-        Kind::TypeIndices => parts.type_indices = list::<u32>(alloc, cursor, MOST_FUNCTIONS)?,
-        Kind::Tables => parts.module.tables = list::<TableType>(alloc, cursor, MOST_PARTS)?,
-        Kind::Memories => parts.module.memories = list::<MemoryType>(alloc, cursor, MOST_PARTS)?,
-        Kind::Globals => parts.module.globals = list::<wasm_ast::Global>(
-            alloc, cursor, MOST_PARTS,
+        Kind::Types => parts.module.types = list::<FuncType>(alloc, cursor, profile, MOST_TYPES)?,
+        Kind::Imports => parts.module.imports = list::<Import>(alloc, cursor, profile, MOST_PARTS)?,
+        Kind::TypeIndices => parts.type_indices = list::<u32>(
+            alloc,
+            cursor,
+            profile,
+            MOST_FUNCTIONS,
         )?,
-        Kind::Exports => parts.module.exports = list::<Export>(alloc, cursor, MOST_PARTS)?,
+        Kind::Tables => parts.module.tables = list::<TableType>(
+            alloc, cursor, profile, MOST_PARTS,
+        )?,
+        Kind::Memories => parts.module.memories = list::<MemoryType>(
+            alloc, cursor, profile, MOST_PARTS,
+        )?,
+        Kind::Globals => parts.module.globals = list::<wasm_ast::Global>(
+            alloc, cursor, profile, MOST_PARTS,
+        )?,
+        Kind::Exports => parts.module.exports = list::<Export>(alloc, cursor, profile, MOST_PARTS)?,
         Kind::Elements => parts.module.elements = list::<ElementSegment>(
-            alloc, cursor, MOST_PARTS,
+            alloc, cursor, profile, MOST_PARTS,
         )?,
         Kind::Functions => {
-            parts.module.functions = functions(alloc, cursor, parts.type_indices.as_slice())?;
+            parts.module.functions = functions(
+                alloc,
+                cursor,
+                profile,
+                parts.type_indices.as_slice(),
+            )?;
         }
-        Kind::Data => parts.module.data = list::<DataSegment>(alloc, cursor, MOST_PARTS)?,
+        Kind::Data => parts.module.data = list::<DataSegment>(alloc, cursor, profile, MOST_PARTS)?,
     }
     Ok(())
 }
@@ -124,13 +141,14 @@ fn custom(cursor: &mut Cursor<'_>) -> Result<(), DecodeFault>
 fn known(
     alloc: Global,
     cursor: &mut Cursor<'_>,
+    profile: Profile,
     kind: Kind,
     parts: &mut Parts,
 ) -> Result<(), DecodeFault>
     requires { length cursor.old.rest ≤ MODULE_BYTES }
     ensures read { Parses (λ _. parts.new) result cursor.new
-        (sized_at (whole_at (fill_at kind parts.old)) cursor.old.rest) }
-    ensures tells { Tells result cursor.old cursor.new }
+        (sized_at (whole_at (fill_at profile kind parts.old)) cursor.old.rest) }
+    ensures tells { TellsBy profile result cursor.old cursor.new }
     ensures shorter { OnOk result (length cursor.new.rest < length cursor.old.rest) }
 {
     let offset = cursor.offset();
@@ -138,7 +156,7 @@ fn known(
     let Some(mut content) = cursor.split(size) else {
         return refuse(FaultKind::Length, offset);
     };
-    fill(alloc, &mut content, kind, parts)?;
+    fill(alloc, &mut content, profile, kind, parts)?;
     if !content.is_at_end() {
         return refuse(FaultKind::Length, offset);
     }
@@ -150,13 +168,14 @@ fn known(
 fn section(
     alloc: Global,
     cursor: &mut Cursor<'_>,
+    profile: Profile,
     last: u8,
     parts: &mut Parts,
 ) -> Result<u8, DecodeFault>
     requires { length cursor.old.rest ≤ MODULE_BYTES }
     ensures read { Parses (λ id. (id, parts.new)) result cursor.new
-        (section_at last parts.old cursor.old.rest) }
-    ensures tells { Tells result cursor.old cursor.new }
+        (section_at profile last parts.old cursor.old.rest) }
+    ensures tells { TellsBy profile result cursor.old cursor.new }
     ensures shorter { OnOk result (length cursor.new.rest < length cursor.old.rest) }
 {
     let offset = cursor.offset();
@@ -171,7 +190,7 @@ fn section(
     if id <= last {
         return refuse(FaultKind::SectionOrder, offset);
     }
-    known(alloc, cursor, kind, parts)?;
+    known(alloc, cursor, profile, kind, parts)?;
     Ok(id)
 }
 
@@ -179,16 +198,17 @@ fn section(
 pub(crate) fn sections(
     alloc: Global,
     cursor: &mut Cursor<'_>,
+    profile: Profile,
     parts: &mut Parts,
 ) -> Result<(), DecodeFault>
     requires { length cursor.old.rest ≤ MODULE_BYTES }
     ensures read { Makes (λ _. parts.new) result
-        (sections_at (length cursor.old.rest) 0 parts.old cursor.old.rest) }
-    ensures tells { Tells result cursor.old cursor.new }
+        (sections_at profile (length cursor.old.rest) 0 parts.old cursor.old.rest) }
+    ensures tells { TellsBy profile result cursor.old cursor.new }
 {
     let mut last = 0;
     'sections: while !cursor.is_at_end() {
-        last = section(alloc, cursor, last, parts)?;
+        last = section(alloc, cursor, profile, last, parts)?;
     }
     Ok(())
 }

@@ -3,6 +3,7 @@
 ghost use Rattle.std.specs.Prelude.{◌≡◌, ◌^◌, ℕ, List, Option, Some, slice_get};
 ghost use Rattle.grammar.specs.Table.{row_at, row_byte_at};
 ghost use Rattle.wasm_bytes.specs.Reading.{u32_at};
+ghost use Rattle.wasm_profile.specs.declared.profile.Profile.{Profile};
 ghost use Rattle.wasm_decode.specs.Parses.{Parses};
 ghost use Rattle.wasm_decode.specs.Faults.{IsFaultOf, Tells};
 ghost use Rattle.wasm_decode.specs.Tables.{value_type_rows, block_type_rows, flag_rows};
@@ -14,6 +15,7 @@ use crate::limits::{MOST_ENTRIES, MOST_PAGES, MOST_PARAMETERS};
 use std::alloc::Global;
 use wasm_ast::{BlockType, FuncType, GlobalType, Limits, Parameters, ValueType};
 use wasm_bytes::Cursor;
+use wasm_profile::Profile;
 
 fn value_type_of(byte: u8) -> Option<ValueType>
     ensures { result ≡ row_at value_type_rows byte }
@@ -27,7 +29,7 @@ fn value_type_of(byte: u8) -> Option<ValueType>
 
 /// The fault of a byte that stands for no type: f32 and f64 are told apart.
 fn type_fault(byte: u8) -> FaultKind
-    ensures { IsFaultOf byte result }
+    ensures { (profile : Profile) → IsFaultOf profile byte result }
 {
     match byte {
         0x7c | 0x7d => FaultKind::Float,
@@ -51,9 +53,13 @@ pub(crate) fn value_type(cursor: &mut Cursor<'_>) -> Result<ValueType, DecodeFau
 impl Item for ValueType {
     type Value = ValueType;
 
-    ghost reads = { value_type_at };
+    ghost reads = { λ _. value_type_at };
 
-    fn read(_alloc: Global, cursor: &mut Cursor<'_>) -> Result<ValueType, DecodeFault> {
+    fn read(
+        _alloc: Global,
+        cursor: &mut Cursor<'_>,
+        _profile: Profile,
+    ) -> Result<ValueType, DecodeFault> {
         value_type(cursor)
     }
 }
@@ -98,15 +104,19 @@ fn result_type(cursor: &mut Cursor<'_>) -> Result<Option<ValueType>, DecodeFault
 impl Item for FuncType {
     type Value = FuncType;
 
-    ghost reads = { func_type_at };
+    ghost reads = { λ _. func_type_at };
 
     #[tactic(auto, using(crate::proofs::Weights::parameters_few), unfolding(crate::specs::TypeReading::func_type_at))]
-    fn read(alloc: Global, cursor: &mut Cursor<'_>) -> Result<FuncType, DecodeFault> {
+    fn read(
+        alloc: Global,
+        cursor: &mut Cursor<'_>,
+        profile: Profile,
+    ) -> Result<FuncType, DecodeFault> {
         let offset = cursor.offset();
         if cursor.byte()? != 0x60 {
             return refuse(FaultKind::TypeByte, offset);
         }
-        let params = Parameters::new(list::<ValueType>(alloc, cursor, MOST_PARAMETERS)?);
+        let params = Parameters::new(list::<ValueType>(alloc, cursor, profile, MOST_PARAMETERS)?);
         let result = result_type(cursor)?;
         Ok(FuncType { params, result })
     }
@@ -180,9 +190,13 @@ pub(crate) enum TableType {}
 impl Item for TableType {
     type Value = Limits;
 
-    ghost reads = { table_type_at };
+    ghost reads = { λ _. table_type_at };
 
-    fn read(_alloc: Global, cursor: &mut Cursor<'_>) -> Result<Limits, DecodeFault> {
+    fn read(
+        _alloc: Global,
+        cursor: &mut Cursor<'_>,
+        _profile: Profile,
+    ) -> Result<Limits, DecodeFault> {
         table_type(cursor)
     }
 }
@@ -193,9 +207,13 @@ pub(crate) enum MemoryType {}
 impl Item for MemoryType {
     type Value = Limits;
 
-    ghost reads = { memory_type_at };
+    ghost reads = { λ _. memory_type_at };
 
-    fn read(_alloc: Global, cursor: &mut Cursor<'_>) -> Result<Limits, DecodeFault> {
+    fn read(
+        _alloc: Global,
+        cursor: &mut Cursor<'_>,
+        _profile: Profile,
+    ) -> Result<Limits, DecodeFault> {
         memory_type(cursor)
     }
 }

@@ -13,4 +13,4 @@ returns-in-Err-Malformed-clause-refused c = (
 pub returns-in-Ok-validate-clause-ok : goal.returns-in-Ok-validate-clause-ok
 returns-in-Ok-validate-clause-ok c =
     let same = sym c.in-Ok-validate.ensures.value in
-    (subst (λ m. IsModule m c.args.bytes.now) same c.in-Ok.ensures.found, subst IsValid same c.in-Ok-validate.ensures.valid)
+    (subst (λ m. IsModule c.args.profile m c.args.bytes.now) same c.in-Ok.ensures.found, subst IsValid same c.in-Ok-validate.ensures.valid)

@@ -11,18 +11,19 @@ use Rattle.wasm_decode.proofs.code.+code.Goals.{instructions-then-opcode-eq-END-
 use Rattle.wasm_decode.proofs.code.+code.Goals.{instructions-then-opcode-eq-END-via-else-opcode-eq-END+then-opcode-eq-ELSE}
 
 pub block-returns-then-nesting-eq0-clause-read : goal.block-returns-then-nesting-eq0-clause-read
-block-returns-then-nesting-eq0-clause-read t c = rw c.refuse.ensures (no_block c.args.nesting c.args.left.now c.args.cursor.now.rest c.if-nesting-eq0.true)
+block-returns-then-nesting-eq0-clause-read t c =
+    rw c.refuse.ensures (no_block c.args.profile c.args.nesting c.args.left.now c.args.cursor.now.rest c.if-nesting-eq0.true)
 
 pub block-returns-clause-read : goal.block-returns-clause-read
 unfolding block_at
 block-returns-clause-read t c =
-    rw (below_is c.args.nesting c.if-nesting-eq0.false, c.in_ok-result.ensures.read, c.in_ok-body.ensures.read) refl
+    rw (below_is c.args.profile c.args.nesting c.if-nesting-eq0.false, c.in_ok-result.ensures.read, c.in_ok-body.ensures.read) refl
 
 pub conditional-returns-clause-read : goal.conditional-returns-clause-read
 unfolding conditional_at
 conditional-returns-clause-read t c =
     rw (
-      below_is c.args.nesting c.if-nesting-eq0.false,
+      below_is c.args.profile c.args.nesting c.if-nesting-eq0.false,
       c.in_ok-result.ensures.read,
       c.in_ok-yes.ensures.read,
       differs _ _ c.if-last-eq-END.false,
@@ -33,19 +34,19 @@ pub instructions-items-init : goal.instructions-items-init
 instructions-items-init t c =
     let left = c.args.left.now in
     let rest = c.args.cursor.now.rest in
-    let all = code_at (step_at (below c.args.nesting)) (suc left) left rest in
+    let all = code_at (step_at c.args.profile (below c.args.profile c.args.nesting)) (suc left) left rest in
     record {
       turns = suc left;
       enough = omega arith;
       fewer = omega arith;
-      read = ap (λ is. before (code_of is) all) c.new-items.ensures.items ∙ nothing_before all ∙ sym (body_is c.args.nesting left rest);
+      read = ap (λ is. before (code_of is) all) c.new-items.ensures.items ∙ nothing_before all ∙ sym (body_is c.args.profile c.args.nesting left rest);
       kept = search rules;
     }
 
 pub instructions-returns-in_err-opcode-clause-read : goal.instructions-returns-in_err-opcode-clause-read
 instructions-returns-in_err-opcode-clause-read t c =
-    let one = step_at (below c.args.nesting) in
-    let total = body_at c.args.nesting c.args.left.now c.args.cursor.now.rest in
+    let one = step_at c.args.profile (below c.args.profile c.args.nesting) in
+    let total = body_at c.args.profile c.args.nesting c.args.left.now c.args.cursor.now.rest in
     let l = c.items in
     let p = err_from_is_err_and c.from_residual.result c.from_residual.ensures.1 in
     let i = l.invariant in
@@ -54,8 +55,8 @@ instructions-returns-in_err-opcode-clause-read t c =
 
 pub instructions-returns-then-opcode-eq-END-clause-read : goal.instructions-returns-then-opcode-eq-END-clause-read
 instructions-returns-then-opcode-eq-END-clause-read t c =
-    let one = step_at (below c.args.nesting) in
-    let total = body_at c.args.nesting c.args.left.now c.args.cursor.now.rest in
+    let one = step_at c.args.profile (below c.args.profile c.args.nesting) in
+    let total = body_at c.args.profile c.args.nesting c.args.left.now c.args.cursor.now.rest in
     let l = c.items in
     let i = l.invariant in
     let op = c.in_ok-opcode.opcode.byte in
@@ -70,8 +71,8 @@ instructions-returns-then-opcode-eq-END-clause-read t c =
 
 pub instructions-returns-then-left-eq0-clause-read : goal.instructions-returns-then-left-eq0-clause-read
 instructions-returns-then-left-eq0-clause-read t c =
-    let one = step_at (below c.args.nesting) in
-    let total = body_at c.args.nesting c.args.left.now c.args.cursor.now.rest in
+    let one = step_at c.args.profile (below c.args.profile c.args.nesting) in
+    let total = body_at c.args.profile c.args.nesting c.args.left.now c.args.cursor.now.rest in
     let l = c.items in
     let i = l.invariant in
     let op = c.in_ok-opcode.opcode.byte in
@@ -80,8 +81,8 @@ instructions-returns-then-left-eq0-clause-read t c =
 
 pub instructions-returns-in_err-instruction-clause-read : goal.instructions-returns-in_err-instruction-clause-read
 instructions-returns-in_err-instruction-clause-read t c =
-    let one = step_at (below c.args.nesting) in
-    let total = body_at c.args.nesting c.args.left.now c.args.cursor.now.rest in
+    let one = step_at c.args.profile (below c.args.profile c.args.nesting) in
+    let total = body_at c.args.profile c.args.nesting c.args.left.now c.args.cursor.now.rest in
     let l = c.items in
     let i = l.invariant in
     let op = c.in_ok-opcode.opcode.byte in
@@ -93,8 +94,8 @@ instructions-returns-in_err-instruction-clause-read t c =
 
 pub instructions-items-preserved : goal.instructions-items-preserved
 instructions-items-preserved t c =
-    let one = step_at (below c.args.nesting) in
-    let total = body_at c.args.nesting c.args.left.now c.args.cursor.now.rest in
+    let one = step_at c.args.profile (below c.args.profile c.args.nesting) in
+    let total = body_at c.args.profile c.args.nesting c.args.left.now c.args.cursor.now.rest in
     let l = c.items in
     let i = l.invariant in
     let op = c.in_ok-opcode.opcode.byte in
@@ -126,4 +127,4 @@ pub closed-returns-then-last-ne-END-clause-tells : goal.closed-returns-then-last
 closed-returns-then-last-ne-END-clause-tells t c =
     let last = c.in_ok-body.last in
     let other : last.byte ≡ 0x05 = elim c.in_ok-body.ensures.last [ inl e ↦ e | inr e ↦ absurd (c.if-last-ne-END.true e) ] in
-    rw c.refuse.ensures (has_byte _ c.args.cursor.now.whole last.offset last.byte c.in_ok-body.ensures.here (inl (rw other else_unlisted)))
+    rw c.refuse.ensures (has_byte _ c.args.cursor.now.whole last.offset last.byte c.in_ok-body.ensures.here (inl (rw other (else_unlisted c.args.profile))))

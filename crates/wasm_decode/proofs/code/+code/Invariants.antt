@@ -30,8 +30,8 @@ pub record SoFar (P : ℕ → Type 0) (left start : ℕ) (old new : Place) : Typ
 
 abbrev pub invariant-instructions-items : goal.invariant-instructions-items
 invariant-instructions-items l =
-    SoFar (λ turns. before (code_of l.items.items) (code_at (step_at (below l.nesting)) turns l.left l.cursor.rest) ≡
-    body_at l.nesting l.fn.left l.fn.cursor.rest) l.left l.fn.left l.fn.cursor l.cursor
+    SoFar (λ turns. before (code_of l.items.items) (code_at (step_at l.profile (below l.profile l.nesting)) turns l.left l.cursor.rest) ≡
+    body_at l.profile l.nesting l.fn.left l.fn.cursor.rest) l.left l.fn.left l.fn.cursor l.cursor
 
 abbrev pub decreases-instructions-items : goal.decreases-instructions-items
 decreases-instructions-items l = l.left

@@ -18,4 +18,4 @@ pub opcode_fault-requires : goal.opcode_fault-requires
 unfolding other_rows
 opcode_fault-requires c =
     let none : row_at other_rows c.args.opcode.byte ≡ None = search rules in
-    unlisted c.args.opcode.byte c.requires.operator c.requires.load c.requires.store none
+    unlisted c.args.profile c.args.opcode.byte c.requires.operator c.requires.load c.requires.store none

@@ -8,20 +8,21 @@ pub returns-in_err-code-clause-read : goal.returns-in_err-code-clause-read
 returns-in_err-code-clause-read c =
     let l = c.loop-type_index in
     let types = c.args.type_indices.now in
-    let total = codes_at types c.args.cursor.now.rest in
+    let total = codes_at c.args.profile types c.args.cursor.now.rest in
     let p = err_from_is_err_and c.from_residual.result c.from_residual.ensures.1 in
-    rw (p.1, p.2) (Fails-weaker c.in_err-code.field-0.0 (code_at (get_or types l.type_index-index 0) l.cursor.rest ≡ None) (total ≡ None)
-    (λ e. code_refused l.functions.items types l.type_index-index l.cursor.rest total l.invariant.read c.loop-type_index-test.true e)
+    rw (p.1, p.2) (Fails-weaker c.in_err-code.field-0.0 (code_at c.args.profile (get_or types l.type_index-index 0) l.cursor.rest ≡ None) (total ≡ None)
+    (λ e. code_refused c.args.profile l.functions.items types l.type_index-index l.cursor.rest total l.invariant.read c.loop-type_index-test.true e)
     c.in_err-code.ensures.read)
 
 pub loop-type_index-preserved : goal.loop-type_index-preserved
 loop-type_index-preserved c =
     let l = c.loop-type_index in
     let types = c.args.type_indices.now in
-    let total = codes_at types c.args.cursor.now.rest in
+    let total = codes_at c.args.profile types c.args.cursor.now.rest in
     record {
       read = rw c.in_ok-push.ensures.items
-          (code_goes_on l.functions.items types l.type_index-index l.cursor.rest total l.invariant.read c.in_ok-code.field-0 c.code.new.cursor.rest
+          (code_goes_on c.args.profile l.functions.items types l.type_index-index l.cursor.rest total l.invariant.read c.in_ok-code.field-0
+          c.code.new.cursor.rest
           c.loop-type_index-test.true c.in_ok-code.ensures.read);
       kept = search rules;
     }
@@ -30,6 +31,6 @@ pub returns-clause-read : goal.returns-clause-read
 returns-clause-read c =
     let l = c.loop-type_index in
     let types = c.args.type_indices.now in
-    let total = codes_at types c.args.cursor.now.rest in
-    codes_done l.functions.items types l.type_index-index l.cursor.rest total l.invariant.read c.loop-type_index-test.false ∙
+    let total = codes_at c.args.profile types c.args.cursor.now.rest in
+    codes_done c.args.profile l.functions.items types l.type_index-index l.cursor.rest total l.invariant.read c.loop-type_index-test.false ∙
     ap (λ fs. Some (fs, l.cursor.rest)) (sym c.new.ensures)

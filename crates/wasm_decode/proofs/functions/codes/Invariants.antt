@@ -6,6 +6,7 @@ use Rattle.wasm_decode.proofs.functions.codes.Given as goal
 
 abbrev pub invariant-loop-type_index : goal.invariant-loop-type_index
 invariant-loop-type_index l = record {
-  read : with_front l.functions.items (codes_at (drop l.type_index-index l.type_indices) l.cursor.rest) ≡ codes_at l.type_indices l.fn.cursor.rest;
+  read : with_front l.functions.items (codes_at l.profile (drop l.type_index-index l.type_indices) l.cursor.rest) ≡
+      codes_at l.profile l.type_indices l.fn.cursor.rest;
   kept : Kept l.fn.cursor l.cursor;
 }

@@ -8,5 +8,5 @@ returns-then-count-type_indices-clause-tells c =
 
 pub new-requires : goal.new-requires
 new-requires c =
-    functions_small c.args.type_indices.now c.args.cursor.now.rest c.in_ok-count.count c.number.new.cursor.rest
+    functions_small c.args.profile c.args.type_indices.now c.args.cursor.now.rest c.in_ok-count.count c.number.new.cursor.rest
     c.in_ok-codes.field-0 c.codes.new.cursor.rest c.requires c.in_ok-count.ensures.read c.in_ok-codes.ensures.read

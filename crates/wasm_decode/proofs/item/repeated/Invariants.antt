@@ -6,6 +6,7 @@ use Rattle.wasm_decode.proofs.item.repeated.Given as goal
 
 abbrev pub invariant-loop : goal.invariant-loop
 invariant-loop g l = record {
-  read : with_front l.items.items (repeats_at g.T.Item.reads (l.count - l.counter) l.cursor.rest) ≡ repeats_at g.T.Item.reads l.count l.fn.cursor.rest;
+  read : with_front l.items.items (repeats_at (g.T.Item.reads l.profile) (l.count - l.counter) l.cursor.rest) ≡
+      repeats_at (g.T.Item.reads l.profile) l.count l.fn.cursor.rest;
   kept : Kept l.fn.cursor l.cursor;
 }

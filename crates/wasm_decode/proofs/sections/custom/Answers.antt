@@ -8,7 +8,7 @@ use Rattle.wasm_decode.proofs.sections.custom.Goals as goal
 
 pub returns-in_default-clause-tells : goal.returns-in_default-clause-tells
 returns-in_default-clause-tells c =
-    rw (c.refuse.ensures, c.offset-offset.ensures) (c.in_ok-size.size, _, c.in_ok-size.ensures.stands.0, tt)
+    rw (c.refuse.ensures, c.offset-offset.ensures) (λ profile. (c.in_ok-size.size, _, c.in_ok-size.ensures.stands.0, tt))
 
 pub returns-in_err-name-clause-tells : goal.returns-in_err-name-clause-tells
 returns-in_err-name-clause-tells c =
@@ -21,6 +21,6 @@ returns-in_err-name-clause-tells c =
     let end : content.end ≡ offset_of mid + c.in_ok-size.size = ap (λ (p : Place). p.end) here in
     let whole : content.whole ≡ old.whole = ap (λ (p : Place). p.whole) here ∙ size.1 in
     let within : content.end ≤ length old.whole = subst (λ bytes. content.end ≤ length bytes) size.1 c.in-Some.ensures.within in
-    rw (p.1, p.2) (in_part (Malformed (kind_of c.in_err-name.field-0.0.kind) c.in_err-name.field-0.0.offset) content old whole
+    rw (p.1, p.2) (λ profile. in_part profile (Malformed (kind_of c.in_err-name.field-0.0.kind) c.in_err-name.field-0.0.offset) content old whole
     (part_ends old mid content c.in_ok-size.size size.0 end within)
-    (of_bytes c.in_err-name.field-0.0.kind c.in_err-name.field-0.0.offset content.end content.whole c.in_err-name.ensures.stands))
+    (of_bytes profile c.in_err-name.field-0.0.kind c.in_err-name.field-0.0.offset content.end content.whole c.in_err-name.ensures.stands))

@@ -19,7 +19,7 @@ returns-in_err-fill-clause-tells c =
     let end : content.end ≡ offset_of mid + c.in_ok-size.size = ap (λ (p : Place). p.end) here in
     let whole : content.whole ≡ old.whole = ap (λ (p : Place). p.whole) here ∙ size.1 in
     let within : content.end ≤ length old.whole = subst (λ bytes. content.end ≤ length bytes) size.1 c.in-Some.ensures.within in
-    rw (p.1, p.2) (in_part _ content old whole (part_ends old mid content c.in_ok-size.size size.0 end within) c.in_err-fill.ensures.tells)
+    rw (p.1, p.2) (in_part c.args.profile _ content old whole (part_ends old mid content c.in_ok-size.size size.0 end within) c.in_err-fill.ensures.tells)
 
 pub returns-then-not-is_at_end-clause-tells : goal.returns-then-not-is_at_end-clause-tells
 returns-then-not-is_at_end-clause-tells c =

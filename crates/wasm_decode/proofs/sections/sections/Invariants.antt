@@ -6,7 +6,7 @@ use Rattle.wasm_decode.proofs.sections.sections.Given as goal
 abbrev pub invariant-sections : goal.invariant-sections
 invariant-sections l =
     (n : ℕ) × (length l.cursor.rest ≤ n)
-    × (sections_at n l.last l.parts l.cursor.rest ≡ sections_at (length l.fn.cursor.rest) 0 l.fn.parts l.fn.cursor.rest)
+    × (sections_at l.profile n l.last l.parts l.cursor.rest ≡ sections_at l.profile (length l.fn.cursor.rest) 0 l.fn.parts l.fn.cursor.rest)
     × Kept l.fn.cursor l.cursor × (length l.cursor.rest ≤ 262144)
 
 abbrev pub decreases-sections : goal.decreases-sections
