@@ -1,6 +1,7 @@
 #!/usr/bin/env python3
-"""Writes orders*, sizes*, names*, ends.json, scans.jsonl, stranger.jsonl, upgrades*, versions.jsonl, predicted.jsonl
-and stores beside this file: events with envelopes, modules and stores that are laid out here, by docs/FORMATS.md.
+"""Writes orders*, sizes*, names*, ends.json, scans.jsonl, stranger.jsonl, upgrades*, versions.jsonl, predicted.jsonl,
+profiles*, extend.wasm and stores beside this file: events with envelopes, modules and stores that are laid out here, by
+docs/FORMATS.md.
 
 older.store is not among them: the program wrote it when calls did not read their definitions yet. It has the blocks of
 whole.store but for these reads.
@@ -69,10 +70,15 @@ def write(name, lines):
 LIMITS = {"queue": 4, "count": 1, "preferred": 65536, "absolute": 524288, "reorder": False}
 
 
+def installed(code, profile=1):
+    """A module as it is listed, which is read by a profile."""
+    return {"module": code.hex(), "profile": profile}
+
+
 def genesis(name, policy="'A'", more=(), modules=(), upgrade=None, **limits):
-    """Two peers, a chaincode `kv` that puts `1` at `a`, more chaincodes by their names and modules, and modules. The
-    policy is that of upgrades too, where these are given no other."""
-    chaincodes = [("kv", PUT_A), *more]
+    """Two peers, a chaincode `kv` that puts `1` at `a`, more chaincodes by their names and modules, and modules as they
+    are listed. The policy is that of upgrades too, where these are given no other."""
+    chaincodes = [("kv", PUT_A, 1), *more]
     text = {
         "orgs": [{"name": org, "key": key.hex()} for org, key in KEYS.items()],
         "peers": list(KEYS),
@@ -80,9 +86,10 @@ def genesis(name, policy="'A'", more=(), modules=(), upgrade=None, **limits):
         **LIMITS,
         **limits,
         "chaincodes": [
-            {"name": called, "module": code.hex(), "policy": policy, "fuel": 400} for called, code in chaincodes
+            {"name": called, "policy": policy, "fuel": 400, **installed(code, profile)}
+            for called, code, profile in chaincodes
         ],
-        "modules": [code.hex() for code in modules],
+        "modules": list(modules),
         "upgrade": upgrade or policy,
     }
     (HERE / name).write_text(json.dumps(text, separators=(",", ":")))
@@ -159,9 +166,9 @@ def begin(peer, nonce, seat=0, chaincode="kv", arg="-"):
     return event("begin", peer=peer, seat=seat, chaincode=chaincode, arg=arg, nonce="%032x" % nonce)
 
 
-def upgrade(peer, nonce, code, fuel=400, policy="'A'", chaincode="kv"):
+def upgrade(peer, nonce, code, fuel=400, policy="'A'", chaincode="kv", profile=1):
     """Begins an upgrade to this module."""
-    definition = {"fuel": fuel, "module": hashlib.sha256(code).hexdigest(), "policy": policy}
+    definition = {"fuel": fuel, "module": hashlib.sha256(code).hexdigest(), "policy": policy, "profile": profile}
     return event("begin", **definition, nonce="%032x" % nonce, peer=peer, seat=0, upgrade=chaincode)
 
 
@@ -209,10 +216,10 @@ SCAN = constants(0, 1, 1, 1, 2, 16, 32) + b"\x10\x00\x1a" + constants(0, 1) + b"
 genesis(
     "ends.json",
     more=[
-        ("scan", module(SCAN, [(b"range_state", 2), (b"del_state", 1)])),
-        ("status", module(constants(0x79))),
-        ("trap", module(b"\x00")),
-        ("zero", module(constants(1, 0) + b"\x6d")),
+        ("scan", module(SCAN, [(b"range_state", 2), (b"del_state", 1)]), 1),
+        ("status", module(constants(0x79)), 1),
+        ("trap", module(b"\x00"), 1),
+        ("zero", module(constants(1, 0) + b"\x6d"), 1),
     ],
 )
 
@@ -230,10 +237,11 @@ KEY = module(
     constants(0, 1) + b"\x10\x00\x1a" + constants(0, 1, 0, 1) + b"\x10\x01\x1a" + constants(0),
     [(b"get_arg", 1), (b"put_state", 3)],
 )
-UPGRADES = {"more": [("key", KEY)], "upgrade": "'B'"}
-genesis("upgrades-on.json", modules=[GET_PUT_A], queue=5, count=512, reorder=True, **UPGRADES)
-genesis("upgrades-off.json", modules=[GET_PUT_A], queue=5, count=512, **UPGRADES)
-genesis("upgrades.json", modules=[GET_PUT_A], **UPGRADES)
+UPGRADES = {"more": [("key", KEY, 1)], "upgrade": "'B'"}
+SECOND = [installed(GET_PUT_A)]
+genesis("upgrades-on.json", modules=SECOND, queue=5, count=512, reorder=True, **UPGRADES)
+genesis("upgrades-off.json", modules=SECOND, queue=5, count=512, **UPGRADES)
+genesis("upgrades.json", modules=SECOND, **UPGRADES)
 genesis("upgrades-bare.json", **UPGRADES)
 
 
@@ -279,6 +287,30 @@ predicted = submitted(upgrade(1, 1, GET_PUT_A), 1)
 for nonce, at in ((2, (1, 1)), (3, (1, 0))):
     predicted += [event("submit", hex=envelope(call(nonce, definition=at, writes=puts(b"a"))).hex()), event("take")]
 write("predicted.jsonl", predicted + [event("tick"), event("commit", peer=0)])
+
+# Profiles. `sign` puts the second byte of its argument's sign extension at `c`: ff where the first byte of the argument
+# is 80 or above, else 00. It has an operator of profile 2.
+EXTEND = module(
+    constants(0, 1) + b"\x10\x00\x1a" + constants(0, 0) + b"\x2d\x00\x00\xc0" + constants(8) + b"\x76\x3a\x00\x00"
+    + constants(1, 1, 0, 1) + b"\x10\x01\x1a" + constants(0),
+    [(b"get_arg", 1), (b"put_state", 3)],
+)
+(HERE / "extend.wasm").write_bytes(EXTEND)
+SIGN = [("sign", EXTEND, 2)]
+genesis("profiles.json", more=SIGN, modules=[installed(PUT_A, 2), SECOND[0]])
+genesis("profiles-bare.json", more=SIGN)
+genesis("profiles-one.json", more=[("sign", EXTEND, 1)])
+
+# Calls of `sign`; an upgrade of `kv` from profile 1 to 2 of one module, a call that is begun before it and finished behind
+# it, and one of the new definition; an upgrade of `kv` to the module of `sign`, and a call of that; upgrades to modules that
+# are installed by the other profile alone.
+profiles = committed(begin(0, 1, chaincode="sign", arg="80")) + committed(begin(0, 2, chaincode="sign", arg="7f"))
+profiles += committed(begin(0, 3)) + [begin(0, 4, seat=1)]
+profiles += committed(upgrade(0, 5, PUT_A, profile=2)) + [finish(0, "e", seat=1)] + committed(begin(0, 6))
+profiles += committed(upgrade(0, 7, EXTEND, profile=2)) + committed(begin(0, 8, arg="ff"))
+for nonce, code, profile in ((9, EXTEND, 1), (10, GET_PUT_A, 2)):
+    profiles += [upgrade(0, nonce, code, profile=profile), finish(0, "e")]
+write("profiles.jsonl", profiles)
 
 # Stores of two blocks that each put `1` at `a`.
 
