@@ -79,7 +79,7 @@ NoneIs-installed d hex profile r is none = (
       let e = sym spelled.2 ∙ is in
       let text = ap (λ d. text_in (first (members_in d))) e in
       let number = ap (λ d. first (rest (members_in d))) e in
-      none.1 real m (subst (λ n. IsProfile n m.id.profile) number spelled.3, subst (λ x. IsHexModule x m.«module» m.id) text spelled.4),
+      none.1 real m (subst (λ n. IsProfile n m.id.profile) number spelled.3.0, subst (λ x. IsHexModule x m.«module» m.id) text spelled.3.1),
 )
 
 -- where the bytes of a hex text spell no valid module of a profile, the text has none
@@ -88,8 +88,9 @@ pub NoneIs-hex : (hex bytes : List ℕ) (d : Data) (profile : Profile) (r : Gene
 NoneIs-hex hex bytes d profile r is of none = (
   none.0,
   λ real m spelled.
-      let here = subst (λ bs. IsModule m.id.profile m.«module» bs) (same_ok _ spelled.1 bytes spelled.2 is) spelled.3 in
-      none.1 real m.«module» (subst (λ p. IsModule p m.«module» bytes) (one_profile d _ _ spelled.0 of) here, spelled.4),
+      let h = spelled.1 in
+      let here = subst (λ bs. IsModule m.id.profile m.«module» bs) (same_ok _ h.0 bytes h.1 is) h.2 in
+      none.1 real m.«module» (subst (λ p. IsModule p m.«module» bytes) (one_profile d _ _ spelled.0 of) here, h.3),
 )
 
 -- where the text in a field is of no such kind, nor is the field

@@ -20,7 +20,8 @@ use Rattle.genesis.specs.declared.genesis.InstalledModule.{InstalledModule}
 use Rattle.genesis.specs.declared.refusal.GenesisRefusal.{GenesisRefusal}
 use Rattle.genesis.specs.Lists.{IsListOf}
 use Rattle.genesis.specs.Refused.{NoneIs}
-use Rattle.genesis.specs.Spelling.{AreOrganisations, IsBookOf, IsDefinition, IsGenesis, IsHex, IsHexModule, IsInstalled, IsOrganisation, IsPolicy, IsProfile, Parts}
+use Rattle.genesis.specs.Spelling.{AreOrganisations, IsBookOf, IsDefinition, IsGenesis, IsHex, IsHexModule, IsInstalled, IsOrganisation, IsPolicy, IsProfile}
+use Rattle.genesis.specs.Spelling.{Parts}
 use Rattle.genesis.specs.Spelling.{are_different, book_of}
 use Rattle.genesis.specs.Spelling.{names_of, policies_of}
 use Rattle.genesis.proofs.Items.{IsListOf-same}
@@ -66,8 +67,8 @@ one_installed d x y h k =
     let e = sym h.2 ∙ k.2 in
     let text = ap (λ d. text_in (first (members_in d))) e in
     let number = ap (λ d. first (rest (members_in d))) e in
-    let profile = one_profile k.1 _ _ (subst (λ n. IsProfile n x.id.profile) number h.3) k.3 in
-    let one = one_hex_module k.0 _ _ _ _ profile (subst (λ t. IsHexModule t x.«module» x.id) text h.4) k.4 in
+    let profile = one_profile k.1 _ _ (subst (λ n. IsProfile n x.id.profile) number h.3.0) k.3.0 in
+    let one = one_hex_module k.0 _ _ _ _ profile (subst (λ t. IsHexModule t x.«module» x.id) text h.3.1) k.3.1 in
     ap (λ m. record x { «module» = m }) one.0 ∙ ap (λ i. record y { id = i }) one.1
 
 pub one_policy : (orgs : Names) (d : Data) (x y : Policy) → IsPolicy orgs d x → IsPolicy orgs d y → x ≡ y
