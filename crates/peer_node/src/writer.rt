@@ -14,7 +14,7 @@ ghost use Rattle.peer_node.specs.Writers.{published_chain, peer_of_writer};
 use crate::refusal::ReopenRefusal;
 use crate::seat::{Endorser, Seat};
 use block_store::Loaded;
-use committer::{CommitRefusal, commit_on};
+use committer::{CommitRefusal, check_next, commit_on};
 use endorsement_policy::{Gate, Rules, check_all};
 use fab_types::{Block, OrgName};
 use ledger_setting::Genesis;
@@ -160,7 +160,8 @@ impl PeerWriter {
     ///
     /// Refused as `commit_on` refuses: where the chain is full (604), where the block has not the
     /// next number (601), names another hash than that of the last header (602) or says another
-    /// hash of its data (603), and for want of memory (9). A refusal leaves the list as it was.
+    /// hash of its data (603), and for want of memory (9), behind the first three tests alone. A
+    /// refusal leaves the list as it was.
     pub fn commit<R: Threads + Wait + Sync>(
         &mut self,
         rt: &R,
@@ -181,6 +182,7 @@ impl PeerWriter {
             (self.new.rules ≡ self.old.rules) }
     {
         let newest = self.cell.newest();
+        check_next(newest, &block)?;
         let envelopes = block.envelopes.as_slice();
         let endorsed = check_all(
             rt,
