@@ -55,11 +55,11 @@ abbrev pub IsTooLarge : Limits → Mark Envelope → Type 0
 IsTooLarge limits (message e) = limits.absolute < envelope_size e
 IsTooLarge limits timeout = ⊥
 
--- where each refusal comes
+-- where each refusal comes. The size is tested before any memory is taken
 abbrev pub IsRefused : OrderCause → Ordering → Mark Envelope → Type 0
 IsRefused TooLarge old mark = IsTooLarge old.limits mark
 IsRefused NoNumber old mark = RunsOut old mark
-IsRefused OutOfMemory old mark = Unit {0}
+IsRefused OutOfMemory old mark = ¬ IsTooLarge old.limits mark
 
 -- nothing waits, and there are no blocks
 abbrev pub IsOpening : Ordering → Type 0

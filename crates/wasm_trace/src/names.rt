@@ -149,6 +149,9 @@ fn unary_name(operator: UnaryOp) -> &'static str {
         UnaryOp::Clz => "clz",
         UnaryOp::Ctz => "ctz",
         UnaryOp::Popcnt => "popcnt",
+        UnaryOp::Extend8S => "extend8_s",
+        UnaryOp::Extend16S => "extend16_s",
+        UnaryOp::Extend32S => "extend32_s",
     }
 }
 

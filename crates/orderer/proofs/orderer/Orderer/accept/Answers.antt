@@ -1,4 +1,4 @@
-use Rattle.std.proofs.Common.{refl, sym, subst}
+use Rattle.std.proofs.Common.{refl, sym, subst, arith}
 use Rattle.batch_cutter.specs.Division.{message}
 use Rattle.batch_cutter.specs.Offers.{batches}
 use Rattle.orderer.specs.Ordering.{Ordering, AreLimits}
@@ -64,5 +64,5 @@ returns-in-Err-add_cut-clause-refused c =
     let inside = c.self.inside in
     let old : Ordering = record { reorder = inside.reorder; limits = inside.cutter.limits; pending = inside.cutter.pending; chain = inside.blocks.items } in
     rw (← c.self.view_is)
-    (mark_refused c.in-Err-add_cut.cause old (message c.args.given) (batches c.in-Ok.cut) c.offer.new.self.pending c.in-Ok.ensures.cut.divides
-    c.in-Err-add_cut.ensures.refused)
+    (mark_refused c.in-Err-add_cut.cause old (message c.args.given) (batches c.in-Ok.cut) c.offer.new.self.pending
+    (λ large. omega (arith, large, c.in-Ok.ensures.size)) c.in-Ok.ensures.cut.divides c.in-Err-add_cut.ensures.refused)

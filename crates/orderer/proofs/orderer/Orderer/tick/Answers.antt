@@ -55,4 +55,4 @@ returns-in-Err-clause-refused c =
     let cut = subst (λ r. IsDivision envelope_size old.limits (map message old.pending ++ timeout ∷ []) (batch_of r) pending) c.in-Some.is
     c.timeout.ensures.divides in
     let why = first_refused plans c.in-Err.cause old.chain c.deref.result.now c.in-Some.batch.items [] c.deref.ensures.value c.in-Err.ensures.refused in
-    rw (← c.self.view_is) (mark_refused c.in-Err.cause old timeout (c.in-Some.batch.items ∷ []) pending cut why)
+    rw (← c.self.view_is) (mark_refused c.in-Err.cause old timeout (c.in-Some.batch.items ∷ []) pending (λ none. none) cut why)
