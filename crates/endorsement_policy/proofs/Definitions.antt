@@ -1,10 +1,15 @@
 -- What a definition that can be used comes to.
-use Rattle.std.proofs.Common.{◌≡◌, ℕ, true, cond, eqb, List, length, Option, Some, None, Result, Ok, Err, option_map, slice_get, get_or, refl, ap, subst, ◌∙◌}
+use Rattle.std.proofs.Common.{◌≡◌, ℕ, true, cond, eqb, List, length, Option, Some, None, Result, Ok, Err, option_map, slice_get, get_or, ◌&&◌, refl, ap, subst}
+use Rattle.std.proofs.Common.{◌∙◌}
 use Rattle.std.specs.Prelude.{bytes_eq}
 use Rattle.std.specs.Result.{result_ok}
+use Rattle.std.proofs.lemmas.Bool.{and_parts}
 use Rattle.std.proofs.lemmas.List.Quantifiers.{position-Some}
 use Rattle.std.proofs.lemmas.Option.{same_Some, slice_get-get_or}
 use Rattle.std.proofs.lemmas.Slice.Eq.{bytes_eq-Decides}
+use Rattle.wasm_profile.specs.Numbers.{number_of}
+use Rattle.wasm_profile.specs.declared.profile.Profile.{Profile}
+use Rattle.wasm_profile.specs.declared.profile.Profile.TheVariants.{Core1, SignExtension}
 use Rattle.fab_types.specs.Limits.{IsPolicyText}
 use Rattle.fab_types.specs.declared.definition.Definition.{Definition}
 use Rattle.grammar.specs.Reading.{whole_at}
@@ -19,6 +24,7 @@ use Rattle.endorsement_policy.specs.GoodSets.{Names, is_among}
 use Rattle.endorsement_policy.specs.Installed.{Installed, place_of, policy_in_text, used_at, usable_by, usable_in}
 use Rattle.endorsement_policy.specs.Limits.{IsText}
 use Rattle.endorsement_policy.specs.Reading.{policy_at, is_threshold}
+use Rattle.endorsement_policy.specs.declared.installed.ModuleId.{ModuleId}
 use Rattle.endorsement_policy.specs.declared.installed.Usable.{Usable}
 use Rattle.endorsement_policy.specs.declared.policy.Policy.{Policy}
 use Rattle.endorsement_policy.proofs.Found.{policy_found}
@@ -43,11 +49,23 @@ pub is_ok_of : {X E : Type 0} (r : Result X E) (x : X) → result_ok r ≡ Some 
 is_ok_of (Ok y) x e = ap Ok (same_Some y x e)
 is_ok_of (Err f) x e = absurd cc
 
+-- no two profiles have one number
+same_profile : (p q : Profile) → eqb (number_of p) (number_of q) ≡ true → p ≡ q
+same_profile Core1 Core1 e = refl
+same_profile Core1 SignExtension e = absurd cc
+same_profile SignExtension Core1 e = absurd cc
+same_profile SignExtension SignExtension e = refl
+
 -- what was found first stands there
-pub found_at : (digests : List (List ℕ)) (digest : List ℕ) (place : ℕ) → place_of digests digest ≡ Some place → slice_get digests place ≡ Some digest
-found_at digests digest place e =
-    let h = position-Some (λ d. bytes_eq d digest) digests place digest e in
-    slice_get-get_or digests place digest h.0 ∙ ap Some ((bytes_eq-Decides (get_or digests place digest) digest).0 h.1)
+pub found_at : (modules : List ModuleId) (id : ModuleId) (place : ℕ) → place_of modules id.digest id.profile ≡ Some place → slice_get modules place ≡ Some id
+found_at modules id place e =
+    let h = position-Some (λ m. bytes_eq m.digest id.digest && eqb (number_of m.profile) (number_of id.profile)) modules place id e in
+    let m = get_or modules place id in
+    let both = and_parts (bytes_eq m.digest id.digest) (eqb (number_of m.profile) (number_of id.profile)) h.1 in
+    let digest = (bytes_eq-Decides m.digest id.digest).0 both.0 in
+    let profile = same_profile m.profile id.profile both.1 in
+    let same : m ≡ id = λ i. record { digest = digest i; profile = profile i } in
+    slice_get-get_or modules place id h.0 ∙ ap Some same
 
 -- a text that is a policy needs somebody
 text_needs : (orgs : Names) (text : List ℕ) (p : Policy) → policy_in_text orgs text ≡ Some p → needs_someone p ≡ true
@@ -82,19 +100,19 @@ defined_needs i bytes p e = by_usable (usable_in i bytes) refl e
     by_usable None is f = absurd cc
     by_usable (Some u) is f =
         let s = read i bytes u is in
-        let h = used (place_of i.digests s.0.digest) s.0.fuel (policy_in_text i.orgs s.0.policy) u s.2 in
+        let h = used (place_of i.modules s.0.digest s.0.profile) s.0.fuel (policy_in_text i.orgs s.0.policy) u s.2 in
         text_needs i.orgs s.0.policy p (h.policy_is ∙ f)
 
 module _ (i : Installed) (d : Definition) (u : Usable) (is : usable_by i d ≡ Ok u) where
-  parts : Used (place_of i.digests d.digest) d.fuel (policy_in_text i.orgs d.policy) u
-  parts = used (place_of i.digests d.digest) d.fuel (policy_in_text i.orgs d.policy) u is
+  parts : Used (place_of i.modules d.digest d.profile) d.fuel (policy_in_text i.orgs d.policy) u
+  parts = used (place_of i.modules d.digest d.profile) d.fuel (policy_in_text i.orgs d.policy) u is
 
   pub spelled : IsPolicyText d.policy → IsText i.orgs u.policy d.policy
   spelled limits = whole_found i.orgs d.policy u.policy limits.1 parts.policy_is
 
-  pub placed : (slice_get i.digests u.place ≡ Some d.digest) × (u.fuel ≡ d.fuel)
-  placed = (found_at i.digests d.digest u.place parts.place_is, parts.fuel_is)
+  pub placed : (slice_get i.modules u.place ≡ Some (record { digest = d.digest; profile = d.profile })) × (u.fuel ≡ d.fuel)
+  placed = (found_at i.modules (record { digest = d.digest; profile = d.profile }) u.place parts.place_is, parts.fuel_is)
 
-pub made : (i : Installed) (d : Definition) (place : ℕ) (p : Policy) → place_of i.digests d.digest ≡ Some place → IsText i.orgs p d.policy →
+pub made : (i : Installed) (d : Definition) (place : ℕ) (p : Policy) → place_of i.modules d.digest d.profile ≡ Some place → IsText i.orgs p d.policy →
     usable_by i d ≡ Ok (record { place = place; fuel = d.fuel; policy = p })
 made i d place p e h = rw (e, strictly i.orgs d.policy p h) refl

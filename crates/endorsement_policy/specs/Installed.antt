@@ -1,7 +1,9 @@
 -- Which definitions of chaincodes can be used, and as what.
-use Rattle.std.specs.Prelude.{ℕ, List, Option, Some, None, Result, Ok, Err, bytes_eq}
+use Rattle.std.specs.Prelude.{ℕ, List, Option, Some, None, Result, Ok, Err, bytes_eq, ◌==◌, ◌&&◌}
 use Rattle.std.specs.List.{position}
 use Rattle.std.specs.Result.{result_ok}
+use Rattle.wasm_profile.specs.Numbers.{number_of}
+use Rattle.wasm_profile.specs.declared.profile.Profile.{Profile}
 use Rattle.grammar.specs.Reading.{◌>>=◌, whole_at}
 use Rattle.fab_types.specs.declared.definition.Definition.{Definition}
 use Rattle.wire.specs.Reading.{definition_at}
@@ -11,16 +13,17 @@ use Rattle.endorsement_policy.specs.Reading.{policy_by}
 use Rattle.endorsement_policy.specs.declared.policy.Policy.{Policy}
 use Rattle.endorsement_policy.specs.declared.fault.DefinitionFault.{DefinitionFault}
 use Rattle.endorsement_policy.specs.declared.fault.DefinitionFault.TheVariants.{NotInstalled, BadPolicy}
+use Rattle.endorsement_policy.specs.declared.installed.ModuleId.{ModuleId}
 use Rattle.endorsement_policy.specs.declared.installed.Usable.{Usable}
 
--- what every peer has installed: the digests of the modules, and the organisations whose names a policy may have
+-- what every peer has installed: the ids of the modules, and the organisations whose names a policy may have
 pub record Installed : Type 0 where
-  pub digests : List (List ℕ)
+  pub modules : List ModuleId
   pub orgs : Names
 
--- where a module of this digest stands; of two modules with one digest the first counts
-abbrev pub place_of : List (List ℕ) → List ℕ → Option ℕ
-place_of digests digest = position (λ d. bytes_eq d digest) digests
+-- where a module of this digest and this profile stands; of two modules with both the first counts
+abbrev pub place_of : List ModuleId → List ℕ → Profile → Option ℕ
+place_of modules digest profile = position (λ m. bytes_eq m.digest digest && number_of m.profile == number_of profile) modules
 
 -- the policy that a text is
 abbrev pub policy_in_text : Names → List ℕ → Option Policy
@@ -34,7 +37,7 @@ used_at (Some place) fuel (Some policy) = Ok (record { place = place; fuel = fue
 
 -- what a definition comes to: its module is to be installed, and its text to be a policy
 abbrev pub usable_by : Installed → Definition → Result Usable DefinitionFault
-usable_by i d = used_at (place_of i.digests d.digest) d.fuel (policy_in_text i.orgs d.policy)
+usable_by i d = used_at (place_of i.modules d.digest d.profile) d.fuel (policy_in_text i.orgs d.policy)
 
 -- what the bytes of a definition come to, where they spell one that can be used
 abbrev pub usable_in : Installed → List ℕ → Option Usable

@@ -1,6 +1,7 @@
 //! What every peer has installed, and which definitions can be used with it.
 
 ghost use Rattle.std.specs.Prelude.{◌≡◌, IfOk};
+ghost use Rattle.std.specs.Result.{is_ok};
 ghost use Rattle.endorsement_policy.specs.Installed.{place_of, usable_by, usable_in};
 
 use crate::fault::DefinitionFault;
@@ -9,12 +10,22 @@ use crate::reading::policy_in_text;
 use fab_types::{Definition, Fuel, OrgName};
 use std::alloc::{AllocError, Global};
 use std::marker::Model;
+use wasm_profile::Profile;
 use wire::{WireFault, decode_definition};
 
-/// The digests of the modules, and the organisations whose names a policy may have.
+/// What an installed module is known by.
+#[derive(Clone, Copy, PartialEq, Eq, Debug)]
+pub struct ModuleId {
+    /// The SHA-256 of the module's bytes.
+    pub digest: [u8; 32],
+    /// By which profile the bytes are read.
+    pub profile: Profile,
+}
+
+/// The ids of the modules, and the organisations whose names a policy may have.
 #[derive(Drop)]
 pub struct Installed {
-    digests: Vec<[u8; 32]>,
+    modules: Vec<ModuleId>,
     orgs: Vec<OrgName>,
 }
 
@@ -23,7 +34,7 @@ impl Model for Installed {
 
     ghost Value = { Installed };
 
-    ghost view = { λ i. record { digests = i.digests.items; orgs = i.orgs.items } };
+    ghost view = { λ i. record { modules = i.modules.items; orgs = i.orgs.items } };
 }
 
 /// How a definition is used.
@@ -38,17 +49,17 @@ pub struct Usable {
 }
 
 impl Installed {
-    pub fn new(digests: Vec<[u8; 32]>, orgs: Vec<OrgName>) -> Installed
-        ensures { result ≡ record { digests = digests.items; orgs = orgs.items } }
+    pub fn new(modules: Vec<ModuleId>, orgs: Vec<OrgName>) -> Installed
+        ensures { result ≡ record { modules = modules.items; orgs = orgs.items } }
     {
-        Installed { digests, orgs }
+        Installed { modules, orgs }
     }
 
-    /// The SHA-256 of each module's bytes.
-    pub fn digests(&self) -> &[[u8; 32]]
-        ensures { result.now ≡ self.now.digests }
+    /// The id of each module.
+    pub fn modules(&self) -> &[ModuleId]
+        ensures { result.now ≡ self.now.modules }
     {
-        &self.digests
+        &self.modules
     }
 
     /// The organisations whose names a policy may have.
@@ -58,11 +69,13 @@ impl Installed {
         &self.orgs
     }
 
-    /// Where the first module of this digest stands.
-    fn place(&self, digest: &[u8; 32]) -> Option<usize>
-        ensures { result ≡ place_of self.now.digests digest.now }
+    /// Where the first module of this digest and this profile stands.
+    fn place(&self, digest: &[u8; 32], profile: Profile) -> Option<usize>
+        ensures { result ≡ place_of self.now.modules digest.now profile }
     {
-        self.digests.iter().position(|d| d == digest)
+        self.modules
+            .iter()
+            .position(|m| m.digest == *digest && m.profile == profile)
     }
 
     /// How a definition is used, or why it cannot be. The only error is want of memory.
@@ -73,7 +86,7 @@ impl Installed {
     ) -> Result<Result<Usable, DefinitionFault>, AllocError>
         ensures { IfOk result (λ r. r ≡ usable_by self.now definition.now) }
     {
-        let Some(place) = self.place(&definition.digest) else {
+        let Some(place) = self.place(&definition.digest, definition.profile) else {
             return Ok(Err(DefinitionFault::NotInstalled));
         };
         let text = definition.policy.as_slice();
@@ -85,6 +98,17 @@ impl Installed {
             fuel: definition.fuel,
             policy,
         }))
+    }
+
+    /// Whether a definition can be used. The only error is want of memory.
+    pub(crate) fn is_usable(
+        &self,
+        alloc: Global,
+        definition: &Definition,
+    ) -> Result<bool, AllocError>
+        ensures { IfOk result (λ b. b ≡ is_ok (usable_by self.now definition.now)) }
+    {
+        Ok(self.usable(alloc, definition)?.is_ok())
     }
 
     /// How the definition that these bytes spell is used. None where they spell none, or one that
@@ -108,7 +132,7 @@ impl Clone for Installed {
 
     fn clone(&self) -> Result<Installed, AllocError> {
         Ok(Installed {
-            digests: self.digests.clone()?,
+            modules: self.modules.clone()?,
             orgs: self.orgs.clone()?,
         })
     }

@@ -132,8 +132,8 @@ impl<'a> Judge<'a> {
         if !is_upgrade_payload(alloc, upgrade, &envelope.payload)? {
             return Ok(false);
         }
-        let usable = self.rules.installed().usable(alloc, &upgrade.definition)?;
-        if usable.is_err() {
+        let installed = self.rules.installed();
+        if !installed.is_usable(alloc, &upgrade.definition)? {
             return Ok(false);
         }
         is_met_by(alloc, self.rules, Some(self.rules.upgrade()), envelope)

@@ -32,16 +32,17 @@ pub fn an_endorsed_envelope_carries_a_right_tag(rules: &Rules)
 }
 
 /// A definition that can be used has a text that spells its policy within the limits (`spelled`),
-/// and its digest is that of the module at its place (`placed`); where the digest is installed and
-/// the text spells a policy, that is what is found (`found`). What bytes come to is what the one
-/// definition that they spell comes to (`read`, `again`).
+/// and its digest and its profile are those of the module at its place (`placed`); where a module
+/// of both is installed and the text spells a policy, that is what is found (`found`). What bytes
+/// come to is what the one definition that they spell comes to (`read`, `again`).
 pub fn usable_definitions_are_spelled()
     ensures spelled { (i : Installed) (d : Definition) (u : Usable) → usable_by i d ≡ Ok u →
         IsPolicyText d.policy → IsText i.orgs u.policy d.policy }
     ensures placed { (i : Installed) (d : Definition) (u : Usable) → usable_by i d ≡ Ok u →
-        (slice_get i.digests u.place ≡ Some d.digest) × (u.fuel ≡ d.fuel) }
+        (slice_get i.modules u.place ≡ Some (record { digest = d.digest; profile = d.profile })) ×
+        (u.fuel ≡ d.fuel) }
     ensures found { (i : Installed) (d : Definition) (place : ℕ) (p : Policy) →
-        place_of i.digests d.digest ≡ Some place → IsText i.orgs p d.policy →
+        place_of i.modules d.digest d.profile ≡ Some place → IsText i.orgs p d.policy →
         usable_by i d ≡ Ok (record { place = place; fuel = d.fuel; policy = p }) }
     ensures read { (i : Installed) (bytes : List ℕ) (u : Usable) → usable_in i bytes ≡ Some u →
         (d : Definition) × IsDefinition d × (definition_bytes d ≡ bytes) ×

@@ -37,7 +37,7 @@ mod tags;
 pub use check::{check_plain, is_endorsed};
 pub use evaluate::satisfied;
 pub use fault::{DefinitionFault, PolicyFault};
-pub use installed::{Installed, Usable};
+pub use installed::{Installed, ModuleId, Usable};
 pub use laws::{
     an_endorsed_envelope_carries_a_right_tag, spelled_once, usable_definitions_are_spelled,
 };

@@ -7,14 +7,14 @@ use Rattle.wasm_validate.specs.ModuleRules.{IsValid}
 use Rattle.endorsement_policy.specs.Installed.{Installed}
 use Rattle.simulator.specs.declared.book.Chaincode.{Chaincode}
 
--- the chaincodes of the genesis, more modules, and what a definition can be used with: the digests of the chaincodes' modules, then those of
--- the modules
+-- the chaincodes of the genesis, more modules, and what a definition can be used with: the ids of the chaincodes' modules, then those of the
+-- modules
 pub record Book : Type 0 where
   pub chaincodes : List Chaincode
   pub modules : List Module
   pub installed : Installed
 
--- the installed modules, in the order of their digests
+-- the installed modules, in the order of their ids
 abbrev pub modules_of : Book → List Module
 modules_of book = map (λ c. c.module) book.chaincodes ++ book.modules
 
@@ -30,13 +30,13 @@ abbrev pub have_own_names : List Chaincode → Bool
 have_own_names [] = true
 have_own_names (c ∷ cs) = not (list_any (is_named c.name) cs) && have_own_names cs
 
--- at most 16 chaincodes, each with a name of its own, at most 16 modules more, and a digest for each module
+-- at most 16 chaincodes, each with a name of its own, at most 16 modules more, and an id for each module
 pub record IsBook (book : Book) : Type 0 where
   pub count : length book.chaincodes ≤ 16
   pub fuels : list_all has_fuel book.chaincodes ≡ true
   pub names : have_own_names book.chaincodes ≡ true
   pub module_count : length book.modules ≤ 16
-  pub digest_count : length book.installed.digests ≡ length book.chaincodes + length book.modules
+  pub module_ids : length book.installed.modules ≡ length book.chaincodes + length book.modules
 
 -- each module is valid, which its type says
 pub record AreValid (book : Book) : Type 0 where

@@ -30,7 +30,7 @@ pub struct Book {
     installed: Installed,
 }
 
-/// The digests are not printed.
+/// The ids of the modules are not printed.
 impl Debug for Book {
     fn fmt<W: Write>(&self, f: &mut Formatter<W>) -> fmt::Result {
         f.debug_struct("Book")
@@ -69,8 +69,8 @@ impl Model for Book {
 
 impl Book {
     /// The book of these chaincodes and modules. None if there are more than 16 of either, if two
-    /// chaincodes have the same name, if a fuel is out of its range or if there is not one digest
-    /// for each module.
+    /// chaincodes have the same name, if a fuel is out of its range or if there is not one id for
+    /// each module.
     pub fn new(
         chaincodes: Vec<Chaincode>,
         modules: Vec<ValidModule>,
@@ -96,7 +96,7 @@ impl Book {
             || !have_fuel(&chaincodes)
             || !have_own_names(&chaincodes)
             || modules.len() > MOST_MODULES
-            || installed.digests().len() != chaincodes.len() + modules.len()
+            || installed.modules().len() != chaincodes.len() + modules.len()
         {
             return None;
         }
@@ -123,8 +123,8 @@ impl Book {
         &self.modules
     }
 
-    /// What a definition can be used with: the digests of the chaincodes' modules first, then those
-    /// of the modules.
+    /// What a definition can be used with: the ids of the chaincodes' modules first, then those of
+    /// the modules.
     pub fn installed(&self) -> &Installed
         ensures { result.now ≡ self.now.installed }
     {
