@@ -19,7 +19,12 @@ pub record Fits (blocks : List Block) (block : Block) : Type 0 where
   pub previous_hash : block.header.previous_hash ≡ next_link blocks
   pub data_hash : block.header.data_hash ≡ sha256 (data_bytes block.envelopes)
 
--- the first of these tests that fails
+-- what is tested of a block before any memory is taken: there is room, and it has the next number and names the hash of the last header
+abbrev pub IsNext : List Block → Block → Type 0
+IsNext blocks block =
+    (length blocks < 65535) × (block.header.number ≡ next_number blocks) × (block.header.previous_hash ≡ next_link blocks)
+
+-- the first of these tests that fails; want of memory stands behind those that take none
 abbrev pub IsRefused : CommitRefusal → List Block → Block → Type 0
 IsRefused AtEnd blocks block = length blocks ≡ 65535
 IsRefused Number blocks block = (length blocks < 65535) × (block.header.number ≢ next_number blocks)
@@ -28,4 +33,4 @@ IsRefused PreviousHash blocks block =
 IsRefused DataHash blocks block =
     (length blocks < 65535) × (block.header.number ≡ next_number blocks) × (block.header.previous_hash ≡ next_link blocks) ×
     (block.header.data_hash ≢ sha256 (data_bytes block.envelopes))
-IsRefused OutOfMemory blocks block = Unit {0}
+IsRefused OutOfMemory blocks block = IsNext blocks block

@@ -1,11 +1,12 @@
 //! The commit of one block.
 
-ghost use Rattle.std.specs.Prelude.{◌≡◌, ◌++◌, ◌∷◌, [], length, IfOk, OnOk, IfErr};
+ghost use Rattle.std.specs.Prelude.{◌≡◌, ◌≢◌, ◌++◌, ◌∷◌, [], length, IfOk, OnOk, IfErr};
 ghost use Rattle.ledger_model.specs.Chain.{history};
 ghost use Rattle.ledger_model.specs.Flags.{flags_told};
 ghost use Rattle.wire.specs.Ids.{id_of};
 ghost use Rattle.wire.specs.Links.{next_link};
-ghost use Rattle.committer.specs.Fits.{blocks_of, Fits, IsRefused};
+ghost use Rattle.committer.specs.declared.refusal.CommitRefusal.TheVariants.{OutOfMemory};
+ghost use Rattle.committer.specs.Fits.{blocks_of, Fits, IsNext, IsRefused};
 
 use crate::refusal::CommitRefusal;
 use fab_types::Block;
@@ -26,12 +27,16 @@ fn next_link(snapshot: &Snapshot) -> [u8; 32]
     }
 }
 
-/// Tests whether a block is the next one: whether there is room, and then its number, the hash that
-/// it names, and that of its data.
-fn check(alloc: Global, snapshot: &Snapshot, block: &Block) -> Result<(), CommitRefusal>
-    ensures fits { OnOk result (Fits (blocks_of snapshot.now) block.now) }
+/// Tests what takes no memory: whether there is room for a block, and then its number and the hash
+/// that it names.
+///
+/// Refused as `commit_on` refuses, by the first of these that fails: 604, 601 or 602. A caller that
+/// has work to do before a commit tests with this that it is worth it.
+pub fn check_next(snapshot: &Snapshot, block: &Block) -> Result<(), CommitRefusal>
+    ensures next { OnOk result (IsNext (blocks_of snapshot.now) block.now) }
     ensures refused { IfErr result
-        (λ refusal. IsRefused refusal (blocks_of snapshot.now) block.now) }
+        (λ refusal. (refusal ≢ OutOfMemory) ×
+        IsRefused refusal (blocks_of snapshot.now) block.now) }
 {
     let height = snapshot.height();
     if height == LAST_BLOCK as usize {
@@ -43,6 +48,16 @@ fn check(alloc: Global, snapshot: &Snapshot, block: &Block) -> Result<(), Commit
     if block.header.previous_hash != next_link(snapshot) {
         return Err(CommitRefusal::PreviousHash);
     }
+    Ok(())
+}
+
+/// Tests whether a block fits: what takes no memory, and then the hash of its data.
+fn check(alloc: Global, snapshot: &Snapshot, block: &Block) -> Result<(), CommitRefusal>
+    ensures fits { OnOk result (Fits (blocks_of snapshot.now) block.now) }
+    ensures refused { IfErr result
+        (λ refusal. IsRefused refusal (blocks_of snapshot.now) block.now) }
+{
+    check_next(snapshot, block)?;
     if block.header.data_hash != data_hash(alloc, &block.envelopes)? {
         return Err(CommitRefusal::DataHash);
     }
@@ -61,8 +76,9 @@ fn check(alloc: Global, snapshot: &Snapshot, block: &Block) -> Result<(), Commit
 ///   1.
 /// - `DataHash` (603): its header does not name the hash of its data.
 ///
-/// `OutOfMemory` (9) is answered where a growth of memory was refused. The block of a refused call
-/// is dropped.
+/// `OutOfMemory` (9) is answered where a growth of memory was refused, behind the first three tests
+/// alone: the bytes that are hashed for the fourth take memory. The block of a refused call is
+/// dropped.
 pub fn commit_on(
     alloc: Global,
     snapshot: &Snapshot,
