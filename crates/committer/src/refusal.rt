@@ -33,6 +33,11 @@ impl CommitRefusal {
 }
 
 impl Display for CommitRefusal {
+    ghost use Rattle.std.specs.Prelude.{◌++◌, Some, codes};
+    ghost use Rattle.std.specs.Fmt.{decimal};
+
+    ghost output = { λ r. Some (codes "refused " ++ decimal (refusal_number r)) };
+
     fn fmt<W: Write>(&self, f: &mut Formatter<W>) -> fmt::Result {
         write!(f, "refused {}", self.number())
     }

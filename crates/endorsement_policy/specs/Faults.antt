@@ -1,5 +1,6 @@
 -- The numbers of faults, and what a fault of a text says of it.
-use Rattle.std.specs.Prelude.{◌≡◌, ℕ, ◌<◌, Result, Ok, Err}
+use Rattle.std.specs.Prelude.{◌≡◌, ◌++◌, ℕ, ◌<◌, List, Result, Ok, Err, codes}
+use Rattle.std.specs.Fmt.{decimal}
 use Rattle.endorsement_policy.specs.GoodSets.{Names}
 use Rattle.endorsement_policy.specs.View.{alone}
 use Rattle.endorsement_policy.specs.Limits.{HasKnown, HasRules, depth}
@@ -16,6 +17,11 @@ number_of (Syntax offset) = 501
 number_of UnknownOrganisation = 502
 number_of Threshold = 503
 number_of TooDeep = 504
+
+-- how a fault is written
+abbrev pub fault_text : PolicyFault → List ℕ
+fault_text (Syntax offset) = codes "refused 501 at " ++ decimal offset
+fault_text fault = codes "refused " ++ decimal (number_of fault)
 
 -- the number of a fault of a definition
 abbrev pub definition_number : DefinitionFault → ℕ

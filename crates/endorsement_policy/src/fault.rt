@@ -40,11 +40,15 @@ impl PolicyFault {
 }
 
 impl Display for PolicyFault {
+    ghost use Rattle.std.specs.Prelude.{Some};
+    ghost use Rattle.endorsement_policy.specs.Faults.{fault_text};
+
+    ghost output = { λ f. Some (fault_text f) };
+
     fn fmt<W: Write>(&self, f: &mut Formatter<W>) -> fmt::Result {
-        write!(f, "refused {}", self.number())?;
         match self {
-            PolicyFault::Syntax(offset) => write!(f, " at {offset}"),
-            _ => Ok(()),
+            PolicyFault::Syntax(offset) => write!(f, "refused 501 at {offset}"),
+            fault => write!(f, "refused {}", fault.number()),
         }
     }
 }
@@ -86,6 +90,11 @@ impl DefinitionFault {
 }
 
 impl Display for DefinitionFault {
+    ghost use Rattle.std.specs.Prelude.{◌++◌, Some, codes};
+    ghost use Rattle.std.specs.Fmt.{decimal};
+
+    ghost output = { λ f. Some (codes "refused " ++ decimal (definition_number f)) };
+
     fn fmt<W: Write>(&self, f: &mut Formatter<W>) -> fmt::Result {
         write!(f, "refused {}", self.number())
     }

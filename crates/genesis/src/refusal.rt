@@ -46,6 +46,11 @@ impl GenesisRefusal {
 }
 
 impl Display for GenesisRefusal {
+    ghost use Rattle.std.specs.Prelude.{◌++◌, Some, codes};
+    ghost use Rattle.std.specs.Fmt.{decimal};
+
+    ghost output = { λ r. Some (codes "refused " ++ decimal (refusal_number r)) };
+
     fn fmt<W: Write>(&self, f: &mut Formatter<W>) -> fmt::Result {
         write!(f, "refused {}", self.number())
     }

@@ -1,1 +1,2 @@
 pub mod Modules
+pub mod Texts

@@ -26,11 +26,18 @@ pub enum ModuleRefusal {
 }
 
 impl Display for ModuleRefusal {
+    ghost use Rattle.std.specs.Prelude.{Some};
+    ghost use Rattle.module_file.specs.Texts.{refusal_text};
+
+    ghost output = { λ r. Some (refusal_text r) };
+
     fn fmt<W: Write>(&self, f: &mut Formatter<W>) -> fmt::Result {
         match self {
             ModuleRefusal::Memory => write!(f, "refused 9"),
-            ModuleRefusal::Malformed(kind, offset) => write!(f, "refused {kind} at {offset}"),
-            ModuleRefusal::Invalid(fault) => write!(f, "refused {fault}"),
+            ModuleRefusal::Malformed(kind, offset) => {
+                write!(f, "refused {} at {offset}", kind.number())
+            },
+            ModuleRefusal::Invalid(fault) => write!(f, "refused {}", fault.number()),
         }
     }
 }

@@ -32,6 +32,11 @@ impl AbortCause {
 }
 
 impl Display for AbortCause {
+    ghost use Rattle.std.specs.Prelude.{Some};
+    ghost use Rattle.std.specs.Fmt.{decimal};
+
+    ghost output = { λ c. Some (decimal (abort_number c)) };
+
     fn fmt<W: Write>(&self, f: &mut Formatter<W>) -> fmt::Result {
         write!(f, "{}", self.number())
     }

@@ -53,6 +53,11 @@ impl OrderCause {
 }
 
 impl Display for OrderCause {
+    ghost use Rattle.std.specs.Prelude.{◌++◌, Some, codes};
+    ghost use Rattle.std.specs.Fmt.{decimal};
+
+    ghost output = { λ c. Some (codes "refused " ++ decimal (cause_number c)) };
+
     fn fmt<W: Write>(&self, f: &mut Formatter<W>) -> fmt::Result {
         write!(f, "refused {}", self.number())
     }
@@ -61,6 +66,11 @@ impl Display for OrderCause {
 impl Error for OrderCause {}
 
 impl Display for OrderRefusal {
+    ghost use Rattle.std.specs.Prelude.{◌++◌, Some, codes};
+    ghost use Rattle.std.specs.Fmt.{decimal};
+
+    ghost output = { λ r. Some (codes "refused " ++ decimal (cause_number r.cause)) };
+
     fn fmt<W: Write>(&self, f: &mut Formatter<W>) -> fmt::Result {
         write!(f, "{}", self.cause)
     }

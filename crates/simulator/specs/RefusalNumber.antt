@@ -1,5 +1,7 @@
--- The number of a refusal.
-use Rattle.std.specs.Prelude.{ℕ}
+-- The number of a refusal, and how it is written.
+use Rattle.std.specs.Prelude.{◌++◌, ℕ, List, Option, Some, None, codes}
+use Rattle.std.specs.Fmt.{decimal}
+use Rattle.wasm_ast.specs.Traps.{trap_number}
 use Rattle.simulator.specs.declared.refusal.SimRefusal.{SimRefusal}
 use Rattle.simulator.specs.declared.refusal.SimRefusal.TheVariants.{UnknownChaincode, NotInstalled, BadPolicy, Trapped, Spent, Status, Stale, Memory}
 
@@ -12,3 +14,9 @@ refusal_number Stale = 405
 refusal_number NotInstalled = 406
 refusal_number BadPolicy = 407
 refusal_number Memory = 9
+
+-- the text of a refusal. None of a status, which is written as a signed number
+abbrev pub refusal_text : SimRefusal → Option (List ℕ)
+refusal_text (Trapped kind used) = Some (codes "refused 402 trap " ++ decimal (trap_number kind))
+refusal_text (Status status) = None
+refusal_text refusal = Some (codes "refused " ++ decimal (refusal_number refusal))

@@ -55,12 +55,15 @@ fn signed(word: u32) -> i32 {
 }
 
 impl Display for SimRefusal {
+    ghost use Rattle.simulator.specs.RefusalNumber.{refusal_text};
+
+    ghost output = { refusal_text };
+
     fn fmt<W: Write>(&self, f: &mut Formatter<W>) -> fmt::Result {
-        write!(f, "refused {}", self.number())?;
         match self {
-            SimRefusal::Trapped { kind, .. } => write!(f, " trap {}", kind.number()),
-            SimRefusal::Status(status) => write!(f, " status {}", signed(*status)),
-            _ => Ok(()),
+            SimRefusal::Trapped { kind, .. } => write!(f, "refused 402 trap {}", kind.number()),
+            SimRefusal::Status(status) => write!(f, "refused 404 status {}", signed(*status)),
+            refusal => write!(f, "refused {}", refusal.number()),
         }
     }
 }
