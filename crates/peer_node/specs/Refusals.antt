@@ -1,5 +1,5 @@
 -- The numbers of refusals, which refusal a seat hands on, and what the refusal of a peer that comes back says.
-use Rattle.std.specs.Prelude.{ℕ, List}
+use Rattle.std.specs.Prelude.{ℕ, List, []}
 use Rattle.fab_types.specs.Committed.{Committed}
 use Rattle.ledger_model.specs.Judged.{BlockRule}
 use Rattle.simulator.specs.RefusalNumber.{refusal_number}
@@ -7,7 +7,7 @@ use Rattle.simulator.specs.declared.refusal.SimRefusal.TheVariants.{Memory}
 use Rattle.snapshot_cell.specs.declared.refusal.TakeRefusal.{TakeRefusal}
 use Rattle.snapshot_cell.specs.declared.refusal.TakeRefusal.TheVariants as take
 use Rattle.snapshot_cell.specs.Numbers.{open_number}
-use Rattle.store_replay.specs.Lawful.{IsRecommitRefused}
+use Rattle.store_replay.specs.Lawful.{AreLawful, IsRecommitRefused}
 use Rattle.store_replay.specs.Numbers.{recommit_number}
 use Rattle.peer_node.specs.declared.refusal.ReopenRefusal.{ReopenRefusal}
 use Rattle.peer_node.specs.declared.refusal.ReopenRefusal.TheVariants.{Stored, Open}
@@ -30,7 +30,7 @@ abbrev pub reopen_number : ReopenRefusal → ℕ
 reopen_number (Stored r) = recommit_number r
 reopen_number (Open r) = open_number r
 
--- of a place in the cell nothing is said
+-- a cell is opened for lawful blocks alone; when it has no place for a seat is not said
 abbrev pub IsReopenRefused : BlockRule → List Committed → ReopenRefusal → Type 0
 IsReopenRefused rule records (Stored r) = IsRecommitRefused rule records r
-IsReopenRefused rule records (Open r) = Unit {0}
+IsReopenRefused rule records (Open r) = AreLawful rule [] records

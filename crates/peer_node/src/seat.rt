@@ -1,6 +1,6 @@
 //! A seat of a peer: it endorses and reads, and never waits.
 
-ghost use Rattle.std.specs.Prelude.{◌≡◌, IfOk};
+ghost use Rattle.std.specs.Prelude.{◌≡◌, IfOk, OnErr, IsSome};
 ghost use Rattle.ledger_model.specs.Chain.{history};
 ghost use Rattle.ledger_model.specs.State.{state_at};
 
@@ -15,20 +15,21 @@ use std::sync::Arc;
 use world_state::Snapshot;
 
 /// What a seat endorses by: the chaincodes, the organisations with their keys, and its own
-/// organisation.
+/// organisation. It is made with its seat, and stays as it is.
 #[derive(Drop)]
 pub struct Endorser {
-    pub book: Arc<Book>,
-    pub rules: Arc<Rules>,
-    pub org: OrgName,
-    pub alloc: Global,
+    pub(crate) book: Arc<Book>,
+    pub(crate) rules: Arc<Rules>,
+    pub(crate) org: OrgName,
+    pub(crate) alloc: Global,
 }
 
-/// A seat. Contracts see the list of whole blocks that it has seen or was told of.
+/// A seat. Contracts see the list of whole blocks that it has seen or was told of (`seen_chain`),
+/// and what it endorses by (`endorser_of`); its methods alone change the list.
 #[derive(Drop)]
 pub struct Seat {
-    pub reader: Reader,
-    pub endorser: Endorser,
+    pub(crate) reader: Reader,
+    pub(crate) endorser: Endorser,
 }
 
 /// A proposal that a seat has begun, and the snapshot that it reads.
@@ -43,20 +44,20 @@ impl Seat {
     ghost use Rattle.std.specs.Arc.{arc_value};
     ghost use mathlib.Core.List.{IsPrefix};
     ghost use Rattle.snapshot_cell.specs.Seats.{cell_of_told, told_list};
-    ghost use Rattle.peer_node.specs.Seats.{seen_chain, peer_of, FinishesBy, Endorses};
+    ghost use Rattle.peer_node.specs.Seats.{seen_chain, peer_of, endorser_of, FinishesBy, Endorses, IsReadRefused};
 
     /// Takes the snapshot on which a proposal is simulated: its blocks begin with all that this
     /// seat has seen or was told of, and are what it has seen afterwards.
     ///
-    /// Refused where the cell gave no entry, as after its writer's end (432), and for want of
-    /// memory (9).
+    /// Refused where the cell gave no entry, as after its writer's end (432; no contract says when
+    /// else), and for want of memory (9).
     pub fn begin(&mut self, proposal: &Proposal) -> Result<Begun, TakeRefusal>
         ensures begun { IfOk result
             (λ b. (b.proposal ≡ proposal.now) ×
             IsPrefix (seen_chain self.old) (arc_value b.snapshot) ×
             (seen_chain self.new ≡ arc_value b.snapshot)) }
         ensures refused { IfErr result (λ _. seen_chain self.new ≡ seen_chain self.old) }
-        ensures same { (self.new.endorser ≡ self.old.endorser) ×
+        ensures same { (endorser_of self.new ≡ endorser_of self.old) ×
             (peer_of self.new ≡ peer_of self.old) }
     {
         let proposal = proposal.clone()?;
@@ -68,12 +69,13 @@ impl Seat {
     /// was read is as it was, and endorses the payload. The blocks of the second snapshot begin
     /// with all that this seat has seen or was told of, and are what it has seen afterwards.
     ///
-    /// Refused as the simulation is (401 to 404, 406 and 407), where something that was read has
-    /// changed (405), where the cell gave no entry (432), and for want of memory (9).
+    /// Refused as the simulation is (401 to 404, 406 and 407); where that gave a payload and the
+    /// cell no entry (432), with nothing new seen; where something that was read has changed (405);
+    /// and for want of memory (9), which leaves what was seen as it was or comes behind a payload.
     pub fn finish(&mut self, begun: Begun) -> Result<(Payload, Endorsement), FinishRefusal>
-        ensures finished { FinishesBy self.old.endorser begun.proposal (arc_value begun.snapshot)
-            (seen_chain self.old) (seen_chain self.new) result }
-        ensures same { (self.new.endorser ≡ self.old.endorser) ×
+        ensures finished { FinishesBy (endorser_of self.old) begun.proposal
+            (arc_value begun.snapshot) (seen_chain self.old) (seen_chain self.new) result }
+        ensures same { (endorser_of self.new ≡ endorser_of self.old) ×
             (peer_of self.new ≡ peer_of self.old) }
     {
         let Endorser {
@@ -89,11 +91,12 @@ impl Seat {
         Ok((payload, endorsement))
     }
 
-    /// Begins and finishes a proposal. Refused as these are.
+    /// Begins and finishes a proposal. Refused as these are: with nothing new seen where it was not
+    /// begun (432 and 9).
     pub fn endorse(&mut self, proposal: &Proposal) -> Result<(Payload, Endorsement), FinishRefusal>
-        ensures endorsed { Endorses self.old.endorser proposal.now (seen_chain self.old)
+        ensures endorsed { Endorses (endorser_of self.old) proposal.now (seen_chain self.old)
             (seen_chain self.new) result }
-        ensures same { (self.new.endorser ≡ self.old.endorser) ×
+        ensures same { (endorser_of self.new ≡ endorser_of self.old) ×
             (peer_of self.new ≡ peer_of self.old) }
     {
         let begun = self.begin(proposal)?;
@@ -103,13 +106,15 @@ impl Seat {
     /// A key's value and version in the state after a list of blocks that begins with all that this
     /// seat has seen or was told of, and is what it has seen afterwards.
     ///
-    /// Refused where the cell gave no entry (432), and for want of memory (9).
+    /// Refused where the cell gave no entry (432), with nothing new seen; and for want of memory
+    /// (9), with nothing new seen or where the key has an entry.
     pub fn read(&mut self, key: &Key) -> Result<Option<(Value, Version)>, TakeRefusal>
         ensures answer { IfOk result
             (λ entry. IsPrefix (seen_chain self.old) (seen_chain self.new) ×
             (entry ≡ state_at (history (seen_chain self.new)) key.now)) }
-        ensures refused { IfErr result (λ _. IsPrefix (seen_chain self.old) (seen_chain self.new)) }
-        ensures same { (self.new.endorser ≡ self.old.endorser) ×
+        ensures refused { IfErr result
+            (λ r. IsReadRefused key.now (seen_chain self.old) (seen_chain self.new) r) }
+        ensures same { (endorser_of self.new ≡ endorser_of self.old) ×
             (peer_of self.new ≡ peer_of self.old) }
     {
         let snapshot = self.reader.take()?;
@@ -124,16 +129,18 @@ impl Seat {
             (seen_chain self.new ≡ told_list told.now)) ⊎
             (IsPrefix (told_list told.now) (seen_chain self.old) ×
             (seen_chain self.new ≡ seen_chain self.old)) }
-        ensures same { (self.new.endorser ≡ self.old.endorser) ×
+        ensures same { (endorser_of self.new ≡ endorser_of self.old) ×
             (peer_of self.new ≡ peer_of self.old) }
     {
         self.reader.learn(told);
     }
 }
 
-/// A key's value and version after the blocks of a snapshot.
+/// A key's value and version after the blocks of a snapshot. The error is of memory, and comes
+/// where the key has an entry.
 fn entry_at(snapshot: &Snapshot, key: &Key) -> Result<Option<(Value, Version)>, AllocError>
-    ensures { IfOk result (λ entry. entry ≡ state_at (history snapshot.now) key.now) }
+    ensures entry { IfOk result (λ entry. entry ≡ state_at (history snapshot.now) key.now) }
+    ensures memory { OnErr result (IsSome (state_at (history snapshot.now) key.now)) }
 {
     match snapshot.get(key) {
         Some((value, version)) => Ok(Some((value.clone()?, version))),

@@ -9,7 +9,7 @@ ghost use Rattle.store_replay.specs.Lawful.{AreLawful};
 ghost use Rattle.snapshot_cell.specs.Seats.{EachBegins};
 ghost use Rattle.peer_node.specs.Refusals.{IsReopenRefused};
 ghost use Rattle.peer_node.specs.Seats.{IsSeat, IsSeatBehind, Serves};
-ghost use Rattle.peer_node.specs.Writers.{published_chain, peer_of_writer};
+ghost use Rattle.peer_node.specs.Writers.{published_chain, peer_of_writer, rules_of};
 
 use crate::refusal::ReopenRefusal;
 use crate::seat::{Endorser, Seat};
@@ -32,11 +32,12 @@ const WORKERS: usize = 4;
 /// Opens peers.
 pub struct Peer;
 
-/// The writer of a peer. Contracts see the list of whole blocks that it committed. It is ended by
-/// `close`.
+/// The writer of a peer. Contracts see the list of whole blocks that it committed
+/// (`published_chain`), which `commit` alone changes, and the rules by which it commits
+/// (`rules_of`). It is ended by `close`.
 pub struct PeerWriter {
-    pub cell: Writer,
-    pub rules: Arc<Rules>,
+    cell: Writer,
+    rules: Arc<Rules>,
     alloc: Global,
 }
 
@@ -54,7 +55,9 @@ impl Peer {
     /// Tags of an organisation that the genesis does not list are made with the empty key and count
     /// for nothing.
     ///
-    /// Refused where a seat got no place in the cell (431), and for want of memory (9).
+    /// Refused where a seat got no place in the cell (431), and for want of memory (9). The cell
+    /// has as many places as seats are asked for, but no contract of `left_right` says that one is
+    /// given, and so none says when 431 comes.
     pub fn open<R: Wait>(
         rt: &R,
         alloc: Global,
@@ -65,7 +68,7 @@ impl Peer {
         requires seats { (0 < seats) × (seats < 2 ^ 32) }
         ensures writer { IfOk result
             (λ t. (published_chain t.0 ≡ []) ×
-            (arc_value t.0.rules ≡ arc_value genesis.now.rules)) }
+            (arc_value (rules_of t.0) ≡ arc_value genesis.now.rules)) }
         ensures length { IfOk result (λ t. length t.1.items ≡ seats) }
         ensures seats { IfOk result
             (λ t. All
@@ -81,7 +84,9 @@ impl Peer {
     /// on.
     ///
     /// Refused at the first block that does not fit (601 to 604) or is stored with other flags than
-    /// the table's (711), where a seat got no place in the cell (431), and for want of memory (9).
+    /// the table's (711); where all of them fit with the table's flags and a seat got no place in
+    /// the cell (431, as for `open`); and for want of memory (9), behind blocks that fit with the
+    /// table's flags.
     pub fn reopen<R: Wait>(
         rt: &R,
         alloc: Global,
@@ -93,7 +98,7 @@ impl Peer {
         requires seats { (0 < seats) × (seats < 2 ^ 32) }
         ensures writer { IfOk result
             (λ t. (published_chain t.0 ≡ loaded.blocks.items) ×
-            (arc_value t.0.rules ≡ arc_value genesis.now.rules)) }
+            (arc_value (rules_of t.0) ≡ arc_value genesis.now.rules)) }
         ensures lawful { IfOk result
             (λ _. AreLawful (table_of (arc_value genesis.now.rules)) [] loaded.blocks.items) }
         ensures length { IfOk result (λ t. length t.1.items ≡ seats) }
@@ -123,7 +128,8 @@ fn open_with<R: Wait>(
 ) -> Result<(PeerWriter, Vec<Seat>), OpenRefusal>
     requires seats { (0 < seats) × (seats < 2 ^ 32) }
     ensures writer { IfOk result
-        (λ t. (published_chain t.0 ≡ first) × (arc_value t.0.rules ≡ arc_value genesis.now.rules)) }
+        (λ t. (published_chain t.0 ≡ first) ×
+        (arc_value (rules_of t.0) ≡ arc_value genesis.now.rules)) }
     ensures length { IfOk result (λ t. length t.1.items ≡ seats) }
     ensures seats { IfOk result
         (λ t. All
@@ -170,7 +176,7 @@ impl PeerWriter {
         ensures committed { IfOk result
             (λ _. published_chain self.new
             ≡ published_chain self.old ++
-            next_by (arc_value self.old.rules) (published_chain self.old) block ∷ []) }
+            next_by (arc_value (rules_of self.old)) (published_chain self.old) block ∷ []) }
         ensures told { IfOk result
             (λ t. (cell_of_told t ≡ peer_of_writer self.old) ×
             (told_list t ≡ published_chain self.new)) }
@@ -179,7 +185,7 @@ impl PeerWriter {
             (λ refusal. IsRefused refusal (blocks_of (published_chain self.old)) block) }
         ensures unchanged { OnErr result (published_chain self.new ≡ published_chain self.old) }
         ensures same { (peer_of_writer self.new ≡ peer_of_writer self.old) ×
-            (self.new.rules ≡ self.old.rules) }
+            (rules_of self.new ≡ rules_of self.old) }
     {
         let newest = self.cell.newest();
         check_next(newest, &block)?;

@@ -16,11 +16,12 @@ use left_right::reader;
 use std::sync::Arc;
 use world_state::Snapshot;
 
-/// A seat. `front` is the list of whole blocks that it has seen or was told of.
+/// A seat. Contracts see the list of whole blocks that it has seen or was told of (`seen_list`),
+/// and which cell it is of; both are changed by its methods alone.
 #[derive(Drop)]
 pub struct Reader {
     pub(crate) inner: Option<reader::Reader<Kept, Mark, Tie>>,
-    pub front: Front,
+    pub(crate) front: Front,
     pub ghost knows: { ForSome inner (λ r. view r.place ≡ mark_of front.seen.book) },
 }
 

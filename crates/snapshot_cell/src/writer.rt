@@ -12,10 +12,11 @@ use std::alloc::{AllocError, Global};
 use std::sync::{Arc, Wait};
 use world_state::Snapshot;
 
-/// The writer. `front` is the list of whole blocks that it published. It is ended by `close`.
+/// The writer. Contracts see the list of whole blocks that it published (`published_list`), and
+/// which cell it is of; the list is changed by `publish` alone. It is ended by `close`.
 pub struct Writer {
     pub(crate) inner: writer::Writer<Kept, Next, Mark, Tie>,
-    pub front: Front,
+    pub(crate) front: Front,
     pub(crate) history: Arc<History>,
     pub(crate) alloc: Global,
     pub ghost one_history: { (arc_value history).head.book ≡ front.seen.book },
@@ -23,11 +24,11 @@ pub struct Writer {
     pub ghost shows: { arc_value inner.desk.shown.value.snapshot ≡ front.seen.log },
 }
 
-/// What the writer tells: a list of whole blocks that it published. Any number of seats may learn
-/// it.
+/// What the writer tells: a list of whole blocks that it published (`told_list`). Any number of
+/// seats may learn it. Nothing else makes or changes one.
 #[derive(Drop)]
 pub struct Told {
-    pub front: Front,
+    pub(crate) front: Front,
 }
 
 impl Writer {

@@ -3,7 +3,7 @@ use Rattle.std.specs.Prelude.{◌≡◌, ℕ, true, false, List, [], ◌∷◌, 
 use Rattle.fab_types.specs.Committed.{Committed}
 use Rattle.ledger_model.specs.Chain.{Chain}
 use Rattle.ledger_model.specs.Judged.{BlockRule}
-use Rattle.committer.specs.Fits.{Fits, blocks_of}
+use Rattle.committer.specs.Fits.{Fits, IsNext, blocks_of}
 use Rattle.store_replay.specs.Replay.{HasTheFlags, IsUnfit}
 use Rattle.store_replay.specs.declared.refusal.RecommitRefusal.{RecommitRefusal}
 use Rattle.store_replay.specs.declared.refusal.RecommitRefusal.TheVariants.{Memory, Unfit, Flags}
@@ -24,9 +24,9 @@ pub record StopsAt (rule : BlockRule) (records : List Committed) (number : ℕ) 
   pub place : number ≡ length before + 1
   pub wrong : Wrong before first
 
--- what a refusal says of stored blocks; for want of memory nothing is said
+-- what a refusal says of stored blocks. Want of memory comes behind lawful blocks, at one that is the next by its number and the hash that it names
 abbrev pub IsRecommitRefused : BlockRule → List Committed → RecommitRefusal → Type 0
-IsRecommitRefused rule records Memory = Unit {0}
+IsRecommitRefused rule records Memory = (number : ℕ) × StopsAt rule records number (λ before c. IsNext (blocks_of before) c.block)
 IsRecommitRefused rule records (Unfit number cause) = StopsAt rule records number (λ before c. IsUnfit before c cause)
 IsRecommitRefused rule records (Flags number) =
     StopsAt rule records number (λ before c. Fits (blocks_of before) c.block × HasTheFlags rule before c false)

@@ -15,7 +15,8 @@ use world_state::Snapshot;
 /// flags with which it is stored.
 ///
 /// Refused at the first block that does not fit (601 to 604) or has other flags than the table's
-/// (711), and for want of memory (9).
+/// (711), and for want of memory (9), behind blocks that are lawful and at one that is the next by
+/// its number and the hash that it names.
 pub fn recommit(
     alloc: Global,
     rules: &Rules,

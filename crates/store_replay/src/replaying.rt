@@ -1,8 +1,9 @@
 //! Replays.
 
-ghost use Rattle.std.specs.Prelude.{◌≡◌, ◌≢◌, ℕ, List, [], ◌∷◌, ◌++◌, IfOk, MatchBool, None, length};
+ghost use Rattle.std.specs.Prelude.{◌≡◌, ◌≢◌, ℕ, List, [], ◌∷◌, ◌++◌, IfOk, OnErr, MatchBool, None, length};
 ghost use Rattle.fab_types.specs.Committed.{Committed};
 ghost use Rattle.ledger_model.specs.Chain.{Chain};
+ghost use Rattle.committer.specs.Fits.{IsNext, blocks_of};
 ghost use Rattle.block_store.specs.Loading.{IsTold, ReadsAll};
 ghost use Rattle.ledger_setting.specs.Rule.{table_of};
 ghost use Rattle.store_replay.specs.Replay.{IsPushed, Replays, IsReplayed, earlier, first_of};
@@ -58,14 +59,17 @@ fn last_flags(snapshot: &Snapshot) -> &[Flag]
     }
 }
 
-/// Commits the block of a record. The error is of memory.
+/// Commits the block of a record. The error is of memory, and comes where the block is the next one
+/// by its number and the hash that it names.
 pub fn push(
     alloc: Global,
     rules: &Rules,
     snapshot: &Snapshot,
     stored: CommittedBlock,
 ) -> Result<Pushed, AllocError>
-    ensures { IfOk result (λ pushed. IsPushed (table_of rules.now) snapshot.now stored pushed) }
+    ensures pushed { IfOk result
+        (λ pushed. IsPushed (table_of rules.now) snapshot.now stored pushed) }
+    ensures memory { OnErr result (IsNext (blocks_of snapshot.now) stored.block) }
 {
     let (block, flags) = stored.into_parts();
     match commit_checked(alloc, rules, snapshot, block) {

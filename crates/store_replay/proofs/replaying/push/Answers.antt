@@ -8,8 +8,8 @@ use Rattle.store_replay.specs.Replay.{judged_behind}
 use Rattle.store_replay.proofs.Going.{has_flags}
 use Rattle.store_replay.proofs.replaying.push.Goals as goal
 
-pub returns-in-Ok : goal.returns-in-Ok
-returns-in-Ok c =
+pub returns-in-Ok-clause-pushed : goal.returns-in-Ok-clause-pushed
+returns-in-Ok-clause-pushed c =
     let chain = c.args.snapshot.now in
     let rule = table_of c.args.rules.now in
     let block = c.into_parts-block.ensures.block in
