@@ -1,3 +1,10 @@
 pub mod Chaining
+pub mod Getting
+pub mod Ordered
+pub mod Parting
+pub mod Places
+pub mod Retiring
+pub mod Rounding
 pub mod Sending
 pub mod Sums
+pub mod Telling

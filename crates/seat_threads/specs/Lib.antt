@@ -1,4 +1,5 @@
 pub mod Chains
+pub mod Desks
 pub mod Refusals
 pub mod Reports
 pub mod Rounds

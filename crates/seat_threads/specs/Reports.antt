@@ -1,16 +1,89 @@
 -- What is reported of seats at work.
-use Rattle.std.specs.Prelude.{◌≡◌, List, [], length}
-use Rattle.fab_types.specs.declared.block.Block.{Block}
+use Rattle.std.specs.Prelude.{◌≡◌, ℕ, ◌<◌, ◌≤◌, ◌+◌, Bool, List, [], ◌∷◌, length, slice_index_or}
+use Rattle.std.specs.Arc.{arc_value}
+use Rattle.fab_types.specs.declared.envelope.Envelope.{Envelope}
+use Rattle.batch_cutter.specs.Division.{Limits}
 use Rattle.wire.specs.Links.{AreLinked}
-use Rattle.simulator.specs.Books.{Book}
+use Rattle.orderer.specs.Ordering.{Ordering}
+use Rattle.intake.specs.declared.rule.Parcel.{Parcel}
+use Rattle.intake.specs.Mail.{of}
 use Rattle.simulator.specs.Execution.{exec_of}
-use Rattle.endorsement_policy.specs.Endorsed.{Listed}
+use Rattle.ledger_model.specs.Chain.{Bytes}
 use Rattle.ledger_model.specs.Judged.{judged_chain}
+use Rattle.ledger_setting.specs.declared.genesis.Genesis.{Genesis}
 use Rattle.ledger_setting.specs.Rule.{table_of}
 use Rattle.fabric_core.specs.Audit.{AuditSays}
+use Rattle.seat_threads.specs.declared.counts.Counts.{Counts}
+use Rattle.seat_threads.specs.declared.refusal.SeatsRefusal.{SeatsRefusal}
+use Rattle.seat_threads.specs.declared.refusal.SeatsRefusal.TheVariants.{OutOfMemory, NoPlace, NoEntry}
 use Rattle.seat_threads.specs.declared.running.Report.{Report}
+use Rattle.seat_threads.specs.Desks.{AcceptsEach, AreCut, envelopes_got}
+use Rattle.seat_threads.specs.Rounds.{Outcome, envelopes_in}
+use Rattle.seat_threads.specs.Work.{Task, AllCameTo, total_of}
 
--- there is a chain of linked blocks, each transaction marked by the table: so many they are, and this is what its audit says
-abbrev pub TellsOfChain : Book → Listed → Report → Type 0
-TellsOfChain book listed r =
-    (blocks : List Block) × AreLinked [] blocks × (r.blocks ≡ length blocks) × AuditSays (exec_of book) (judged_chain (table_of listed) blocks) r.audit
+-- what the seats of the genesis's first peer do
+abbrev pub task_of : Genesis → (chaincode : Bytes) → (rounds : ℕ) → Task
+task_of g chaincode rounds = record {
+  book = arc_value g.book;
+  listed = arc_value g.rules;
+  org = slice_index_or g.peers.items 0 [];
+  chaincode = chaincode;
+  rounds = rounds;
+}
+
+-- what was got of each seat from this number on is what its rounds endorsed, in their order
+abbrev pub AreGot : List Parcel → ℕ → List (List Outcome) → Type 0
+AreGot got seat [] = Unit {0}
+AreGot got seat (outcomes ∷ others) = (of seat got ≡ envelopes_in outcomes) × AreGot got (seat + 1) others
+
+-- the counts where no round was refused for want of memory or of an entry
+abbrev pub counts_told : Report → Counts
+counts_told r = record { endorsed = r.endorsed; refused = r.refused; out_of_memory = 0; without_entry = 0 }
+
+-- The rounds of so many seats came to some outcomes, and what they endorsed was got and given to an orderer, which ordered it but for what it refused.
+-- The chain that came of it was committed, each transaction marked by the table, and audited
+pub record TellsOfSeats (task : Task) (seats : ℕ) (reorder : Bool) (limits : Limits) (r : Report) : Type 0 where
+  pub outcomes : List (List Outcome)
+  pub seats_are : length outcomes ≡ seats
+  pub came : AllCameTo task 0 outcomes
+  pub counted : counts_told r ≡ total_of outcomes
+  pub got : List Parcel
+  pub got_all : AreGot got 0 outcomes
+  pub got_alone : (seat : ℕ) → seats ≤ seat → of seat got ≡ []
+  pub endorsed : r.endorsed ≡ length got
+  pub ordered : List Envelope
+  pub refused : List Envelope
+  pub each : AcceptsEach limits reorder [] (envelopes_got got) ordered refused
+  pub missing : r.missing ≡ length refused
+  pub now : Ordering
+  pub reorder_is : now.reorder ≡ reorder
+  pub limits_are : now.limits ≡ limits
+  pub cut : AreCut ordered now
+  pub linked : AreLinked [] now.chain
+  pub blocks : r.blocks ≡ length now.chain
+  pub audited : AuditSays (exec_of task.book) (judged_chain (table_of task.listed) now.chain) r.audit
+
+-- Where each refusal comes. Of want of memory, and of places in the cell, nothing is said
+abbrev pub IsSeatsRefused : Task → ℕ → SeatsRefusal → Type 0
+IsSeatsRefused task seats OutOfMemory = Unit {0}
+IsSeatsRefused task seats NoPlace = Unit {0}
+IsSeatsRefused task seats NoEntry =
+    (outcomes : List (List Outcome)) × (length outcomes ≡ seats) × AllCameTo task 0 outcomes × (0 < (total_of outcomes).without_entry)
+
+-- a peer opens without a round
+abbrev pub IsOpeningRefused : SeatsRefusal → Type 0
+IsOpeningRefused OutOfMemory = Unit {0}
+IsOpeningRefused NoPlace = Unit {0}
+IsOpeningRefused NoEntry = ⊥
+
+-- seats at work have their places
+abbrev pub IsWorkRefused : Task → ℕ → SeatsRefusal → Type 0
+IsWorkRefused task seats OutOfMemory = Unit {0}
+IsWorkRefused task seats NoPlace = ⊥
+IsWorkRefused task seats NoEntry = IsSeatsRefused task seats NoEntry
+
+-- some round counts as one without an entry
+abbrev pub IsCountRefused : Counts → SeatsRefusal → Type 0
+IsCountRefused counts OutOfMemory = Unit {0}
+IsCountRefused counts NoPlace = ⊥
+IsCountRefused counts NoEntry = 0 < counts.without_entry

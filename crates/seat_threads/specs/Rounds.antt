@@ -1,13 +1,18 @@
--- The rounds of a seat: what each proposes, and how rounds are counted.
-use Rattle.std.specs.Prelude.{ℕ, ◌+◌, ◌==◌, [], ◌++◌, Option, Some, None, if◌then◌else◌}
+-- The rounds of a seat: what each proposes, what it comes to, and how rounds are counted.
+use Rattle.std.specs.Prelude.{◌≡◌, ℕ, ◌+◌, ◌==◌, ◌⊎◌, List, [], ◌∷◌, ◌++◌, length, fold, slice_get, Option, Some, None, Result, Ok, Err, if◌then◌else◌}
 use Rattle.std.specs.Int.{w64, to_be_bytes}
 use Rattle.fab_types.specs.declared.proposal.Proposal.{Proposal}
 use Rattle.fab_types.specs.declared.proposal.Proposal.TheVariants.{Call}
+use Rattle.fab_types.specs.declared.envelope.Endorsement.{Endorsement}
+use Rattle.fab_types.specs.declared.envelope.Envelope.{Envelope}
 use Rattle.simulator.specs.declared.refusal.SimRefusal.{SimRefusal}
 use Rattle.simulator.specs.declared.refusal.SimRefusal.TheVariants.{Memory}
 use Rattle.peer_node.specs.declared.refusal.FinishRefusal.{FinishRefusal}
 use Rattle.peer_node.specs.declared.refusal.FinishRefusal.TheVariants.{Simulation, NoEntry}
-use Rattle.ledger_model.specs.Chain.{Bytes}
+use Rattle.peer_node.specs.declared.seat.Endorser.{Endorser}
+use Rattle.peer_node.specs.Refusals.{no_memory}
+use Rattle.peer_node.specs.Seats.{Endorses}
+use Rattle.ledger_model.specs.Chain.{Bytes, Chain}
 use Rattle.seat_threads.specs.declared.counts.Counts.{Counts}
 use Rattle.seat_threads.specs.declared.refusal.SeatsRefusal.{SeatsRefusal}
 use Rattle.seat_threads.specs.declared.refusal.SeatsRefusal.TheVariants.{OutOfMemory, NoEntry as EntryRefused}
@@ -15,6 +20,31 @@ use Rattle.seat_threads.specs.declared.refusal.SeatsRefusal.TheVariants.{OutOfMe
 -- a call without an argument, whose nonce is the numbers of the seat and of the round
 abbrev pub proposal_of : Bytes → (seat round : ℕ) → Proposal
 proposal_of chaincode seat round = Call (record { chaincode = chaincode; argument = []; nonce = to_be_bytes w64 seat ++ to_be_bytes w64 round })
+
+-- an envelope, or why there is none
+abbrev pub Outcome : Type 0
+Outcome = Result Envelope FinishRefusal
+
+-- What a proposal comes to: an envelope with this endorser's endorsement alone, or the refusal to endorse, or want of memory for the envelope
+abbrev pub ComesTo : Endorser → Proposal → (before after : Chain) → Outcome → Type 0
+ComesTo e p before after (Ok x) = (tag : Endorsement) × Endorses e p before after (Ok (x.payload, tag)) × (x.endorsements ≡ tag ∷ [])
+ComesTo e p before after (Err r) = Endorses e p before after (Err r) ⊎ (r ≡ no_memory)
+
+-- each round of a seat came to the outcome at its place
+abbrev pub CameTo : Endorser → Bytes → (seat rounds : ℕ) → List Outcome → Type 0
+CameTo e chaincode seat rounds outcomes =
+    (length outcomes ≡ rounds)
+    × ((round : ℕ) (outcome : Outcome) → slice_get outcomes round ≡ Some outcome →
+    (before after : Chain) × ComesTo e (proposal_of chaincode seat round) before after outcome)
+
+-- the envelopes among these, in their order
+abbrev pub envelopes_in : List Outcome → List Envelope
+envelopes_in [] = []
+envelopes_in (Ok x ∷ outcomes) = x ∷ envelopes_in outcomes
+envelopes_in (Err r ∷ outcomes) = envelopes_in outcomes
+
+abbrev pub no_rounds : Counts
+no_rounds = record { endorsed = 0; refused = 0; out_of_memory = 0; without_entry = 0 }
 
 -- how many rounds were counted
 abbrev pub rounds_in : Counts → ℕ
@@ -31,6 +61,13 @@ with_sim_refused refusal c = record c { refused = c.refused + 1 }
 abbrev pub with_refused : FinishRefusal → Counts → Counts
 with_refused (Simulation refusal) c = with_sim_refused refusal c
 with_refused NoEntry c = record c { without_entry = c.without_entry + 1 }
+
+abbrev pub with_outcome : Counts → Outcome → Counts
+with_outcome c (Ok x) = with_endorsed c
+with_outcome c (Err r) = with_refused r c
+
+abbrev pub counts_of : List Outcome → Counts
+counts_of outcomes = fold with_outcome no_rounds outcomes
 
 abbrev pub sum_of : Counts → Counts → Counts
 sum_of a b = record {

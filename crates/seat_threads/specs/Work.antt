@@ -1,49 +1,79 @@
--- What a worker does, and what the desk keeps.
-use Rattle.std.specs.Prelude.{◌≡◌, ℕ, ◌+◌, List, length, false, All}
+-- What the seats are to do, and what their workers do.
+use Rattle.std.specs.Prelude.{◌≡◌, ℕ, ◌+◌, List, [], ◌∷◌, ◌++◌, length, slice_get, Some}
 use Rattle.std.specs.declared.thread.PromisedHandle.{PromisedHandle}
-use Rattle.std.specs.Arc.{arc_value}
 use Rattle.atomic_table.specs.Seated.{TableId}
-use Rattle.intake.specs.Seats.{intake_of_sender, intake_of_receiver, put}
-use Rattle.peer_node.specs.Writers.{published_chain}
+use Rattle.fab_types.specs.declared.envelope.Envelope.{Envelope}
+use Rattle.ledger_model.specs.Chain.{Bytes}
+use Rattle.simulator.specs.Books.{Book}
+use Rattle.endorsement_policy.specs.Endorsed.{Listed}
+use Rattle.intake.specs.declared.sender.SenderSeat.{SenderSeat}
+use Rattle.intake.specs.Seats.{intake_of_sender, number, put}
+use Rattle.peer_node.specs.declared.seat.Endorser.{Endorser}
+use Rattle.peer_node.specs.Seats.{endorser_of, Serves}
+use Rattle.seat_threads.specs.declared.counts.Counts.{Counts}
 use Rattle.seat_threads.specs.declared.worker.Worker.{Worker}
 use Rattle.seat_threads.specs.declared.crew.Rounds.{Rounds}
-use Rattle.seat_threads.specs.declared.desk.Desk.{Desk}
-use Rattle.seat_threads.specs.Rounds.{rounds_in}
-use Rattle.seat_threads.specs.Chains.{IsFirstOf}
+use Rattle.seat_threads.specs.Rounds.{Outcome, CameTo, envelopes_in, counts_of, no_rounds, sum_of}
 
--- each round was counted, and each one that was endorsed was put into the intake
+-- the chaincodes, the rules and the organisation by which the seats endorse, the chaincode that they call, and in how many rounds
+pub record Task : Type 0 where
+  pub book : Book
+  pub listed : Listed
+  pub org : Bytes
+  pub chaincode : Bytes
+  pub rounds : ℕ
+
+-- the rounds of the seats from this number on came to these outcomes
+abbrev pub AllCameTo : Task → ℕ → List (List Outcome) → Type 0
+AllCameTo task seat [] = Unit {0}
+AllCameTo task seat (outcomes ∷ others) =
+    ((e : Endorser) × Serves task.book task.listed task.org e × CameTo e task.chaincode seat task.rounds outcomes) × AllCameTo task (seat + 1) others
+
+abbrev pub total_of : List (List Outcome) → Counts
+total_of [] = no_rounds
+total_of (outcomes ∷ others) = sum_of (counts_of outcomes) (total_of others)
+
+-- what the seats from this number on put, that of the last one first
+abbrev pub puts_of : ℕ → List (List Outcome) → List (ℕ × List Envelope)
+puts_of seat [] = []
+puts_of seat (outcomes ∷ others) = puts_of (seat + 1) others ++ (seat, envelopes_in outcomes) ∷ []
+
+-- each round was counted, and the envelope of each one that was endorsed was put into the intake, in the order of the rounds
 abbrev pub Works : ℕ → Worker → Worker → Type 0
 Works rounds old new =
-    (intake_of_sender new.sender ≡ intake_of_sender old.sender) × (rounds_in new.counts ≡ rounds)
-    × (length (put new.sender) ≡ length (put old.sender) + new.counts.endorsed)
+    (intake_of_sender new.sender ≡ intake_of_sender old.sender) × (number new.sender ≡ number old.sender)
+    × ((outcomes : List Outcome) × CameTo (endorser_of old.seat) old.chaincode old.number rounds outcomes
+    × (put new.sender ≡ put old.sender ++ envelopes_in outcomes) × (new.counts ≡ counts_of outcomes))
 
--- a worker of an intake
-abbrev pub IsWorkerOf : TableId → Worker → Type 0
-IsWorkerOf intake w = intake_of_sender w.sender ≡ intake
+-- the worker of this seat, before its first round
+pub record IsWorkerOf (task : Task) (intake : TableId) (seat : ℕ) (w : Worker) : Type 0 where
+  pub intake_is : intake_of_sender w.sender ≡ intake
+  pub sender : number w.sender ≡ seat
+  pub fresh : put w.sender ≡ []
+  pub seat_is : w.number ≡ seat
+  pub chaincode : w.chaincode ≡ task.chaincode
+  pub endorser : Serves task.book task.listed task.org (endorser_of w.seat)
 
--- a worker of an intake that has worked so many rounds
-abbrev pub IsDone : TableId → ℕ → Worker → Type 0
-IsDone intake rounds w = IsWorkerOf intake w × (rounds_in w.counts ≡ rounds)
+-- the fresh senders of an intake, each at the place of its number
+abbrev pub AreSenders : TableId → List SenderSeat → Type 0
+AreSenders intake senders =
+    (seat : ℕ) (s : SenderSeat) → slice_get senders seat ≡ Some s → (intake_of_sender s ≡ intake) × (number s ≡ seat) × (put s ≡ [])
 
--- a promise of a worker of an intake that has worked so many rounds
-abbrev pub Promises : TableId → ℕ → Rounds → Type 0
-Promises intake rounds p = (intake_of_sender p.sender.value ≡ intake) × (p.rounds ≡ rounds)
+-- the workers of so many seats, that of the first seat last
+abbrev pub AreWorkersOf : Task → TableId → (seats : ℕ) → List Worker → Type 0
+AreWorkersOf task intake seats workers =
+    (place : ℕ) (w : Worker) → slice_get workers place ≡ Some w → (seat : ℕ) × (place + seat + 1 ≡ seats) × IsWorkerOf task intake seat w
 
--- threads, each of which promises a worker of an intake that has worked so many rounds
-abbrev pub AllPromise : TableId → ℕ → List (PromisedHandle Worker Rounds) → Type 0
-AllPromise intake rounds threads = All (λ t. Promises intake rounds t.promise) threads
+-- threads, each of which promises the work of the seat of its place
+abbrev pub AllPromise : Task → TableId → List (PromisedHandle Worker Rounds) → Type 0
+AllPromise task intake threads =
+    (seat : ℕ) (t : PromisedHandle Worker Rounds) → slice_get threads seat ≡ Some t →
+    IsWorkerOf task intake seat t.promise.worker.value × (t.promise.rounds ≡ task.rounds)
 
--- the peer has the first of the orderer's blocks
-abbrev pub HasFirst : Desk → Type 0
-HasFirst d = IsFirstOf (arc_value d.writer.rules) d.orderer.chain (published_chain d.writer)
-
--- and all of them, unless memory was refused
-abbrev pub HasAll : Desk → Type 0
-HasAll d = d.starved ≡ false → length (published_chain d.writer) ≡ length d.orderer.chain
-
-abbrev pub IsAtWork : Desk → Type 0
-IsAtWork d = HasFirst d × HasAll d
-
--- of one intake, with one set of rules
-abbrev pub IsSameDesk : Desk → Desk → Type 0
-IsSameDesk a b = (intake_of_receiver a.receiver ≡ intake_of_receiver b.receiver) × (a.writer.rules ≡ b.writer.rules)
+-- The seats' rounds came to some outcomes, which were counted; and the receiver, which knew this, knows what each seat put
+pub record HasRetired (task : Task) (seats : ℕ) (counts : Counts) (old new : List (ℕ × List Envelope)) : Type 0 where
+  pub outcomes : List (List Outcome)
+  pub seats_are : length outcomes ≡ seats
+  pub came : AllCameTo task 0 outcomes
+  pub counted : counts ≡ total_of outcomes
+  pub known : new ≡ old ++ puts_of 0 outcomes

@@ -4,7 +4,7 @@ ghost use Rattle.std.specs.Prelude.{◌≡◌, ◌≤◌, [], ◌∷◌, ◌++�
 ghost use Rattle.std.specs.Arc.{arc_value};
 ghost use Rattle.wire.specs.Links.{AreLinked};
 ghost use Rattle.committer.specs.Fits.{Fits, blocks_of};
-ghost use Rattle.peer_node.specs.Writers.{published_chain, next_by};
+ghost use Rattle.peer_node.specs.Writers.{published_chain, rules_of, next_by};
 ghost use Rattle.seat_threads.specs.Chains.{IsFirstOf};
 
 use committer::CommitRefusal;
@@ -23,10 +23,11 @@ pub fn commit_rest<R: Threads + Wait + Sync>(
 ) -> Result<(), AllocError>
     requires linked { AreLinked [] blocks.now }
     requires count { length blocks.now ≤ LAST_BLOCK }
-    requires first { IsFirstOf (arc_value writer.old.rules) blocks.now
+    requires first { IsFirstOf (arc_value (rules_of writer.old)) blocks.now
         (published_chain writer.old) }
-    ensures rules { writer.new.rules ≡ writer.old.rules }
-    ensures first { IsFirstOf (arc_value writer.old.rules) blocks.now (published_chain writer.new) }
+    ensures rules { rules_of writer.new ≡ rules_of writer.old }
+    ensures first { IsFirstOf (arc_value (rules_of writer.old)) blocks.now
+        (published_chain writer.new) }
     ensures all { OnOk result (length (published_chain writer.new) ≡ length blocks.now) }
 {
     for index in writer.newest().height()..blocks.len() {
@@ -42,11 +43,11 @@ fn commit<R: Threads + Wait + Sync>(
     block: &Block,
 ) -> Result<(), AllocError>
     requires { Fits (blocks_of (published_chain writer.old)) block.now }
-    ensures rules { writer.new.rules ≡ writer.old.rules }
+    ensures rules { rules_of writer.new ≡ rules_of writer.old }
     ensures committed { OnOk result
         (published_chain writer.new
         ≡ published_chain writer.old ++
-        next_by (arc_value writer.old.rules) (published_chain writer.old) block.now ∷ []) }
+        next_by (arc_value (rules_of writer.old)) (published_chain writer.old) block.now ∷ []) }
     ensures unchanged { OnErr result (published_chain writer.new ≡ published_chain writer.old) }
 {
     match writer.commit(rt, block.clone()?) {

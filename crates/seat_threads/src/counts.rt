@@ -1,7 +1,7 @@
 //! What the rounds of seats came to.
 
 ghost use Rattle.std.specs.Prelude.{◌≡◌, ◌+◌, ◌<◌, ◌^◌};
-ghost use Rattle.seat_threads.specs.Rounds.{rounds_in, with_refused, sum_of, least_refusal};
+ghost use Rattle.seat_threads.specs.Rounds.{no_rounds, rounds_in, with_refused, sum_of, least_refusal};
 
 use crate::refusal::SeatsRefusal;
 use peer_node::FinishRefusal;
@@ -23,8 +23,7 @@ pub struct Counts {
 impl Counts {
     /// No rounds.
     pub(crate) fn none() -> Counts
-        ensures { result
-            ≡ record { endorsed = 0; refused = 0; out_of_memory = 0; without_entry = 0 } }
+        ensures { result ≡ no_rounds }
     {
         Counts {
             endorsed: 0,

@@ -1,30 +1,29 @@
 //! Workers on threads of their own.
 
-ghost use Rattle.std.specs.Prelude.{◌≡◌, ℕ, ◌<◌, ◌≤◌, ◌+◌, ◌*◌, ◌^◌, [], length, vec_capacity, All, IfOk, OnOk};
+ghost use Rattle.std.specs.Prelude.{◌≡◌, ◌<◌, ◌≤◌, ◌+◌, ◌^◌, [], length, vec_capacity, IfOk, OnOk};
 ghost use Rattle.atomic_table.specs.Seated.{TableId};
-ghost use Rattle.intake.specs.Seats.{intake_of_sender, intake_of_receiver};
-ghost use Rattle.seat_threads.specs.Rounds.{rounds_in};
-ghost use Rattle.seat_threads.specs.Work.{IsWorkerOf, IsDone, AllPromise, IsAtWork, IsSameDesk};
+ghost use Rattle.intake.specs.Seats.{intake_of_receiver, knows};
+ghost use Rattle.seat_threads.specs.Desks.{IsAtWork, IsSameDesk};
+ghost use Rattle.seat_threads.specs.Work.{Task, Works, IsWorkerOf, AreWorkersOf, AllPromise, HasRetired};
 
 use crate::counts::Counts;
 use crate::desk::Desk;
 use crate::worker::Worker;
-use intake::SenderSeat;
 use std::alloc::{AllocError, Global};
 use std::snapshot::Snapshot;
 use std::sync::atomic::AtomicU64;
 use std::sync::{Arc, Wait};
 use std::thread::{self, Promise, PromisedHandle, Threads};
 
-/// What a thread promises: a worker of this sender's intake that has worked so many rounds.
+/// What a thread promises: this worker after so many rounds.
 #[derive(Drop)]
 pub struct Rounds {
-    pub sender: Snapshot<SenderSeat>,
+    pub worker: Snapshot<Worker>,
     pub rounds: u32,
 }
 
 impl Promise<Worker> for Rounds {
-    ghost kept_by = { λ p w. IsDone (intake_of_sender p.sender.value) p.rounds w };
+    ghost kept_by = { λ p w. Works p.rounds p.worker.value w };
 }
 
 /// The threads that were started, and how many of their workers have ended.
@@ -46,8 +45,8 @@ impl Crew {
         })
     }
 
-    /// Starts a thread for each worker. Where one is refused, no further ones are started, and the
-    /// workers without a thread are dropped.
+    /// Starts a thread for each worker, from the first seat on. Where one is refused, no further
+    /// ones are started, and the workers without a thread are dropped.
     pub fn start_all<R: Threads + Wait + Send + Copy + 'static>(
         &mut self,
         rt: &R,
@@ -56,8 +55,9 @@ impl Crew {
     ) -> Result<(), AllocError>
         requires none { self.old.threads.items ≡ [] }
         requires room { length workers.items ≤ vec_capacity self.old.threads }
-        ensures each { (intake : TableId) → All (IsWorkerOf intake) workers.items
-            → AllPromise intake rounds self.new.threads.items }
+        ensures each { (task : Task) (intake : TableId) → rounds ≡ task.rounds →
+            AreWorkersOf task intake (length workers.items) workers.items →
+            AllPromise task intake self.new.threads.items }
         ensures all { OnOk result (length self.new.threads.items ≡ length workers.items) }
         ensures most { length self.new.threads.items ≤ length workers.items }
     {
@@ -75,16 +75,17 @@ impl Crew {
         rounds: u32,
     ) -> Result<(), AllocError>
         requires { length self.old.threads.items < vec_capacity self.old.threads }
-        ensures each { (intake : TableId) → IsWorkerOf intake worker
-            → AllPromise intake rounds self.old.threads.items
-            → AllPromise intake rounds self.new.threads.items }
+        ensures each { (task : Task) (intake : TableId) → rounds ≡ task.rounds →
+            IsWorkerOf task intake (length self.old.threads.items) worker →
+            AllPromise task intake self.old.threads.items →
+            AllPromise task intake self.new.threads.items }
         ensures one { OnOk result
             (length self.new.threads.items ≡ length self.old.threads.items + 1) }
         ensures most { length self.new.threads.items ≤ length self.old.threads.items + 1 }
         ensures room { vec_capacity self.old.threads ≤ vec_capacity self.new.threads }
     {
         let promise = Rounds {
-            sender: Snapshot::of(&worker.sender),
+            worker: Snapshot::of(&worker),
             rounds,
         };
         let ended = Arc::try_clone(&self.ended)?;
@@ -96,20 +97,22 @@ impl Crew {
     /// Joins the threads, takes in the seats of their workers, and adds up what they counted.
     pub fn retire<R: Threads>(mut self, rt: &R, desk: &mut Desk) -> Counts
         requires work { IsAtWork desk.old }
-        requires each { (rounds : ℕ) × (rounds < 2 ^ 32)
-            × AllPromise (intake_of_receiver desk.old.receiver) rounds self.threads.items }
+        requires each { (task : Task) × (task.rounds < 2 ^ 32)
+            × AllPromise task (intake_of_receiver desk.old.receiver) self.threads.items }
         requires count { length self.threads.items < 2 ^ 32 }
         ensures work { IsAtWork desk.new }
         ensures same { IsSameDesk desk.new desk.old }
-        ensures rounds { (rounds : ℕ)
-            → AllPromise (intake_of_receiver desk.old.receiver) rounds self.threads.items
-            → rounds_in result ≡ length self.threads.items * rounds }
+        ensures retired { (task : Task)
+            → AllPromise task (intake_of_receiver desk.old.receiver) self.threads.items
+            → HasRetired task (length self.threads.items) result
+            (knows desk.old.receiver).known (knows desk.new.receiver).known }
+        ensures senders { (knows desk.new.receiver).senders ≡ (knows desk.old.receiver).senders }
     {
         let mut counts = Counts::none();
         for _joined in 0..self.threads.len() {
             let thread = self.threads.pop().unwrap();
             let worker = thread.join(rt);
-            counts = counts.plus(worker.counts);
+            counts = worker.counts.plus(counts);
             desk.retire(worker.sender);
         }
         counts
@@ -124,7 +127,7 @@ fn thread_of<R: Threads + Wait + Send + Copy + 'static>(
     promise: Rounds,
     ended: Arc<AtomicU64>,
 ) -> Result<PromisedHandle<Worker, Rounds>, AllocError>
-    requires { intake_of_sender promise.sender.value ≡ intake_of_sender worker.sender }
+    requires { promise.worker.value ≡ worker }
     ensures { IfOk result (λ t. t.promise ≡ promise) }
 {
     let there = *rt;

@@ -1,9 +1,9 @@
 //! One round of a seat.
 
-ghost use Rattle.std.specs.Prelude.{◌≡◌, ◌++◌, ◌∷◌, [], Ok, IfOk};
+ghost use Rattle.std.specs.Prelude.{◌≡◌, ◌++◌, ◌∷◌, [], IfOk};
 ghost use Rattle.std.specs.Int.{w64, to_be_bytes};
-ghost use Rattle.peer_node.specs.Seats.{seen_chain, peer_of, Endorses};
-ghost use Rattle.seat_threads.specs.Rounds.{proposal_of};
+ghost use Rattle.peer_node.specs.Seats.{seen_chain, peer_of, endorser_of};
+ghost use Rattle.seat_threads.specs.Rounds.{proposal_of, ComesTo};
 
 use fab_types::{Call, Endorsement, Endorsements, Envelope, Name, Proposal, Value};
 use peer_node::{FinishRefusal, Seat};
@@ -37,18 +37,16 @@ pub fn proposal(
 }
 
 /// The envelope of a proposal, with the seat's endorsement alone. Refused as the seat's endorsement
-/// is.
+/// is, and for want of memory.
 pub fn envelope(
     alloc: Global,
     seat: &mut Seat,
     proposal: &Proposal,
 ) -> Result<Envelope, FinishRefusal>
-    ensures endorsed { IfOk result
-        (λ e. (tag : Endorsement) ×
-        Endorses seat.old.endorser proposal.now (seen_chain seat.old) (seen_chain seat.new)
-        (Ok (e.payload, tag)) ×
-        (e.endorsements ≡ tag ∷ [])) }
-    ensures same { (seat.new.endorser ≡ seat.old.endorser) × (peer_of seat.new ≡ peer_of seat.old) }
+    ensures comes { ComesTo (endorser_of seat.old) proposal.now (seen_chain seat.old)
+        (seen_chain seat.new) result }
+    ensures same { (endorser_of seat.new ≡ endorser_of seat.old) ×
+        (peer_of seat.new ≡ peer_of seat.old) }
 {
     let (payload, endorsement) = seat.endorse(proposal)?;
     let endorsements = alone(alloc, endorsement)?;

@@ -37,18 +37,33 @@ impl Display for SeatsRefusal {
 impl Error for SeatsRefusal {}
 
 impl From<AllocError> for SeatsRefusal {
+    ghost use Rattle.std.specs.Prelude.{◌≡◌};
+    ghost use Rattle.seat_threads.specs.declared.refusal.SeatsRefusal.TheVariants.{OutOfMemory};
+
+    ghost from_gives = { λ _ r. r ≡ OutOfMemory };
+
     fn from(_error: AllocError) -> SeatsRefusal {
         SeatsRefusal::OutOfMemory
     }
 }
 
 impl<T: Drop> From<AllocFailed<T>> for SeatsRefusal {
+    ghost use Rattle.std.specs.Prelude.{◌≡◌};
+    ghost use Rattle.seat_threads.specs.declared.refusal.SeatsRefusal.TheVariants.{OutOfMemory};
+
+    ghost from_gives = { λ _ r. r ≡ OutOfMemory };
+
     fn from(_error: AllocFailed<T>) -> SeatsRefusal {
         SeatsRefusal::OutOfMemory
     }
 }
 
 impl From<OpenRefusal> for SeatsRefusal {
+    ghost use Rattle.std.specs.Prelude.{◌≡◌};
+    ghost use Rattle.seat_threads.specs.Refusals.{of_open};
+
+    ghost from_gives = { λ o r. r ≡ of_open o };
+
     fn from(refusal: OpenRefusal) -> SeatsRefusal {
         match refusal {
             OpenRefusal::NoPlace => SeatsRefusal::NoPlace,

@@ -1,15 +1,22 @@
 //! Seats at work, from the opening of their peer to its end.
 
-ghost use Rattle.std.specs.Prelude.{◌≡◌, ℕ, ◌<◌, ◌≤◌, ◌+◌, ◌*◌, ◌^◌, [], length, All, IfOk, Ok, false};
+ghost use Rattle.std.specs.Prelude.{◌≡◌, ℕ, ◌<◌, ◌+◌, ◌*◌, ◌^◌, [], length, All, IfOk, IfErr, false};
 ghost use Rattle.std.specs.Arc.{arc_value};
 ghost use Rattle.atomic_table.specs.Seated.{TableId};
+ghost use Rattle.ledger_model.specs.Judged.{judged_chain};
+ghost use Rattle.simulator.specs.Execution.{exec_of};
+ghost use Rattle.wire.specs.Links.{AreLinked};
 ghost use Rattle.orderer.specs.Ordering.{AreLimits};
-ghost use Rattle.intake.specs.Seats.{intake_of_sender, intake_of_receiver, put};
+ghost use Rattle.intake.specs.Mail.{receiver};
+ghost use Rattle.intake.specs.Seats.{intake_of_receiver, knows};
+ghost use Rattle.ledger_setting.specs.Rule.{table_of};
 ghost use Rattle.ledger_setting.specs.Setting.{limits_of};
-ghost use Rattle.peer_node.specs.Writers.{published_chain};
-ghost use Rattle.seat_threads.specs.Rounds.{rounds_in};
-ghost use Rattle.seat_threads.specs.Work.{IsWorkerOf, IsAtWork};
-ghost use Rattle.seat_threads.specs.Reports.{TellsOfChain};
+ghost use Rattle.peer_node.specs.Seats.{endorser_of, Serves};
+ghost use Rattle.peer_node.specs.Writers.{rules_of};
+ghost use Rattle.fabric_core.specs.Audit.{AuditSays};
+ghost use Rattle.seat_threads.specs.Desks.{IsInStep, IsAtWork};
+ghost use Rattle.seat_threads.specs.Reports.{task_of, counts_told, TellsOfSeats, IsSeatsRefused, IsOpeningRefused, IsWorkRefused, IsCountRefused};
+ghost use Rattle.seat_threads.specs.Work.{Task, AreSenders, AreWorkersOf};
 
 use crate::counts::Counts;
 use crate::crew::Crew;
@@ -33,6 +40,8 @@ pub struct Report {
     pub endorsed: u64,
     /// How many rounds were refused by the chaincode or were stale (401 to 405).
     pub refused: u64,
+    /// How many endorsed envelopes the orderer refused (421 and 422), so that they are in no block.
+    pub missing: u64,
     /// How many blocks the peer committed.
     pub blocks: usize,
     /// What the audit of their chain says.
@@ -45,11 +54,15 @@ pub struct Report {
 /// of the round, 8 bytes each, the highest byte first. It submits each envelope to an intake with
 /// as many places as the genesis's queue, again while that is full. This thread takes what was
 /// submitted, orders it, and commits each block as it comes, until all seats have ended and nothing
-/// is left; then it ticks once. An envelope that the orderer refuses is dropped.
+/// is left; then it ticks once. So each envelope is ordered once, those of a seat in the order of
+/// its rounds, but for those that the orderer refuses, as too large or for want of a number: they
+/// are dropped and counted as missing. Where the tick would need a number past the last one, what
+/// waits stays without a block.
 ///
-/// Refused for want of memory or of a thread (9), where a seat got no place in the cell (431), and
-/// where the cell gave one no entry (432). Where no further thread can be made, the seats that have
-/// one work to their end, and what they submitted is ordered and committed.
+/// Refused for want of memory or of a thread (9), where a seat got no place in the cell as the peer
+/// was opened (431; no contract says when that is), and where a round of a seat was given no entry
+/// (432). Where no further thread can be made, the seats that have one work to their end, and what
+/// they submitted is ordered and committed.
 pub fn run_seats<R: Threads + Wait + Sync + Send + Copy + 'static>(
     rt: &R,
     alloc: Global,
@@ -62,8 +75,11 @@ pub fn run_seats<R: Threads + Wait + Sync + Send + Copy + 'static>(
     requires seats { (0 < genesis.now.seats) × (genesis.now.seats < 2 ^ 32) }
     requires queue { 0 < genesis.now.queue }
     ensures counted { IfOk result (λ r. r.endorsed + r.refused ≡ genesis.now.seats * rounds) }
-    ensures chain { IfOk result
-        (λ r. TellsOfChain (arc_value genesis.now.book) (arc_value genesis.now.rules) r) }
+    ensures tells { IfOk result
+        (TellsOfSeats (task_of genesis.now chaincode.now rounds) genesis.now.seats
+        genesis.now.reorder (limits_of genesis.now)) }
+    ensures refused { IfErr result
+        (IsSeatsRefused (task_of genesis.now chaincode.now rounds) genesis.now.seats) }
 {
     let (workers, mut desk) = opened(rt, alloc, genesis, chaincode)?;
     let report = at_work(rt, alloc, genesis, rounds, workers, &mut desk);
@@ -83,10 +99,18 @@ fn opened<R: Threads + Wait + Sync>(
     requires seats { (0 < genesis.now.seats) × (genesis.now.seats < 2 ^ 32) }
     requires queue { 0 < genesis.now.queue }
     ensures count { IfOk result (λ t. length t.0.items ≡ genesis.now.seats) }
-    ensures intake { IfOk result
-        (λ t. All (IsWorkerOf (intake_of_receiver t.1.receiver)) t.0.items) }
+    ensures workers { IfOk result
+        (λ t. (rounds : ℕ) → AreWorkersOf (task_of genesis.now chaincode.now rounds)
+        (intake_of_receiver t.1.receiver) genesis.now.seats t.0.items) }
+    ensures receiver { IfOk result
+        (λ t. knows t.1.receiver ≡ receiver genesis.now.seats genesis.now.seats [] []) }
     ensures work { IfOk result (λ t. IsAtWork t.1) }
-    ensures rules { IfOk result (λ t. arc_value t.1.writer.rules ≡ arc_value genesis.now.rules) }
+    ensures ordering { IfOk result
+        (λ t. (t.1.orderer.reorder ≡ genesis.now.reorder) ×
+        (t.1.orderer.limits ≡ limits_of genesis.now)) }
+    ensures rules { IfOk result
+        (λ t. arc_value (rules_of t.1.writer) ≡ arc_value genesis.now.rules) }
+    ensures refused { IfErr result IsOpeningRefused }
 {
     let (senders, receiver) = Intake::open(alloc, genesis.queue, genesis.seats)?;
     let (writer, seats) = Peer::open(rt, alloc, genesis, &genesis.peers[0], genesis.seats)?;
@@ -103,7 +127,13 @@ fn opened<R: Threads + Wait + Sync>(
 /// The orderer of a genesis, without blocks.
 fn orderer(alloc: Global, genesis: &Genesis) -> Orderer
     requires { AreLimits (limits_of genesis.now) }
-    ensures { result.chain ≡ [] }
+    ensures { result
+        ≡ record {
+          reorder = genesis.now.reorder;
+          limits = limits_of genesis.now;
+          pending = [];
+          chain = [];
+        } }
 {
     Orderer::new(
         alloc,
@@ -114,7 +144,7 @@ fn orderer(alloc: Global, genesis: &Genesis) -> Orderer
     )
 }
 
-/// A worker on each seat. The error is of memory.
+/// A worker on each seat, that of the first seat last. The error is of memory.
 fn workers(
     alloc: Global,
     chaincode: &Name,
@@ -124,16 +154,20 @@ fn workers(
     requires { length seats.items ≡ length senders.items }
     ensures length { IfOk result (λ v. length v.items ≡ length senders.items) }
     ensures each { IfOk result
-        (λ v. (intake : TableId) → All (λ s. intake_of_sender s ≡ intake) senders.items →
-        All (IsWorkerOf intake) v.items) }
+        (λ v. (task : Task) (intake : TableId) → task.chaincode ≡ chaincode.now →
+        All (λ s. Serves task.book task.listed task.org (endorser_of s)) seats.items →
+        AreSenders intake senders.items →
+        AreWorkersOf task intake (length senders.items) v.items) }
 {
     let mut workers = Vec::with_capacity(alloc, seats.len())?;
-    for number in 0..seats.len() {
+    for _worker in 0..seats.len() {
         let (seat, sender) = (seats.pop().unwrap(), senders.pop().unwrap());
+        let number = senders.len() as u64;
+        let called = chaincode.clone()?;
         workers.push(Worker {
             alloc,
-            number: number as u64,
-            chaincode: chaincode.clone()?,
+            number,
+            chaincode: called,
             seat,
             sender,
             counts: Counts::none(),
@@ -152,12 +186,27 @@ fn at_work<R: Threads + Wait + Sync + Send + Copy + 'static>(
     workers: Vec<Worker>,
     desk: &mut Desk,
 ) -> Result<Report, SeatsRefusal>
-    requires intake { All (IsWorkerOf (intake_of_receiver desk.old.receiver)) workers.items }
     requires count { length workers.items < 2 ^ 32 }
     requires work { IsAtWork desk.old }
+    requires receiver { knows desk.old.receiver
+        ≡ receiver (length workers.items) (length workers.items) [] [] }
+    requires workers { (task : Task) × (rounds ≡ task.rounds) ×
+        AreWorkersOf task (intake_of_receiver desk.old.receiver) (length workers.items)
+        workers.items }
     ensures counted { IfOk result (λ r. r.endorsed + r.refused ≡ length workers.items * rounds) }
-    ensures chain { IfOk result
-        (λ r. TellsOfChain (arc_value genesis.now.book) (arc_value desk.old.writer.rules) r) }
+    ensures tells { IfOk result
+        (λ r. (task : Task) → rounds ≡ task.rounds →
+        task.book ≡ arc_value genesis.now.book →
+        task.listed ≡ arc_value (rules_of desk.old.writer) →
+        AreWorkersOf task (intake_of_receiver desk.old.receiver) (length workers.items)
+        workers.items →
+        TellsOfSeats task (length workers.items) desk.old.orderer.reorder
+        desk.old.orderer.limits r) }
+    ensures refused { IfErr result
+        (λ r. (task : Task) → rounds ≡ task.rounds →
+        AreWorkersOf task (intake_of_receiver desk.old.receiver) (length workers.items)
+        workers.items →
+        IsWorkRefused task (length workers.items) r) }
 {
     let mut crew = Crew::new(alloc, workers.len())?;
     let started = crew.start_all(rt, workers, rounds);
@@ -176,10 +225,16 @@ fn reported(
     desk: &Desk,
     counts: Counts,
 ) -> Result<Report, SeatsRefusal>
-    requires { IsAtWork desk.now }
-    ensures counted { IfOk result (λ r. r.endorsed + r.refused ≡ rounds_in counts) }
+    requires { IsInStep desk.now }
+    ensures counted { IfOk result (λ r. counts_told r ≡ counts) }
+    ensures starved { IfOk result (λ _. desk.now.starved ≡ false) }
+    ensures missing { IfOk result (λ r. r.missing ≡ desk.now.missing) }
     ensures chain { IfOk result
-        (λ r. TellsOfChain (arc_value genesis.now.book) (arc_value desk.now.writer.rules) r) }
+        (λ r. AreLinked [] desk.now.orderer.chain × (r.blocks ≡ length desk.now.orderer.chain) ×
+        AuditSays (exec_of (arc_value genesis.now.book))
+        (judged_chain (table_of (arc_value (rules_of desk.now.writer))) desk.now.orderer.chain)
+        r.audit) }
+    ensures refused { IfErr result (IsCountRefused counts) }
 {
     if let Some(refusal) = counts.refusal() {
         return Err(refusal);
@@ -192,6 +247,7 @@ fn reported(
     Ok(Report {
         endorsed: counts.endorsed,
         refused: counts.refused,
+        missing: desk.missing,
         blocks,
         audit,
     })

@@ -1,8 +1,10 @@
 //! A seat on a thread of its own.
 
-ghost use Rattle.std.specs.Prelude.{◌≡◌, ◌+◌, ◌∷◌, ◌++◌, [], length};
-ghost use Rattle.intake.specs.Seats.{intake_of_sender, put};
-ghost use Rattle.seat_threads.specs.Rounds.{rounds_in};
+ghost use Rattle.std.specs.Prelude.{◌≡◌, ◌∷◌, ◌++◌, []};
+ghost use Rattle.ledger_model.specs.Chain.{Chain};
+ghost use Rattle.intake.specs.Seats.{intake_of_sender, number, put};
+ghost use Rattle.peer_node.specs.Seats.{endorser_of};
+ghost use Rattle.seat_threads.specs.Rounds.{proposal_of, ComesTo};
 ghost use Rattle.seat_threads.specs.Work.{Works};
 
 use crate::counts::Counts;
@@ -46,8 +48,15 @@ impl Worker {
         self
     }
 
-    /// The envelope of a round.
+    /// The envelope of a round. Refused as the seat's endorsement is, and for want of memory.
     fn endorse(&mut self, round: u32) -> Result<Envelope, FinishRefusal>
+        ensures comes { (before after : Chain) ×
+            ComesTo (endorser_of self.old.seat)
+            (proposal_of self.old.chaincode self.old.number round)
+            before after result }
+        ensures endorser { endorser_of self.new.seat ≡ endorser_of self.old.seat }
+        ensures same { (self.new.number ≡ self.old.number) ×
+            (self.new.chaincode ≡ self.old.chaincode) }
         ensures sender { self.new.sender ≡ self.old.sender }
         ensures counts { self.new.counts ≡ self.old.counts }
     {
@@ -59,7 +68,8 @@ impl Worker {
 /// Submits an envelope, again while the intake is full.
 fn submit<R: Wait>(rt: &R, sender: &mut SenderSeat, envelope: Envelope)
     ensures put { put sender.new ≡ put sender.old ++ envelope ∷ [] }
-    ensures same { intake_of_sender sender.new ≡ intake_of_sender sender.old }
+    ensures same { (intake_of_sender sender.new ≡ intake_of_sender sender.old) ×
+        (number sender.new ≡ number sender.old) }
 {
     let mut waiting = envelope;
     'submits: for _ in rt.forever() {

@@ -1,19 +1,89 @@
-use Rattle.std.proofs.Common.{◌≡◌, ◌*◌, ◌∙◌, ℕ, All, length, sym, ap, subst}
+use Rattle.std.proofs.Common.{◌≡◌, ◌*◌, ◌<◌, ◌^◌, ◌∙◌, ℕ, List, [], length, sym, ap, subst, arith}
+use Rattle.std.specs.Arc.{arc_value}
 use Rattle.atomic_table.specs.Seated.{TableId}
-use Rattle.fabric_core.proofs.Steps.{if_ok}
+use Rattle.fab_types.specs.declared.envelope.Envelope.{Envelope}
+use Rattle.intake.specs.declared.rule.View.{View}
+use Rattle.intake.specs.Seats.{knows}
+use Rattle.simulator.specs.Books.{Book}
+use Rattle.simulator.specs.Execution.{exec_of}
+use Rattle.endorsement_policy.specs.Endorsed.{Listed}
+use Rattle.ledger_model.specs.Judged.{judged_chain}
+use Rattle.ledger_setting.specs.Rule.{table_of}
+use Rattle.fabric_core.specs.Audit.{AuditSays}
+use Rattle.seat_threads.specs.Desks.{envelopes_got}
 use Rattle.seat_threads.specs.Rounds.{rounds_in}
-use Rattle.seat_threads.specs.Work.{IsWorkerOf}
+use Rattle.seat_threads.specs.Work.{AllPromise, HasRetired}
+use Rattle.seat_threads.proofs.Telling.{all_counted, told, refused_by_counts, if_ok, if_err, both_ok}
 use Rattle.seat_threads.proofs.running.at_work.Goals as goal
 
 pub retire-counts-requires-clause-each : goal.retire-counts-requires-clause-each
 retire-counts-requires-clause-each g c =
-    let here = subst (λ (i : TableId). All (IsWorkerOf i) c.args.workers.items) (sym c.take_until_ended.ensures.same.0) c.requires.intake in
-    (c.args.rounds, c.ranges.rounds.fits, c.start_all-started.ensures.each _ here)
+    let task = c.requires.workers.0 in
+    let threads = c.start_all-started.new.self.threads.items in
+    let promised = c.start_all-started.ensures.each task _ c.requires.workers.1 c.requires.workers.2 in (
+      task,
+      omega (arith, c.requires.workers.1, c.ranges.rounds.fits),
+      subst (λ (i : TableId). AllPromise task i threads) (sym c.take_until_ended.ensures.same.0) promised,
+    )
 
 pub returns-clause-counted : goal.returns-clause-counted
 returns-clause-counted g c =
-    let here = subst (λ (i : TableId). All (IsWorkerOf i) c.args.workers.items) (sym c.take_until_ended.ensures.same.0) c.requires.intake in
-    let worked = c.retire-counts.ensures.rounds c.args.rounds (c.start_all-started.ensures.each _ here) in
-    let all : rounds_in c.retire-counts.result ≡ length c.args.workers.items * c.args.rounds =
-    worked ∙ ap (λ (n : ℕ). n * c.args.rounds) c.in_ok-started.ensures.all in
-    if_ok _ _ c.reported.result (λ r h. h ∙ all) c.reported.ensures.counted
+    let task = c.requires.workers.0 in
+    let seats = length c.args.workers.items in
+    let counts = c.retire-counts.result in
+    let threads = c.start_all-started.new.self.threads.items in
+    let promised = subst (λ (i : TableId). AllPromise task i threads) (sym c.take_until_ended.ensures.same.0)
+    (c.start_all-started.ensures.each task _ c.requires.workers.1 c.requires.workers.2) in
+    let all : rounds_in counts ≡ length threads * task.rounds = all_counted task (length threads) counts _ _ (c.retire-counts.ensures.retired task promised) in
+    let each : rounds_in counts ≡ seats * c.args.rounds =
+    all ∙ (ap (λ (k : ℕ). k * task.rounds) c.in_ok-started.ensures.all ∙ ap (λ (k : ℕ). seats * k) (sym c.requires.workers.1)) in
+    if_ok _ _ c.reported.result (λ r h. omega (arith, ap rounds_in h, each)) c.reported.ensures.counted
+
+pub returns-clause-tells : goal.returns-clause-tells
+returns-clause-tells g c =
+    let seats = length c.args.workers.items in
+    let counts = c.retire-counts.result in
+    let threads = c.start_all-started.new.self.threads.items in
+    let desk = c.tick.new.self in
+    let v = knows c.take_rest.new.self.receiver in
+    let first = c.take_until_ended.ensures in
+    let retire = c.retire-counts.ensures in
+    let rest = c.take_rest.ensures in
+    let tick = c.tick.ensures in
+    let reported = c.reported.ensures in
+    let old = first.known.0 ∙ ap (λ (k : View). k.known) c.requires.receiver in
+    let senders = rest.known.1 ∙ (retire.senders ∙ (first.known.1 ∙ ap (λ (k : View). k.senders) c.requires.receiver)) in
+    let rules = tick.same.1 ∙ (rest.same.1 ∙ (retire.same.1 ∙ first.same.1)) in
+    let limits = tick.same.2 ∙ (rest.same.2 ∙ (retire.same.2 ∙ first.same.2)) in
+    let reorder = tick.same.3 ∙ (rest.same.3 ∙ (retire.same.3 ∙ first.same.3)) in
+    if_ok _ _ c.reported.result
+    (λ r h task same book listed workers.
+    let promised = subst (λ (i : TableId). AllPromise task i threads) (sym first.same.0) (c.start_all-started.ensures.each task _ same workers) in
+    let retired = retire.retired task promised in
+    let known = subst (λ (l : List (ℕ × List Envelope)). HasRetired task (length threads) counts (knows c.take_until_ended.new.desk.receiver).known l)
+    (sym rest.known.0) retired in
+    let fresh = subst (λ (l : List (ℕ × List Envelope)). HasRetired task (length threads) counts l v.known) old known in
+    let all = subst (λ (k : ℕ). HasRetired task k counts [] v.known) c.in_ok-started.ensures.all fresh in
+    let short : task.rounds < 2 ^ 32 = omega (arith, same, c.ranges.rounds.fits) in
+    let chain = h.1.1.1 in
+    let by_rules = subst (λ (l : Listed). AuditSays (exec_of (arc_value c.args.genesis.now.book)) (judged_chain (table_of l) desk.orderer.chain) r.audit)
+    (ap arc_value rules ∙ sym listed) chain.2 in
+    let audited = subst (λ (b : Book). AuditSays (exec_of b) (judged_chain (table_of task.listed) desk.orderer.chain) r.audit) (sym book) by_rules in
+    told task seats counts v desk _ _ r c.requires.count short all senders rest.none (tick.cut (envelopes_got v.got) rest.work.2 h.1.0) reorder limits h.0
+    h.1.1.0 (chain.0, chain.1, audited))
+    (both_ok _ _ c.reported.result reported.counted
+    (both_ok _ _ c.reported.result reported.starved (both_ok _ _ c.reported.result reported.missing reported.chain)))
+
+pub returns-clause-refused : goal.returns-clause-refused
+returns-clause-refused g c =
+    let seats = length c.args.workers.items in
+    let counts = c.retire-counts.result in
+    let threads = c.start_all-started.new.self.threads.items in
+    if_err _ _ c.reported.result
+    (λ r why task same workers.
+    let promised = subst (λ (i : TableId). AllPromise task i threads) (sym c.take_until_ended.ensures.same.0)
+    (c.start_all-started.ensures.each task _ same workers) in
+    let retired = subst (λ (k : ℕ). HasRetired task k counts (knows c.take_until_ended.new.desk.receiver).known (knows c.retire-counts.new.desk.receiver).known)
+    c.in_ok-started.ensures.all (c.retire-counts.ensures.retired task promised) in
+    refused_by_counts task seats counts _ _ r retired why)
+    c.reported.ensures.refused

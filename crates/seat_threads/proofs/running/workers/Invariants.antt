@@ -1,12 +1,14 @@
 use Rattle.std.proofs.Common.{◌≡◌, ◌+◌, All, length}
 use Rattle.atomic_table.specs.Seated.{TableId}
-use Rattle.intake.specs.Seats.{intake_of_sender}
-use Rattle.seat_threads.specs.Work.{IsWorkerOf}
+use Rattle.peer_node.specs.Seats.{endorser_of, Serves}
+use Rattle.seat_threads.specs.Work.{Task, AreSenders, AreWorkersOf}
 use Rattle.seat_threads.proofs.running.workers.Given as goal
 
-abbrev pub invariant-loop-number : goal.invariant-loop-number
-invariant-loop-number l =
-    (length l.workers.items ≡ l.number) × (length l.seats.items + l.number ≡ length l.fn.senders.items) ×
-    (length l.senders.items + l.number ≡ length l.fn.senders.items)
-    × ((intake : TableId) → All (λ s. intake_of_sender s ≡ intake) l.fn.senders.items →
-    All (λ s. intake_of_sender s ≡ intake) l.senders.items × All (IsWorkerOf intake) l.workers.items)
+abbrev pub invariant-loop-worker : goal.invariant-loop-worker
+invariant-loop-worker l =
+    let all = l.fn.senders.items in
+    (length l.workers.items ≡ l._worker) × (length l.seats.items + l._worker ≡ length all) × (length l.senders.items + l._worker ≡ length all)
+    × ((task : Task) (intake : TableId) → task.chaincode ≡ l.chaincode → All (λ s. Serves task.book task.listed task.org (endorser_of s)) l.fn.seats.items →
+    AreSenders intake all →
+    All (λ s. Serves task.book task.listed task.org (endorser_of s)) l.seats.items × AreSenders intake l.senders.items
+    × AreWorkersOf task intake (length all) l.workers.items)

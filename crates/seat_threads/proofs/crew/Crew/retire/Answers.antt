@@ -1,52 +1,89 @@
-use Rattle.std.proofs.Common.{rules, ◌≡◌, ◌<◌, ◌*◌, ◌^◌, ◌∙◌, ℕ, Some, IfSome, length, sym, ap, subst, arith}
-use Rattle.std.proofs.lemmas.List.Elements.{All-pop}
-use Rattle.intake.specs.Seats.{intake_of_receiver}
-use Rattle.seat_threads.specs.Rounds.{rounds_in}
-use Rattle.seat_threads.specs.Work.{Promises}
-use Rattle.seat_threads.proofs.Sums.{bounded, one_more_round, summed}
+use Rattle.std.proofs.Common.{rules, ◌≡◌, ◌<◌, ◌*◌, ◌^◌, ◌++◌, ◌∷◌, ◌∙◌, ℕ, length, sym, ap, ap₂, subst, arith}
+use Rattle.std.specs.declared.thread.PromisedHandle.{PromisedHandle}
+use Rattle.atomic_table.specs.Seated.{TableId}
+use Rattle.intake.specs.Seats.{intake_of_receiver, knows, number, put}
+use Rattle.seat_threads.specs.declared.crew.Rounds.{Rounds}
+use Rattle.seat_threads.specs.declared.worker.Worker.{Worker}
+use Rattle.seat_threads.specs.Rounds.{rounds_in, sum_of}
+use Rattle.seat_threads.specs.Work.{Task, IsWorkerOf, AllCameTo, puts_of}
+use Rattle.seat_threads.proofs.Places.{popped}
+use Rattle.seat_threads.proofs.Retiring.{has_ended, known_more}
+use Rattle.seat_threads.proofs.Sums.{bounded, counted, totalled}
 use Rattle.seat_threads.proofs.crew.Crew.retire.Goals as goal
+
+-- the thread at a place promises the work of the seat of this number
+abbrev IsOf : Task → TableId → ℕ → PromisedHandle Worker Rounds → Type 0
+IsOf task intake seat t = IsWorkerOf task intake seat t.promise.worker.value × (t.promise.rounds ≡ task.rounds)
 
 pub retire-requires-clause-intake : goal.retire-requires-clause-intake
 retire-requires-clause-intake g c =
     let inv = c.loop-joined.invariant in
-    let each = c.requires.each in
-    let both = inv.3 each.0 each.2 in
-    let popped = All-pop _ _ _ _ c.pop.ensures.items both.0 in
-    let there : c.pop.result ≡ Some c.unwrap-thread.result = search rules in
-    let mine = subst (λ o. IfSome o (λ t. Promises (intake_of_receiver c.args.desk.now.receiver) each.0 t.promise)) there popped.1 in
-    c.join-worker.ensures.0 ∙ (mine.0 ∙ sym inv.1.0)
+    let intake = intake_of_receiver c.args.desk.now.receiver in
+    let thread = c.unwrap-thread.result in
+    let task = c.requires.each.0 in
+    let both = inv.4 task c.requires.each.2 in
+    let last = popped (IsOf task intake) c.loop-joined.self.threads.items _ _ thread c.pop.ensures.items c.unwrap-thread.ensures both.0 in
+    let ended = has_ended task intake _ thread.promise.rounds thread.promise.worker.value c.join-worker.result last.1.0 last.1.1 c.join-worker.ensures in
+    ended.intake_is ∙ sym inv.1.0
 
 pub plus-counts-requires : goal.plus-counts-requires
 plus-counts-requires g c =
     let inv = c.loop-joined.invariant in
-    let each = c.requires.each in
-    let both = inv.3 each.0 each.2 in
-    let popped = All-pop _ _ _ _ c.pop.ensures.items both.0 in
-    let there : c.pop.result ≡ Some c.unwrap-thread.result = search rules in
-    let mine = subst (λ o. IfSome o (λ t. Promises (intake_of_receiver c.args.desk.now.receiver) each.0 t.promise)) there popped.1 in
-    let few : c.loop-joined._joined < 2 ^ 32 = omega (arith, c.requires.count, inv.2) in
-    let most = bounded c.loop-joined._joined each.0 few each.1 in
-    let a = both.1 in
-    let b = c.join-worker.ensures.1 ∙ mine.1 in
-    omega (arith, most, a, b)
+    let intake = intake_of_receiver c.args.desk.now.receiver in
+    let thread = c.unwrap-thread.result in
+    let task = c.requires.each.0 in
+    let joined = c.loop-joined._joined in
+    let both = inv.4 task c.requires.each.2 in
+    let last = popped (IsOf task intake) c.loop-joined.self.threads.items _ _ thread c.pop.ensures.items c.unwrap-thread.ensures both.0 in
+    let ended = has_ended task intake _ thread.promise.rounds thread.promise.worker.value c.join-worker.result last.1.0 last.1.1 c.join-worker.ensures in
+    let few : joined < 2 ^ 32 = omega (arith, c.requires.count, inv.3) in
+    let most = bounded joined task.rounds few c.requires.each.1 in
+    let before : rounds_in c.loop-joined.counts ≡ joined * task.rounds =
+    ap rounds_in both.1.3 ∙ (totalled task _ both.1.0 both.1.2 ∙ ap (λ (k : ℕ). k * task.rounds) both.1.1) in
+    let here : rounds_in c.join-worker.result.counts ≡ task.rounds = ap rounds_in ended.counted ∙ (counted ended.outcomes ∙ ended.came.2.0) in
+    omega (arith, most, before, here)
 
 pub loop-joined-preserved : goal.loop-joined-preserved
 loop-joined-preserved g c =
     let inv = c.loop-joined.invariant in
-    let same = c.retire.ensures.same in (
+    let same = c.retire.ensures.same in
+    let intake = intake_of_receiver c.args.desk.now.receiver in
+    let thread = c.unwrap-thread.result in
+    let seat = length c.pop.new.self.items in
+    let left = length c.loop-joined.self.threads.items in (
       c.retire.ensures.work,
-      (same.0 ∙ inv.1.0, same.1 ∙ inv.1.1),
+      (same.0 ∙ inv.1.0, same.1 ∙ inv.1.1, same.2 ∙ inv.1.2, same.3 ∙ inv.1.3),
+      c.retire.ensures.senders ∙ inv.2,
       search rules,
-      λ rounds all.
-          let both = inv.3 rounds all in
-          let popped = All-pop _ _ _ _ c.pop.ensures.items both.0 in
-          let there : c.pop.result ≡ Some c.unwrap-thread.result = search rules in
-          let mine = subst (λ o. IfSome o (λ t. Promises (intake_of_receiver c.args.desk.now.receiver) rounds t.promise)) there popped.1 in
-          (popped.0, ap rounds_in c.plus-counts.ensures ∙ (summed _ _ ∙ one_more_round _ _ _ _ both.1 (c.join-worker.ensures.1 ∙ mine.1))),
+      λ task all.
+          let both = inv.4 task all in
+          let last = popped (IsOf task intake) c.loop-joined.self.threads.items _ _ thread c.pop.ensures.items c.unwrap-thread.ensures both.0 in
+          let ended = has_ended task intake seat thread.promise.rounds thread.promise.worker.value c.join-worker.result last.1.0 last.1.1 c.join-worker.ensures
+          in (
+            last.0,
+            (
+              ended.outcomes ∷ both.1.0,
+              omega (arith, both.1.1),
+              (ended.came, subst (λ (n : ℕ). AllCameTo task n both.1.0) last.2 both.1.2),
+              c.plus-counts.ensures ∙ ap₂ sum_of ended.counted both.1.3,
+              known_more (knows c.args.desk.now.receiver).known _ _ seat left (number c.join-worker.result.sender) (put c.join-worker.result.sender)
+                  ended.outcomes
+                  both.1.0 c.retire.ensures.known both.1.4 last.2 ended.sender ended.sent,
+            ),
+          ),
     )
 
-pub returns-clause-rounds : goal.returns-clause-rounds
-returns-clause-rounds g c = λ rounds all.
+pub returns-clause-retired : goal.returns-clause-retired
+returns-clause-retired g c = λ task all.
     let inv = c.loop-joined.invariant in
+    let left = length c.loop-joined.self.threads.items in
     let end : c.loop-joined._joined ≡ length c.args.self.threads.items = search rules in
-    (inv.3 rounds all).1 ∙ ap (λ (k : ℕ). k * rounds) end
+    let none : left ≡ 0 = omega (arith, inv.3, end) in
+    let both = inv.4 task all in
+    record {
+      outcomes = both.1.0;
+      seats_are = both.1.1 ∙ end;
+      came = subst (λ (n : ℕ). AllCameTo task n both.1.0) none both.1.2;
+      counted = both.1.3;
+      known = both.1.4 ∙ ap (λ (n : ℕ). (knows c.args.desk.now.receiver).known ++ puts_of n both.1.0) none;
+    }

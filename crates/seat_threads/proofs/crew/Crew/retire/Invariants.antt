@@ -1,7 +1,8 @@
-use Rattle.std.proofs.Common.{◌≡◌, ◌+◌, ◌*◌, ℕ, length}
-use Rattle.intake.specs.Seats.{intake_of_receiver}
-use Rattle.seat_threads.specs.Rounds.{rounds_in}
-use Rattle.seat_threads.specs.Work.{AllPromise, IsAtWork, IsSameDesk}
+use Rattle.std.proofs.Common.{◌≡◌, ◌+◌, ◌++◌, List, length}
+use Rattle.intake.specs.Seats.{intake_of_receiver, knows}
+use Rattle.seat_threads.specs.Desks.{IsAtWork, IsSameDesk}
+use Rattle.seat_threads.specs.Rounds.{Outcome}
+use Rattle.seat_threads.specs.Work.{Task, AllPromise, AllCameTo, total_of, puts_of}
 use Rattle.seat_threads.proofs.crew.Crew.retire.Given as goal
 
 abbrev pub invariant-loop-joined : goal.invariant-loop-joined
@@ -9,5 +10,9 @@ invariant-loop-joined g l =
     let all = l.fn.self.threads.items in
     let left = l.self.threads.items in
     let intake = intake_of_receiver l.fn.desk.receiver in
-    IsAtWork l.desk × IsSameDesk l.desk l.fn.desk × (length left + l._joined ≡ length all)
-    × ((rounds : ℕ) → AllPromise intake rounds all → AllPromise intake rounds left × (rounds_in l.counts ≡ l._joined * rounds))
+    IsAtWork l.desk × IsSameDesk l.desk l.fn.desk × ((knows l.desk.receiver).senders ≡ (knows l.fn.desk.receiver).senders)
+    × (length left + l._joined ≡ length all)
+    × ((task : Task) → AllPromise task intake all →
+    AllPromise task intake left
+    × ((outcomes : List (List Outcome)) × (length outcomes ≡ l._joined) × AllCameTo task (length left) outcomes × (l.counts ≡ total_of outcomes)
+    × ((knows l.desk.receiver).known ≡ (knows l.fn.desk.receiver).known ++ puts_of (length left) outcomes)))

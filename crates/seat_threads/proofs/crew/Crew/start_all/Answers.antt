@@ -1,28 +1,38 @@
-use Rattle.std.proofs.Common.{rules, ◌≡◌, Some, IfSome, subst, arith}
-use Rattle.std.specs.Prelude.{Option}
-use Rattle.std.proofs.lemmas.List.Elements.{All-pop}
+use Rattle.std.proofs.Common.{rules, ◌≡◌, ◌+◌, ℕ, length, arith}
+use Rattle.atomic_table.specs.Seated.{TableId}
 use Rattle.seat_threads.specs.declared.worker.Worker.{Worker}
-use Rattle.seat_threads.specs.Work.{IsWorkerOf}
+use Rattle.seat_threads.specs.Work.{Task, IsWorkerOf}
+use Rattle.seat_threads.proofs.Places.{popped}
+use Rattle.seat_threads.proofs.Retiring.{next_seat}
 use Rattle.seat_threads.proofs.crew.Crew.start_all.Goals as goal
+
+-- the worker at a place of the list is that of a seat
+abbrev IsPlaced : Task → TableId → ℕ → ℕ → Worker → Type 0
+IsPlaced task intake seats place w = (seat : ℕ) × (place + seat + 1 ≡ seats) × IsWorkerOf task intake seat w
 
 pub loop-started-preserved : goal.loop-started-preserved
 loop-started-preserved g c =
-    let inv = c.loop-started.invariant in (
+    let inv = c.loop-started.invariant in
+    let seats = length c.args.workers.items in
+    let left = length c.pop.new.self.items in
+    let started = length c.loop-started.self.threads.items in (
       search rules,
       search rules,
       omega (arith, inv.2, c.start.ensures.room),
-      λ intake h.
-          let both = inv.3 intake h in
-          let popped = All-pop _ _ _ _ c.pop.ensures.items both.0 in
-          let there : c.pop.result ≡ Some c.unwrap.result = search rules in
-          let one : IsWorkerOf intake c.unwrap.result = subst (λ (o : Option Worker). IfSome o (IsWorkerOf intake)) there popped.1 in
-          (popped.0, c.start.ensures.each intake one both.1),
+      λ task intake same h.
+          let both = inv.3 task intake same h in
+          let last = popped (IsPlaced task intake seats) c.loop-started.workers.items _ _ c.unwrap.result c.pop.ensures.items c.unwrap.ensures both.0 in
+          let here : left + 1 + started ≡ seats = omega (arith, last.2, inv.0, inv.1) in
+          (last.0, c.start.ensures.each task intake same (next_seat task intake seats left started c.unwrap.result last.1 here) both.1),
     )
 
 pub returns-in_err-start-clause-each : goal.returns-in_err-start-clause-each
-returns-in_err-start-clause-each g c = λ intake h.
-    let both = c.loop-started.invariant.3 intake h in
-    let popped = All-pop _ _ _ _ c.pop.ensures.items both.0 in
-    let there : c.pop.result ≡ Some c.unwrap.result = search rules in
-    let one : IsWorkerOf intake c.unwrap.result = subst (λ (o : Option Worker). IfSome o (IsWorkerOf intake)) there popped.1 in
-    c.start.ensures.each intake one both.1
+returns-in_err-start-clause-each g c = λ task intake same h.
+    let inv = c.loop-started.invariant in
+    let seats = length c.args.workers.items in
+    let left = length c.pop.new.self.items in
+    let started = length c.loop-started.self.threads.items in
+    let both = inv.3 task intake same h in
+    let last = popped (IsPlaced task intake seats) c.loop-started.workers.items _ _ c.unwrap.result c.pop.ensures.items c.unwrap.ensures both.0 in
+    let here : left + 1 + started ≡ seats = omega (arith, last.2, inv.0, inv.1) in
+    c.start.ensures.each task intake same (next_seat task intake seats left started c.unwrap.result last.1 here) both.1

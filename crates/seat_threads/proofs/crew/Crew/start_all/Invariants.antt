@@ -1,12 +1,13 @@
-use Rattle.std.proofs.Common.{◌≡◌, ◌≤◌, ◌+◌, All, length}
+use Rattle.std.proofs.Common.{◌≡◌, ◌≤◌, ◌+◌, length}
 use Rattle.std.specs.Prelude.{vec_capacity}
 use Rattle.atomic_table.specs.Seated.{TableId}
-use Rattle.seat_threads.specs.Work.{IsWorkerOf, AllPromise}
+use Rattle.seat_threads.specs.Work.{Task, AreWorkersOf, AllPromise}
 use Rattle.seat_threads.proofs.crew.Crew.start_all.Given as goal
 
 abbrev pub invariant-loop-started : goal.invariant-loop-started
 invariant-loop-started g l =
     let threads = l.self.threads in
-    (length l.workers.items + l._started ≡ length l.fn.workers.items) × (length threads.items ≡ l._started)
-    × (length l.fn.workers.items ≤ vec_capacity threads)
-    × ((intake : TableId) → All (IsWorkerOf intake) l.fn.workers.items → All (IsWorkerOf intake) l.workers.items × AllPromise intake l.fn.rounds threads.items)
+    let all = l.fn.workers.items in
+    (length l.workers.items + l._started ≡ length all) × (length threads.items ≡ l._started) × (length all ≤ vec_capacity threads)
+    × ((task : Task) (intake : TableId) → l.fn.rounds ≡ task.rounds → AreWorkersOf task intake (length all) all →
+    AreWorkersOf task intake (length all) l.workers.items × AllPromise task intake threads.items)

@@ -1,0 +1,27 @@
+use Rattle.std.proofs.Common.{rules, ◌≡◌, ◌∙◌, [], Err, inr, refl, sym, ap, subst}
+use Rattle.fab_types.specs.declared.proposal.Proposal.{Proposal}
+use Rattle.peer_node.specs.Refusals.{no_memory}
+use Rattle.peer_node.specs.Seats.{seen_chain, endorser_of}
+use Rattle.seat_threads.specs.Rounds.{Outcome, proposal_of, ComesTo}
+use Rattle.seat_threads.proofs.worker.Worker.endorse.Goals as goal
+
+pub returns-in_err-proposal-clause-comes : goal.returns-in_err-proposal-clause-comes
+returns-in_err-proposal-clause-comes c =
+    let seat = c.args.self.now.seat in
+    let none : c.from_residual.result ≡ Err no_memory = search rules in (
+      [],
+      [],
+      subst (λ (o : Outcome). ComesTo (endorser_of seat) (proposal_of c.args.self.now.chaincode c.args.self.now.number c.args.round) [] [] o) (sym none)
+          (inr refl),
+    )
+
+pub returns-clause-comes : goal.returns-clause-comes
+returns-clause-comes c =
+    let seat = c.args.self.now.seat in
+    let round : c.from.result ≡ c.args.round = search rules in
+    let proposed = c.in_ok-proposal.ensures ∙ ap (proposal_of c.args.self.now.chaincode c.args.self.now.number) round in (
+      seen_chain seat,
+      seen_chain c.envelope.new.seat,
+      subst (λ (p : Proposal). ComesTo (endorser_of seat) p (seen_chain seat) (seen_chain c.envelope.new.seat) c.envelope.result) proposed
+          c.envelope.ensures.comes,
+    )
