@@ -46,6 +46,10 @@ pub enum Failure {
 /// What the program prints of it, without the line's end. Nothing of a failure that was printed, or
 /// of one that can't be.
 impl Display for Failure {
+    ghost use Rattle.ledger_lines.specs.Texts.{failure_text};
+
+    ghost output = { failure_text };
+
     fn fmt<W: Write>(&self, f: &mut Formatter<W>) -> fmt::Result {
         match self {
             Failure::Memory => write!(f, "refused 9"),

@@ -2,7 +2,7 @@
 //! it prints, and why it ends with a failure.
 //!
 //! [`Files`] is where files are read and written, and [`genesis_in`] reads what a system begins
-//! with. [`Printer`] is where lines are printed: contracts see of it whether a text was printed,
+//! with. [`Printer`] is where lines are printed: contracts see of it how many texts were printed,
 //! and whether one could not be. [`Failure`] says why a command was not done.
 #![tactic(auto)]
 

@@ -1,6 +1,7 @@
 //! Where lines are printed.
 
-ghost use Rattle.std.specs.Prelude.{◌≡◌, true, OnOk, OnErr};
+ghost use Rattle.std.specs.Prelude.{◌≡◌, ◌<◌, true, IfSome, OnOk, OnErr};
+ghost use Rattle.std.specs.Io.KnownBytes.{Appends};
 ghost use Rattle.ledger_lines.specs.Told.{Tells, nothing_told};
 
 use crate::failure::Failure;
@@ -8,12 +9,12 @@ use std::fmt::Display;
 use std::io::{ErrorKind, Write};
 use std::marker::Model;
 
-/// A writer on which texts are printed. It keeps whether one was, and whether one could not be,
-/// which is what contracts see of it.
+/// A writer on which texts are printed. It keeps how many were, and whether one could not be.
+/// Contracts see this, and the bytes that the writer holds, where they are known.
 #[derive(Drop)]
 pub struct Printer<'w, W: Write> {
     out: &'w mut W,
-    has_printed: bool,
+    printed: u64,
     has_failed: bool,
 }
 
@@ -22,30 +23,38 @@ impl<'w, W: Write> Model for Printer<'w, W> {
 
     ghost Value = { Told };
 
-    ghost view = { λ p. record { printed = p.has_printed; failed = p.has_failed } };
+    ghost view = { λ p.
+        record { printed = p.printed; failed = p.has_failed; bytes = W.contents p.out.now } };
 }
 
 impl<'w, W: Write> Printer<'w, W> {
     /// Nothing was printed yet.
     pub fn new(out: &'w mut W) -> Printer<'w, W>
-        ensures { result ≡ nothing_told }
+        ensures { result ≡ nothing_told (W.contents out.old) }
     {
         Printer {
             out,
-            has_printed: false,
+            printed: 0,
             has_failed: false,
         }
     }
 
-    /// Prints a text, by `write!` and `writeln!`.
+    /// Prints a text, by `write!` and `writeln!`. Refused where the writer refuses it, and behind
+    /// 2^64 - 1 texts.
     pub fn write_fmt<D: Display + Drop>(&mut self, text: D) -> Result<(), Failure>
         ensures tells { Tells self.old self.new result }
-        ensures printed { OnOk result (self.new.printed ≡ true) }
+        ensures printed { OnOk result (self.old.printed < self.new.printed) }
+        ensures text { OnOk result
+            (IfSome (D.output text) (Appends self.old.bytes self.new.bytes)) }
         ensures failed { OnErr result (self.new.failed ≡ true) }
     {
+        let Some(printed) = self.printed.checked_add(1) else {
+            self.has_failed = true;
+            return Err(Failure::Output);
+        };
         match self.out.write_fmt(text) {
             Ok(()) => {
-                self.has_printed = true;
+                self.printed = printed;
                 Ok(())
             }
             Err(error) => {

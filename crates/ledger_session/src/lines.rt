@@ -1,7 +1,9 @@
 //! What the program prints of a system and its blocks.
 
-ghost use Rattle.std.specs.Prelude.{◌≡◌, true, false, IfOk};
+ghost use Rattle.std.specs.Prelude.{◌≡◌, ◌<◌, false, IfOk, IfSome, OnOk};
+ghost use Rattle.std.specs.Io.KnownBytes.{Appends};
 ghost use Rattle.ledger_lines.specs.Told.{Tells};
+ghost use Rattle.ledger_session.specs.Replies.{refusal_line};
 
 use fab_types::Flag;
 use fabric_core::{Audit, Reply};
@@ -31,7 +33,7 @@ pub(crate) fn print_state<W: Write>(
 /// Prints what an audit says, and answers whether all transactions agree with their reruns.
 pub fn print_audit<W: Write>(audit: Audit, out: &mut Printer<'_, W>) -> Result<bool, Failure>
     ensures tells { Tells out.old out.new result }
-    ensures differs { IfOk result (λ good. good ≡ false → out.new.printed ≡ true) }
+    ensures differs { IfOk result (λ good. good ≡ false → out.old.printed < out.new.printed) }
 {
     match audit {
         Audit::Agrees { .. } => {
@@ -89,6 +91,8 @@ fn print_committed<W: Write>(
 /// Prints a reply. Of one with the height of a begin or with a payload, nothing.
 pub(crate) fn print_reply<W: Write>(reply: &Reply, out: &mut Printer<'_, W>) -> Result<(), Failure>
     ensures tells { Tells out.old out.new result }
+    ensures refused { OnOk result
+        (IfSome (refusal_line reply.now) (Appends out.old.bytes out.new.bytes)) }
 {
     match reply {
         Reply::Queued => writeln!(out, "queued"),

@@ -1,6 +1,6 @@
 //! The command `run`: a system, on which the lines of a file are events.
 
-ghost use Rattle.std.specs.Prelude.{◌≡◌, true, false, IfOk, IfErr};
+ghost use Rattle.std.specs.Prelude.{◌≡◌, ◌<◌, false, IfOk, IfErr};
 ghost use Rattle.orderer.specs.Ordering.{AreLimits};
 ghost use Rattle.ledger_setting.specs.Setting.{limits_of};
 ghost use Rattle.ledger_lines.specs.Told.{IsSilent, Tells};
@@ -261,7 +261,7 @@ impl Session {
         out: &mut Printer<'_, W>,
     ) -> Result<bool, Failure>
         ensures tells { Tells out.old out.new result }
-        ensures differs { IfOk result (λ good. good ≡ false → out.new.printed ≡ true) }
+        ensures differs { IfOk result (λ good. good ≡ false → out.old.printed < out.new.printed) }
     {
         let Some(snapshot) = self.system.snapshot(0) else {
             return Ok(true);
