@@ -57,6 +57,9 @@ pub(crate) fn commands<'a>(alloc: Global) -> Result<Command<'a>, AllocError> {
         &["GENESIS", "CHAINCODE", "ROUNDS"],
         &[],
     )?;
-    let ledger = with_command(alloc, ledger, "audit", &["GENESIS", "STORE"], &[])?;
+    let store = ["GENESIS", "STORE"];
+    let ledger = with_command(alloc, ledger, "audit", &store, &[])?;
+    let ledger = with_command(alloc, ledger, "show", &store, &["from", "to"])?;
+    let ledger = with_command(alloc, ledger, "state", &store, &["at", "key"])?;
     with_command(alloc, ledger, "trace", &call, &["steps"])
 }

@@ -3,7 +3,8 @@
 use crate::commands::commands;
 use clap::ArgMatches;
 use clap::error::ErrorKind;
-use fab_types::{Call, Name, Proposal, Value};
+use fab_types::limits::LAST_BLOCK;
+use fab_types::{Call, Key, Name, Proposal, Value};
 use hex::{FromHex, FromHexError};
 use std::alloc::{AllocError, Global};
 use wasm_profile::Profile;
@@ -41,6 +42,18 @@ pub enum Work<'a> {
     /// Commit a store's chain again, and audit it.
     Audit {
         store: &'a str,
+    },
+    /// Show the blocks of a store from one number to another.
+    Show {
+        store: &'a str,
+        from: u32,
+        to: u32,
+    },
+    /// Show the state after the block of a number, or each write to a key up to it.
+    State {
+        store: &'a str,
+        at: u32,
+        key: Option<Key>,
     },
     /// Show this many steps at most of this call, on the empty state.
     Trace {
@@ -83,8 +96,8 @@ impl From<clap::Error> for WordsFault {
 
 /// The task that the words name, the command first.
 ///
-/// Usage where they are no command, or a word is missing, left over, or no hex, count, name or
-/// profile within its limits.
+/// Usage where they are no command, or a word is missing, left over, or no hex, count, name, key,
+/// number of a block or profile within its limits.
 pub fn parse<'a>(alloc: Global, words: &'a [String]) -> Result<Task<'a>, WordsFault> {
     let matches = commands(alloc)?.try_get_matches_from(words)?;
     task_of(alloc, &matches)
@@ -127,6 +140,16 @@ fn work_of<'a>(
         "audit" => Ok(Work::Audit {
             store: text(command, "STORE")?,
         }),
+        "show" => Ok(Work::Show {
+            store: text(command, "STORE")?,
+            from: command.get_str("from").map_or(Ok(1), block)?,
+            to: command.get_str("to").map_or(Ok(LAST_BLOCK), block)?,
+        }),
+        "state" => Ok(Work::State {
+            store: text(command, "STORE")?,
+            at: command.get_str("at").map_or(Ok(LAST_BLOCK), block)?,
+            key: key(alloc, command.get_str("key"))?,
+        }),
         "trace" => Ok(Work::Trace {
             most: command.get_str("steps").map_or(Ok(MOST_COUNT), count)?,
             call: call(alloc, command, None)?,
@@ -145,6 +168,25 @@ fn count(digits: &str) -> Result<u32, WordsFault> {
     match digits.parse::<u32>() {
         Ok(count) if (1..=MOST_COUNT).contains(&count) => Ok(count),
         _ => Err(WordsFault::Usage),
+    }
+}
+
+/// The number of a block that digits stand for, from 0 to 65,535.
+fn block(digits: &str) -> Result<u32, WordsFault> {
+    match digits.parse::<u32>() {
+        Ok(number) if number <= LAST_BLOCK => Ok(number),
+        _ => Err(WordsFault::Usage),
+    }
+}
+
+/// The key that hex stands for, where there is a word.
+fn key(alloc: Global, digits: Option<&str>) -> Result<Option<Key>, WordsFault> {
+    let Some(digits) = digits else {
+        return Ok(None);
+    };
+    match Key::new(hex::decode(alloc, digits)?) {
+        Some(key) => Ok(Some(key)),
+        None => Err(WordsFault::Usage),
     }
 }
 

@@ -1,0 +1,24 @@
+-- Blocks as JSON.
+use Rattle.std.specs.Prelude.{List, codes}
+use Rattle.sha2.specs.Sha256.{sha256}
+use Rattle.fab_types.specs.Committed.{Committed}
+use Rattle.fab_types.specs.declared.envelope.Envelope.{Envelope}
+use Rattle.fab_types.specs.declared.flag.Flag.{Flag}
+use Rattle.wire.specs.Spelling.{header_bytes}
+use Rattle.endorsement_policy.specs.declared.rules.Organisation.{Organisation}
+use Rattle.serde_json.specs.Data.{Data, array, number, unsigned, object, member, no_members}
+use Rattle.serde_json.specs.View.{items_of}
+use Rattle.chain_json.specs.Texts.{hex_json, pairs_json}
+use Rattle.chain_json.specs.Transactions.{transaction_json}
+
+-- transactions, each with its flag
+abbrev pub transactions_json : List Organisation → List Envelope → List Flag → List Data
+transactions_json orgs envelopes flags = pairs_json (transaction_json orgs) envelopes flags
+
+-- a block with its hashes and its transactions
+abbrev pub block_json : List Organisation → Committed → Data
+block_json orgs c =
+    let header = c.block.header in
+    object (member (codes "block") (number (unsigned header.number)) (member (codes "data") (hex_json header.data_hash)
+    (member (codes "hash") (hex_json (sha256 (header_bytes header))) (member (codes "previous") (hex_json header.previous_hash)
+    (member (codes "txs") (array (items_of (transactions_json orgs c.block.envelopes c.flags))) no_members)))))

@@ -1,0 +1,52 @@
+//! Entries of a state, and writes to a key, as JSON.
+
+ghost use Rattle.std.specs.Prelude.{◌≡◌, IfOk};
+ghost use Rattle.serde_json.specs.View.{view};
+ghost use Rattle.chain_json.specs.Entries.{entry_json, placed_write_json};
+
+use crate::texts::{hex_of, value_of};
+use crate::to_json::ToJson;
+use fab_types::{Key, Version};
+use serde_json::{Value, json};
+use std::alloc::{AllocError, Global};
+
+/// A key of a state, with its value and the version of its last writer. The only error is want of
+/// memory.
+pub(crate) fn entry_of(
+    alloc: Global,
+    key: &Key,
+    value: &fab_types::Value,
+    version: Version,
+) -> Result<Value, AllocError>
+    ensures { IfOk result (λ v. view v ≡ entry_json key.now value.now version) }
+{
+    let key = hex_of(alloc, key.as_slice())?;
+    let value = hex_of(alloc, value.as_slice())?;
+    let version = version.to_json(alloc)?;
+    json!(in alloc; {"key": key, "value": value, "version": version})
+}
+
+/// What the transaction of this id wrote to a key, at its place in the chain. The only error is want
+/// of memory.
+pub(crate) fn write_of(
+    alloc: Global,
+    id: &[u8; 32],
+    block: usize,
+    place: usize,
+    key: &Key,
+    value: &Option<fab_types::Value>,
+) -> Result<Value, AllocError>
+    ensures { IfOk result
+        (λ v. view v ≡ placed_write_json id.now block place key.now value.now) }
+{
+    let id = hex_of(alloc, id)?;
+    let key = hex_of(alloc, key.as_slice())?;
+    let value = value_of(alloc, value)?;
+    json!(in alloc; {
+        "block": block,
+        "id": id,
+        "key": key,
+        "place": place,
+        "value": value
+    })
+}

@@ -1,0 +1,3 @@
+pub mod Cuts
+pub mod Behind
+pub mod Written

@@ -1,0 +1,69 @@
+//! The lines of a chain.
+
+ghost use Rattle.std.specs.Prelude.{◌≡◌, OnOk, map};
+ghost use Rattle.ledger_lines.specs.Told.{Tells};
+ghost use Rattle.world_state.specs.Shared.{blocks_in};
+ghost use Rattle.chain_json.specs.Blocks.{block_json};
+ghost use Rattle.ledger_show.specs.Lines.{HasLines, chain_json};
+ghost use Rattle.ledger_show.specs.Spans.{within};
+
+use crate::lines::print_line;
+use chain_json::{block_line, setting_line};
+use endorsement_policy::Rules;
+use fab_types::CommittedBlock;
+use ledger_lines::{Failure, Printer};
+use ledger_setting::Genesis;
+use std::alloc::Global;
+use std::io::Write;
+use std::sync::Arc;
+use world_state::Snapshot;
+
+/// Prints what a genesis sets, and the blocks of a chain from one number to another, as far as
+/// there are any, each as a line of JSON.
+pub fn print_chain<W: Write>(
+    alloc: Global,
+    genesis: &Genesis,
+    snapshot: &Snapshot,
+    from: usize,
+    to: usize,
+    out: &mut Printer<'_, W>,
+) -> Result<(), Failure>
+    ensures tells { Tells out.old out.new result }
+    ensures lines { OnOk result
+        (HasLines (chain_json genesis.now from to snapshot.now) out.old.bytes out.new.bytes) }
+{
+    let setting = setting_line(alloc, genesis)?;
+    print_line(&setting, out)?;
+    print_blocks(
+        alloc,
+        &genesis.rules,
+        within(snapshot.blocks(), from, to),
+        out,
+    )
+}
+
+/// The blocks from one number to another, counted from 1, as far as there are any.
+fn within(blocks: &[Arc<CommittedBlock>], from: usize, to: usize) -> &[Arc<CommittedBlock>]
+    ensures { blocks_in result.now ≡ within from to (blocks_in blocks.now) }
+{
+    let blocks = &blocks[..to.min(blocks.len())];
+    &blocks[from.saturating_sub(1).min(blocks.len())..]
+}
+
+fn print_blocks<W: Write>(
+    alloc: Global,
+    rules: &Rules,
+    blocks: &[Arc<CommittedBlock>],
+    out: &mut Printer<'_, W>,
+) -> Result<(), Failure>
+    ensures tells { Tells out.old out.new result }
+    ensures lines { OnOk result
+        (HasLines (map (block_json rules.now.orgs) (blocks_in blocks.now)) out.old.bytes
+        out.new.bytes) }
+{
+    for committed in blocks {
+        let line = block_line(alloc, rules, committed)?;
+        print_line(&line, out)?;
+    }
+    Ok(())
+}
