@@ -1,0 +1,3 @@
+mod Marking
+mod Logging
+mod Idling

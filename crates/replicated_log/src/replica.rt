@@ -1,0 +1,146 @@
+//! The replica.
+
+ghost use Rattle.std.specs.Prelude.{◌≡◌, [], IfOk, OnErr};
+ghost use Rattle.batch_cutter.specs.Division.{message, timeout};
+ghost use Rattle.orderer.specs.Blocks.{from_number};
+ghost use Rattle.orderer.specs.Ordering.{AreLimits};
+ghost use Rattle.orderer.specs.declared.report.OrderCause.TheVariants.{OutOfMemory};
+ghost use Rattle.replicated_log.specs.Asking.{IsSkipOf, Marks};
+ghost use Rattle.replicated_log.specs.Log.{Reads};
+ghost use Rattle.replicated_log.specs.Reported.{answer_of, IsTrueOf};
+
+use crate::asked::{Asked, Unread, asked_by};
+use crate::skip::Skip;
+use fab_types::{Block, Envelope};
+use orderer::{BatchReport, OrderCause, Orderer};
+use seq::Seq;
+use std::alloc::{AllocError, Global};
+use std::marker::Model;
+
+/// What became of a line.
+#[derive(Debug, Drop)]
+pub enum LineReport {
+    /// Its envelope was taken, which ended these batches, none to two, in their order.
+    Accepted(Seq<BatchReport>),
+    /// What waited was cut, and this is its batch. None where nothing waited, which leaves all as
+    /// it was.
+    Ticked(Option<BatchReport>),
+    /// It asks for nothing that can be done, and all is as it was.
+    Skipped(Skip),
+}
+
+/// An orderer that reads a log line by line.
+///
+/// A line is an envelope in hex or the word `tick`. Any other line is skipped, and so is an
+/// envelope above the absolute size and a line that would need a block past number 65,535; all that
+/// waits waits on then. So equal replicas that read the same lines stay equal (`log_laws`).
+#[derive(Drop)]
+pub struct Replica {
+    orderer: Orderer,
+    alloc: Global,
+}
+
+impl Model for Replica {
+    ghost use Rattle.orderer.specs.Ordering.{Ordering};
+
+    ghost Value = { Ordering };
+
+    ghost view = { λ r. r.orderer };
+}
+
+impl Replica {
+    /// A replica that has read nothing.
+    ///
+    /// A batch has at most `count` envelopes, 1 to 512. Envelopes of at most `preferred` bytes
+    /// together share a batch, and one above it is a batch alone; none above `absolute` bytes is
+    /// taken. Both are at most 524,288. With `reorder` early abort and reordering act on each
+    /// batch, else its block has the envelopes as they were cut.
+    pub fn new(
+        alloc: Global,
+        count: usize,
+        preferred: usize,
+        absolute: usize,
+        reorder: bool,
+    ) -> Self
+        requires { AreLimits
+            (record { count = count; preferred = preferred; absolute = absolute }) }
+        ensures { result
+            ≡ record {
+              reorder = reorder;
+              limits = record { count = count; preferred = preferred; absolute = absolute };
+              pending = [];
+              chain = [];
+            } }
+    {
+        Replica {
+            orderer: Orderer::new(alloc, count, preferred, absolute, reorder),
+            alloc,
+        }
+    }
+
+    /// Reads the next line of the log.
+    ///
+    /// The error is of memory. It changes nothing, so that the line can be read again; it never
+    /// stands for a skip.
+    pub fn read(&mut self, line: &str) -> Result<LineReport, AllocError>
+        ensures read { IfOk result
+            (λ report. Reads self.old line.now (answer_of report) self.new) }
+        ensures why { IfOk result (λ report. IsTrueOf report self.old line.now) }
+        ensures unchanged { OnErr result (self.new ≡ self.old) }
+    {
+        match asked_by(self.alloc, line) {
+            Ok(Asked::Accept(envelope)) => self.accept(envelope),
+            Ok(Asked::Tick) => self.tick(),
+            Err(Unread::Nothing(skip)) => Ok(LineReport::Skipped(skip)),
+            Err(Unread::Memory) => Err(AllocError),
+        }
+    }
+
+    /// Takes an envelope, or skips it.
+    fn accept(&mut self, envelope: Envelope) -> Result<LineReport, AllocError>
+        ensures marks { IfOk result (λ report. Marks self.old (message envelope) report self.new) }
+        ensures unchanged { OnErr result (self.new ≡ self.old) }
+    {
+        match self.orderer.accept(envelope) {
+            Ok(reports) => Ok(LineReport::Accepted(Seq::new(reports))),
+            Err(refusal) => skipped(refusal.cause),
+        }
+    }
+
+    /// Cuts what waits, or skips the tick.
+    fn tick(&mut self) -> Result<LineReport, AllocError>
+        ensures marks { IfOk result (λ report. Marks self.old timeout report self.new) }
+        ensures unchanged { OnErr result (self.new ≡ self.old) }
+    {
+        match self.orderer.tick() {
+            Ok(report) => Ok(LineReport::Ticked(report)),
+            Err(refusal) => skipped(refusal.cause),
+        }
+    }
+
+    /// All blocks, from block 1 on.
+    pub fn blocks(&self) -> &[Block]
+        ensures { result.now ≡ self.now.chain }
+    {
+        self.orderer.blocks()
+    }
+
+    /// All blocks numbered `number` or more, in their order. It takes no memory.
+    pub fn blocks_from(&self, number: u32) -> &[Block]
+        ensures { result.now ≡ from_number number self.now.chain }
+    {
+        self.orderer.blocks_from(number)
+    }
+}
+
+/// What a refusal of the orderer makes of a line: a skip, but for want of memory.
+fn skipped(cause: OrderCause) -> Result<LineReport, AllocError>
+    ensures skip { IfOk result (λ report. IsSkipOf cause report) }
+    ensures memory { OnErr result (cause ≡ OutOfMemory) }
+{
+    match cause {
+        OrderCause::TooLarge => Ok(LineReport::Skipped(Skip::TooLarge)),
+        OrderCause::NoNumber => Ok(LineReport::Skipped(Skip::NoNumber)),
+        OrderCause::OutOfMemory => Err(AllocError),
+    }
+}
