@@ -1,6 +1,6 @@
 //! The command `audit`.
 
-ghost use Rattle.std.specs.Prelude.{◌≡◌, true, false, IfOk};
+ghost use Rattle.std.specs.Prelude.{◌≡◌, ◌<◌, false, IfOk};
 ghost use Rattle.ledger_lines.specs.Told.{Tells};
 
 use crate::replaying::replayed;
@@ -56,7 +56,7 @@ fn print_findings<W: Write>(
     out: &mut Printer<'_, W>,
 ) -> Result<bool, Failure>
     ensures tells { Tells out.old out.new result }
-    ensures differs { IfOk result (λ good. good ≡ false → out.new.printed ≡ true) }
+    ensures differs { IfOk result (λ good. good ≡ false → out.old.printed < out.new.printed) }
 {
     if let Some(number) = replayed.differs {
         writeln!(out, "flags differ {number}")?;

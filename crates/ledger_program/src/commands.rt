@@ -1,12 +1,15 @@
 //! The program, but for the machine that it runs on.
 
-ghost use Rattle.std.specs.Prelude.{◌≡◌, ◌<◌, ◌^◌, length};
+ghost use Rattle.std.specs.Prelude.{◌≡◌, ◌<◌, ◌^◌, IfSome, OnOk, length};
+ghost use Rattle.std.specs.Io.KnownBytes.{Appends};
 ghost use Rattle.orderer.specs.Ordering.{AreLimits};
 ghost use Rattle.ledger_setting.specs.Setting.{limits_of};
-ghost use Rattle.ledger_lines.specs.Told.{IsTold, Says, Tells};
+ghost use Rattle.ledger_lines.specs.Texts.{last_line};
+ghost use Rattle.ledger_lines.specs.Told.{IsMore, IsTold, Says, Tells, Told};
 
 use crate::auditing::audit;
 use crate::checking::check;
+use crate::showing::{show, state};
 use crate::simulation::simulate;
 use crate::threading::threads;
 use crate::tracing::trace;
@@ -24,6 +27,8 @@ const USAGE: &str = "usage: ledger check MODULE [--profile N]
        ledger run GENESIS EVENTS [--store FILE]
        ledger threads GENESIS CHAINCODE ROUNDS
        ledger audit GENESIS STORE
+       ledger show GENESIS STORE [--from N] [--to N]
+       ledger state GENESIS STORE [--at N] [--key HEX]
        ledger trace GENESIS CHAINCODE ARG [--steps N]
   check    tells whether the file MODULE is a valid module of profile N: 1, the default, or 2, which
            has the sign-extension operators too
@@ -34,6 +39,10 @@ const USAGE: &str = "usage: ledger check MODULE [--profile N]
   threads  lets each seat of the first peer endorse ROUNDS calls (1 to 1000) of CHAINCODE on a thread
            of its own while their blocks are committed, and audits the chain
   audit    commits the file STORE again, and runs its VALID transactions again
+  show     shows what the genesis sets, the blocks of the file STORE from one number to another (all
+           by default), and what audit says of it, one JSON object a line
+  state    shows each key of the state after the block of number N (the last one by default), or each
+           write to the key HEX up to it, one JSON object a line
   trace    shows the first N steps (1 to 1000, 1000 by default) of a call on the empty state, each
            with the fuel that it leaves, and how the call ends";
 
@@ -49,7 +58,7 @@ pub fn program<R: Threads + Wait + Sync + Send + Copy + 'static, F: Files, W: Wr
 ) -> u8
     ensures status { result < 3 }
     ensures done { result ≡ 0 → out.new.failed ≡ out.old.failed }
-    ensures told { 0 < result → IsTold out.new }
+    ensures told { 0 < result → IsTold out.old out.new }
 {
     let Err(failure) = carry_out(rt, alloc, words, files, out) else {
         return 0;
@@ -62,8 +71,9 @@ pub fn program<R: Threads + Wait + Sync + Send + Copy + 'static, F: Files, W: Wr
 
 /// Prints why a task was not done, where that is not printed yet.
 fn tell<W: Write>(failure: Failure, out: &mut Printer<'_, W>) -> Result<(), Failure>
-    requires { Says out.old failure }
-    ensures { IsTold out.new }
+    ensures told { (before : Told) → IsMore before out.old → Says before out.old failure
+        → IsTold before out.new }
+    ensures line { OnOk result (IfSome (last_line failure) (Appends out.old.bytes out.new.bytes)) }
 {
     match failure {
         Failure::Differs | Failure::Output => Ok(()),
@@ -126,6 +136,28 @@ fn do_work<R: Threads + Wait + Sync + Send + Copy + 'static, F: Files, W: Write>
         Work::Run { events, store } => run(alloc, files, genesis, events, *store, out),
         Work::Threads { chaincode, rounds } => threads(rt, alloc, genesis, chaincode, *rounds, out),
         Work::Audit { store } => audit(alloc, files, genesis, store, out),
+        Work::Show { store, from, to } => {
+            show(
+                alloc,
+                files,
+                genesis,
+                store,
+                *from as usize,
+                *to as usize,
+                out,
+            )
+        }
+        Work::State { store, at, key } => {
+            state(
+                alloc,
+                files,
+                genesis,
+                store,
+                *at as usize,
+                key.as_ref(),
+                out,
+            )
+        }
         Work::Trace { call, most } => trace(alloc, genesis, call, *most, out),
     }
 }

@@ -9,6 +9,8 @@
 //! - `threads GENESIS CHAINCODE ROUNDS` lets the seats of the first peer endorse on threads of
 //!   their own while its blocks are committed, and audits the chain.
 //! - `audit GENESIS STORE` commits a store's chain again, and runs its VALID transactions again.
+//! - `show GENESIS STORE` shows the chain of a store as lines of JSON, and what is found of it.
+//! - `state GENESIS STORE` shows the state after a block, or each write to a key, as lines of JSON.
 //!
 //! [`program`] takes the words of the command line, the files by [`Files`], and where lines are
 //! printed. It starts threads for `threads` alone.
@@ -19,6 +21,7 @@ mod checking;
 mod commands;
 mod disk;
 mod replaying;
+mod showing;
 mod simulation;
 mod threading;
 mod tracing;

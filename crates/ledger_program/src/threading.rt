@@ -16,8 +16,8 @@ use std::sync::Wait;
 use std::thread::Threads;
 
 /// Lets each seat of the first peer endorse and submit so many calls of a chaincode on a thread of
-/// its own, and prints how many were endorsed and refused, how many blocks came of them, and what
-/// the audit of the chain says.
+/// its own, and prints how many were endorsed and refused, how many of the endorsed ones the
+/// orderer refused, if any, how many blocks came of them, and what the audit of the chain says.
 pub fn threads<R: Threads + Wait + Sync + Send + Copy + 'static, W: Write>(
     rt: &R,
     alloc: Global,
@@ -46,10 +46,21 @@ fn print_report<W: Write>(report: Report, out: &mut Printer<'_, W>) -> Result<()
 {
     writeln!(out, "endorsed {}", report.endorsed)?;
     writeln!(out, "refused {}", report.refused)?;
+    print_missing(report.missing, out)?;
     writeln!(out, "blocks {}", report.blocks)?;
     if print_audit(report.audit, out)? {
         Ok(())
     } else {
         Err(Failure::Differs)
     }
+}
+
+/// Prints how many envelopes the orderer refused, where there are any.
+fn print_missing<W: Write>(missing: u64, out: &mut Printer<'_, W>) -> Result<(), Failure>
+    ensures tells { Tells out.old out.new result }
+{
+    if missing > 0 {
+        writeln!(out, "missing {missing}")?;
+    }
+    Ok(())
 }
