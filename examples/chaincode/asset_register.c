@@ -17,7 +17,7 @@ __attribute__((export_name("invoke"))) int invoke(void) {
     struct word name = next_word(&at, end);
     struct word owner = next_word(&at, end);
     if (at != end) return BAD_ARGUMENT;
-    if (is_word(verb, "list") && name.length == 0) return list();
+    if (is_word(verb, "list") && name.length == 0 && owner.length == 0) return list();
     if (!is_allowed(name)) return BAD_ARGUMENT;
     if (is_word(verb, "read") && owner.length == 0) return read(name);
     if (is_word(verb, "delete") && owner.length == 0) return delete(name);

@@ -50,7 +50,7 @@ __attribute__((export_name("invoke"))) int invoke(void) {
     if (is_word(verb, "inspect") && is_allowed(name) && is_allowed(person) && is_allowed(day))
         return inspect(name, person, day);
     if (day.length != 0) return BAD_ARGUMENT;
-    if (is_word(verb, "list") && name.length == 0) return list();
+    if (is_word(verb, "list") && name.length == 0 && person.length == 0) return list();
     if (!is_allowed(name)) return BAD_ARGUMENT;
     if (is_word(verb, "read") && person.length == 0) return read(name);
     if (is_word(verb, "inspection") && person.length == 0) return inspection(name);

@@ -204,6 +204,7 @@ mod tests {
             ("create pallet-9", 1),
             ("create pallet-9 Carrier now", 1),
             ("list all", 1),
+            ("list  Shop", 1),
             ("reads pallet-7", 1),
             (&format!("read {long}"), 1),
             (&format!("create pallet-9 {long}"), 1),
