@@ -4,11 +4,12 @@ use crate::samples::transaction;
 use committer::CommitRefusal;
 use intake::Full;
 use orderer::{OrderCause, OrderRefusal};
-use peer_node::{FinishRefusal, TakeRefusal};
+use peer_node::{FinishRefusal, OpenRefusal, ReopenRefusal, TakeRefusal};
 use seat_threads::SeatsRefusal;
 use simulator::SimRefusal;
 use std::alloc::{AllocError, Global};
 use std::test::Fail;
+use store_replay::RecommitRefusal;
 
 fn printed(alloc: Global, order: &OrderRefusal, full: &Full) -> Result<String, AllocError> {
     format!(in alloc;
@@ -19,6 +20,44 @@ fn printed(alloc: Global, order: &OrderRefusal, full: &Full) -> Result<String, A
         FinishRefusal::from(AllocError),
         SeatsRefusal::from(AllocError)
     )
+}
+
+/// Of a peer that does not come back.
+fn printed_of_stores(alloc: Global) -> Result<String, AllocError> {
+    format!(in alloc;
+        "{}, {}, {}, {}",
+        ReopenRefusal::Stored(RecommitRefusal::Flags(2)),
+        RecommitRefusal::Unfit(3, CommitRefusal::PreviousHash),
+        RecommitRefusal::Memory,
+        ReopenRefusal::Open(OpenRefusal::NoPlace)
+    )
+}
+
+/// Of a cell and its seats.
+fn printed_of_seats(alloc: Global) -> Result<String, AllocError> {
+    format!(in alloc;
+        "{}, {}, {}, {}, {}",
+        OpenRefusal::OutOfMemory,
+        TakeRefusal::NoEntry,
+        TakeRefusal::OutOfMemory,
+        SeatsRefusal::NoPlace,
+        SeatsRefusal::NoEntry
+    )
+}
+
+#[test]
+fn refusals_of_peers_are_printed(rt: HostRuntime) -> Result<(), Fail> {
+    let alloc = rt.alloc();
+    let (stores, seats) = (printed_of_stores(alloc)?, printed_of_seats(alloc)?);
+    assert_eq!(rt;
+        stores.as_str(),
+        "refused 711 block 2, refused 602 block 3, refused 9, refused 431"
+    );
+    assert_eq!(rt;
+        seats.as_str(),
+        "refused 9, refused 432, refused 9, refused 431, refused 432"
+    );
+    Ok(())
 }
 
 #[test]

@@ -7,11 +7,12 @@ use counted::Counted;
 use fab_types::{Block, CommittedBlock, Flag, Key, Value, Version};
 use ledger_setting::{Genesis, commit_checked};
 use orderer::Orderer;
-use peer_node::{Peer, PeerWriter};
+use peer_node::{Peer, PeerWriter, ReopenRefusal};
 use std::alloc::{AllocError, Global};
 use std::sync::{Arc, Wait};
 use std::test::Fail;
 use std::thread::Threads;
+use store_replay::RecommitRefusal;
 use world_state::Snapshot;
 
 /// Appends a block of one transaction with this flag. Whether that was done.
@@ -86,7 +87,8 @@ fn caught_up<R: Threads + Wait + Sync>(
     Ok((before, are_alike(alloc, writer.newest(), whole)?))
 }
 
-/// What becomes of a peer that comes back with a store, or the number of the refusal.
+/// What becomes of a peer that comes back with a store, or why it does not. None where there is
+/// none.
 fn reopened<R: Threads + Wait + Sync>(
     rt: &R,
     alloc: Global,
@@ -94,18 +96,18 @@ fn reopened<R: Threads + Wait + Sync>(
     chain: &Orderer,
     whole: &Snapshot,
     bytes: &[u8],
-) -> Result<Result<(usize, bool), u16>, AllocError> {
+) -> Result<Option<Result<(usize, bool), ReopenRefusal>>, AllocError> {
     let loaded = load(alloc, &mut Counted::new(bytes))?;
     let Some(org) = genesis.peers.first() else {
-        return Ok(Err(0));
+        return Ok(None);
     };
     match Peer::reopen(rt, alloc, genesis, org, 1, loaded) {
         Ok((mut writer, _seats)) => {
             let caught_up = caught_up(rt, alloc, &mut writer, chain, whole);
             writer.close(rt);
-            Ok(Ok(caught_up?))
+            Ok(Some(Ok(caught_up?)))
         }
-        Err(refusal) => Ok(Err(refusal.number())),
+        Err(refusal) => Ok(Some(Err(refusal))),
     }
 }
 
@@ -143,10 +145,10 @@ fn is_back<R: Threads + Wait + Sync>(
     let store = store(alloc, chain.blocks(), 0)?;
     let end = (store.len() / 5 * 4).saturating_sub(10);
     let cut = store.get(..end).unwrap_or(&[]);
-    Ok(reopened(rt, alloc, genesis, chain, whole, cut)? == Ok((3, true)))
+    Ok(reopened(rt, alloc, genesis, chain, whole, cut)? == Some(Ok((3, true))))
 }
 
-/// Whether a store with another flag of its second block is refused.
+/// Whether a store with another flag of its second block is refused, and the block is named.
 fn is_refused<R: Threads + Wait + Sync>(
     rt: &R,
     alloc: Global,
@@ -155,7 +157,8 @@ fn is_refused<R: Threads + Wait + Sync>(
     whole: &Snapshot,
 ) -> Result<bool, Fail> {
     let store = store(alloc, chain.blocks(), 2)?;
-    Ok(reopened(rt, alloc, genesis, chain, whole, &store)? == Err(711))
+    let refusal = ReopenRefusal::Stored(RecommitRefusal::Flags(2));
+    Ok(reopened(rt, alloc, genesis, chain, whole, &store)? == Some(Err(refusal)))
 }
 
 #[test]

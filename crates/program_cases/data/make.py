@@ -1,7 +1,7 @@
 #!/usr/bin/env python3
-"""Writes orders*, sizes*, names*, ends.json, scans.jsonl, stranger.jsonl, upgrades*, versions.jsonl, predicted.jsonl,
-profiles*, extend.wasm and stores beside this file: events with envelopes, modules and stores that are laid out here, by
-docs/FORMATS.md.
+"""Writes orders*, sizes*, names*, ends.json, scans.jsonl, stranger.jsonl, bytes.jsonl, upgrades*, versions.jsonl,
+predicted.jsonl, profiles*, seatless.json, nobody.json, doubled.json, look.json, extend.wasm and stores beside this file:
+events with envelopes, genesis files, modules and stores that are laid out here, by docs/FORMATS.md.
 
 older.store is not among them: the program wrote it when calls did not read their definitions yet. It has the blocks of
 whole.store but for these reads.
@@ -232,6 +232,17 @@ write("scans.jsonl", scans + [event("commit", peer=0)])
 stranger = event("submit", hex=envelope(call(1, writes=puts(b"a"), name=b"zz")).hex())
 write("stranger.jsonl", [stranger, event("take"), event("commit", peer=0)])
 
+# An envelope whose last byte is missing, one with its writes out of order, one with a range of limit 0, and one with a byte
+# behind it; then the first as it is whole.
+whole = envelope(call(1, writes=puts(b"a", b"b")))
+damaged = [
+    whole[:-1],
+    envelope(call(1, writes=puts(b"b", b"a"))),
+    envelope(call(1, ranges=[(b"a", b"c", 0, [])])),
+    whole + b"\0",
+]
+write("bytes.jsonl", [event("submit", hex=data.hex()) for data in [*damaged, whole]])
+
 # Upgrades. `kv` puts `1` at `a`; `key` puts the byte of its argument at itself. A endorses calls, and B upgrades.
 KEY = module(
     constants(0, 1) + b"\x10\x00\x1a" + constants(0, 1, 0, 1) + b"\x10\x01\x1a" + constants(0),
@@ -312,6 +323,19 @@ for nonce, code, profile in ((9, EXTEND, 1), (10, GET_PUT_A, 2)):
     profiles += [upgrade(0, nonce, code, profile=profile), finish(0, "e")]
 write("profiles.jsonl", profiles)
 
+# Genesis files that are refused: without a seat, with a policy of an organisation that is not listed, and with two
+# chaincodes of one name.
+genesis("seatless.json", seats=0)
+genesis("nobody.json", policy="'C'")
+genesis("doubled.json", more=[("kv", PUT_A, 1)])
+
+# Four seats. `look` reads `a`, which it never puts, and puts `a` at `c`.
+LOOK = module(
+    constants(0, 1, 2, 1) + b"\x10\x00\x1a" + constants(1, 1, 0, 1) + b"\x10\x01\x1a" + constants(0),
+    [(b"get_state", 3), (b"put_state", 3)],
+)
+genesis("look.json", more=[("look", LOOK, 1)], seats=4)
+
 # Stores of two blocks that each put `1` at `a`.
 
 
@@ -335,6 +359,11 @@ STORES = {
     "differs": first + record(2, link, flag=2)[0],
     # The second block is behind no other.
     "unlinked": first + record(2, NO_LINK)[0],
+    # The same, and behind it two bytes of a third record.
+    "unlinked-torn": first + record(2, NO_LINK)[0] + b"\0\0",
+    # The second block is behind no other, and the first block's flag is 2, or the second one's.
+    "differs-unlinked": record(1, NO_LINK, flag=2)[0] + record(2, NO_LINK)[0],
+    "unlinked-differs": first + record(2, NO_LINK, flag=2)[0],
     # The first digest's last bit is turned.
     "damaged": first[:-1] + bytes([first[-1] ^ 1]) + second,
     # The second block has other data than its header says.

@@ -105,7 +105,9 @@ fn an_offer_and_a_timeout_are_taken_back(rt: HostRuntime) -> Result<(), Fail> {
 }
 
 #[test]
-fn causes_have_numbers(rt: HostRuntime) -> Result<(), Fail> {
+fn causes_have_their_numbers(rt: HostRuntime) -> Result<(), Fail> {
+    let text = format!(in rt.alloc(); "{} {}", Cause::TooLarge, Cause::OutOfMemory)?;
+    assert_eq!(rt; text.as_str(), "refused 421 refused 9");
     assert_eq!(rt; Cause::OutOfMemory.number(), 9);
     Ok(())
 }

@@ -4,7 +4,7 @@ ghost use Rattle.std.specs.Prelude.{◌≡◌, ◌≤◌, IfOk, length};
 
 use block_store::{AppendFault, End, RecordReader, append, load};
 use counted::Counted;
-use fab_types::{Block, Flag};
+use fab_types::{Block, CommittedBlock, Flag};
 use std::alloc::{AllocError, Global};
 use std::io::{self, Read, Write};
 use std::test::Fail;
@@ -145,15 +145,29 @@ fn cuts_are_told(alloc: Global, bytes: &[u8]) -> Result<bool, AllocError> {
     Ok(is_told)
 }
 
-/// Whether a store of three blocks gives them all in two pieces, the first of them so long.
+/// Whether these are the records of a store: appended again they are its bytes.
+fn are_records(
+    alloc: Global,
+    records: &[CommittedBlock],
+    bytes: &[u8],
+) -> Result<bool, AllocError> {
+    let mut device = Counted::new(Vec::new(alloc));
+    let mut are = true;
+    for record in records {
+        are &= append(alloc, &mut device, record.block(), record.flags()).is_ok();
+    }
+    Ok(are && device.into_inner().as_slice() == bytes)
+}
+
+/// Whether a store gives its records in two pieces, the first of them so long.
 fn is_whole_in_two(alloc: Global, bytes: &[u8], cut: usize) -> Result<bool, AllocError> {
     let mut reader = RecordReader::new(alloc);
     let (first, second) = bytes.split_at_checked(cut).unwrap_or((bytes, &[]));
-    let before = reader.feed(first)?.len();
-    let is_held = reader.held() == cut % RECORD;
-    let after = reader.feed(second)?.len();
-    let is_counted = before == cut / RECORD && before + after == 3;
-    Ok(is_held && is_counted && reader.finish() == End::Clean)
+    let mut records = reader.feed(first)?;
+    let is_held = reader.held() == cut % RECORD && records.len() == cut / RECORD;
+    records.append(&mut reader.feed(second)?)?;
+    let is_whole = are_records(alloc, &records, bytes)?;
+    Ok(is_held && is_whole && reader.finish() == End::Clean)
 }
 
 fn is_whole_in_any_two(alloc: Global, bytes: &[u8]) -> Result<bool, AllocError> {
@@ -164,14 +178,15 @@ fn is_whole_in_any_two(alloc: Global, bytes: &[u8]) -> Result<bool, AllocError> 
     Ok(is_whole)
 }
 
-/// How many blocks a store has that comes byte by byte, and its end.
-fn answer_by_byte(alloc: Global, bytes: &[u8]) -> Result<(usize, End), AllocError> {
+/// Whether a store gives its records byte by byte.
+fn is_whole_by_byte(alloc: Global, bytes: &[u8]) -> Result<bool, AllocError> {
     let mut reader = RecordReader::new(alloc);
-    let mut blocks = Vec::new(alloc);
+    let mut records = Vec::new(alloc);
     for byte in bytes {
-        blocks.append(&mut reader.feed(&[*byte])?)?;
+        records.append(&mut reader.feed(&[*byte])?)?;
     }
-    Ok((blocks.len(), reader.finish()))
+    let is_whole = are_records(alloc, &records, bytes)?;
+    Ok(is_whole && reader.finish() == End::Clean)
 }
 
 /// Whether a write of record 2 that fails at this call tells what it wrote, and leaves a store that
@@ -216,7 +231,8 @@ fn a_failed_write_leaves_a_beginning(rt: HostRuntime) -> Result<(), Fail> {
 /// gives all.
 fn are_read_up_to_the_failure(alloc: Global, bytes: &[u8]) -> Result<bool, AllocError> {
     let mut are = answer_of_tape(alloc, bytes, 10, NEVER)? == (3, End::Clean);
-    for calls in 0..45 {
+    // 45 calls give the 441 bytes, and one more finds the end.
+    for calls in 0..46 {
         let blocks = (10 * calls).min(bytes.len()) / RECORD;
         are &= answer_of_tape(alloc, bytes, 10, calls)? == (blocks, End::DeviceFailed);
     }
@@ -251,10 +267,9 @@ fn each_flip_is_found(alloc: Global, bytes: &mut [u8]) -> Result<bool, AllocErro
     Ok(is_each)
 }
 
-/// Whether pieces give what the whole gives.
+/// Whether pieces give the records of the whole.
 fn are_in_pieces(alloc: Global, bytes: &[u8]) -> Result<bool, AllocError> {
-    let in_two = is_whole_in_any_two(alloc, bytes)?;
-    Ok(in_two && answer_by_byte(alloc, bytes)? == (3, End::Clean))
+    Ok(is_whole_in_any_two(alloc, bytes)? && is_whole_by_byte(alloc, bytes)?)
 }
 
 #[test]

@@ -322,11 +322,28 @@ fn is_checked() -> bool {
     check(b"Jefe", text, &tag) && !check(b"Jeff", text, &tag)
 }
 
+/// The bytes of a call of `kv` that read its definition as absent and puts `1` at `a`.
+const PUT: [u8; 40] =
+    *b"\x02kv\x00\x00\x00\x00\x00\x00\x00\x00\x00\x00\x00\x00\x00\x00\x00\x00\x00\x00\x00\x00\x00\x01\x03\x00kv\x00\x00\x00\x00\x01\x01a\x01\x00\x011";
+
+/// Whether its tag, that of another program, is wrong once a byte is flipped, each in turn.
+fn is_each_flip_told() -> bool {
+    let tag =
+        *b"\xef\xc7\x2c\x51\xa1\xdc\x4e\xf4\x3f\x93\x81\x89\xbe\x2f\x12\x84\xcc\xa8\x07\x42\x07\x80\x0f\xbb\x85\xb5\x0c\xea\x33\x04\x83\x90";
+    let mut is_each = check(b"Jefe", &PUT, &tag);
+    for at in 0..PUT.len() {
+        let mut payload = PUT;
+        payload[at] ^= 1;
+        is_each &= !check(b"Jefe", &payload, &tag);
+    }
+    is_each
+}
+
 #[test]
 fn policies_and_rules_are_made(rt: HostRuntime) -> Result<(), Fail> {
     let alloc = rt.alloc();
     let made = [are_looked_up(alloc), is_by_two(alloc), is_no_rule(alloc)];
     let is_empty = Policies::new(Vec::new(alloc)).is_none();
-    assert!(rt; made == [Some(true); 3] && is_empty && is_checked());
+    assert!(rt; made == [Some(true); 3] && is_empty && is_checked() && is_each_flip_told());
     Ok(())
 }
