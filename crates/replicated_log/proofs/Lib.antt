@@ -1,3 +1,7 @@
 mod Marking
 mod Logging
 mod Idling
+mod Sizing
+mod Parting
+mod Telling
+mod Taking

@@ -10,6 +10,7 @@ use Rattle.orderer.specs.declared.report.OrderCause.{OrderCause}
 use Rattle.orderer.specs.declared.report.OrderCause.TheVariants as cause
 use Rattle.replicated_log.specs.Lines.{IsNoMark}
 use Rattle.replicated_log.specs.Log.{TakesMark}
+use Rattle.replicated_log.specs.Reported.{reports_of}
 use Rattle.replicated_log.specs.Skipped.{IsSkippedBy}
 use Rattle.replicated_log.specs.declared.asked.Asked.{Asked}
 use Rattle.replicated_log.specs.declared.asked.Asked.TheVariants.{Accept, Tick}
@@ -45,8 +46,8 @@ IsMarkSkipped _ old mark = ⊥
 
 -- what comes of a mark
 abbrev pub Marks : Ordering → Mark Envelope → LineReport → Ordering → Type 0
-Marks old mark (Accepted reports) new = TakesMark old mark reports new
-Marks old mark (Ticked report) new = TakesMark old mark (option_to_list report) new
+Marks old mark (Accepted id batches) new = TakesMark old mark (reports_of batches) new
+Marks old mark (Ticked batch) new = TakesMark old mark (reports_of (option_to_list batch)) new
 Marks old mark (Skipped skip) new = IsMarkSkipped skip old mark × (new ≡ old)
 
 -- the skip of a refusal; none for want of memory

@@ -3,4 +3,7 @@ pub mod Numbers
 pub mod Log
 pub mod Skipped
 pub mod Reported
+pub mod Ids
+pub mod Told
+pub mod Cutting
 pub mod Asking

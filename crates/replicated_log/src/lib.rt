@@ -6,10 +6,12 @@
 #![tactic(auto)]
 
 mod asked;
+mod batch;
 mod laws;
 mod replica;
 mod skip;
 
+pub use batch::LogBatch;
 pub use laws::log_laws;
 pub use replica::{LineReport, Replica};
 pub use skip::Skip;

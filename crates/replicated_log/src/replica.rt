@@ -1,30 +1,40 @@
 //! The replica.
 
-ghost use Rattle.std.specs.Prelude.{◌≡◌, [], IfOk, OnErr};
+ghost use Rattle.std.specs.Prelude.{◌≡◌, ℕ, List, [], IfOk, OnErr};
 ghost use Rattle.batch_cutter.specs.Division.{message, timeout};
 ghost use Rattle.orderer.specs.Blocks.{from_number};
 ghost use Rattle.orderer.specs.Ordering.{AreLimits};
 ghost use Rattle.orderer.specs.declared.report.OrderCause.TheVariants.{OutOfMemory};
 ghost use Rattle.replicated_log.specs.Asking.{IsSkipOf, Marks};
+ghost use Rattle.replicated_log.specs.Ids.{ids_of};
+ghost use Rattle.replicated_log.specs.Lines.{IsMark};
 ghost use Rattle.replicated_log.specs.Log.{Reads};
 ghost use Rattle.replicated_log.specs.Reported.{answer_of, IsTrueOf};
+ghost use Rattle.replicated_log.specs.Told.{TellsIds};
 
 use crate::asked::{Asked, Unread, asked_by};
+use crate::batch::{LogBatch, Room, cut, cut_each};
 use crate::skip::Skip;
 use fab_types::{Block, Envelope};
-use orderer::{BatchReport, OrderCause, Orderer};
+use orderer::{OrderCause, Orderer};
 use seq::Seq;
 use std::alloc::{AllocError, Global};
 use std::marker::Model;
+use wire::tx_id;
 
 /// What became of a line.
 #[derive(Debug, Drop)]
 pub enum LineReport {
-    /// Its envelope was taken, which ended these batches, none to two, in their order.
-    Accepted(Seq<BatchReport>),
+    /// Its envelope was taken.
+    Accepted {
+        /// The id of the envelope's transaction.
+        id: [u8; 32],
+        /// The batches that it ended, none to two, in their order.
+        batches: Seq<LogBatch>,
+    },
     /// What waited was cut, and this is its batch. None where nothing waited, which leaves all as
     /// it was.
-    Ticked(Option<BatchReport>),
+    Ticked(Option<LogBatch>),
     /// It asks for nothing that can be done, and all is as it was.
     Skipped(Skip),
 }
@@ -37,15 +47,24 @@ pub enum LineReport {
 #[derive(Drop)]
 pub struct Replica {
     orderer: Orderer,
+    /// The ids of the envelopes that wait.
+    waiting: Vec<[u8; 32]>,
     alloc: Global,
 }
 
 impl Model for Replica {
+    ghost use Rattle.std.specs.Prelude.{◌≡◌};
+    ghost use Rattle.batch_cutter.specs.Division.{IsPending};
+    ghost use Rattle.fab_types.specs.Size.{envelope_size};
     ghost use Rattle.orderer.specs.Ordering.{Ordering};
+    ghost use Rattle.replicated_log.specs.Ids.{ids_of};
 
     ghost Value = { Ordering };
 
     ghost view = { λ r. r.orderer };
+
+    ghost invariant = { λ r. (r.waiting.items ≡ ids_of r.orderer.pending) ×
+        IsPending envelope_size r.orderer.limits r.orderer.pending };
 }
 
 impl Replica {
@@ -74,6 +93,7 @@ impl Replica {
     {
         Replica {
             orderer: Orderer::new(alloc, count, preferred, absolute, reorder),
+            waiting: Vec::new(alloc),
             alloc,
         }
     }
@@ -85,6 +105,7 @@ impl Replica {
     pub fn read(&mut self, line: &str) -> Result<LineReport, AllocError>
         ensures read { IfOk result
             (λ report. Reads self.old line.now (answer_of report) self.new) }
+        ensures ids { IfOk result (λ report. TellsIds report self.old line.now) }
         ensures why { IfOk result (λ report. IsTrueOf report self.old line.now) }
         ensures unchanged { OnErr result (self.new ≡ self.old) }
     {
@@ -99,10 +120,20 @@ impl Replica {
     /// Takes an envelope, or skips it.
     fn accept(&mut self, envelope: Envelope) -> Result<LineReport, AllocError>
         ensures marks { IfOk result (λ report. Marks self.old (message envelope) report self.new) }
+        ensures ids { IfOk result (λ report. (line : List ℕ) → IsMark line (message envelope) →
+            TellsIds report self.old line) }
         ensures unchanged { OnErr result (self.new ≡ self.old) }
     {
+        // All memory is taken before the orderer is asked: what it did cannot be undone.
+        let id = tx_id(self.alloc, &envelope.payload.proposal)?;
+        self.waiting.reserve(1)?;
+        let room = Room::new(self.alloc, self.waiting.len() + 1)?;
         match self.orderer.accept(envelope) {
-            Ok(reports) => Ok(LineReport::Accepted(Seq::new(reports))),
+            Ok(reports) => {
+                self.waiting.push(id).unwrap();
+                let batches = cut_each(self.alloc, &mut self.waiting, reports, room);
+                Ok(LineReport::Accepted { id, batches })
+            }
             Err(refusal) => skipped(refusal.cause),
         }
     }
@@ -110,12 +141,26 @@ impl Replica {
     /// Cuts what waits, or skips the tick.
     fn tick(&mut self) -> Result<LineReport, AllocError>
         ensures marks { IfOk result (λ report. Marks self.old timeout report self.new) }
+        ensures ids { IfOk result (λ report. (line : List ℕ) → IsMark line timeout →
+            TellsIds report self.old line) }
         ensures unchanged { OnErr result (self.new ≡ self.old) }
     {
+        let room = Vec::with_capacity(self.alloc, self.waiting.len())?;
         match self.orderer.tick() {
-            Ok(report) => Ok(LineReport::Ticked(report)),
+            Ok(None) => Ok(LineReport::Ticked(None)),
+            Ok(Some(report)) => {
+                let batch = cut(&mut self.waiting, report, room);
+                Ok(LineReport::Ticked(Some(batch)))
+            }
             Err(refusal) => skipped(refusal.cause),
         }
+    }
+
+    /// The ids of the envelopes that wait, in their order.
+    pub fn waiting(&self) -> &[[u8; 32]]
+        ensures { result.now ≡ ids_of self.now.pending }
+    {
+        &self.waiting
     }
 
     /// All blocks, from block 1 on.
