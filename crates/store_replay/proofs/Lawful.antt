@@ -1,12 +1,14 @@
 -- Lawful blocks and one more.
-use Rattle.std.proofs.Common.{◌≡◌, ◌++◌, ◌∷◌, [], List, true, ap, sym, subst, append_assoc, append-nil}
+use Rattle.std.proofs.Common.{◌≡◌, ◌+◌, ◌++◌, ◌∷◌, [], List, length, true, refl, ap, sym, subst, append_assoc, append-nil}
 use Rattle.fab_types.specs.Committed.{Committed}
 use Rattle.fab_types.specs.declared.flag.Flag.{Flag}
 use Rattle.ledger_model.specs.Chain.{Chain}
 use Rattle.ledger_model.specs.Judged.{BlockRule}
 use Rattle.committer.specs.Fits.{Fits, blocks_of}
 use Rattle.store_replay.specs.Replay.{judged_behind, HasTheFlags}
-use Rattle.store_replay.specs.Lawful.{AreLawful}
+use Rattle.store_replay.specs.Lawful.{AreLawful, IsNextRefused, IsRecommitRefused}
+use Rattle.store_replay.specs.declared.refusal.RecommitRefusal.{RecommitRefusal}
+use Rattle.store_replay.specs.declared.refusal.RecommitRefusal.TheVariants.{Memory, Unfit, Flags}
 
 pub lawful_more : (rule : BlockRule) (before cs : Chain) (c : Committed) → AreLawful rule before cs → Fits (blocks_of (before ++ cs)) c.block
     → HasTheFlags rule (before ++ cs) c true → AreLawful rule before (cs ++ c ∷ [])
@@ -18,6 +20,18 @@ lawful_more rule before (d ∷ cs) c done fits flags =
     let rest = lawful_more rule (before ++ d ∷ []) cs c done.2 (subst (λ (x : Chain). Fits (blocks_of x) c.block) same fits)
     (subst (λ (x : Chain). HasTheFlags rule x c true) same flags) in
     (done.0, done.1, rest)
+
+-- the record at which lawful records end is refused
+pub refused_at : (rule : BlockRule) (all before after : List Committed) (c : Committed) (r : RecommitRefusal) → all ≡ before ++ c ∷ after →
+    AreLawful rule [] before → IsNextRefused rule before c r → IsRecommitRefused rule all r
+refused_at rule all before after c Memory split lawful why = (
+  length before + 1,
+  record { before = before; first = c; after = after; all = split; lawful = lawful; place = refl; wrong = why },
+)
+refused_at rule all before after c (Unfit number cause) split lawful why =
+    record { before = before; first = c; after = after; all = split; lawful = lawful; place = why.0; wrong = why.1 }
+refused_at rule all before after c (Flags number) split lawful why =
+    record { before = before; first = c; after = after; all = split; lawful = lawful; place = why.0; wrong = (why.1, why.2) }
 
 -- a record with the rule's flags is the block as the rule commits it
 pub is_judged : (rule : BlockRule) (chain : Chain) (c : Committed) → HasTheFlags rule chain c true → c ≡ judged_behind rule chain c

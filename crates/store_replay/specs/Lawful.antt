@@ -24,6 +24,12 @@ pub record StopsAt (rule : BlockRule) (records : List Committed) (number : ℕ) 
   pub place : number ≡ length before + 1
   pub wrong : Wrong before first
 
+-- what a refusal says of one record behind a chain. Want of memory comes at a block that is the next by its number and the hash that it names
+abbrev pub IsNextRefused : BlockRule → Chain → Committed → RecommitRefusal → Type 0
+IsNextRefused rule chain c Memory = IsNext (blocks_of chain) c.block
+IsNextRefused rule chain c (Unfit number cause) = (number ≡ length chain + 1) × IsUnfit chain c cause
+IsNextRefused rule chain c (Flags number) = (number ≡ length chain + 1) × Fits (blocks_of chain) c.block × HasTheFlags rule chain c false
+
 -- what a refusal says of stored blocks. Want of memory comes behind lawful blocks, at one that is the next by its number and the hash that it names
 abbrev pub IsRecommitRefused : BlockRule → List Committed → RecommitRefusal → Type 0
 IsRecommitRefused rule records Memory = (number : ℕ) × StopsAt rule records number (λ before c. IsNext (blocks_of before) c.block)

@@ -4,13 +4,13 @@
 //! another, as a peer would: headers are tested, envelopes are checked under the genesis' policies,
 //! and flags are computed anew. It trusts neither the flags in the store nor whoever wrote it.
 //! [`recommit`] does so with blocks that were loaded, and takes them only if all of them fit and
-//! have the flags of the table.
+//! have the flags of the table; [`recommit_next`] with one record more.
 #![tactic(auto)]
 
 mod recommitting;
 mod refusal;
 mod replaying;
 
-pub use recommitting::recommit;
+pub use recommitting::{recommit, recommit_next};
 pub use refusal::RecommitRefusal;
 pub use replaying::{Replayed, replay_store};

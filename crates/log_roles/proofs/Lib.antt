@@ -1,0 +1,4 @@
+mod Agreeing
+mod Answering
+mod Replaying
+mod Standing

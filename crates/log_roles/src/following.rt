@@ -1,0 +1,91 @@
+//! An endorser beside a store that grows.
+
+ghost use Rattle.std.specs.Prelude.{◌≡◌, [], ◌∷◌, ◌++◌, length, OnOk, OnErr, IfErr};
+ghost use Rattle.std.specs.Arc.{arc_value};
+ghost use Rattle.ledger_setting.specs.Rule.{table_of};
+ghost use Rattle.simulator.specs.Answers.{Answers};
+ghost use Rattle.store_replay.specs.Lawful.{AreLawful, IsNextRefused};
+ghost use Rattle.log_roles.specs.Following.{followed_chain, endorsing_of, endorsed_on};
+
+use endorsement_policy::Rules;
+use endorser::seal;
+use fab_types::{CommittedBlock, Endorsement, OrgName, Payload, Proposal};
+use simulator::{Book, SimRefusal, simulate};
+use std::alloc::Global;
+use std::sync::Arc;
+use store_replay::{RecommitRefusal, recommit_next};
+use world_state::Snapshot;
+
+/// An endorser that follows the records of a store, from block 1 on, and endorses on the state
+/// after them.
+///
+/// Contracts see the blocks with their flags that it has followed (`followed_chain`), which
+/// `follow` alone changes, and what it endorses by (`endorsing_of`).
+#[derive(Drop)]
+pub struct Follower {
+    book: Arc<Book>,
+    rules: Arc<Rules>,
+    org: OrgName,
+    snapshot: Snapshot,
+    alloc: Global,
+}
+
+impl Follower {
+    /// An endorser of an organisation that has followed nothing. Tags of an organisation that the
+    /// rules do not list are made with the empty key and count for nothing. It takes no memory.
+    pub fn new(alloc: Global, book: Arc<Book>, rules: Arc<Rules>, org: OrgName) -> Follower
+        ensures chain { followed_chain result ≡ [] }
+        ensures endorsing { endorsing_of result
+            ≡ record { book = arc_value book; listed = arc_value rules; org = org } }
+    {
+        Follower {
+            book,
+            rules,
+            org,
+            snapshot: Snapshot::empty(alloc),
+            alloc,
+        }
+    }
+
+    /// Goes on by the next record of the store. Its block is committed again, and has to have the
+    /// flags with which it is stored.
+    ///
+    /// Refused as `recommit_next` refuses: where the block does not fit (601 to 604) or has other
+    /// flags than the table's (711), and for want of memory (9), at a block that is the next by its
+    /// number and the hash that it names. A refusal changes nothing.
+    pub fn follow(&mut self, stored: CommittedBlock) -> Result<(), RecommitRefusal>
+        ensures lawful { OnOk result
+            (AreLawful (table_of (endorsing_of self.old).listed) (followed_chain self.old)
+            (stored ∷ [])) }
+        ensures followed { OnOk result
+            (followed_chain self.new ≡ followed_chain self.old ++ stored ∷ []) }
+        ensures refused { IfErr result
+            (λ r. IsNextRefused (table_of (endorsing_of self.old).listed)
+            (followed_chain self.old) stored r) }
+        ensures unchanged { OnErr result (followed_chain self.new ≡ followed_chain self.old) }
+        ensures same { endorsing_of self.new ≡ endorsing_of self.old }
+    {
+        self.snapshot = recommit_next(self.alloc, &self.rules, &self.snapshot, stored)?;
+        Ok(())
+    }
+
+    /// Simulates a proposal on the state after its chain, and endorses the payload.
+    ///
+    /// Refused as the simulation is (401 to 404, 406 and 407), and for want of memory (9).
+    pub fn endorse(&self, proposal: &Proposal) -> Result<(Payload, Endorsement), SimRefusal>
+        ensures { Answers
+            (endorsed_on (endorsing_of self.now) proposal.now (followed_chain self.now)) result }
+    {
+        let payload = simulate(self.alloc, &self.book, &self.snapshot, proposal)?;
+        let key = self.rules.key(&self.org);
+        let endorsement = seal(self.alloc, &self.org, key, &payload)?;
+        Ok((payload, endorsement))
+    }
+
+    /// How many blocks it has followed, at most 65,535.
+    pub fn height(&self) -> usize
+        ensures { result ≡ length (followed_chain self.now) }
+    {
+        self.snapshot.height()
+    }
+}

@@ -1,0 +1,18 @@
+//! What two filters over one log of blocks do on a machine of their own: the state of each, and its
+//! step.
+//!
+//! A [`Committer`] puts the blocks of a log at the end of a peer's chain; a block that the chain
+//! has already is compared with it. A [`Follower`] keeps the chain of a store that grows, and
+//! endorses proposals on the state after it. Who receives one list of blocks has one chain
+//! ([`peers_agree`]).
+#![tactic(auto)]
+
+mod following;
+mod laws;
+mod receiving;
+mod refusal;
+
+pub use following::Follower;
+pub use laws::peers_agree;
+pub use receiving::{Committer, Received};
+pub use refusal::ReceiveRefusal;
