@@ -45,6 +45,11 @@ impl Cause {
 }
 
 impl Display for Cause {
+    ghost use Rattle.std.specs.Prelude.{◌++◌, Some, codes};
+    ghost use Rattle.std.specs.Fmt.{decimal};
+
+    ghost output = { λ c. Some (codes "refused " ++ decimal (cause_number c)) };
+
     fn fmt<W: Write>(&self, f: &mut Formatter<W>) -> fmt::Result {
         write!(f, "refused {}", self.number())
     }

@@ -26,8 +26,8 @@ pub(crate) fn entry_of(
     json!(in alloc; {"key": key, "value": value, "version": version})
 }
 
-/// What the transaction of this id wrote to a key, at its place in the chain. The only error is want
-/// of memory.
+/// What the transaction of this id wrote to a key, at its place in the chain. The only error is
+/// want of memory.
 pub(crate) fn write_of(
     alloc: Global,
     id: &[u8; 32],

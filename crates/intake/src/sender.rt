@@ -19,6 +19,10 @@ pub struct Full {
 }
 
 impl Display for Full {
+    ghost use Rattle.std.specs.Prelude.{Some, codes};
+
+    ghost output = { λ _. Some (codes "refused 411") };
+
     fn fmt<W: Write>(&self, f: &mut Formatter<W>) -> fmt::Result {
         write!(f, "refused 411")
     }

@@ -1,5 +1,5 @@
-//! The valid module of a profile that the bytes of a file spell: the decoder and the validator, one after the
-//! other.
+//! The valid module of a profile that the bytes of a file spell: the decoder and the validator, one
+//! after the other.
 #![tactic(auto)]
 
 mod module;

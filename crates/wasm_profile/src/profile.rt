@@ -39,6 +39,11 @@ impl Profile {
 
 /// The number.
 impl Display for Profile {
+    ghost use Rattle.std.specs.Prelude.{Some};
+    ghost use Rattle.std.specs.Fmt.{decimal};
+
+    ghost output = { λ p. Some (decimal (number_of p)) };
+
     fn fmt<W: Write>(&self, f: &mut Formatter<W>) -> fmt::Result {
         write!(f, "{}", self.number())
     }
