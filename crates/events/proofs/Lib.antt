@@ -1,3 +1,4 @@
 mod Texts
 mod Together
+mod OneProposal
 mod OneAction

@@ -1,8 +1,9 @@
--- What a line of an events file spells, over the data that it is as JSON. A JSON object has each of its
--- members once, in the order of their names; so an object with exactly some fields is written out in that order.
+-- What a line of an events file spells, and what a line of proposals does, over the data that it is as JSON. A JSON
+-- object has each of its members once, in the order of their names; so an object with exactly some fields is written
+-- out in that order.
 use Rattle.std.specs.Prelude.{◌≡◌, ◌≤◌, ◌⊎◌, ℕ, List, [], length, codes, Some, Ok, String, string_bytes}
 use Rattle.std.specs.declared.alloc.Global.{Global}
-use Rattle.serde_json.specs.Data.{Data, object, member, no_members, Members, Items, array, string, number, unsigned}
+use Rattle.serde_json.specs.Data.{Data, object, member, no_members, Members, Items, array, put, string, number, unsigned}
 use Rattle.serde_json.specs.Read.{read}
 use Rattle.json_fields.specs.Lists.{AreItems}
 use Rattle.hex.specs.Hex.{decode_of, decode_sized}
@@ -52,19 +53,21 @@ AreNames ds xs = AreTexts ds xs × (1 ≤ length xs) × (length xs ≤ 32)
 abbrev pub seat_members : ℕ → ℕ → Members
 seat_members peer seat = member (codes "peer") (number (unsigned peer)) (member (codes "seat") (number (unsigned seat)) no_members)
 
--- {"arg":"-", "chaincode":"kv", "do":"begin", "nonce":"..", "peer":0, "seat":0}
-abbrev pub begin_object : List ℕ → List ℕ → List ℕ → ℕ → ℕ → Data
-begin_object arg chaincode nonce peer seat =
-    object (member (codes "arg") (string arg) (member (codes "chaincode") (string chaincode) (member (codes "do") (string (codes "begin"))
-    (member (codes "nonce") (string nonce) (seat_members peer seat)))))
+-- "arg":"-", "chaincode":"kv", "nonce":".."
+abbrev pub call_members : List ℕ → List ℕ → List ℕ → Members
+call_members arg chaincode nonce =
+    member (codes "arg") (string arg) (member (codes "chaincode") (string chaincode) (member (codes "nonce") (string nonce) no_members))
 
--- {"do":"begin", "fuel":141, "module":"..", "nonce":"..", "peer":0, "policy":"..", "profile":1, "seat":0, "upgrade":"kv"}
-abbrev pub upgrade_object : ℕ → List ℕ → List ℕ → ℕ → List ℕ → ℕ → ℕ → List ℕ → Data
-upgrade_object fuel digest nonce peer policy profile seat chaincode =
-    object (member (codes "do") (string (codes "begin")) (member (codes "fuel") (number (unsigned fuel)) (member (codes "module") (string digest)
-    (member (codes "nonce") (string nonce) (member (codes "peer") (number (unsigned peer)) (member (codes "policy") (string policy)
-    (member (codes "profile") (number (unsigned profile)) (member (codes "seat") (number (unsigned seat))
-    (member (codes "upgrade") (string chaincode) no_members)))))))))
+-- "fuel":141, "module":"..", "nonce":"..", "policy":"..", "profile":1, "upgrade":"kv"
+abbrev pub upgrade_members : ℕ → List ℕ → List ℕ → List ℕ → ℕ → List ℕ → Members
+upgrade_members fuel digest nonce policy profile chaincode =
+    member (codes "fuel") (number (unsigned fuel)) (member (codes "module") (string digest) (member (codes "nonce") (string nonce)
+    (member (codes "policy") (string policy) (member (codes "profile") (number (unsigned profile)) (member (codes "upgrade") (string chaincode) no_members)))))
+
+-- {.., "do":"begin", .., "peer":0, .., "seat":0, ..}: a begin has three members beside those of its proposal
+abbrev pub begin_object : ℕ → ℕ → Members → Data
+begin_object peer seat ms =
+    object (put (codes "do") (string (codes "begin")) (put (codes "peer") (number (unsigned peer)) (put (codes "seat") (number (unsigned seat)) ms)))
 
 -- {"as":"e1", "do":"finish", "peer":0, "seat":0}
 abbrev pub finish_object : List ℕ → ℕ → ℕ → Data
@@ -86,17 +89,17 @@ word_object word = object (member (codes "do") (string word) no_members)
 abbrev pub commit_object : ℕ → Data
 commit_object peer = object (member (codes "do") (string (codes "commit")) (member (codes "peer") (number (unsigned peer)) no_members))
 
--- the proposal that the data of a line begins at a seat of a peer
-abbrev pub IsBegun : Data → ℕ → ℕ → Proposal → Type 0
-IsBegun d peer seat (proposal.Call c) =
-    (arg : List ℕ) × (chaincode : List ℕ) × (nonce : List ℕ) × (d ≡ begin_object arg chaincode nonce peer seat) × IsCall arg chaincode nonce c
-IsBegun d peer seat (proposal.Upgrade u) =
+-- the proposal that the data of a line spells
+abbrev pub IsProposal : Data → Proposal → Type 0
+IsProposal d (proposal.Call c) =
+    (arg : List ℕ) × (chaincode : List ℕ) × (nonce : List ℕ) × (d ≡ object (call_members arg chaincode nonce)) × IsCall arg chaincode nonce c
+IsProposal d (proposal.Upgrade u) =
     (fuel : ℕ) × (digest : List ℕ) × (nonce : List ℕ) × (policy : List ℕ) × (profile : ℕ) × (chaincode : List ℕ)
-    × (d ≡ upgrade_object fuel digest nonce peer policy profile seat chaincode) × IsUpgrade fuel digest nonce policy profile chaincode u
+    × (d ≡ object (upgrade_members fuel digest nonce policy profile chaincode)) × IsUpgrade fuel digest nonce policy profile chaincode u
 
 -- the action that the data of a line spells
 abbrev pub IsAction : Data → Action → Type 0
-IsAction d (Begin peer seat p) = IsBegun d peer seat p
+IsAction d (Begin peer seat p) = (ms : Members) × (d ≡ begin_object peer seat ms) × IsProposal (object ms) p
 IsAction d (Finish peer seat name) = d ≡ finish_object (string_bytes name) peer seat
 IsAction d (SubmitEndorsed names) = (ds : Items) × (d ≡ use_object ds) × AreNames ds names.items
 IsAction d (SubmitBytes bytes) = (hex : List ℕ) × (d ≡ hex_object hex) × IsHex hex bytes.items
@@ -107,3 +110,7 @@ IsAction d (Commit peer) = d ≡ commit_object peer
 -- the action that a line spells
 abbrev pub Spells : List ℕ → Action → Type 0
 Spells line a = (d : Data) × (read line ≡ Some d) × IsAction d a
+
+-- the proposal that a line spells
+abbrev pub SpellsProposal : List ℕ → Proposal → Type 0
+SpellsProposal line p = (d : Data) × (read line ≡ Some d) × IsProposal d p

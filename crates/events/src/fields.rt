@@ -1,9 +1,9 @@
 //! The fields of each form of a line, which are taken in the order of their names.
 
 ghost use Rattle.std.specs.Prelude.{◌≡◌, ◌≢◌, ℕ, List, codes, MatchOption, MatchBool};
-ghost use Rattle.serde_json.specs.Data.{Items, Members, member, number, string, unsigned};
+ghost use Rattle.serde_json.specs.Data.{Items, Members, member, number, object, string, unsigned};
 ghost use Rattle.serde_json.specs.View.{view, items_view, members_view};
-ghost use Rattle.events.specs.Spelling.{begin_object, commit_object, finish_object, hex_object, seat_members, upgrade_object, use_object, word_object};
+ghost use Rattle.events.specs.Spelling.{begin_object, call_members, commit_object, finish_object, hex_object, seat_members, upgrade_members, use_object, word_object};
 
 use json_fields::{Fields, fields, is_end, items, take, take_number, take_text, take_word};
 use serde_json::Value;
@@ -29,22 +29,43 @@ fn last_place(left: &mut Fields<'_>) -> Option<Place>
     }
 }
 
-/// What the fields of a begin of a call hold.
+/// What the fields of a call hold.
 #[derive(Clone, Copy)]
-pub(crate) struct BeginFields<'a> {
+pub(crate) struct CallFields<'a> {
     pub arg: &'a str,
     pub chaincode: &'a str,
     pub nonce: &'a str,
-    pub place: Place,
+}
+
+/// The fields of a call. None where the line is of another form.
+pub(crate) fn call_fields(value: &Value) -> Option<CallFields<'_>>
+    ensures { MatchOption result
+        ((arg chaincode nonce : List ℕ) →
+        view value.now ≢ object (call_members arg chaincode nonce))
+        (λ f. view value.now ≡ object (call_members f.arg.now f.chaincode.now f.nonce.now)) }
+{
+    let mut left = fields(value)?;
+    let arg = take_text(&mut left, "arg")?;
+    let chaincode = take_text(&mut left, "chaincode")?;
+    let nonce = take_text(&mut left, "nonce")?;
+    if !is_end(&mut left) {
+        return None;
+    }
+    Some(CallFields {
+        arg,
+        chaincode,
+        nonce,
+    })
 }
 
 /// The fields of a begin of a call. None where the line is of another form.
-pub(crate) fn begin_fields(value: &Value) -> Option<BeginFields<'_>>
+pub(crate) fn begun_call_fields(value: &Value) -> Option<(Place, CallFields<'_>)>
     ensures { MatchOption result
         ((arg chaincode nonce : List ℕ) (peer seat : ℕ) →
-        view value.now ≢ begin_object arg chaincode nonce peer seat)
-        (λ f. view value.now
-        ≡ begin_object f.arg.now f.chaincode.now f.nonce.now f.place.peer f.place.seat) }
+        view value.now ≢ begin_object peer seat (call_members arg chaincode nonce))
+        (λ b. view value.now
+        ≡ begin_object b.0.peer b.0.seat
+        (call_members b.1.arg.now b.1.chaincode.now b.1.nonce.now)) }
 {
     let mut left = fields(value)?;
     let arg = take_text(&mut left, "arg")?;
@@ -54,12 +75,12 @@ pub(crate) fn begin_fields(value: &Value) -> Option<BeginFields<'_>>
     }
     let nonce = take_text(&mut left, "nonce")?;
     let place = last_place(&mut left)?;
-    Some(BeginFields {
+    let fields = CallFields {
         arg,
         chaincode,
         nonce,
-        place,
-    })
+    };
+    Some((place, fields))
 }
 
 /// Takes the first two fields that are left, which have these names and hold a number and a text.
@@ -77,7 +98,7 @@ fn take_pair<'a>(left: &mut Fields<'a>, first: &str, second: &str) -> Option<(u6
     Some((number, text))
 }
 
-/// What the fields of a begin of an upgrade hold.
+/// What the fields of an upgrade hold.
 #[derive(Clone, Copy)]
 pub(crate) struct UpgradeFields<'a> {
     pub fuel: u64,
@@ -86,18 +107,47 @@ pub(crate) struct UpgradeFields<'a> {
     pub policy: &'a str,
     pub profile: u64,
     pub chaincode: &'a str,
-    pub place: Place,
+}
+
+/// The fields of an upgrade. None where the line is of another form.
+pub(crate) fn upgrade_fields(value: &Value) -> Option<UpgradeFields<'_>>
+    ensures { MatchOption result
+        ((fuel : ℕ) (digest nonce policy : List ℕ) (profile : ℕ) (chaincode : List ℕ) →
+        view value.now
+        ≢ object (upgrade_members fuel digest nonce policy profile chaincode))
+        (λ f. view value.now
+        ≡ object (upgrade_members f.fuel f.digest.now f.nonce.now f.policy.now f.profile
+        f.chaincode.now)) }
+{
+    let mut left = fields(value)?;
+    let (fuel, digest) = take_pair(&mut left, "fuel", "module")?;
+    let nonce = take_text(&mut left, "nonce")?;
+    let policy = take_text(&mut left, "policy")?;
+    let (profile, chaincode) = take_pair(&mut left, "profile", "upgrade")?;
+    if !is_end(&mut left) {
+        return None;
+    }
+    Some(UpgradeFields {
+        fuel,
+        digest,
+        nonce,
+        policy,
+        profile,
+        chaincode,
+    })
 }
 
 /// The fields of a begin of an upgrade. None where the line is of another form.
-pub(crate) fn upgrade_fields(value: &Value) -> Option<UpgradeFields<'_>>
+pub(crate) fn begun_upgrade_fields(value: &Value) -> Option<(Place, UpgradeFields<'_>)>
     ensures { MatchOption result
-        ((fuel : ℕ) (digest nonce : List ℕ) (peer : ℕ) (policy : List ℕ) (profile seat : ℕ)
-        (chaincode : List ℕ) →
-        view value.now ≢ upgrade_object fuel digest nonce peer policy profile seat chaincode)
-        (λ f. view value.now
-        ≡ upgrade_object f.fuel f.digest.now f.nonce.now f.place.peer f.policy.now f.profile
-        f.place.seat f.chaincode.now) }
+        ((fuel : ℕ) (digest nonce policy : List ℕ) (profile : ℕ) (chaincode : List ℕ)
+        (peer seat : ℕ) →
+        view value.now
+        ≢ begin_object peer seat (upgrade_members fuel digest nonce policy profile chaincode))
+        (λ b. view value.now
+        ≡ begin_object b.0.peer b.0.seat
+        (upgrade_members b.1.fuel b.1.digest.now b.1.nonce.now b.1.policy.now b.1.profile
+        b.1.chaincode.now)) }
 {
     let mut left = fields(value)?;
     if !take_word(&mut left, "do", "begin") {
@@ -111,15 +161,15 @@ pub(crate) fn upgrade_fields(value: &Value) -> Option<UpgradeFields<'_>>
     if !is_end(&mut left) {
         return None;
     }
-    Some(UpgradeFields {
+    let fields = UpgradeFields {
         fuel,
         digest,
         nonce,
         policy,
         profile,
         chaincode,
-        place: Place { peer, seat },
-    })
+    };
+    Some((Place { peer, seat }, fields))
 }
 
 /// What the fields of a finish hold.

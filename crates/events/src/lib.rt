@@ -1,7 +1,8 @@
-//! The events of a run, line by line.
+//! The events of a run, line by line, and proposals by themselves.
 //!
-//! `read_event` gives the action that a line spells, over the data that `serde_json` reads in it.
-//! A line spells at most one (`a_line_spells_one_action`).
+//! `read_event` gives the action that a line spells, over the data that `serde_json` reads in it,
+//! and `read_proposal` the proposal, which has the fields of a begin but for `do`, `peer` and
+//! `seat`. A line spells at most one (`a_line_spells_one_action`, `a_line_spells_one_proposal`).
 //! `Bindings` keeps what a run's finishes gave under the names of their `as`, and makes the
 //! envelope that a `use` asks for.
 #![tactic(auto)]
@@ -15,5 +16,5 @@ mod values;
 
 pub use action::{Action, BadLine};
 pub use bindings::{Bindings, Endorsed};
-pub use laws::a_line_spells_one_action;
-pub use line::read_event;
+pub use laws::{a_line_spells_one_action, a_line_spells_one_proposal};
+pub use line::{read_event, read_proposal};

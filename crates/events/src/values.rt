@@ -9,7 +9,7 @@ ghost use Rattle.events.specs.Refused.{NoneIs};
 ghost use Rattle.events.specs.Spelling.{AreNames, AreTexts, IsArgument, IsCall, IsDefinition, IsHex, IsUpgrade};
 
 use crate::action::BadLine;
-use crate::fields::{BeginFields, UpgradeFields};
+use crate::fields::{CallFields, UpgradeFields};
 use fab_types::{Call, Definition, Fuel, Name, PolicyText, Upgrade, Value as Bytes};
 use hex::{FromHex, FromHexError};
 use serde_json::Value;
@@ -59,8 +59,8 @@ fn name(alloc: Global, text: &str) -> Result<Name, BadLine>
     }
 }
 
-/// The call that the fields of a begin hold.
-pub(crate) fn call(alloc: Global, fields: &BeginFields<'_>) -> Result<Call, BadLine>
+/// The call that these fields hold.
+pub(crate) fn call(alloc: Global, fields: &CallFields<'_>) -> Result<Call, BadLine>
     ensures ok { IfOk result
         (λ c. IsCall fields.now.arg.now fields.now.chaincode.now fields.now.nonce.now c) }
     ensures refused { IfErr result
@@ -106,7 +106,7 @@ fn profile(number: u64) -> Option<Profile>
     Profile::of_number(u8::try_from(number).ok()?)
 }
 
-/// The definition that the fields of a begin hold.
+/// The definition that the fields of an upgrade hold.
 fn definition(alloc: Global, fields: &UpgradeFields<'_>) -> Result<Definition, BadLine>
     ensures ok { IfOk result
         (λ d. IsDefinition fields.now.fuel fields.now.digest.now fields.now.policy.now
@@ -131,7 +131,7 @@ fn definition(alloc: Global, fields: &UpgradeFields<'_>) -> Result<Definition, B
     })
 }
 
-/// The upgrade that the fields of a begin hold.
+/// The upgrade that these fields hold.
 pub(crate) fn upgrade(alloc: Global, fields: &UpgradeFields<'_>) -> Result<Upgrade, BadLine>
     ensures ok { IfOk result
         (λ u. IsUpgrade fields.now.fuel fields.now.digest.now fields.now.nonce.now
