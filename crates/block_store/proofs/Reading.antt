@@ -10,7 +10,7 @@ use Rattle.wire.proofs.BlockLaws.{block_length}
 use Rattle.block_store.specs.Record.{framed_bytes, record_bytes}
 use Rattle.block_store.specs.Store.{AreRecords, Loads, Awaits, IsBeginning, IsDamaged, EndsInBlock, EndsBehindBlock}
 use Rattle.block_store.specs.Progress.{Progress, IsReading, RestsBy, Reads, FeedsBy, Feeds, FeedsAll, end_by, end_of, at_start}
-use Rattle.block_store.specs.Loading.{Gives, IsLoaded}
+use Rattle.block_store.specs.Loading.{Gives, Holds, IsBehind, IsLoaded}
 use Rattle.block_store.specs.declared.end.End.{End}
 use Rattle.block_store.specs.declared.end.End.TheVariants.{Clean, DeviceFailed}
 
@@ -208,6 +208,61 @@ device_failed before now later cs p h sound same =
       gives = failed_by p.next p.held h.bytes cs
           (subst (λ d. Loads 1 h.bytes cs (end_by d p.next p.held)) sound (loads_of p.is_damaged p.next p.held 1 h.bytes cs h.reads));
     }
+
+-- the whole records and what is held behind them are all the bytes
+reads_all : (d : Bool) (next : ℕ) (held : List ℕ) (n : ℕ) (bytes : List ℕ) (cs : List Committed) → d ≡ false →
+    Reads n bytes cs (record { next = next; held = held; is_damaged = d }) → bytes ≡ flat_map record_bytes cs ++ held
+reads_all d next held n bytes [] sound h =
+    let rests : RestsBy false n bytes held = subst (λ x. RestsBy x n bytes held) sound h.1 in
+    sym rests.1
+reads_all d next held n bytes (c ∷ cs) sound h =
+    h.2 ∙ ap (λ (t : List ℕ). record_bytes c ++ t) (reads_all d next held (suc n) h.0 cs sound h.3)
+    ∙ sym (append_assoc (record_bytes c) (flat_map record_bytes cs) held)
+
+pub stands_behind : (before now : List ℕ) (cs : List Committed) (p : Progress) → HasRead before now cs p → p.is_damaged ≡ false →
+    IsBehind before now cs (length p.held)
+stands_behind before now cs p h sound =
+    let all = reads_all p.is_damaged p.next p.held 1 h.bytes cs sound h.reads in
+    (p.held, h.read ∙ ap (λ (t : List ℕ). before ++ t) all ∙ sym (append_assoc before (flat_map record_bytes cs) p.held), refl)
+
+holds_by : (d : Bool) (next : ℕ) (held : List ℕ) (before now : List ℕ) (cs : List Committed) → IsBehind before now cs (length held) →
+    d ≡ false → Holds (end_by d next held) before now cs (length held)
+holds_by false next [] before now cs h sound = (refl, h)
+holds_by false next (b ∷ held) before now cs h sound = h
+holds_by true next held before now cs h sound = absurd (cc sound)
+
+-- an end is held as it stands
+pub holds_at_end : (before now : List ℕ) (cs : List Committed) (p : Progress) (end : End) (held : ℕ) → HasRead before now cs p → p.is_damaged ≡ false →
+    end ≡ end_of p → held ≡ length p.held → Holds end before now cs held
+holds_at_end before now cs p end held h sound e k =
+    subst (λ (n : ℕ). Holds end before now cs n) (sym k)
+    (subst (λ (x : End). Holds x before now cs (length p.held)) (sym e)
+    (holds_by p.is_damaged p.next p.held before now cs (stands_behind before now cs p h sound) sound))
+
+pub failed_holds : (before now later : List ℕ) (cs : List Committed) (p : Progress) (held : ℕ) → HasRead before now cs p → p.is_damaged ≡ false →
+    later ≡ now → held ≡ length p.held → Holds DeviceFailed before later cs held
+failed_holds before now later cs p held h sound same k =
+    subst (λ (n : ℕ). IsBehind before later cs n) (sym k)
+    (subst (λ (t : List ℕ). IsBehind before t cs (length p.held)) (sym same) (stands_behind before now cs p h sound))
+
+-- behind damage nothing is held
+nothing_held : (d : Bool) (next : ℕ) (held : List ℕ) (n : ℕ) (bytes : List ℕ) (cs : List Committed) → d ≡ true →
+    Reads n bytes cs (record { next = next; held = held; is_damaged = d }) → length held ≡ 0
+nothing_held d next held n bytes [] bad h =
+    let rests : RestsBy true n bytes held = subst (λ x. RestsBy x n bytes held) bad h.1 in
+    ap length rests.1
+nothing_held d next held n bytes (c ∷ cs) bad h = nothing_held d next held (suc n) h.0 cs bad h.3
+
+damaged_by : (d : Bool) (next : ℕ) (held : List ℕ) (before now : List ℕ) (cs : List Committed) (n : ℕ) → d ≡ true → n ≡ 0 →
+    Holds (end_by d next held) before now cs n
+damaged_by true next held before now cs n bad none = none
+damaged_by false next held before now cs n bad none = absurd (cc bad)
+
+pub damage_holds_nothing : (before now : List ℕ) (cs : List Committed) (p : Progress) (end : End) (held : ℕ) → HasRead before now cs p →
+    p.is_damaged ≡ true → end ≡ end_of p → held ≡ length p.held → Holds end before now cs held
+damage_holds_nothing before now cs p end held h bad e k =
+    subst (λ (x : End). Holds x before now cs held) (sym e)
+    (damaged_by p.is_damaged p.next p.held before now cs held bad (k ∙ nothing_held p.is_damaged p.next p.held 1 h.bytes cs bad h.reads))
 
 -- ---- any pieces
 

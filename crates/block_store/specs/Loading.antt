@@ -1,6 +1,8 @@
 -- What loading a store gives.
-use Rattle.std.specs.Prelude.{◌≡◌, ℕ, ◌<◌, ◌⊎◌, List, ◌++◌}
+use Rattle.std.specs.Prelude.{◌≡◌, ℕ, ◌<◌, ◌⊎◌, List, ◌++◌, length}
+use Rattle.std.specs.List.{flat_map}
 use Rattle.fab_types.specs.Committed.{Committed}
+use Rattle.block_store.specs.Record.{record_bytes}
 use Rattle.block_store.specs.Store.{Loads}
 use Rattle.block_store.specs.declared.end.End.{End}
 use Rattle.block_store.specs.declared.end.End.TheVariants.{Clean, Torn, Damaged, DeviceFailed}
@@ -31,3 +33,14 @@ ReadsAll Clean AtEnd = AtEnd
 ReadsAll Torn AtEnd = AtEnd
 ReadsAll (Damaged n) AtEnd = Unit {0}
 ReadsAll DeviceFailed AtEnd = Unit {0}
+
+-- behind what was read before come whole records, and then so many bytes
+abbrev pub IsBehind : (before now : List ℕ) → List Committed → ℕ → Type 0
+IsBehind before now cs held = (part : List ℕ) × (now ≡ before ++ flat_map record_bytes cs ++ part) × (length part ≡ held)
+
+-- so many bytes were read of a record that is not whole; of a damaged one none is held
+abbrev pub Holds : End → (before now : List ℕ) → List Committed → ℕ → Type 0
+Holds Clean before now cs held = (held ≡ 0) × IsBehind before now cs held
+Holds Torn before now cs held = IsBehind before now cs held
+Holds (Damaged n) before now cs held = held ≡ 0
+Holds DeviceFailed before now cs held = IsBehind before now cs held

@@ -1,7 +1,7 @@
 //! Loading a store.
 
 ghost use Rattle.std.specs.Prelude.{◌≡◌, ◌<◌, IfOk, length};
-ghost use Rattle.block_store.specs.Loading.{IsLoaded, IsTold, ReadsAll};
+ghost use Rattle.block_store.specs.Loading.{Holds, IsLoaded, IsTold, ReadsAll};
 
 use crate::device::CountedRead;
 use crate::end::End;
@@ -17,6 +17,8 @@ const PIECE: usize = 65_536;
 pub struct Loaded {
     pub blocks: Vec<CommittedBlock>,
     pub end: End,
+    /// How many bytes were read of a record that is not whole.
+    pub held: usize,
 }
 
 /// So many zeros.
@@ -35,6 +37,8 @@ fn load_by<R: CountedRead>(
     requires { 0 < length piece.old }
     ensures loaded { IfOk result
         (λ l. IsLoaded (R.taken reader.old) (R.taken reader.new) l.blocks.items l.end) }
+    ensures held { IfOk result
+        (λ l. Holds l.end (R.taken reader.old) (R.taken reader.new) l.blocks.items l.held) }
     ensures all { IfOk result (λ l. ReadsAll l.end (R.IsAtEnd reader.new)) }
     ensures device { IfOk result
         (λ l. IsTold l.end (R.failures reader.old) (R.failures reader.new)) }
@@ -44,12 +48,12 @@ fn load_by<R: CountedRead>(
     'pieces: loop {
         match reader.read(piece) {
             Err(_) => {
-                let end = End::DeviceFailed;
-                return Ok(Loaded { blocks, end });
+                let (held, end) = (records.held(), End::DeviceFailed);
+                return Ok(Loaded { blocks, end, held });
             }
             Ok(0) => {
-                let end = records.finish();
-                return Ok(Loaded { blocks, end });
+                let (held, end) = (records.held(), records.finish());
+                return Ok(Loaded { blocks, end, held });
             }
             Ok(count) => {
                 let mut more = records.feed(&piece[..count])?;
@@ -57,8 +61,8 @@ fn load_by<R: CountedRead>(
             }
         }
         if records.is_damaged() {
-            let end = records.finish();
-            return Ok(Loaded { blocks, end });
+            let (held, end) = (records.held(), records.finish());
+            return Ok(Loaded { blocks, end, held });
         }
     }
 }
@@ -70,6 +74,9 @@ pub fn load<R: CountedRead>(alloc: Global, reader: &mut R) -> Result<Loaded, All
     // The records and the end are those of the bytes that were read.
     ensures loaded { IfOk result
         (λ l. IsLoaded (R.taken reader.old) (R.taken reader.new) l.blocks.items l.end) }
+    // What is held stands behind the records; damage is not held.
+    ensures held { IfOk result
+        (λ l. Holds l.end (R.taken reader.old) (R.taken reader.new) l.blocks.items l.held) }
     // These were all, unless there was damage or the device failed.
     ensures all { IfOk result (λ l. ReadsAll l.end (R.IsAtEnd reader.new)) }
     // The device is blamed exactly where a call of it failed.

@@ -5,12 +5,14 @@ ghost use Rattle.std.specs.Borrow.{ftrue};
 
 use std::marker::Model;
 
-/// The bytes that a device has moved, and how many of its calls have failed. It takes no memory,
-/// and its functions do nothing at run time.
+/// The bytes that a device has moved, less those that were cut off again, how many of its calls have
+/// failed, and the bytes that it had moved when it was synced last. It takes no memory, and its
+/// functions do nothing at run time.
 #[derive(Drop)]
 pub(crate) struct History {
     ghost moved: { List ℕ },
     ghost failures: { ℕ },
+    ghost synced: { List ℕ },
 }
 
 impl Model for History {
@@ -21,6 +23,9 @@ impl Model for History {
 #[derive(Clone, Copy, Drop)]
 pub(crate) enum Call<'a> {
     Moved(&'a [u8]),
+    /// So many bytes were taken away from the end.
+    CutBack(usize),
+    Synced,
     Failed,
 }
 

@@ -26,7 +26,7 @@ failure_text failure.NoEntry = Some (codes "refused 432")
 failure_text (failure.Commit refusal) = Some (refused (commit_number refusal))
 failure_text (failure.Store end) = Some (codes "refused " ++ end_text end)
 failure_text (failure.BadLine n) = Some (codes "bad line " ++ decimal n)
-failure_text failure.Differs = Some []
+failure_text failure.Printed = Some []
 failure_text failure.Output = Some []
 
 -- a text with its line's end
@@ -36,6 +36,6 @@ line text = text ++ codes "\n"
 -- the line by which a failure is told at the end. None where it is told otherwise, or its text is not said
 abbrev pub last_line : Failure → Option (List ℕ)
 last_line failure.Usage = None
-last_line failure.Differs = None
+last_line failure.Printed = None
 last_line failure.Output = None
 last_line f = option_map line (failure_text f)

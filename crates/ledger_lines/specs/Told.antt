@@ -19,7 +19,7 @@ pub record IsMore (before after : Told) : Type 0 where
 
 -- what a failure says of what was told meanwhile: a difference was printed, and output failed where a text could not be
 abbrev pub Says : (before after : Told) → Failure → Type 0
-Says before after failure.Differs = before.printed < after.printed
+Says before after failure.Printed = before.printed < after.printed
 Says before after failure.Output = after.failed ≡ true
 Says before after _ = Unit {0}
 

@@ -37,8 +37,8 @@ pub enum Failure {
     Store(End),
     /// A line of the events, counted from 1, stands for nothing that can be done.
     BadLine(usize),
-    /// Flags of a store differ, or a transaction and its rerun. It is printed.
-    Differs,
+    /// What was found, or why the task ended, is printed.
+    Printed,
     /// A line could not be written.
     Output,
 }
@@ -62,7 +62,7 @@ impl Display for Failure {
             Failure::Commit(refusal) => write!(f, "{refusal}"),
             Failure::Store(end) => write!(f, "refused {end}"),
             Failure::BadLine(number) => write!(f, "bad line {number}"),
-            Failure::Usage | Failure::Differs | Failure::Output => Ok(()),
+            Failure::Usage | Failure::Printed | Failure::Output => Ok(()),
         }
     }
 }

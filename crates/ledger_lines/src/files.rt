@@ -3,13 +3,18 @@
 ghost use Rattle.std.specs.Prelude.{◌≡◌, ℕ, List, Option, None, IfSome, IfOk, take};
 
 use std::alloc::{AllocError, Global};
-use std::io::{self, ErrorKind, Read, Write};
+use std::fs::OpenFile;
+use std::io::{self, ErrorKind, Read, Seek, Write};
 
 /// Where the program's files are.
 pub trait Files {
     type Reader: Read + Drop;
 
     type Writer: Write + Drop;
+
+    type Store: Read + Write + Seek + OpenFile + Drop;
+
+    type Input: Read + Drop;
 
     /// The bytes of the file of a name, where they are known.
     ghost bytes: { Self → List ℕ → Option (List ℕ) } = { λ _ _. None };
@@ -37,6 +42,14 @@ pub trait Files {
 
     /// Takes a file away, where that can be done.
     fn remove(&mut self, name: &str);
+
+    /// Opens a file for reading, from its first byte on, and for writing at its end, and makes it
+    /// where there is none. None where that cannot be done, and where another one has opened the
+    /// file so.
+    fn open_store(&mut self, name: &str) -> Option<Self::Store>;
+
+    /// The standard input, from where it was read to.
+    fn input(&mut self) -> Self::Input;
 }
 
 /// Where that goes which is written under a name. A link stands for what it leads to.

@@ -8,22 +8,20 @@ ghost use Rattle.ledger_lines.specs.Opening.{IsSpelledBy};
 ghost use Rattle.ledger_lines.specs.Told.{IsSilent};
 
 use crate::failure::Failure;
-use crate::files::{Files, read_all};
 use genesis::{GenesisRefusal, read_genesis};
 use ledger_setting::Genesis;
 use std::alloc::Global;
 use std::sync::Arc;
 
-/// What a system begins with, by the file of this name.
-pub fn genesis_in<F: Files>(alloc: Global, files: &mut F, name: &str) -> Result<Genesis, Failure>
+/// What a system begins with, by the bytes of a genesis file.
+pub fn genesis_in(alloc: Global, bytes: &[u8]) -> Result<Genesis, Failure>
     ensures silent { IfErr result IsSilent }
     ensures limits { IfOk result (λ g. AreLimits (limits_of g)) }
     ensures peers { IfOk result (λ g. 0 < length g.peers.items) }
     ensures seats { IfOk result (λ g. (0 < g.seats) × (g.seats < 2 ^ 32)) }
     ensures queue { IfOk result (λ g. 0 < g.queue) }
 {
-    let bytes = read_all(alloc, files, name)?;
-    let Ok(text) = std::str::from_utf8(&bytes) else {
+    let Ok(text) = std::str::from_utf8(bytes) else {
         return Err(Failure::Genesis(GenesisRefusal::Json));
     };
     let genesis = system_genesis(alloc, text)?;

@@ -1,12 +1,12 @@
 //! Where lines are printed.
 
 ghost use Rattle.std.specs.Prelude.{◌≡◌, ◌<◌, true, IfSome, OnOk, OnErr};
-ghost use Rattle.std.specs.Io.KnownBytes.{Appends};
-ghost use Rattle.ledger_lines.specs.Told.{Tells, nothing_told};
+ghost use Rattle.std.specs.Io.KnownBytes.{Appends, Keeps};
+ghost use Rattle.ledger_lines.specs.Told.{Says, Tells, Told, nothing_told};
 
 use crate::failure::Failure;
 use std::fmt::Display;
-use std::io::{ErrorKind, Write};
+use std::io::{self, ErrorKind, Write};
 use std::marker::Model;
 
 /// A writer on which texts are printed. It keeps how many were, and whether one could not be.
@@ -59,12 +59,35 @@ impl<'w, W: Write> Printer<'w, W> {
             }
             Err(error) => {
                 self.has_failed = true;
-                if error.kind() == ErrorKind::OutOfMemory {
-                    Err(Failure::Memory)
-                } else {
-                    Err(Failure::Output)
-                }
+                Err(reason(&error))
             }
         }
+    }
+
+    /// Hands on what was printed. Refused where the writer refuses it.
+    pub fn flush(&mut self) -> Result<(), Failure>
+        ensures tells { Tells self.old self.new result }
+        ensures printed { self.new.printed ≡ self.old.printed }
+        ensures bytes { Keeps self.old.bytes self.new.bytes }
+        ensures failed { OnErr result (self.new.failed ≡ true) }
+    {
+        match self.out.flush() {
+            Ok(()) => Ok(()),
+            Err(error) => {
+                self.has_failed = true;
+                Err(reason(&error))
+            }
+        }
+    }
+}
+
+/// Why a text could not be printed.
+fn reason(error: &io::Error) -> Failure
+    ensures { (before after : Told) → after.failed ≡ true → Says before after result }
+{
+    if error.kind() == ErrorKind::OutOfMemory {
+        Failure::Memory
+    } else {
+        Failure::Output
     }
 }

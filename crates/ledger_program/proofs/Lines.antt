@@ -14,7 +14,7 @@ with_end (Some text) P h = h
 -- a failure's text with its line's end is its last line, unless it is told otherwise
 last_of_text : (f : Failure) (P : List ℕ → Type 0) → IfSome (failure_text f ++? Some (10 ∷ [])) P → IfSome (last_line f) P
 last_of_text failure.Usage P h = tt
-last_of_text failure.Differs P h = tt
+last_of_text failure.Printed P h = tt
 last_of_text failure.Output P h = tt
 last_of_text failure.Memory P h = h
 last_of_text failure.File P h = h

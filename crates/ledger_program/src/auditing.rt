@@ -42,7 +42,7 @@ fn print_replayed<W: Write>(
     let is_good = print_findings(alloc, genesis, replayed, out)?;
     match replayed.end {
         End::Clean if is_good => Ok(()),
-        End::Clean => Err(Failure::Differs),
+        End::Clean => Err(Failure::Printed),
         end => Err(Failure::Store(end)),
     }
 }

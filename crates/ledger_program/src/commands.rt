@@ -1,6 +1,6 @@
 //! The program, but for the machine that it runs on.
 
-ghost use Rattle.std.specs.Prelude.{◌≡◌, ◌<◌, ◌^◌, IfSome, OnOk, length};
+ghost use Rattle.std.specs.Prelude.{◌≡◌, ◌<◌, ◌^◌, true, false, IfSome, OnOk, length};
 ghost use Rattle.std.specs.Io.KnownBytes.{Appends};
 ghost use Rattle.orderer.specs.Ordering.{AreLimits};
 ghost use Rattle.ledger_setting.specs.Setting.{limits_of};
@@ -9,11 +9,13 @@ ghost use Rattle.ledger_lines.specs.Told.{IsMore, IsTold, Says, Tells, Told};
 
 use crate::auditing::audit;
 use crate::checking::check;
+use crate::opening::{opened, order_log};
 use crate::showing::{show, state};
 use crate::simulation::simulate;
 use crate::threading::threads;
 use crate::tracing::trace;
-use ledger_lines::{Failure, Files, Printer, genesis_in};
+use ledger_lines::{Failure, Files, Printer};
+use ledger_roles::{commit, endorse};
 use ledger_session::run;
 use ledger_setting::Genesis;
 use ledger_words::{Task, WordsFault, Work, parse};
@@ -30,6 +32,9 @@ const USAGE: &str = "usage: ledger check MODULE [--profile N]
        ledger show GENESIS STORE [--from N] [--to N]
        ledger state GENESIS STORE [--at N] [--key HEX]
        ledger trace GENESIS CHAINCODE ARG [--steps N]
+       ledger order GENESIS
+       ledger commit GENESIS STORE
+       ledger endorse GENESIS ORG STORE
   check    tells whether the file MODULE is a valid module of profile N: 1, the default, or 2, which
            has the sign-extension operators too
   sim      simulates a call of CHAINCODE with the argument ARG (hex, or - for none) on the empty
@@ -44,11 +49,16 @@ const USAGE: &str = "usage: ledger check MODULE [--profile N]
   state    shows each key of the state after the block of number N (the last one by default), or each
            write to the key HEX up to it, one JSON object a line
   trace    shows the first N steps (1 to 1000, 1000 by default) of a call on the empty state, each
-           with the fuel that it leaves, and how the call ends";
+           with the fuel that it leaves, and how the call ends
+  order    cuts blocks from a log: its lines come in, each an index and a mark (an envelope in hex, or
+           tick), and the blocks go out
+  commit   commits blocks, which come in line by line as order prints them, to the file STORE
+  endorse  endorses proposals, which come in line by line as JSON objects, for the organisation ORG
+           on the state after the file STORE, which it reads as it grows";
 
 /// Does what the words ask for, the command first, and answers the exit status: 0 for done, 1 for a
 /// refusal or a difference, which are printed, and 2 where the words name no task. Where a text
-/// cannot be printed, it is 1.
+/// cannot be printed, it is 1. What was printed is handed on at the end.
 pub fn program<R: Threads + Wait + Sync + Send + Copy + 'static, F: Files, W: Write>(
     rt: &R,
     alloc: Global,
@@ -60,12 +70,46 @@ pub fn program<R: Threads + Wait + Sync + Send + Copy + 'static, F: Files, W: Wr
     ensures done { result ≡ 0 → out.new.failed ≡ out.old.failed }
     ensures told { 0 < result → IsTold out.old out.new }
 {
-    let Err(failure) = carry_out(rt, alloc, words, files, out) else {
-        return 0;
-    };
-    match tell(failure, out) {
-        Ok(()) if matches!(failure, Failure::Usage) => 2,
-        _ => 1,
+    match carry_out(rt, alloc, words, files, out) {
+        Ok(()) => done(out),
+        Err(failure) => refused(failure, out),
+    }
+}
+
+/// The status of a task that was done: 0, where what it printed can be handed on.
+fn done<W: Write>(out: &mut Printer<'_, W>) -> u8
+    ensures status { result < 2 }
+    ensures done { result ≡ 0 → out.new.failed ≡ out.old.failed }
+    ensures told { 0 < result → out.new.failed ≡ true }
+{
+    if hand_on(out) { 0 } else { 1 }
+}
+
+/// The status of a task that was not done: 2, where the words name none. Prints why, where that is
+/// not printed yet.
+fn refused<W: Write>(failure: Failure, out: &mut Printer<'_, W>) -> u8
+    ensures status { (0 < result) × (result < 3) }
+    ensures told { (before : Told) → IsMore before out.old → Says before out.old failure
+        → IsTold before out.new }
+{
+    let is_told = tell(failure, out).is_ok();
+    let is_handed_on = hand_on(out);
+    if is_told && is_handed_on && matches!(failure, Failure::Usage) {
+        2
+    } else {
+        1
+    }
+}
+
+/// Hands on what was printed. Whether that could be done.
+fn hand_on<W: Write>(out: &mut Printer<'_, W>) -> bool
+    ensures more { IsMore out.old out.new }
+    ensures kept { result ≡ true → out.new.failed ≡ out.old.failed }
+    ensures lost { result ≡ false → out.new.failed ≡ true }
+{
+    match out.flush() {
+        Ok(()) => true,
+        Err(_) => false,
     }
 }
 
@@ -76,7 +120,7 @@ fn tell<W: Write>(failure: Failure, out: &mut Printer<'_, W>) -> Result<(), Fail
     ensures line { OnOk result (IfSome (last_line failure) (Appends out.old.bytes out.new.bytes)) }
 {
     match failure {
-        Failure::Differs | Failure::Output => Ok(()),
+        Failure::Printed | Failure::Output => Ok(()),
         Failure::Usage => writeln!(out, "{USAGE}"),
         failure => writeln!(out, "{failure}"),
     }
@@ -93,6 +137,7 @@ fn carry_out<R: Threads + Wait + Sync + Send + Copy + 'static, F: Files, W: Writ
 {
     match parse(alloc, words) {
         Ok(Task::Check { module, profile }) => check(alloc, files, module, profile, out),
+        Ok(Task::Order { genesis }) => order_log(alloc, files, genesis, out),
         Ok(Task::Work { genesis, work }) => { with_genesis(rt, alloc, files, genesis, &work, out) }
         Err(WordsFault::Memory) => Err(Failure::Memory),
         Err(WordsFault::Usage) => Err(Failure::Usage),
@@ -110,7 +155,7 @@ fn with_genesis<R: Threads + Wait + Sync + Send + Copy + 'static, F: Files, W: W
 ) -> Result<(), Failure>
     ensures tells { Tells out.old out.new result }
 {
-    let genesis = genesis_in(alloc, files, name)?;
+    let genesis = opened(alloc, files, name)?;
     do_work(rt, alloc, files, &genesis, work, out)
 }
 
@@ -159,5 +204,7 @@ fn do_work<R: Threads + Wait + Sync + Send + Copy + 'static, F: Files, W: Write>
             )
         }
         Work::Trace { call, most } => trace(alloc, genesis, call, *most, out),
+        Work::Commit { store } => commit(alloc, files, genesis, store, out),
+        Work::Endorse { org, store } => endorse(alloc, files, genesis, org, store, out),
     }
 }

@@ -3,7 +3,7 @@
 use ledger_lines::{FileFault, Files, Target};
 use std::alloc::Global;
 use std::fs::{self, File};
-use std::io::ErrorKind;
+use std::io::{ErrorKind, Stdin};
 use std::path::Path;
 
 /// The files of the machine that the program runs on.
@@ -32,6 +32,10 @@ impl Files for Disk<'_> {
     type Reader = File;
 
     type Writer = File;
+
+    type Store = File;
+
+    type Input = Stdin;
 
     fn open(&mut self, name: &str) -> Option<File> {
         fs::open(self.0, name).ok()
@@ -68,5 +72,17 @@ impl Files for Disk<'_> {
 
     fn remove(&mut self, name: &str) {
         let _ = fs::remove_file(self.0, name);
+    }
+
+    fn open_store(&mut self, name: &str) -> Option<File> {
+        let mut options = File::options();
+        options.read(true).append(true).create(true);
+        let file = options.open(self.0, name).ok()?;
+        file.try_lock().ok()?;
+        Some(file)
+    }
+
+    fn input(&mut self) -> Stdin {
+        self.0.stdin()
     }
 }

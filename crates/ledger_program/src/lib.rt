@@ -11,6 +11,8 @@
 //! - `audit GENESIS STORE` commits a store's chain again, and runs its VALID transactions again.
 //! - `show GENESIS STORE` shows the chain of a store as lines of JSON, and what is found of it.
 //! - `state GENESIS STORE` shows the state after a block, or each write to a key, as lines of JSON.
+//! - `order GENESIS`, `commit GENESIS STORE` and `endorse GENESIS ORG STORE` are filters over lines,
+//!   for organisations on machines of their own.
 //!
 //! [`program`] takes the words of the command line, the files by [`Files`], and where lines are
 //! printed. It starts threads for `threads` alone.
@@ -20,6 +22,7 @@ mod auditing;
 mod checking;
 mod commands;
 mod disk;
+mod opening;
 mod replaying;
 mod showing;
 mod simulation;

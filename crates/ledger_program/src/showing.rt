@@ -44,7 +44,7 @@ fn print_shown<W: Write>(
     if print_ending(alloc, genesis, replayed, out)? {
         Ok(())
     } else {
-        Err(Failure::Differs)
+        Err(Failure::Printed)
     }
 }
 

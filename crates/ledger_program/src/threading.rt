@@ -51,7 +51,7 @@ fn print_report<W: Write>(report: Report, out: &mut Printer<'_, W>) -> Result<()
     if print_audit(report.audit, out)? {
         Ok(())
     } else {
-        Err(Failure::Differs)
+        Err(Failure::Printed)
     }
 }
 

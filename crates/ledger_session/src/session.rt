@@ -88,7 +88,7 @@ impl Session {
         if is_good {
             Ok(())
         } else {
-            Err(Failure::Differs)
+            Err(Failure::Printed)
         }
     }
 

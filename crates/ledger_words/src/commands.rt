@@ -61,5 +61,8 @@ pub(crate) fn commands<'a>(alloc: Global) -> Result<Command<'a>, AllocError> {
     let ledger = with_command(alloc, ledger, "audit", &store, &[])?;
     let ledger = with_command(alloc, ledger, "show", &store, &["from", "to"])?;
     let ledger = with_command(alloc, ledger, "state", &store, &["at", "key"])?;
-    with_command(alloc, ledger, "trace", &call, &["steps"])
+    let ledger = with_command(alloc, ledger, "trace", &call, &["steps"])?;
+    let ledger = with_command(alloc, ledger, "order", &["GENESIS"], &[])?;
+    let ledger = with_command(alloc, ledger, "commit", &store, &[])?;
+    with_command(alloc, ledger, "endorse", &["GENESIS", "ORG", "STORE"], &[])
 }

@@ -4,7 +4,7 @@ use crate::commands::commands;
 use clap::ArgMatches;
 use clap::error::ErrorKind;
 use fab_types::limits::LAST_BLOCK;
-use fab_types::{Call, Key, Name, Proposal, Value};
+use fab_types::{Call, Key, Name, OrgName, Proposal, Value};
 use hex::{FromHex, FromHexError};
 use std::alloc::{AllocError, Global};
 use wasm_profile::Profile;
@@ -17,6 +17,8 @@ const MOST_COUNT: u32 = 1_000;
 pub enum Task<'a> {
     /// Tell whether the bytes of a file are a valid module of a profile.
     Check { module: &'a str, profile: Profile },
+    /// Cut the blocks of a log that comes line by line, by the limits of a genesis.
+    Order { genesis: &'a str },
     /// Do this with the chaincodes, organisations and peers of a genesis.
     Work { genesis: &'a str, work: Work<'a> },
 }
@@ -59,6 +61,16 @@ pub enum Work<'a> {
     Trace {
         call: Call,
         most: u32,
+    },
+    /// Commit blocks that come line by line to a store.
+    Commit {
+        store: &'a str,
+    },
+    /// Endorse proposals that come line by line for an organisation, on the state after a store
+    /// that grows.
+    Endorse {
+        org: OrgName,
+        store: &'a str,
     },
 }
 
@@ -114,6 +126,9 @@ fn task_of<'a>(alloc: Global, matches: &ArgMatches<'a>) -> Result<Task<'a>, Word
         return Ok(Task::Check { module, profile });
     }
     let genesis = text(command, "GENESIS")?;
+    if name == "order" {
+        return Ok(Task::Order { genesis });
+    }
     let work = work_of(alloc, name, command)?;
     Ok(Task::Work { genesis, work })
 }
@@ -153,6 +168,24 @@ fn work_of<'a>(
         "trace" => Ok(Work::Trace {
             most: command.get_str("steps").map_or(Ok(MOST_COUNT), count)?,
             call: call(alloc, command, None)?,
+        }),
+        _ => role_of(alloc, name, command),
+    }
+}
+
+/// What a command of this name asks for that works on lines as they come.
+fn role_of<'a>(
+    alloc: Global,
+    name: &str,
+    command: &ArgMatches<'a>,
+) -> Result<Work<'a>, WordsFault> {
+    match name {
+        "commit" => Ok(Work::Commit {
+            store: text(command, "STORE")?,
+        }),
+        "endorse" => Ok(Work::Endorse {
+            org: organisation(alloc, command)?,
+            store: text(command, "STORE")?,
         }),
         _ => Err(WordsFault::Usage),
     }
@@ -203,6 +236,12 @@ fn profile(number: &str) -> Result<Profile, WordsFault> {
 fn chaincode(alloc: Global, call: &ArgMatches<'_>) -> Result<Name, WordsFault> {
     let name = text(call, "CHAINCODE")?.as_bytes().to_vec(alloc)?;
     Name::new(name).ok_or(WordsFault::Usage)
+}
+
+/// The organisation that the words name.
+fn organisation(alloc: Global, command: &ArgMatches<'_>) -> Result<OrgName, WordsFault> {
+    let name = text(command, "ORG")?.as_bytes().to_vec(alloc)?;
+    OrgName::new(name).ok_or(WordsFault::Usage)
 }
 
 /// The bytes that hex stands for; none for `-`.

@@ -371,3 +371,74 @@ STORES = {
 }
 for name, store in STORES.items():
     (HERE / f"{name}.store").write_bytes(store)
+
+# Logs: lines of an index and a mark. Of the limits of sizes.json: each kind of mark and of line, two that end two blocks,
+# and at the end a part of a line.
+LIMITED = hashlib.sha256((HERE / "sizes.json").read_bytes()).hexdigest()
+
+
+def sized(nonce, size):
+    """The hex of an envelope of so many bytes, without tags."""
+    return envelope(payload(nonce, argument=bytes(size - 30)), "").hex()
+
+
+def log(marks):
+    return [f"{1 + at // 4}.{at % 4} {mark}" for at, mark in enumerate(marks)]
+
+
+def header_hash(number, link, data):
+    return hashlib.sha256(struct.pack(">I", number) + link + hashlib.sha256(data).digest()).hexdigest()
+
+
+def block_data(*envelopes):
+    return struct.pack(">H", len(envelopes)) + b"".join(struct.pack(">I", len(one)) + one for one in map(bytes.fromhex, envelopes))
+
+
+SEEN = header_hash(1, NO_LINK, block_data(sized(1, 30), sized(2, 30)))
+marks = [f"genesis {LIMITED}", "tick", sized(1, 30), sized(2, 30), "tick", sized(1, 30).upper()]
+marks += ["TICK", "tick ", "", "abc", "zz", sized(3, 30)[:-2], sized(3, 30) + "00", sized(3, 141)]
+marks += [envelope(call(1, writes=puts(b"b", b"a"))).hex(), envelope(call(1, ranges=[(b"a", b"c", 0, [])])).hex()]
+marks += [f"seen A 1 {SEEN}", f"seen B 1 {'00' * 32}", f"seen B 0 {SEEN}", f"seen A 2 {SEEN}", f"seen A 1 {SEEN[:-2]}", "seen"]
+marks += [sized(4, 140), sized(5, 30), sized(6, 30), sized(7, 30), f"genesis {'00' * 32}", sized(8, 41), sized(9, 60), "tick", "tick"]
+lines = log(marks)
+write("marks.log", lines[:20])
+(HERE / "all-marks.log").write_bytes(
+    "".join(line + "\n" for line in lines).encode() + b"alone\n\n \xff\xfe\n9.0 \xff\n9.1 " + sized(10, 30).encode() + b"\n9.2 tick"
+)
+write("another.log", [f"1.0 genesis {'00' * 32}", "1.1 tick"])
+
+# The batches of orders.jsonl.
+marks = [json.loads(line) for line in orders]
+write("orders.log", log([mark["hex"] if mark["do"] == "submit" else "tick" for mark in marks if mark["do"] in ("submit", "tick")]))
+
+# Blocks for `commit`: those of whole.store, between other lines; the second before the first; the second with other
+# data, and with another hash of its data; and lines that hold no block.
+
+
+def block(stored):
+    return stored[4:-33].hex()
+
+
+def blocks(name, *lines):
+    write(name, [f"block {line}" for line in lines])
+
+
+LINES = [f"1 {block(first)}", f"2 {block(second)}"]
+write("blocks.txt", ["read 1.0 0", f"block {LINES[0]}", "", "blocks", f"block {LINES[1]}", f"block {LINES[0]}", f"block {LINES[1]}"])
+blocks("gap.txt", LINES[1])
+blocks("forked.txt", LINES[0], "2 " + block(record(2, link, data_hash=hashlib.sha256(b"").digest())[0]))
+blocks("no-hex.txt", LINES[0], "2 zz", LINES[1])
+blocks("no-block.txt", LINES[0], LINES[1][:-2])
+(HERE / "part.txt").write_text(f"block {LINES[0]}\nblock {LINES[1]}")
+
+# Proposals for `endorse`: calls that return, trap and fail, and an unknown name; an upgrade; and lines that are none.
+
+
+def proposal(begun):
+    """The fields of a begin that are the proposal's."""
+    return json.dumps({k: v for k, v in json.loads(begun).items() if k not in ("do", "peer", "seat")}, separators=(",", ":"))
+
+
+calls = [proposal(begin(0, at, chaincode=name)) for at, name in enumerate(("kv", "trap", "status", "zero", "none"))]
+calls += [proposal(upgrade(0, 6, PUT_A)), proposal(upgrade(0, 7, b"another module")), begin(0, 1), "{}", "", calls[0]]
+write("proposals.jsonl", calls)

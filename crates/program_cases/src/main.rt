@@ -2,10 +2,16 @@
 //! printed, then what the program prints on those words, and then its status. Lines that are empty
 //! or begin with `#` are printed as they are.
 //!
-//! The files that the words name lie in `data`, in which the cases are run.
+//! The files that the words name lie in `data`, in which the cases are run. Behind ` < ` stands the
+//! name of the file that is the standard input, which else is empty. What `commit` writes is kept in
+//! memory and forgotten; a store's name may have a length behind it, as in `whole.store:100`.
 #![tactic(auto)]
 
-use ledger_program::{Disk, Printer, program};
+mod fed;
+mod memory;
+
+use crate::fed::Fed;
+use ledger_program::{Printer, program};
 use std::alloc::{AllocError, Global};
 use std::io::{self, BufRead, BufReader};
 
@@ -28,12 +34,13 @@ fn main(rt: HostRuntime) -> io::Result<()> {
             continue;
         }
         println!(rt; "> {line}")?;
-        let words = words_of(alloc, &line)?;
+        let (line, input) = line.split_once(" < ").unwrap_or((&line, ""));
+        let words = words_of(alloc, line)?;
         let status = program(
             &rt,
             alloc,
             &words,
-            &mut Disk::new(&rt),
+            &mut Fed::new(alloc, &rt, input),
             &mut Printer::new(&mut io::writer(&rt)),
         );
         println!(rt; "status {status}")?;

@@ -1,6 +1,6 @@
 use Rattle.std.proofs.Common.{◌<◌, length, take, rules, arith}
 use Rattle.std.proofs.lemmas.List.{length-take}
-use Rattle.block_store.proofs.Reading.{left_falls, more_read, no_more_read, all_read, device_failed}
+use Rattle.block_store.proofs.Reading.{left_falls, more_read, no_more_read, all_read, device_failed, holds_at_end, failed_holds, damage_holds_nothing}
 use Rattle.block_store.proofs.loading.load_by.Goals as goal
 
 pub returns-in-Err-clause-loaded : goal.returns-in-Err-clause-loaded
@@ -25,6 +25,30 @@ returns-then-is_damaged-clause-loaded g c =
     c.in_ok-append-in-Ok.ensures.items in
     all_read (taken c.args.reader.now) (taken c.read.new.self) c.append.new.self.items c.feed.new.self c.finish-end-then-is_damaged.result h
     c.finish-end-then-is_damaged.ensures
+
+pub returns-in-Err-clause-held : goal.returns-in-Err-clause-held
+returns-in-Err-clause-held g c =
+    failed_holds (g.R.CountedRead.taken c.args.reader.now) (g.R.CountedRead.taken c.pieces.reader) (g.R.CountedRead.taken c.read.new.self)
+    c.pieces.blocks.items c.pieces.records _ c.pieces.invariant.taken c.pieces.invariant.goes_on c.in-Err.ensures.0 (search rules)
+
+pub returns-in-Ok-eq0-clause-held : goal.returns-in-Ok-eq0-clause-held
+returns-in-Ok-eq0-clause-held g c =
+    let taken = g.R.CountedRead.taken in
+    let h = no_more_read (taken c.args.reader.now) (taken c.pieces.reader) (taken c.read.new.self) c.read.new.buffer c.pieces.blocks.items c.pieces.records
+    c.pieces.invariant.taken c.in-Ok-eq0.field-0 (omega (arith, c.in-Ok-eq0.field-0-test)) c.in-Ok-eq0.ensures.1 in
+    holds_at_end (taken c.args.reader.now) (taken c.read.new.self) c.pieces.blocks.items c.pieces.records c.finish-end.result _ h
+    c.pieces.invariant.goes_on c.finish-end.ensures (search rules)
+
+pub returns-then-is_damaged-clause-held : goal.returns-then-is_damaged-clause-held
+returns-then-is_damaged-clause-held g c =
+    let taken = g.R.CountedRead.taken in
+    let piece = take c.in-Ok.count c.read.new.buffer in
+    let fed = c.in_ok-more-in-Ok.ensures.fed in
+    let h = more_read (taken c.args.reader.now) (taken c.pieces.reader) (taken c.read.new.self) piece c.pieces.blocks.items c.in_ok-more-in-Ok.more.items
+    c.append.new.self.items c.pieces.records c.feed.new.self c.pieces.invariant.taken c.pieces.invariant.goes_on c.in-Ok.ensures.1 fed
+    c.in_ok-append-in-Ok.ensures.items in
+    damage_holds_nothing (taken c.args.reader.now) (taken c.read.new.self) c.append.new.self.items c.feed.new.self c.finish-end-then-is_damaged.result _ h
+    (search rules) c.finish-end-then-is_damaged.ensures (search rules)
 
 pub pieces-smaller : goal.pieces-smaller
 pieces-smaller g c =
