@@ -1,0 +1,9 @@
+mod Acting
+mod Among
+mod Current
+mod Handing
+mod Honest
+mod Joining
+mod Reading
+mod Roles
+mod Stepping
