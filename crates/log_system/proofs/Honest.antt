@@ -1,9 +1,7 @@
 -- The chain of a machine is honest: what makes it serial are the endorsements that machines answered.
-use Rattle.std.proofs.Common.{inl, inr, ◌≡◌, ◌≤◌, ◌⊎◌, ◌+◌, ℕ, zero, suc, Bool, true, List, [], ◌∷◌, ◌++◌, take, drop, length, length-append, Option, Some}
+use Rattle.std.proofs.Common.{◌≡◌, ◌⊎◌, ◌+◌, ℕ, zero, suc, Bool, true, List, [], ◌∷◌, ◌++◌, take, length, length-append, Option, Some}
 use Rattle.std.proofs.Common.{Result, Ok, refl}
-use Rattle.std.proofs.Common.{sym, ap, subst, ◌∙◌, slice_get, arith}
-use Rattle.std.proofs.lemmas.Bool.{cases_lt}
-use Rattle.fab_types.specs.declared.block.Block.{Block}
+use Rattle.std.proofs.Common.{sym, ap, subst, slice_get, arith}
 use Rattle.fab_types.specs.declared.envelope.Endorsement.{Endorsement}
 use Rattle.fab_types.specs.declared.payload.Payload.{Payload}
 use Rattle.fab_types.specs.declared.proposal.Proposal.{Proposal}
@@ -12,11 +10,11 @@ use Rattle.orderer.specs.declared.report.BatchReport.{BatchReport}
 use Rattle.wire.specs.Ids.{id_of}
 use Rattle.ledger_model.specs.Chain.{Bytes, Chain, Envelope, Placed, history, placed_from}
 use Rattle.ledger_model.specs.Execution.{Unknown, NotInstalled, BadPolicy, Trapped, Spent, Status, Done, ReadsAlone, payload_of}
-use Rattle.ledger_model.specs.Judged.{AllEndorsed, AreEndorsed, AreFlagsBy, BlockRule, block_of, judged_chain}
+use Rattle.ledger_model.specs.Judged.{AllEndorsed, AreEndorsed, AreFlagsBy, block_of}
 use Rattle.ledger_model.specs.Serial.{AllHandedOut, IsHandedOut, IsPrefix}
 use Rattle.ledger_model.specs.State.{state}
 use Rattle.ledger_model.specs.Views.{Plain, values_of}
-use Rattle.ledger_model.proofs.Judged.{flags_judged, judged_current, judged_endorsed, judged_grows, judged_onto-append}
+use Rattle.ledger_model.proofs.Judged.{flags_judged, judged_current, judged_endorsed}
 use Rattle.ledger_model.proofs.Reruns.{reruns_and_map, reruns_same}
 use Rattle.endorsement_policy.specs.Endorsed.{CarriesRight, Listed, is_endorsed, is_right}
 use Rattle.ledger_setting.specs.Rule.{table_of, seal_of}
@@ -25,42 +23,14 @@ use Rattle.simulator.specs.Execution.{exec_of}
 use Rattle.simulator.specs.declared.refusal.SimRefusal.{SimRefusal}
 use Rattle.replicated_log.specs.Log.{ReadsEach}
 use Rattle.log_roles.specs.Following.{endorsed_on, sealed_by}
-use Rattle.fabric_core.specs.System.{chain_of_first}
 use Rattle.fabric_core.specs.declared.event.Reply.{Reply}
 use Rattle.fabric_core.specs.Headline.{IsAmong, IsGenuine, IsHonest, IsUnforged}
 use Rattle.log_system.specs.Machines.{Act, Endorses, AreMachines, Does, DoesEach, Machine, Setting, unread}
 use Rattle.log_system.specs.OneSystem.{IsAnswered, replies_of_machines}
-use Rattle.log_system.proofs.Acting.{IsBehind, IsFirstOf, acted, acted_each}
+use Rattle.log_system.proofs.Acting.{IsBehind, IsFirstOf, acted}
 use Rattle.log_system.proofs.Among.{none_among, same_some}
+use Rattle.log_system.proofs.Firsts.{does_at, first_of, one_begins}
 use Rattle.log_system.proofs.Handing.{machines_given}
-
--- ---- two chains of first blocks
-
-take_parts : {X : Type 0} (xs : List X) (k n : ℕ) → k ≤ n → take k xs ++ drop k (take n xs) ≡ take n xs
-take_parts xs zero n h = refl
-take_parts [] (suc k) zero h = refl
-take_parts [] (suc k) (suc n) h = refl
-take_parts (x ∷ xs) (suc k) zero h = absurd (omega arith)
-take_parts (x ∷ xs) (suc k) (suc n) h = ap (λ ys. x ∷ ys) (take_parts xs k n (omega arith))
-
-prefix_first : (rule : BlockRule) (blocks : List Block) (k n : ℕ) → k ≤ n → IsPrefix (chain_of_first rule blocks k) (chain_of_first rule blocks n)
-prefix_first rule blocks k n h =
-    let front = take k blocks in
-    let back = drop k (take n blocks) in
-    let more = judged_grows rule (judged_chain rule front) back in
-    (more.0, more.1 ∙ sym (judged_onto-append rule [] front back) ∙ ap (judged_chain rule) (take_parts blocks k n h))
-
-prefix_of : (rule : BlockRule) (blocks : List Block) (a b : Chain) → IsFirstOf rule blocks a → IsFirstOf rule blocks b → length a ≤ length b → IsPrefix a b
-prefix_of rule blocks a b is are h =
-    subst (λ (c : Chain). IsPrefix c b) (sym is)
-    (subst (λ (c : Chain). IsPrefix (chain_of_first rule blocks (length a)) c) (sym are) (prefix_first rule blocks (length a) (length b) h))
-
-one_begins : (rule : BlockRule) (blocks : List Block) (a b : Chain) → IsFirstOf rule blocks a → IsFirstOf rule blocks b → IsPrefix a b ⊎ IsPrefix b a
-one_begins rule blocks a b is are =
-    elim (cases_lt (length a) (length b)) as (λ _. IsPrefix a b ⊎ IsPrefix b a) [
-      | inl less ↦ inl (prefix_of rule blocks a b is are (omega (arith, less)))
-      | inr most ↦ inr (prefix_of rule blocks b a are is most)
-    ]
 
 -- ---- what is answered was made on a chain of first blocks
 
@@ -102,21 +72,12 @@ module _ (behind : IsBehind) (s : Setting) (lines : List (List ℕ)) (told : Lis
       let next = acted behind s 1 1 lines told log reads (omega arith) [] [] org chain does.0 act is does.1 in
       answered_on org does.0 new acts q answer next.1 does.2 i e
 
-  first_of : (m : Machine) → DoesEach s lines m.org [] m.acts m.chain → IsFirstOf (table_of s.listed) log.chain m.chain
-  first_of m does = (acted_each behind s 1 1 lines told log reads (omega arith) [] [] m.org [] m.chain m.acts refl does).1
-
-  does_at : (machines : List Machine) (m : Machine) (i : ℕ) → AreMachines s lines machines → slice_get machines i ≡ Some m →
-      DoesEach s lines m.org [] m.acts m.chain
-  does_at [] m i are e = none_among m (i, e)
-  does_at (n ∷ machines) m zero are e = subst (λ (l : Machine). DoesEach s lines l.org [] l.acts l.chain) (same_some n m e) are.0
-  does_at (n ∷ machines) m (suc i) are e = does_at machines m i are.1 e
-
   handed : (machines : List Machine) (chain : Chain) (p : Payload) (x : Endorsement) → AreMachines s lines machines →
       IsFirstOf (table_of s.listed) log.chain chain → IsAnswered machines p x → IsHandedOut (exec_of s.book) chain p
   handed machines chain p x are is h =
       let m = h.0 in
       let q = h.2.0 in
-      let does = does_at machines m h.1.0 are h.1.1 in
+      let does = does_at s lines machines m h.1.0 are h.1.1 in
       let on = answered_on m.org [] m.chain m.acts q (Ok (p, x)) refl does h.2.1.0 h.2.1.1 in
       made_on s m.org q on.0 chain p x (one_begins (table_of s.listed) log.chain on.0 chain on.1 is) on.2
 
@@ -175,7 +136,7 @@ honest_machine behind s lines told log machines m alone carries reads are there 
     let exec = exec_of s.book in
     let chain = m.chain in
     let replies = replies_of_machines machines in
-    let first = first_of behind s lines told log reads m (does_at behind s lines told log reads machines m there.0 are there.1) in
+    let first = first_of behind s lines told log reads machines m are there in
     let flags : AreFlagsBy (table_of s.listed) [] chain =
     subst (λ (c : Chain). AreFlagsBy (table_of s.listed) [] c) (sym first) (flags_judged (table_of s.listed) (take (length chain) log.chain))
     in

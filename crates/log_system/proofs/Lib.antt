@@ -1,6 +1,7 @@
 mod Acting
 mod Among
 mod Current
+mod Firsts
 mod Handing
 mod Honest
 mod Joining

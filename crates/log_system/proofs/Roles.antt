@@ -1,5 +1,5 @@
 -- What a committer, a follower and an endorser of a log do are acts of a machine.
-use Rattle.std.proofs.Common.{◌≡◌, ◌≢◌, ◌+◌, ℕ, List, [], ◌∷◌, ◌++◌, length, length-take, Option, Some, None, Result, Ok, Err, refl, sym, ap, subst}
+use Rattle.std.proofs.Common.{◌≡◌, ◌≢◌, ◌+◌, ℕ, List, [], ◌∷◌, ◌++◌, length, length-take, Option, Result, Ok, Err, refl, sym, ap, subst}
 use Rattle.std.proofs.Common.{◌∙◌, arith}
 use Rattle.std.proofs.lemmas.List.{length-map}
 use Rattle.std.proofs.lemmas.Option.{slice_get_within}
@@ -7,11 +7,9 @@ use Rattle.fab_types.specs.declared.block.Block.{Block}
 use Rattle.fab_types.specs.declared.envelope.Endorsement.{Endorsement}
 use Rattle.fab_types.specs.declared.payload.Payload.{Payload}
 use Rattle.fab_types.specs.declared.proposal.Proposal.{Proposal}
-use Rattle.orderer.specs.Arranged.{plans_of}
 use Rattle.orderer.specs.Ordering.{Ordering}
 use Rattle.orderer.specs.declared.report.BatchReport.{BatchReport}
-use Rattle.orderer.proofs.Linking.{each_linked, linked_at}
-use Rattle.wire.specs.Links.{AreLinked}
+use Rattle.orderer.proofs.Linking.{linked_at}
 use Rattle.ledger_model.specs.Chain.{Bytes, Chain, Committed, history}
 use Rattle.ledger_model.specs.Judged.{BlockRule, judge}
 use Rattle.committer.specs.Fits.{Fits, blocks_of}
@@ -20,32 +18,20 @@ use Rattle.simulator.specs.Answers.{Answers}
 use Rattle.simulator.specs.declared.refusal.SimRefusal.{SimRefusal}
 use Rattle.simulator.specs.declared.refusal.SimRefusal.TheVariants as refusal
 use Rattle.store_replay.specs.Lawful.{AreLawful}
-use Rattle.replicated_log.specs.Log.{Reads, ReadsEach}
+use Rattle.replicated_log.specs.Log.{ReadsEach}
 use Rattle.log_roles.specs.Committing.{Receives}
 use Rattle.log_roles.specs.Following.{endorsed_on}
 use Rattle.log_roles.specs.declared.receiving.Received.TheVariants as received
+use Rattle.log_system.proofs.Firsts.{log_linked}
 use Rattle.log_system.specs.Machines.{Does, Endorses, IsRead, Joins, Setting, unread}
 
 -- ---- a block of the log that fits is the next one
-
-read_linked : (old new : Ordering) (line : List ℕ) (answer : Option (List BatchReport)) → AreLinked [] old.chain → Reads old line answer new →
-    AreLinked [] new.chain
-read_linked old new line None are reads = subst (λ (o : Ordering). AreLinked [] o.chain) (sym reads.1) are
-read_linked old new line (Some reports) are reads =
-    let takes = reads.2.0 in
-    each_linked (plans_of old.reorder) old.chain takes.batches reports new.chain takes.added are
-
-log_linked : (old new : Ordering) (lines : List (List ℕ)) (answers : List (Option (List BatchReport))) → AreLinked [] old.chain →
-    ReadsEach old lines answers new → AreLinked [] new.chain
-log_linked old new [] answers are reads = subst (λ (o : Ordering). AreLinked [] o.chain) (sym reads.1) are
-log_linked old new (line ∷ lines) answers are reads =
-    log_linked reads.2 new lines reads.1 (read_linked old reads.2 line reads.0 are reads.4) reads.5
 
 place_of : (s : Setting) (lines : List (List ℕ)) (place : ℕ) (block : Block) (chain : Chain) → IsRead s lines place block → Fits (blocks_of chain) block →
     place ≡ length chain
 place_of s lines place block chain is fits =
     let blocks = is.replica.chain in
-    let linked = log_linked (unread s) is.replica is.front is.answers tt is.reads in
+    let linked = log_linked s is.replica is.front is.answers is.reads in
     let number = ap (λ h. h.number) (linked_at [] blocks place block linked is.there) in
     let inside = slice_get_within blocks place block is.there in
     let front = length-take place blocks in

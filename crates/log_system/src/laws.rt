@@ -1,7 +1,7 @@
 //! What holds of machines that read one log.
 
 ghost use Rattle.std.specs.Prelude.{◌≡◌, ◌≢◌, ◌<◌, ◌++◌, [], ◌∷◌, ℕ, Bool, List, Option};
-ghost use Rattle.std.specs.Prelude.{Result, Ok, Err};
+ghost use Rattle.std.specs.Prelude.{◌⊎◌, Result, Ok, Err, Some, true, length, slice_get};
 ghost use Rattle.fab_types.specs.declared.block.Block.{Block};
 ghost use Rattle.fab_types.specs.declared.envelope.Endorsement.{Endorsement};
 ghost use Rattle.fab_types.specs.declared.payload.Payload.{Payload};
@@ -11,6 +11,8 @@ ghost use Rattle.orderer.specs.Ordering.{AreLimits, Ordering};
 ghost use Rattle.orderer.specs.declared.report.BatchReport.{BatchReport};
 ghost use Rattle.replicated_log.specs.Log.{ReadsEach};
 ghost use Rattle.ledger_model.specs.Chain.{Bytes, Chain, Committed};
+ghost use Rattle.ledger_model.specs.Serial.{IsPrefix};
+ghost use Rattle.committer.specs.Fits.{Fits, blocks_of};
 ghost use Rattle.endorsement_policy.specs.Endorsed.{is_right};
 ghost use Rattle.ledger_setting.specs.Rule.{table_of};
 ghost use Rattle.simulator.specs.Answers.{Answers};
@@ -21,7 +23,8 @@ ghost use Rattle.store_replay.specs.Lawful.{AreLawful};
 ghost use Rattle.log_roles.specs.Committing.{Receives};
 ghost use Rattle.log_roles.specs.Following.{endorsed_on};
 ghost use Rattle.log_roles.specs.declared.receiving.Received.TheVariants as received;
-ghost use Rattle.fabric_core.specs.Headline.{IsAmong, IsHonest};
+ghost use Rattle.fabric_core.specs.System.{chain_of_first};
+ghost use Rattle.fabric_core.specs.Headline.{ConflictsAreOlder, IsAmong, IsHonest};
 ghost use Rattle.log_system.specs.Machines.{AreMachines, Does, IsRead, Machine, Setting, unread};
 ghost use Rattle.log_system.specs.Machines.{Endorses, Joins};
 ghost use Rattle.log_system.specs.OneSystem.{IsOneSystem, replies_of_machines};
@@ -75,7 +78,35 @@ pub fn roles_act()
     log_laws();
 }
 
-/// So each machine's chain is honest, where what was handed out is what the machines answered: its
+/// Each machine's chain is that of the log's first blocks, marked by the rule (`first`), so that
+/// of two machines one has a beginning of the other's (`one`). The log's block behind it fits
+/// (`fits`). Where batches are put in a legal order, conflicts differed before their block
+/// (`conflicts`).
+pub fn machines_follow_the_log()
+    ensures first { (setting : Setting) (lines : List (List ℕ))
+        (answers : List (Option (List BatchReport))) (log : Ordering) (machines : List Machine)
+        (m : Machine) → ReadsEach (unread setting) lines answers log →
+        AreMachines setting lines machines → IsAmong m machines →
+        m.chain ≡ chain_of_first (table_of setting.listed) log.chain (length m.chain) }
+    ensures one { (setting : Setting) (lines : List (List ℕ))
+        (answers : List (Option (List BatchReport))) (log : Ordering) (machines : List Machine)
+        (m n : Machine) → ReadsEach (unread setting) lines answers log →
+        AreMachines setting lines machines → IsAmong m machines → IsAmong n machines →
+        IsPrefix m.chain n.chain ⊎ IsPrefix n.chain m.chain }
+    ensures fits { (setting : Setting) (lines : List (List ℕ))
+        (answers : List (Option (List BatchReport))) (log : Ordering) (machines : List Machine)
+        (m : Machine) (next : Block) → ReadsEach (unread setting) lines answers log →
+        AreMachines setting lines machines → IsAmong m machines →
+        slice_get log.chain (length m.chain) ≡ Some next → Fits (blocks_of m.chain) next }
+    ensures conflicts { (setting : Setting) (lines : List (List ℕ))
+        (answers : List (Option (List BatchReport))) (log : Ordering) (machines : List Machine)
+        (m : Machine) → setting.reorder ≡ true → ReadsEach (unread setting) lines answers log →
+        AreMachines setting lines machines → IsAmong m machines → ConflictsAreOlder m.chain }
+{
+    log_laws();
+}
+
+/// Each machine's chain is honest, where what was handed out is what the machines answered: its
 /// flags are the table's, and where each VALID transaction has a right tag that a machine answered
 /// for this very payload, as they have where no tag was forged, it is serial.
 pub fn machines_are_honest(book: &Book, rules: &Rules)

@@ -7,4 +7,4 @@
 
 mod laws;
 
-pub use laws::{apart, machines_are_honest, roles_act};
+pub use laws::{apart, machines_are_honest, machines_follow_the_log, roles_act};
