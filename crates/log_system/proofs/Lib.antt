@@ -1,0 +1,10 @@
+mod Acting
+mod Among
+mod Current
+mod Firsts
+mod Handing
+mod Honest
+mod Joining
+mod Reading
+mod Roles
+mod Stepping

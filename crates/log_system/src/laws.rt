@@ -1,0 +1,130 @@
+//! What holds of machines that read one log.
+
+ghost use Rattle.std.specs.Prelude.{◌≡◌, ◌≢◌, ◌<◌, ◌++◌, [], ◌∷◌, ℕ, Bool, List, Option};
+ghost use Rattle.std.specs.Prelude.{◌⊎◌, Result, Ok, Err, Some, true, length, slice_get};
+ghost use Rattle.fab_types.specs.declared.block.Block.{Block};
+ghost use Rattle.fab_types.specs.declared.envelope.Endorsement.{Endorsement};
+ghost use Rattle.fab_types.specs.declared.payload.Payload.{Payload};
+ghost use Rattle.fab_types.specs.declared.proposal.Proposal.{Proposal};
+ghost use Rattle.batch_cutter.specs.Division.{Limits};
+ghost use Rattle.orderer.specs.Ordering.{AreLimits, Ordering};
+ghost use Rattle.orderer.specs.declared.report.BatchReport.{BatchReport};
+ghost use Rattle.replicated_log.specs.Log.{ReadsEach};
+ghost use Rattle.ledger_model.specs.Chain.{Bytes, Chain, Committed};
+ghost use Rattle.ledger_model.specs.Serial.{IsPrefix};
+ghost use Rattle.committer.specs.Fits.{Fits, blocks_of};
+ghost use Rattle.endorsement_policy.specs.Endorsed.{is_right};
+ghost use Rattle.ledger_setting.specs.Rule.{table_of};
+ghost use Rattle.simulator.specs.Answers.{Answers};
+ghost use Rattle.simulator.specs.Execution.{exec_of};
+ghost use Rattle.simulator.specs.declared.refusal.SimRefusal.{SimRefusal};
+ghost use Rattle.simulator.specs.declared.refusal.SimRefusal.TheVariants as refusal;
+ghost use Rattle.store_replay.specs.Lawful.{AreLawful};
+ghost use Rattle.log_roles.specs.Committing.{Receives};
+ghost use Rattle.log_roles.specs.Following.{endorsed_on};
+ghost use Rattle.log_roles.specs.declared.receiving.Received.TheVariants as received;
+ghost use Rattle.fabric_core.specs.System.{chain_of_first};
+ghost use Rattle.fabric_core.specs.Headline.{ConflictsAreOlder, IsAmong, IsHonest};
+ghost use Rattle.log_system.specs.Machines.{AreMachines, Does, IsRead, Machine, Setting, unread};
+ghost use Rattle.log_system.specs.Machines.{Endorses, Joins};
+ghost use Rattle.log_system.specs.OneSystem.{IsOneSystem, replies_of_machines};
+
+use endorsement_policy::{Rules, an_endorsed_envelope_carries_a_right_tag};
+use orderer::ordering_laws;
+use replicated_log::log_laws;
+use simulator::{Book, reads_alone};
+
+/// Machines that go by one genesis, and of which each has read a beginning of one list of lines,
+/// are one system, with any number of seats and any queue: a run of it has what the log and the
+/// machines answered in its replies, and leaves the orderer with the log's chain and each peer with
+/// a machine's.
+pub fn apart()
+    ensures { (setting : Setting) (seats capacity : ℕ) (lines : List (List ℕ))
+        (answers : List (Option (List BatchReport))) (log : Ordering) (machines : List Machine) →
+        AreLimits setting.limits → 0 < seats → 0 < capacity →
+        ReadsEach (unread setting) lines answers log → AreMachines setting lines machines →
+        IsOneSystem setting seats capacity lines answers log machines }
+{
+    ordering_laws();
+    log_laws();
+}
+
+/// What the roles of a log do are acts of such machines. Who has read a beginning of the lines has
+/// given the first of the log's answers. A block of the log that a committer takes, or that a
+/// follower follows, is the next one of its chain; and what an endorser answers, but for want of
+/// memory, is what its machine answers.
+pub fn roles_act()
+    ensures replica { (setting : Setting) (front back : List (List ℕ))
+        (answers some : List (Option (List BatchReport))) (log replica : Ordering) →
+        ReadsEach (unread setting) (front ++ back) answers log →
+        ReadsEach (unread setting) front some replica →
+        (later : List (Option (List BatchReport))) × (answers ≡ some ++ later) }
+    ensures committer { (setting : Setting) (lines : List (List ℕ)) (org : Bytes) (place : ℕ)
+        (block : Block) (old new : Chain) → IsRead setting lines place block →
+        Receives (table_of setting.listed) old block (Ok received.Committed) new →
+        (c : Committed) × (c.block ≡ block) × Does setting lines org old (Joins c) new }
+    ensures follower { (setting : Setting) (lines : List (List ℕ)) (org : Bytes) (place : ℕ)
+        (stored : Committed) (chain : Chain) → IsRead setting lines place stored.block →
+        AreLawful (table_of setting.listed) chain (stored ∷ []) →
+        Does setting lines org chain (Joins stored) (chain ++ stored ∷ []) }
+    ensures endorser { (setting : Setting) (lines : List (List ℕ)) (org : Bytes) (chain : Chain)
+        (p : Proposal) (result : Result (Payload × Endorsement) SimRefusal) →
+        result ≢ Err refusal.Memory →
+        Answers
+        (endorsed_on (record { book = setting.book; listed = setting.listed; org = org }) p chain)
+        result →
+        Does setting lines org chain (Endorses p result) chain }
+{
+    log_laws();
+}
+
+/// Each machine's chain is that of the log's first blocks, marked by the rule (`first`), so that
+/// of two machines one has a beginning of the other's (`one`). The log's block behind it fits
+/// (`fits`). Where batches are put in a legal order, conflicts differed before their block
+/// (`conflicts`).
+pub fn machines_follow_the_log()
+    ensures first { (setting : Setting) (lines : List (List ℕ))
+        (answers : List (Option (List BatchReport))) (log : Ordering) (machines : List Machine)
+        (m : Machine) → ReadsEach (unread setting) lines answers log →
+        AreMachines setting lines machines → IsAmong m machines →
+        m.chain ≡ chain_of_first (table_of setting.listed) log.chain (length m.chain) }
+    ensures one { (setting : Setting) (lines : List (List ℕ))
+        (answers : List (Option (List BatchReport))) (log : Ordering) (machines : List Machine)
+        (m n : Machine) → ReadsEach (unread setting) lines answers log →
+        AreMachines setting lines machines → IsAmong m machines → IsAmong n machines →
+        IsPrefix m.chain n.chain ⊎ IsPrefix n.chain m.chain }
+    ensures fits { (setting : Setting) (lines : List (List ℕ))
+        (answers : List (Option (List BatchReport))) (log : Ordering) (machines : List Machine)
+        (m : Machine) (next : Block) → ReadsEach (unread setting) lines answers log →
+        AreMachines setting lines machines → IsAmong m machines →
+        slice_get log.chain (length m.chain) ≡ Some next → Fits (blocks_of m.chain) next }
+    ensures conflicts { (setting : Setting) (lines : List (List ℕ))
+        (answers : List (Option (List BatchReport))) (log : Ordering) (machines : List Machine)
+        (m : Machine) → setting.reorder ≡ true → ReadsEach (unread setting) lines answers log →
+        AreMachines setting lines machines → IsAmong m machines → ConflictsAreOlder m.chain }
+{
+    log_laws();
+}
+
+/// Each machine's chain is honest, where what was handed out is what the machines answered: its
+/// flags are the table's, and where each VALID transaction has a right tag that a machine answered
+/// for this very payload, as they have where no tag was forged, it is serial.
+pub fn machines_are_honest(book: &Book, rules: &Rules)
+    ensures { (limits : Limits) (reorder : Bool) (lines : List (List ℕ))
+        (answers : List (Option (List BatchReport))) (log : Ordering) (machines : List Machine)
+        (m : Machine) →
+        ReadsEach
+        (unread
+        (record { book = book.now; listed = rules.now; limits = limits; reorder = reorder }))
+        lines answers log →
+        AreMachines
+        (record { book = book.now; listed = rules.now; limits = limits; reorder = reorder })
+        lines machines →
+        IsAmong m machines →
+        IsHonest (exec_of book.now) (table_of rules.now) (is_right rules.now.orgs)
+        (replies_of_machines machines) m.chain }
+{
+    log_laws();
+    reads_alone(book);
+    an_endorsed_envelope_carries_a_right_tag(rules);
+}
