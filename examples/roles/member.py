@@ -16,6 +16,7 @@ header of block n has here, and each member compares that with its own. Where on
 logs, or someone lies: the member ends, or, with --past-forks, says so and goes on.
 """
 import argparse
+import collections
 import hashlib
 import queue
 import signal
@@ -32,12 +33,17 @@ from log import Log, LogError, Watch
 LAST_BLOCK = 65535
 # The hex of a block's header.
 HEADER_DIGITS = 2 * 68
-# How long etcd may take to put a tick or a hash that was seen, in seconds. Both are asked for again later.
+# How long etcd may take to put a tick or a hash, and after how long it is asked again where it did not, in seconds.
 SHORT_PATIENCE = 3.0
+PAUSE = 5.0
 
 
 def say(text: str) -> None:
-    print(text, flush=True)
+    """Prints a line. Anybody may have put words of it into the log, so that nothing in it speaks to a terminal."""
+    printable = "".join(it if it.isprintable() else "?" for it in text.rstrip("\n"))
+    # At once, since several threads say something.
+    sys.stdout.write(f"{printable}\n")
+    sys.stdout.flush()
 
 
 class Member:
@@ -47,37 +53,52 @@ class Member:
         self.log, self.watch = Log(endpoints), Watch(endpoints)
         self.order = start(words.program, "order", words.genesis)
         self.commit = start(words.program, "commit", words.genesis, words.store)
+        # How many lines the replica of the orderer was given, and how many it has read.
+        self.given = self.read = 0
         # The number of the next block, and since when envelopes wait for it, if any do.
         self.awaited: tuple[int, float | None] = (1, None)
         # The block that was asked for by ticks, how many, and when the last one was.
         self.asked = (0, 0, 0.0)
         # Hashes of blocks that are not committed yet, by their numbers, and those that are to be told.
         self.hashes: dict[int, str] = {}
-        self.told: queue.SimpleQueue[tuple[int, str]] = queue.SimpleQueue()
+        self.untold: collections.deque[tuple[int, str]] = collections.deque()
+        works = (self.feed, self.pass_blocks, self.follow_commits)
+        self.threads = [threading.Thread(target=self.do, args=(work,), daemon=True) for work in works]
         # Why it ends.
         self.ended: queue.SimpleQueue[str] = queue.SimpleQueue()
 
     def run(self) -> str:
         """Works until something ends it, and says what."""
-        for work in (self.feed, self.pass_blocks, self.follow_commits):
-            threading.Thread(target=self.do, args=(work,), daemon=True).start()
+        for thread in self.threads:
+            thread.start()
+        resting = 0.0
         while True:
             try:
                 return self.ended.get(timeout=0.05)
             except queue.Empty:
-                self.tick()
-                self.tell()
+                pass
+            if time.monotonic() > resting:
+                try:
+                    self.tick()
+                    self.tell()
+                except LogError as error:
+                    say(f"not put: {error}")
+                    resting = time.monotonic() + PAUSE
 
     def stop(self) -> None:
-        """Ends all processes. The committer ends by itself, when it has written what it was given."""
+        """Ends all processes."""
         self.watch.close()
         self.order.kill()
         self.order.wait()
         try:
+            # It ends behind the last block that it was given.
             self.commit.wait(timeout=10)
         except subprocess.TimeoutExpired:
             self.commit.kill()
             self.commit.wait()
+        for thread in self.threads:
+            if thread.is_alive():
+                thread.join(timeout=2)
 
     def do(self, work: Callable[[], str]) -> None:
         try:
@@ -91,6 +112,7 @@ class Member:
         """Hands the log's lines to the replica of the orderer."""
         try:
             for lines in self.watch:
+                self.given += len(lines)
                 self.order.stdin.writelines(lines)
                 self.order.stdin.flush()
         except BrokenPipeError:
@@ -107,14 +129,17 @@ class Member:
                         self.commit.stdin.write(line)
                         self.commit.stdin.flush()
                         self.awaited = (int(number) + 1, None)
-                    case [b"read", _, b"0"]:
-                        self.awaited = (self.awaited[0], None)
-                    case [b"read", *_]:
-                        self.awaited = (self.awaited[0], self.awaited[1] or time.monotonic())
+                    case [b"read", _, waiting]:
+                        number, since = self.awaited
+                        self.awaited = (number, None if waiting == b"0" else since or time.monotonic())
+                        self.read += 1
+                    case [b"skipped", _, b"300"]:
+                        # What members tell each other is skipped so by all.
+                        pass
                     case [b"forked", org, number] if not self.words.past_forks:
                         return f"forked: {org.decode()} has another block {number.decode()}"
                     case _:
-                        say(line.decode().rstrip("\n"))
+                        say(line.decode())
             return f"order ended with status {self.order.wait()}"
         except BrokenPipeError:
             return f"commit ended with status {self.commit.wait()}"
@@ -126,11 +151,11 @@ class Member:
         for line in self.commit.stdout:
             word, number, *_ = line.split() + [b""]
             if word != b"known":
-                say(line.decode().rstrip("\n"))
+                say(line.decode())
             if word in (b"known", b"committed"):
                 seen = self.hashes.pop(int(number), None)
                 if seen and word == b"committed":
-                    self.told.put((int(number), seen))
+                    self.untold.append((int(number), seen))
         return f"commit ended with status {self.commit.wait()}"
 
     def note_hash(self, number: int, block: bytes) -> None:
@@ -145,33 +170,31 @@ class Member:
             pass
 
     def tick(self) -> None:
-        """Asks for the next block where envelopes have waited long enough.
+        """Asks for the next block where envelopes have waited long enough, as far as the log was read.
 
         The name of a tick is that of its block. Where that one is used up and envelopes wait all the same, the next name has
         the number of the try behind it.
         """
         (number, since), (asked, tries, last) = self.awaited, self.asked
+        if self.read < self.given or since is None or number > LAST_BLOCK:
+            return
         if asked != number:
             tries, last = 0, 0.0
-        if since is None or time.monotonic() - max(since, last) < self.words.wait or number > LAST_BLOCK:
+        if time.monotonic() - max(since, last) < self.words.wait:
             return
         name = f"tick-{number}-{tries + 1}" if tries else f"tick-{number}"
-        if self.append(name, "tick"):
+        if self.log.append(name, ["tick"], SHORT_PATIENCE):
             say(f"asked for block {number}")
         self.asked = (number, tries + 1, time.monotonic())
 
     def tell(self) -> None:
-        """Tells the others which block was committed here."""
-        while not self.told.empty():
-            number, seen = self.told.get()
-            self.append(f"seen-{self.words.org}-{number}", f"seen {self.words.org} {number} {seen}")
-
-    def append(self, name: str, mark: str) -> bool:
-        try:
-            return self.log.append(name, [mark], SHORT_PATIENCE)
-        except LogError as error:
-            say(f"{name} was not put: {error}")
-            return False
+        """Tells the others the hashes of blocks that were committed here."""
+        while self.untold:
+            number, seen = self.untold[0]
+            name = f"seen-{self.words.org}-{number}"
+            self.log.append(name, [f"seen {self.words.org} {number} {seen}"], SHORT_PATIENCE)
+            say(f"told the hash of block {number}")
+            self.untold.popleft()
 
 
 def main() -> int:
