@@ -39,7 +39,7 @@ def _base64(data: bytes) -> str:
     return base64.b64encode(data).decode()
 
 
-def _secrets() -> ssl.SSLContext:
+def _tls() -> ssl.SSLContext:
     """How TLS is spoken: by the files that etcdctl is told of in the environment."""
     context = ssl.create_default_context(cafile=os.environ.get("ETCDCTL_CACERT"))
     if os.environ.get("ETCDCTL_CERT"):
@@ -99,9 +99,10 @@ class Log:
 
     def _connect(self) -> None:
         """Goes to the node whose turn it is, as the user of ETCDCTL_USER, if there is one."""
-        at = urlsplit(self.endpoints[self.turn])
+        node = self.endpoints[self.turn]
+        at = urlsplit(node if "://" in node else f"http://{node}")
         if at.scheme == "https":
-            self.link = http.client.HTTPSConnection(at.netloc, timeout=NODE_SECONDS, context=_secrets())
+            self.link = http.client.HTTPSConnection(at.netloc, timeout=NODE_SECONDS, context=_tls())
         else:
             self.link = http.client.HTTPConnection(at.netloc, timeout=NODE_SECONDS)
         self.headers = {"Content-Type": "application/json"}
@@ -149,10 +150,9 @@ class Watch:
     def _start(self) -> subprocess.Popen[bytes] | None:
         with self.lock:
             if not self.closed:
-                nodes = f"--endpoints={','.join(self.endpoints)}"
-                command = ["etcdctl", nodes, "watch", "--prefix", PREFIX, "--rev", str(self.revision + 1), "-w", "json"]
-                how = {"stdin": subprocess.DEVNULL, "stdout": subprocess.PIPE, "env": {**os.environ, "ETCDCTL_API": "3"}}
-                self.process = subprocess.Popen(command, **how)
+                command = ["etcdctl", "watch", "--prefix", PREFIX, "--rev", str(self.revision + 1), "-w", "json"]
+                room = {**os.environ, "ETCDCTL_API": "3", "ETCDCTL_ENDPOINTS": ",".join(self.endpoints)}
+                self.process = subprocess.Popen(command, stdin=subprocess.DEVNULL, stdout=subprocess.PIPE, env=room)
             return None if self.closed else self.process
 
     def _lines(self, told: dict) -> list[bytes]:
