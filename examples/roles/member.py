@@ -173,14 +173,14 @@ class Member:
         """Asks for the next block where envelopes have waited long enough, as far as the log was read.
 
         The name of a tick is that of its block. Where that one is used up and envelopes wait all the same, the next name has
-        the number of the try behind it.
+        the number of the try behind it; the member waits twice as long for each.
         """
         (number, since), (asked, tries, last) = self.awaited, self.asked
         if self.read < self.given or since is None or number > LAST_BLOCK:
             return
         if asked != number:
             tries, last = 0, 0.0
-        if time.monotonic() - max(since, last) < self.words.wait:
+        if time.monotonic() - max(since, last) < self.words.wait * 2**tries:
             return
         name = f"tick-{number}-{tries + 1}" if tries else f"tick-{number}"
         if self.log.append(name, ["tick"], SHORT_PATIENCE):
