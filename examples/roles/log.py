@@ -20,8 +20,6 @@ from collections.abc import Iterator
 from urllib.parse import urlsplit
 
 PREFIX = "log/"
-# An entry of at most so many bytes fits into a request that etcd takes by default (1.5 MiB). An envelope has half of it.
-ENTRY_BYTES = 1 << 20
 # How long one node may take for an answer before another one is asked, and all of them, in seconds.
 NODE_SECONDS = 2.0
 PATIENCE = 30.0
