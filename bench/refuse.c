@@ -1,5 +1,5 @@
-/* Lets one call of a program fail: the FAIL_ALLOCth growth of memory, the FAIL_IOth read or write of a file or
- * a stream; or lets the SHORT_IOth read or write of several bytes move one. The file named by FAIL_MARK is made
+/* Lets one call of a program fail: the FAIL_ALLOCth growth of memory, the FAIL_IOth read, write, seek, sync or cut of a
+ * file or a stream; or lets the SHORT_IOth read or write of several bytes move one. The file named by FAIL_MARK is made
  * where that call came. Load it by LD_PRELOAD. */
 #define _GNU_SOURCE
 #include <dlfcn.h>
@@ -77,4 +77,19 @@ ssize_t read(int file, void *bytes, size_t size) {
 ssize_t write(int file, const void *bytes, size_t size) {
     REAL(ssize_t, write, int, const void *, size_t);
     return fails() ? -1 : real(file, bytes, moved(size));
+}
+
+int fsync(int file) {
+    REAL(int, fsync, int);
+    return fails() ? -1 : real(file);
+}
+
+int ftruncate(int file, off_t length) {
+    REAL(int, ftruncate, int, off_t);
+    return fails() ? -1 : real(file, length);
+}
+
+off_t lseek(int file, off_t offset, int whence) {
+    REAL(off_t, lseek, int, off_t, int);
+    return fails() ? -1 : real(file, offset, whence);
 }
