@@ -17,8 +17,8 @@ loop-preserved g c =
     let buffer = c.read.new.buffer in
     let size : length buffer ≡ c.loop.self.piece.len = search rules in
     let same : c.deref.result.now ≡ buffer =
-        c.deref.ensures.value ∙ ap (λ (n : ℕ). take n (buffer ++ drop (length buffer) c.loop.self.piece.items)) (sym size)
-        ∙ take-append_seam buffer (drop (length buffer) c.loop.self.piece.items)
+    c.deref.ensures.value ∙ ap (λ (n : ℕ). take n (buffer ++ drop (length buffer) c.loop.self.piece.items)) (sym size)
+    ∙ take-append_seam buffer (drop (length buffer) c.loop.self.piece.items)
     in
     let more = c.in_ok-records.records.items in
     let before = followed_chain c.loop.self.follower in
@@ -29,7 +29,7 @@ loop-preserved g c =
     let rule = table_of (endorsing_of c.loop.self.follower).listed in
     let lawful : AreLawful rule [] (before ++ more) = lawful_joined rule before more inv.2 c.in_ok-follow_each.ensures.lawful in
     let moved : c.read.new.self.history.moved ≡ bytes ++ piece =
-        c.in_ok-count.ensures.1 ∙ ap (λ (t : List ℕ). bytes ++ take c.in_ok-count.count t) (sym same)
+    c.in_ok-count.ensures.1 ∙ ap (λ (t : List ℕ). bytes ++ take c.in_ok-count.count t) (sym same)
     in
     let all = c.in_ok-follow_each.ensures.chain in
     record {
