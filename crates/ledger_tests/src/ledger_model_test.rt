@@ -1,6 +1,5 @@
 //! Each law of the ledger's crates once.
 
-use host_api::{equal_views, reads_alone};
 use ledger_model::{
     a_version_names_one_value, computed_flags_are_right, current_reruns_agree,
     definitions_are_read, legal_blocks_conflict_only_with_what_was_before, reruns_agree,
@@ -21,7 +20,5 @@ fn laws_hold(_rt: HostRuntime) {
     legal_blocks_conflict_only_with_what_was_before();
     definitions_are_read();
     what_a_block_does_not_write_is_as_it_was();
-    reads_alone();
-    equal_views();
     spellings_differ();
 }

@@ -1,11 +1,19 @@
-//! Tests of the ledger's crates, a file for each crate. There is no code beside them.
+//! Tests of the ledger's crates below chaincode, a file for each crate. There is no code beside
+//! them.
 //!
-//! What can be said as data (bytes, chains with their flags, calls of the host and of chaincode,
-//! with their answers) is a line of `ledger_cases` or `program_cases`. What stands here is what no
-//! line can say: calls that no line makes, and each law once. It stands above the crates that it
-//! tests, since a crate with tests is proved a second time together with them.
+//! What can be said as data (bytes, chains with their flags, batches, calls of the host and of
+//! chaincode, with their answers) is a line of `ledger_cases` or `program_cases`. What stands here
+//! is what no line can say: calls that no line makes, threads, devices that fail, and each law
+//! once. It stands above the crates that it tests, since a crate with tests is proved a second time
+//! together with them.
 #![tactic(auto)]
 
+#[cfg(test)]
+mod batch_cutter_test;
+#[cfg(test)]
+mod block_store_test;
+#[cfg(test)]
+mod endorsement_policy_test;
 #[cfg(test)]
 mod fab_types_test;
 #[cfg(test)]
@@ -14,5 +22,7 @@ mod ledger_model_test;
 mod persist_map_test;
 #[cfg(test)]
 mod samples;
+#[cfg(test)]
+mod seq_test;
 #[cfg(test)]
 mod wire_test;

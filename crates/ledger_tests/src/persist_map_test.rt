@@ -34,33 +34,40 @@ fn are_in_pages(map: &PMap<u32, u32>) -> bool {
     map.pages() == 312 && is_at(map, 10_000, None) && finds_all(map, 10_000, 16)
 }
 
+/// Whether a map of two pages has one without the entries of the first.
+fn leaves_a_page(map: &mut PMap<u32, u32>) -> bool {
+    let mut are_deleted = true;
+    for key in 0..32 {
+        are_deleted &= map.delete(&key).is_ok();
+    }
+    are_deleted && map.pages() == 1 && is_at(map, 31, None) && is_at(map, 32, Some(32))
+}
+
 /// Whether this is the value at 7, and 8 is there or not.
 fn has(map: &PMap<u32, u32>, at_7: u32, at_8: Option<u32>) -> bool {
     is_at(map, 7, Some(at_7)) && is_at(map, 8, at_8)
 }
 
-/// Whether a map answers as before where others were made of it.
-fn stay_in_others(old: &PMap<u32, u32>) -> Result<bool, AllocError> {
+/// Whether a map answers as before where another was made of it.
+fn stays_where_one_is_put(old: &PMap<u32, u32>) -> Result<bool, AllocError> {
     let other = old.insert(7, 70)?;
-    let less = other.remove(&8)?;
-    Ok(has(old, 7, Some(8)) && has(&other, 70, Some(8)) && has(&less, 70, None))
+    Ok(has(old, 7, Some(8)) && has(&other, 70, Some(8)))
+}
+
+fn stays_where_one_is_removed(old: &PMap<u32, u32>) -> Result<bool, AllocError> {
+    let less = old.remove(&8)?;
+    Ok(has(old, 7, Some(8)) && has(&less, 7, None))
+}
+
+/// Whether a map is changed.
+fn is_changed(map: &mut PMap<u32, u32>) -> bool {
+    map.put(7, 70).is_ok() && map.put(7, 71).is_ok() && map.delete(&8).is_ok() && has(map, 71, None)
 }
 
 /// Whether a copy answers as before where the map is changed.
-fn stays_in_a_copy(mut map: PMap<u32, u32>) -> Result<bool, AllocError> {
+fn stays_in_a_copy(map: &mut PMap<u32, u32>) -> Result<bool, AllocError> {
     let copy = map.clone()?;
-    map.put(7, 70)?;
-    map.put(7, 71)?;
-    map.delete(&8)?;
-    Ok(has(&copy, 7, Some(8)) && has(&map, 71, None))
-}
-
-/// Whether a map of two pages has one without the entries of the first.
-fn leaves_a_page(mut map: PMap<u32, u32>) -> Result<bool, AllocError> {
-    for key in 0..32 {
-        map.delete(&key)?;
-    }
-    Ok(map.pages() == 1 && is_at(&map, 31, None) && is_at(&map, 32, Some(32)))
+    Ok(is_changed(map) && has(&copy, 7, Some(8)))
 }
 
 /// Whether the keys of entries are those from a first one on, so many.
@@ -92,34 +99,30 @@ fn are_ranges(map: &PMap<u32, u32>) -> Result<bool, AllocError> {
 }
 
 /// Whether the range without bounds has so many keys.
-fn are_all(alloc: Global, map: &PMap<u32, u32>, count: usize) -> Result<bool, AllocError> {
-    let all: Vec<(&u32, &u32)> = map.range(None, None).collect(alloc)?;
-    Ok(are_from(&all, 0, count))
+fn are_all(map: &PMap<u32, u32>, count: usize) -> Result<bool, AllocError> {
+    let entries = map.first_from(None, None, count.saturating_add(1))?;
+    Ok(are_from(&entries, 0, count))
 }
 
-#[test]
-fn a_large_map_is_in_pages(rt: HostRuntime) -> Result<(), Fail> {
-    let alloc = rt.alloc();
+/// What is seen of a large map, of one of two pages, and of one of 200 keys.
+fn seen(alloc: Global) -> Result<bool, AllocError> {
     let are_in_pages = are_in_pages(&ascending(alloc, 10_000)?);
-    let leaves_a_page = leaves_a_page(ascending(alloc, 65)?)?;
-    assert!(rt; are_in_pages && leaves_a_page);
-    Ok(())
+    let leaves_a_page = leaves_a_page(&mut ascending(alloc, 65)?);
+    Ok(are_in_pages && leaves_a_page && is_kept(&mut ascending(alloc, 200)?))
+}
+
+/// Whether a map of 200 keys has its ranges, and older maps answer as before.
+fn is_kept(map: &mut PMap<u32, u32>) -> bool {
+    are_ranges(map) == Ok(true)
+        && are_all(map, 200) == Ok(true)
+        && stays_where_one_is_put(map) == Ok(true)
+        && stays_where_one_is_removed(map) == Ok(true)
+        && stays_in_a_copy(map) == Ok(true)
 }
 
 #[test]
-fn older_maps_answer_as_before(rt: HostRuntime) -> Result<(), Fail> {
-    let alloc = rt.alloc();
-    let stay = stay_in_others(&ascending(alloc, 200)?)?;
-    let stays = stays_in_a_copy(ascending(alloc, 200)?)?;
-    assert!(rt; stay && stays);
-    Ok(())
-}
-
-#[test]
-fn ranges_go_on_past_pages(rt: HostRuntime) -> Result<(), Fail> {
-    let alloc = rt.alloc();
-    let are_ranges = are_ranges(&ascending(alloc, 200)?)?;
-    let are_all = are_all(alloc, &ascending(alloc, 200)?, 200)?;
-    assert!(rt; are_ranges && are_all);
+fn maps_are_in_pages_and_kept(rt: HostRuntime) -> Result<(), Fail> {
+    let seen = seen(rt.alloc())?;
+    assert!(rt; seen);
     Ok(())
 }

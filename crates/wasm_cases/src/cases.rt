@@ -2,11 +2,11 @@
 
 use crate::bytes::split_word;
 use crate::fault::CaseFault;
-use crate::items::read_items;
-use crate::modules::{count_parts, show_module, validate_module};
+use crate::hosts::answer_of;
+use crate::items::{read_items, show_position};
+use crate::modules::{Look, ask_module, show_module};
 use crate::operators::apply_operator;
-use crate::runs::{compare_runs, run_module};
-use crate::steps::trace_module;
+use crate::runs::{Question, split_fuel};
 use std::alloc::{AllocError, Global};
 use wasm_profile::Profile;
 
@@ -35,14 +35,34 @@ fn answer_case(alloc: Global, line: &str) -> Result<String, CaseFault> {
     let (verb, rest) = split_word(case);
     match verb {
         "items" => read_items(alloc, rest),
-        "decode" => count_parts(alloc, profile, rest),
-        "show" => show_module(alloc, profile, rest),
-        "validate" => validate_module(alloc, profile, rest),
-        "run" => run_module(alloc, profile, rest),
-        "trace" => trace_module(alloc, profile, rest),
-        "compare" => compare_runs(alloc, profile, rest),
+        "position" => show_position(alloc, rest),
+        "decode" => show_module(alloc, Look::Counts, profile, rest),
+        "show" => show_module(alloc, Look::Whole, profile, rest),
+        "validate" | "run" | "trace" | "compare" | "answer" => {
+            let (question, pieces) = question_of(verb, rest)?;
+            ask_module(alloc, question, profile, pieces)
+        }
         _ => apply_operator(alloc, verb, rest),
     }
+}
+
+/// What a verb asks about a valid module, and the bytes behind its words.
+fn question_of<'a>(verb: &str, rest: &'a str) -> Result<(Question, &'a str), CaseFault> {
+    if verb == "validate" {
+        return Ok((Question::Parts, rest));
+    }
+    if verb == "answer" {
+        let (word, rest) = split_word(rest);
+        let (fuel, pieces) = split_fuel(rest)?;
+        return Ok((Question::Answer(answer_of(word)?, fuel), pieces));
+    }
+    let (fuel, pieces) = split_fuel(rest)?;
+    let question = match verb {
+        "run" => Question::Run(fuel),
+        "trace" => Question::Trace(fuel),
+        _ => Question::Compare(fuel),
+    };
+    Ok((question, pieces))
 }
 
 /// The profile that a line names in front of its verb, else profile 1, and what follows it.

@@ -18,8 +18,8 @@ pub enum CaseFault {
     BadLine,
     /// The bytes are not what they are read as: the number of the fault and its offset.
     Malformed(u16, usize),
-    /// The module is not valid: the number of the rule that it breaks.
-    Invalid(u16),
+    /// The module is not valid.
+    Invalid(ValidateFault),
 }
 
 impl Display for CaseFault {
@@ -28,7 +28,7 @@ impl Display for CaseFault {
             CaseFault::Memory => write!(f, "no memory"),
             CaseFault::BadLine => write!(f, "bad line"),
             CaseFault::Malformed(number, offset) => write!(f, "fault {number} at {offset}"),
-            CaseFault::Invalid(number) => write!(f, "invalid {number}"),
+            CaseFault::Invalid(fault) => write!(f, "invalid {fault}"),
         }
     }
 }
@@ -70,7 +70,7 @@ impl From<ValidateFault> for CaseFault {
     fn from(fault: ValidateFault) -> CaseFault {
         match fault {
             ValidateFault::Memory => CaseFault::Memory,
-            fault => CaseFault::Invalid(fault.number()),
+            fault => CaseFault::Invalid(fault),
         }
     }
 }

@@ -1,9 +1,10 @@
-//! Items at the front of bytes.
+//! Items at the front of bytes, and places of instructions.
 
 use crate::bytes::{bytes_of, split_word};
 use crate::fault::CaseFault;
 use std::alloc::{AllocError, Global};
 use std::fmt::Write;
+use wasm_ast::Position;
 use wasm_bytes::Cursor;
 
 /// An item that was read.
@@ -49,4 +50,23 @@ fn read_item<'a>(kind: &str, cursor: &mut Cursor<'a>) -> Result<Item<'a>, CaseFa
         "name" => Item::Name(cursor.name()?),
         _ => return Err(CaseFault::BadLine),
     })
+}
+
+/// The place of the instruction of a number in the function of a number, as it is printed.
+pub fn show_position(alloc: Global, text: &str) -> Result<String, CaseFault> {
+    let (function, instruction) = split_word(text);
+    match (function.parse::<u32>(), instruction.parse::<u32>()) {
+        (Ok(function), Ok(instruction)) => Ok(printed(
+            alloc,
+            Position {
+                function,
+                instruction,
+            },
+        )?),
+        _ => Err(CaseFault::BadLine),
+    }
+}
+
+fn printed(alloc: Global, position: Position) -> Result<String, AllocError> {
+    format!(in alloc; "{position}")
 }

@@ -12,7 +12,9 @@
 //! - `run FUEL BYTES`: how its `invoke` ends with this fuel, without an argument, on a state
 //!   without keys, and what it wrote; `trace FUEL BYTES`: before that what each step of a stepper
 //!   shows; `compare LAST BYTES`: whether `run`, `run_by_reduction` and a stepper answer the same
-//!   with every fuel from 0 to this;
+//!   with every fuel from 0 to this; `answer ANSWER FUEL BYTES`: how it ends on a host that answers
+//!   each call so, with a number, or by a trap past the end of the memory where that is `past`;
+//! - `position FUNCTION INSTRUCTION`: the place of an instruction, as it is printed;
 //! - `binary32 OP A B`, `compare32 OP A B`, `unary32 OP A`, `eqz32 A`, the same with 64, and
 //!   `convert OP A`: what an operator gives for words in hex.
 //!
@@ -24,6 +26,7 @@
 mod bytes;
 mod cases;
 mod fault;
+mod hosts;
 mod items;
 mod modules;
 mod operators;

@@ -2,38 +2,38 @@
 
 use crate::bytes::bytes_of;
 use crate::fault::CaseFault;
+use crate::runs::{Question, answer_question};
 use std::alloc::{AllocError, Global};
 use wasm_ast::Module;
-use wasm_decode::decode_as;
+use wasm_decode::{DecodeFault, decode, decode_as};
 use wasm_profile::Profile;
 use wasm_validate::{ValidModule, validate};
 
-/// How many parts of each kind the module has.
-pub fn count_parts(alloc: Global, profile: Profile, pieces: &str) -> Result<String, CaseFault> {
-    let bytes = bytes_of(alloc, pieces)?;
-    let module = decode_as(alloc, &bytes, profile)?;
-    Ok(part_counts(alloc, &module)?)
+/// What is shown of a module, valid or not.
+#[derive(Clone, Copy)]
+pub enum Look {
+    /// How many parts of each kind it has.
+    Counts,
+    /// All of it, as it is printed for debugging.
+    Whole,
 }
 
-/// The module as it is printed for debugging.
-pub fn show_module(alloc: Global, profile: Profile, pieces: &str) -> Result<String, CaseFault> {
-    let bytes = bytes_of(alloc, pieces)?;
-    let module = decode_as(alloc, &bytes, profile)?;
-    Ok(format!(in alloc; "{module:?}")?)
+/// What is shown of the module of a profile that the bytes spell.
+pub fn show_module(
+    alloc: Global,
+    look: Look,
+    profile: Profile,
+    pieces: &str,
+) -> Result<String, CaseFault> {
+    let module = decoded(alloc, profile, pieces)?;
+    shown(alloc, look, &module)
 }
 
-/// The index of the valid module's entry, and the host calls that it imports.
-pub fn validate_module(alloc: Global, profile: Profile, pieces: &str) -> Result<String, CaseFault> {
-    let valid = module_of(alloc, profile, pieces)?;
-    let (invoke, calls) = (valid.invoke(), valid.host_calls());
-    Ok(format!(in alloc; "valid invoke={invoke} calls={calls:?}")?)
-}
-
-/// The valid module of a profile that the bytes spell.
-pub fn module_of(alloc: Global, profile: Profile, pieces: &str) -> Result<ValidModule, CaseFault> {
-    let bytes = bytes_of(alloc, pieces)?;
-    let module = decode_as(alloc, &bytes, profile)?;
-    Ok(validate(alloc, module)?)
+fn shown(alloc: Global, look: Look, module: &Module) -> Result<String, CaseFault> {
+    Ok(match look {
+        Look::Counts => part_counts(alloc, module)?,
+        Look::Whole => format!(in alloc; "{module:?}")?,
+    })
 }
 
 fn part_counts(alloc: Global, module: &Module) -> Result<String, AllocError> {
@@ -45,4 +45,31 @@ fn part_counts(alloc: Global, module: &Module) -> Result<String, AllocError> {
     format!(in alloc;
         "module types={types} imports={imports} functions={functions} tables={tables} memories={memories} globals={globals} exports={exports} elements={elements} data={data}"
     )
+}
+
+/// The answer to a question about the valid module of a profile that the bytes spell.
+pub fn ask_module(
+    alloc: Global,
+    question: Question,
+    profile: Profile,
+    pieces: &str,
+) -> Result<String, CaseFault> {
+    let valid = valid_module(alloc, profile, pieces)?;
+    answer_question(alloc, question, &valid)
+}
+
+fn valid_module(alloc: Global, profile: Profile, pieces: &str) -> Result<ValidModule, CaseFault> {
+    Ok(validate(alloc, decoded(alloc, profile, pieces)?)?)
+}
+
+fn decoded(alloc: Global, profile: Profile, pieces: &str) -> Result<Module, CaseFault> {
+    let bytes = bytes_of(alloc, pieces)?;
+    Ok(module_of(alloc, profile, &bytes)?)
+}
+
+fn module_of(alloc: Global, profile: Profile, bytes: &[u8]) -> Result<Module, DecodeFault> {
+    match profile {
+        Profile::Core1 => decode(alloc, bytes),
+        Profile::SignExtension => decode_as(alloc, bytes, profile),
+    }
 }

@@ -1,16 +1,32 @@
-//! Runs of modules on a state without keys.
+//! Runs of modules on a state without keys, and on hosts that only answer.
 
 use crate::bytes::split_word;
 use crate::fault::CaseFault;
-use crate::modules::module_of;
-use crate::steps::step_through;
+use crate::hosts::run_on_answer;
+use crate::steps::{step_through, trace};
 use fab_types::{Value, WriteItem, WriteSet};
 use host_api::{PlainMap, Recorder};
-use interp::{Outcome, run};
+use interp::{Host, Outcome, run};
 use std::alloc::{AllocError, Global};
-use wasm_profile::Profile;
+use wasm_ast::HostAnswer;
 use wasm_trace::run_by_reduction;
 use wasm_validate::ValidModule;
+
+/// What is asked about a valid module.
+#[derive(Clone, Copy)]
+pub enum Question {
+    /// The index of its entry, and the host calls that it imports.
+    Parts,
+    /// How `invoke` ends with this fuel, what it used, and the keys that it wrote with their
+    /// values.
+    Run(u64),
+    /// What each step executes and the fuel that it leaves, where it costs fuel, before that.
+    Trace(u64),
+    /// Whether all runners answer the same with every fuel up to this.
+    Compare(u64),
+    /// How `invoke` ends with this fuel on a host that always answers so.
+    Answer(HostAnswer, u64),
+}
 
 /// What runs a module.
 #[derive(Clone, Copy)]
@@ -23,19 +39,24 @@ pub enum Runner {
     Stepper,
 }
 
-/// How `invoke` ends with the fuel that the first word is, what it used, and the keys that it wrote
-/// with their values.
-pub fn run_module(alloc: Global, profile: Profile, text: &str) -> Result<String, CaseFault> {
-    let (fuel, pieces) = split_fuel(text)?;
-    let valid = module_of(alloc, profile, pieces)?;
-    Ok(run_invoke(alloc, &valid, fuel, Runner::Flat)?)
+/// The answer to a question about a valid module.
+pub fn answer_question(
+    alloc: Global,
+    question: Question,
+    valid: &ValidModule,
+) -> Result<String, CaseFault> {
+    Ok(match question {
+        Question::Parts => parts(alloc, valid)?,
+        Question::Run(fuel) => run_invoke(alloc, valid, fuel, Runner::Flat, &mut Vec::new(alloc))?,
+        Question::Trace(fuel) => trace(alloc, valid, fuel)?,
+        Question::Compare(last) => compared(alloc, valid, last)?,
+        Question::Answer(answer, fuel) => run_on_answer(alloc, valid, answer, fuel)?,
+    })
 }
 
-/// Whether all runners answer the same with every fuel up to what the first word is.
-pub fn compare_runs(alloc: Global, profile: Profile, text: &str) -> Result<String, CaseFault> {
-    let (last, pieces) = split_fuel(text)?;
-    let valid = module_of(alloc, profile, pieces)?;
-    Ok(compared(alloc, &valid, last)?)
+fn parts(alloc: Global, valid: &ValidModule) -> Result<String, AllocError> {
+    let (invoke, calls) = (valid.invoke(), valid.host_calls());
+    format!(in alloc; "valid invoke={invoke} calls={calls:?}")
 }
 
 /// The fuel that the first word is, and what follows it.
@@ -58,36 +79,45 @@ fn compared(alloc: Global, valid: &ValidModule, last: u64) -> Result<String, All
 
 /// Whether all runners answer the same with this fuel.
 fn is_same(alloc: Global, valid: &ValidModule, fuel: u64) -> Result<bool, AllocError> {
-    let wanted = run_invoke(alloc, valid, fuel, Runner::Flat)?;
-    let reduced = run_invoke(alloc, valid, fuel, Runner::Reduction)?;
-    let stepped = run_invoke(alloc, valid, fuel, Runner::Stepper)?;
+    let mut shown = Vec::new(alloc);
+    let wanted = run_invoke(alloc, valid, fuel, Runner::Flat, &mut shown)?;
+    let reduced = run_invoke(alloc, valid, fuel, Runner::Reduction, &mut shown)?;
+    let stepped = run_invoke(alloc, valid, fuel, Runner::Stepper, &mut shown)?;
     Ok(reduced == wanted && stepped == wanted)
 }
 
-/// The run of `invoke` without an argument on a state without keys.
-fn run_invoke(
+/// The run of `invoke` without an argument on a state without keys. What a stepper shows is added.
+pub fn run_invoke(
     alloc: Global,
     valid: &ValidModule,
     fuel: u64,
     runner: Runner,
+    shown: &mut Vec<String>,
 ) -> Result<String, AllocError> {
     let state = PlainMap::empty(alloc);
     let argument = Value::new(Vec::new(alloc)).unwrap();
     let mut recorder = Recorder::new(alloc, &state, &argument);
-    let outcome = match runner {
-        Runner::Flat => run(alloc, valid, &mut recorder, fuel)?,
-        Runner::Reduction => run_by_reduction(alloc, valid, &mut recorder, fuel)?,
-        Runner::Stepper => step_through(alloc, valid, &mut recorder, fuel, &mut Vec::new(alloc))?,
-    };
+    let outcome = outcome_of(alloc, valid, &mut recorder, fuel, runner, shown)?;
     run_answer(alloc, outcome, &recorder.into_parts().writes)
 }
 
-/// How a run ended, and what it wrote.
-pub fn run_answer(
+fn outcome_of<H: Host>(
     alloc: Global,
-    outcome: Outcome,
-    writes: &WriteSet,
-) -> Result<String, AllocError> {
+    valid: &ValidModule,
+    host: &mut H,
+    fuel: u64,
+    runner: Runner,
+    shown: &mut Vec<String>,
+) -> Result<Outcome, AllocError> {
+    match runner {
+        Runner::Flat => run(alloc, valid, host, fuel),
+        Runner::Reduction => run_by_reduction(alloc, valid, host, fuel),
+        Runner::Stepper => step_through(alloc, valid, host, fuel, shown),
+    }
+}
+
+/// How a run ended, and what it wrote.
+fn run_answer(alloc: Global, outcome: Outcome, writes: &WriteSet) -> Result<String, AllocError> {
     let mut answer = outcome_text(alloc, outcome)?;
     for item in writes.as_slice() {
         answer.push_str(write_text(alloc, item)?.as_str())?;
@@ -96,7 +126,7 @@ pub fn run_answer(
 }
 
 /// How a run ended, and the fuel that it used.
-fn outcome_text(alloc: Global, outcome: Outcome) -> Result<String, AllocError> {
+pub fn outcome_text(alloc: Global, outcome: Outcome) -> Result<String, AllocError> {
     match outcome {
         Outcome::Returned { status, used } => format!(in alloc; "returned {status} used {used}"),
         Outcome::Trapped { kind, used } => format!(in alloc; "trapped {kind:?} used {used}"),

@@ -1,6 +1,6 @@
 //! Stores of blocks of one transaction each, whole, cut, damaged, and on devices that fail.
 
-ghost use Rattle.std.specs.Prelude.{◌≡◌, ◌≤◌, IfOk, length};
+ghost use Rattle.std.specs.Prelude.{◌≤◌};
 
 use block_store::{AppendFault, End, RecordReader, append, load};
 use counted::Counted;
@@ -86,19 +86,18 @@ fn block(alloc: Global, number: u8) -> Result<Block, Fail> {
     }
 }
 
-/// A flag for each envelope.
-fn flags(alloc: Global, block: &Block) -> Result<Vec<Flag>, AllocError>
-    ensures { IfOk result (λ v. length v.items ≡ length block.now.envelopes) }
-{
-    Ok(vec![in alloc; Flag::MvccReadConflict; block.envelopes.as_slice().len()]?)
+/// The fault of appending a block of one transaction, if there is one.
+fn fault_of(alloc: Global, tape: &mut Counted<Tape>, block: &Block) -> Option<AppendFault> {
+    if block.envelopes.as_slice().len() != 1 {
+        return Some(AppendFault::Device(NEVER));
+    }
+    append(alloc, tape, block, &[Flag::MvccReadConflict]).err()
 }
 
 /// Appends so many blocks.
 fn append_each(alloc: Global, tape: &mut Counted<Tape>, count: u8) -> Result<(), Fail> {
     for before in 0..count {
-        let block = block(alloc, before.wrapping_add(1))?;
-        let flags = flags(alloc, &block)?;
-        if append(alloc, tape, &block, &flags).is_err() {
+        if fault_of(alloc, tape, &block(alloc, before.wrapping_add(1))?).is_some() {
             return Err("a record".into());
         }
     }
@@ -114,13 +113,11 @@ fn store(alloc: Global, count: u8) -> Result<Vec<u8>, Fail> {
 
 /// How many blocks a store with these bytes has, and its end.
 fn answer(alloc: Global, bytes: &[u8]) -> Result<(usize, End), AllocError> {
-    let loaded = load(alloc, &mut Counted::new(bytes))?;
-    Ok((loaded.blocks.len(), loaded.end))
+    answer_in_pieces(alloc, bytes, 50, NEVER)
 }
 
-/// How many blocks a store has that is read in pieces of so many bytes, with a call that fails, and
-/// its end.
-fn answer_of_tape(
+/// The same where it is read in pieces of so many bytes, and a call fails.
+fn answer_in_pieces(
     alloc: Global,
     bytes: &[u8],
     most: usize,
@@ -145,52 +142,76 @@ fn cuts_are_told(alloc: Global, bytes: &[u8]) -> Result<bool, AllocError> {
     Ok(is_told)
 }
 
-/// Whether these are the records of a store: appended again they are its bytes.
-fn are_records(
-    alloc: Global,
-    records: &[CommittedBlock],
-    bytes: &[u8],
-) -> Result<bool, AllocError> {
-    let mut device = Counted::new(Vec::new(alloc));
+/// Appends records. Whether that was done.
+fn are_appended(alloc: Global, device: &mut Counted<Tape>, records: &[CommittedBlock]) -> bool {
     let mut are = true;
     for record in records {
-        are &= append(alloc, &mut device, record.block(), record.flags()).is_ok();
+        are &= append(alloc, device, record.block(), record.flags()).is_ok();
     }
-    Ok(are && device.into_inner().as_slice() == bytes)
+    are
 }
 
-/// Whether a store gives its records in two pieces, the first of them so long.
-fn is_whole_in_two(alloc: Global, bytes: &[u8], cut: usize) -> Result<bool, AllocError> {
+/// Appends the records that a piece of a store ends. Whether that was done.
+fn is_copied(
+    alloc: Global,
+    reader: &mut RecordReader,
+    device: &mut Counted<Tape>,
+    piece: &[u8],
+) -> bool {
+    match reader.feed(piece) {
+        Ok(records) => are_appended(alloc, device, &records),
+        Err(_) => false,
+    }
+}
+
+/// Whether a store is copied in two pieces, the first of them so long.
+fn is_whole_in_two(alloc: Global, bytes: &[u8], cut: usize) -> bool {
     let mut reader = RecordReader::new(alloc);
+    let mut device = Counted::new(Tape::new(Vec::new(alloc), 50, NEVER));
     let (first, second) = bytes.split_at_checked(cut).unwrap_or((bytes, &[]));
-    let mut records = reader.feed(first)?;
-    let is_held = reader.held() == cut % RECORD && records.len() == cut / RECORD;
-    records.append(&mut reader.feed(second)?)?;
-    let is_whole = are_records(alloc, &records, bytes)?;
-    Ok(is_held && is_whole && reader.finish() == End::Clean)
+    let is_first = is_copied(alloc, &mut reader, &mut device, first)
+        && reader.held() == cut % RECORD;
+    let is_second = is_copied(alloc, &mut reader, &mut device, second);
+    let is_same = device.into_inner().bytes.as_slice() == bytes;
+    is_first && is_second && is_same && reader.finish() == End::Clean
 }
 
-fn is_whole_in_any_two(alloc: Global, bytes: &[u8]) -> Result<bool, AllocError> {
+fn is_whole_in_any_two(alloc: Global, bytes: &[u8]) -> bool {
     let mut is_whole = true;
     for cut in 0..bytes.len() {
-        is_whole &= is_whole_in_two(alloc, bytes, cut)?;
+        is_whole &= is_whole_in_two(alloc, bytes, cut);
     }
-    Ok(is_whole)
+    is_whole
 }
 
-/// Whether a store gives its records byte by byte.
-fn is_whole_by_byte(alloc: Global, bytes: &[u8]) -> Result<bool, AllocError> {
+/// Whether a store is copied byte by byte.
+fn is_whole_by_byte(alloc: Global, bytes: &[u8]) -> bool {
     let mut reader = RecordReader::new(alloc);
-    let mut records = Vec::new(alloc);
+    let mut device = Counted::new(Tape::new(Vec::new(alloc), 50, NEVER));
+    let mut is_copied_each = true;
     for byte in bytes {
-        records.append(&mut reader.feed(&[*byte])?)?;
+        is_copied_each &= is_copied(alloc, &mut reader, &mut device, &[*byte]);
     }
-    let is_whole = are_records(alloc, &records, bytes)?;
-    Ok(is_whole && reader.finish() == End::Clean)
+    let is_same = device.into_inner().bytes.as_slice() == bytes;
+    is_copied_each && is_same && reader.finish() == End::Clean
 }
 
-/// Whether a write of record 2 that fails at this call tells what it wrote, and leaves a store that
-/// loads as the first block.
+/// Whether a failed write of record 2 told what it wrote, and left a store that loads as the first
+/// block.
+fn is_told(
+    alloc: Global,
+    bytes: &[u8],
+    fault: Option<AppendFault>,
+    written: usize,
+) -> Result<bool, AllocError>
+    requires { written ≤ 150 }
+{
+    let end = if written == 0 { End::Clean } else { End::Torn };
+    let is_right = fault == Some(AppendFault::Device(written)) && bytes.len() == RECORD + written;
+    Ok(is_right && answer(alloc, bytes)? == (1, end))
+}
+
+/// Whether so is a write that fails at this call.
 fn is_beginning(
     alloc: Global,
     bytes: &[u8],
@@ -199,14 +220,9 @@ fn is_beginning(
 ) -> Result<bool, AllocError>
     requires { calls ≤ 15 }
 {
-    let flags = flags(alloc, block)?;
     let mut tape = Counted::new(Tape::new(bytes.to_vec(alloc)?, 10, calls));
-    let answered = append(alloc, &mut tape, block, &flags);
-    let written = 10 * calls;
-    let bytes = tape.into_inner().bytes;
-    let end = if written == 0 { End::Clean } else { End::Torn };
-    let is_told = answered == Err(AppendFault::Device(written)) && bytes.len() == RECORD + written;
-    Ok(is_told && answer(alloc, &bytes)? == (1, end))
+    let fault = fault_of(alloc, &mut tape, block);
+    is_told(alloc, &tape.into_inner().bytes, fault, 10 * calls)
 }
 
 fn are_beginnings(alloc: Global, bytes: &[u8], block: &Block) -> Result<bool, AllocError> {
@@ -221,8 +237,7 @@ fn are_beginnings(alloc: Global, bytes: &[u8], block: &Block) -> Result<bool, Al
 fn a_failed_write_leaves_a_beginning(rt: HostRuntime) -> Result<(), Fail> {
     let alloc = rt.alloc();
     let bytes = store(alloc, 1)?;
-    let block = block(alloc, 2)?;
-    let are = are_beginnings(alloc, &bytes, &block)?;
+    let are = are_beginnings(alloc, &bytes, &block(alloc, 2)?)?;
     assert!(rt; are);
     Ok(())
 }
@@ -230,26 +245,27 @@ fn a_failed_write_leaves_a_beginning(rt: HostRuntime) -> Result<(), Fail> {
 /// Whether a read that fails at each call in turn gives the whole blocks before, and no failure
 /// gives all.
 fn are_read_up_to_the_failure(alloc: Global, bytes: &[u8]) -> Result<bool, AllocError> {
-    let mut are = answer_of_tape(alloc, bytes, 10, NEVER)? == (3, End::Clean);
+    let mut are = answer_in_pieces(alloc, bytes, 10, NEVER)? == (3, End::Clean);
     // 45 calls give the 441 bytes, and one more finds the end.
     for calls in 0..46 {
         let blocks = (10 * calls).min(bytes.len()) / RECORD;
-        are &= answer_of_tape(alloc, bytes, 10, calls)? == (blocks, End::DeviceFailed);
+        are &= answer_in_pieces(alloc, bytes, 10, calls)? == (blocks, End::DeviceFailed);
     }
     Ok(are)
+}
+
+fn flip(bytes: &mut [u8], at: usize) {
+    if let Some(byte) = bytes.get_mut(at) {
+        *byte ^= 1;
+    }
 }
 
 /// Whether a store of which this byte is flipped loads as the blocks before the record that holds
 /// it.
 fn is_found(alloc: Global, bytes: &mut [u8], at: usize) -> Result<bool, AllocError> {
-    let Some(byte) = bytes.get_mut(at) else {
-        return Ok(false);
-    };
-    *byte ^= 1;
+    flip(bytes, at);
     let (blocks, end) = answer(alloc, bytes)?;
-    if let Some(byte) = bytes.get_mut(at) {
-        *byte ^= 1;
-    }
+    flip(bytes, at);
     let before = at / RECORD;
     let is_end = match end {
         End::Torn => true,
@@ -267,34 +283,19 @@ fn each_flip_is_found(alloc: Global, bytes: &mut [u8]) -> Result<bool, AllocErro
     Ok(is_each)
 }
 
-/// Whether pieces give the records of the whole.
-fn are_in_pieces(alloc: Global, bytes: &[u8]) -> Result<bool, AllocError> {
-    Ok(is_whole_in_any_two(alloc, bytes)? && is_whole_by_byte(alloc, bytes)?)
+/// Whether a store of three records is read as far as it is whole, in whatever pieces it comes.
+fn is_read(alloc: Global, bytes: &mut [u8]) -> Result<bool, AllocError> {
+    let are_told = cuts_are_told(alloc, bytes)?;
+    let are_read = are_read_up_to_the_failure(alloc, bytes)?;
+    let are_found = each_flip_is_found(alloc, bytes)?;
+    let are_whole = is_whole_in_any_two(alloc, bytes) && is_whole_by_byte(alloc, bytes);
+    Ok(are_told && are_read && are_found && are_whole)
 }
 
 #[test]
 fn a_store_is_read_as_far_as_it_is_whole(rt: HostRuntime) -> Result<(), Fail> {
     let alloc = rt.alloc();
-    let mut bytes = store(alloc, 3)?;
-    let are_told = cuts_are_told(alloc, &bytes)?;
-    let are_in_pieces = are_in_pieces(alloc, &bytes)?;
-    let are_read = are_read_up_to_the_failure(alloc, &bytes)?;
-    let are_found = each_flip_is_found(alloc, &mut bytes)?;
-    assert!(rt; are_told && are_in_pieces && are_read && are_found);
-    Ok(())
-}
-
-#[test]
-fn ends_and_faults_have_their_numbers(rt: HostRuntime) -> Result<(), Fail> {
-    let alloc = rt.alloc();
-    let text = format!(in alloc;
-        "{} {} {} {} {}",
-        End::Clean,
-        End::Torn,
-        End::Damaged(4),
-        End::DeviceFailed,
-        AppendFault::Device(7)
-    )?;
-    assert_eq!(rt; text.as_str(), "clean 701 702 block 4 703 703");
+    let is_read = is_read(alloc, &mut store(alloc, 3)?)?;
+    assert!(rt; is_read);
     Ok(())
 }

@@ -70,9 +70,9 @@ fn kv(alloc: Global) -> Option<Name> {
     Name::new(b"kv".to_vec(alloc).ok()?)
 }
 
-/// The policy of `kv`.
-fn of_kv(alloc: Global, policy: Policy) -> Option<Vec<ChaincodePolicy>> {
-    let chaincode = kv(alloc)?;
+/// The policy of `kv`, where there is one.
+fn of_kv(alloc: Global, policy: Option<Policy>) -> Option<Vec<ChaincodePolicy>> {
+    let (chaincode, policy) = kv(alloc).zip(policy)?;
     vec![in alloc; ChaincodePolicy { chaincode, policy }].ok()
 }
 
@@ -88,11 +88,24 @@ fn installed(alloc: Global) -> Option<Installed> {
     Some(Installed::new(modules, orgs(alloc, b"ABC")?))
 }
 
+/// What `Rules::new` makes of these organisations, a policy of `kv` and one of upgrades, where all
+/// of them are there.
+fn rules_of(
+    alloc: Global,
+    organisations: Option<Vec<Organisation>>,
+    policy: Option<Policy>,
+    upgrade: Option<Policy>,
+) -> Option<Option<Rules>> {
+    let policies = of_kv(alloc, policy).zip(upgrade);
+    let known = organisations.zip(installed(alloc));
+    let ((organisations, installed), (policies, upgrade)) = known.zip(policies)?;
+    Some(Rules::new(organisations, policies, upgrade, installed))
+}
+
 /// A, B and C, of which two have to endorse a transaction of `kv` or an upgrade.
 fn rules(alloc: Global) -> Option<Rules> {
-    let policies = of_kv(alloc, two_of_three(alloc)?)?;
-    let (upgrade, installed) = (two_of_three(alloc)?, installed(alloc)?);
-    Rules::new(organisations(alloc)?, policies, upgrade, installed)
+    let (policy, upgrade) = (two_of_three(alloc), two_of_three(alloc));
+    rules_of(alloc, organisations(alloc), policy, upgrade)?
 }
 
 /// The call with endorsements by A under its own key, and by a name under the key of another's.
@@ -105,12 +118,17 @@ fn envelope(alloc: Global, name: u8, keyed: u8) -> Option<Envelope> {
 }
 
 /// A and C; A twice; A and a wrong tag of C; A and an unknown organisation; and so on again.
-fn envelopes(alloc: Global, count: usize) -> Option<Vec<Envelope>> {
-    let mut envelopes = Vec::new(alloc);
+fn add_envelopes(alloc: Global, envelopes: &mut Vec<Envelope>, count: usize) -> Option<()> {
     for index in 0..count {
         let (name, keyed) = [(b'C', b'C'), (b'A', b'A'), (b'C', b'B'), (b'D', b'D')][index % 4];
         envelopes.push(envelope(alloc, name, keyed)?).ok()?;
     }
+    Some(())
+}
+
+fn envelopes(alloc: Global, count: usize) -> Option<Vec<Envelope>> {
+    let mut envelopes = Vec::new(alloc);
+    add_envelopes(alloc, &mut envelopes, count)?;
     Some(envelopes)
 }
 
@@ -136,9 +154,9 @@ fn is_same_by_workers<R: Threads + Sync>(
     rt: &R,
     alloc: Global,
     rules: &Rules,
+    snapshot: &Snapshot,
     envelopes: &[Envelope],
 ) -> Result<bool, AllocError> {
-    let snapshot = &Snapshot::empty(alloc);
     let plain = check_plain(alloc, rules, snapshot, envelopes)?;
     let one = check_all(rt, alloc, rules, snapshot, envelopes, 1, &Open)?;
     let two = check_all(rt, alloc, rules, snapshot, envelopes, 2, &Open)?;
@@ -152,12 +170,13 @@ fn are_same<R: Threads + Sync>(
     rt: &R,
     alloc: Global,
     rules: &Rules,
+    snapshot: &Snapshot,
     envelopes: &[Envelope],
 ) -> Result<bool, AllocError> {
     let one = envelopes.get(..1).unwrap_or(&[]);
-    let are = is_same_by_workers(rt, alloc, rules, &[])?
-        && is_same_by_workers(rt, alloc, rules, one)?
-        && is_same_by_workers(rt, alloc, rules, envelopes)?;
+    let are = is_same_by_workers(rt, alloc, rules, snapshot, &[])?
+        && is_same_by_workers(rt, alloc, rules, snapshot, one)?
+        && is_same_by_workers(rt, alloc, rules, snapshot, envelopes)?;
     Ok(are)
 }
 
@@ -188,13 +207,14 @@ fn is_met<R: Threads + Sync>(
     rt: &R,
     alloc: Global,
     rules: &Rules,
+    snapshot: &Snapshot,
     pair: &[Envelope],
 ) -> Result<bool, AllocError> {
     let meeting = Meeting {
         came: [AtomicBool::new(false), AtomicBool::new(false)],
         met: [AtomicBool::new(false), AtomicBool::new(false)],
     };
-    let answers = check_all(rt, alloc, rules, &Snapshot::empty(alloc), pair, 2, &meeting)?;
+    let answers = check_all(rt, alloc, rules, snapshot, pair, 2, &meeting)?;
     let met = meeting.met[0].load(Ordering::SeqCst) && meeting.met[1].load(Ordering::SeqCst);
     Ok(met && is_first_of_four(&answers))
 }
@@ -223,35 +243,42 @@ fn is_in_turn<R: Threads + Sync>(
     rt: &R,
     alloc: Global,
     rules: &Rules,
+    snapshot: &Snapshot,
     envelopes: &[Envelope],
 ) -> Result<bool, AllocError> {
     let turns = Turns {
         next: [AtomicUsize::new(0), AtomicUsize::new(1)],
         strayed: AtomicUsize::new(0),
     };
-    let _answers = check_all(
-        rt,
-        alloc,
-        rules,
-        &Snapshot::empty(alloc),
-        envelopes,
-        2,
-        &turns,
-    )?;
+    let _answers = check_all(rt, alloc, rules, snapshot, envelopes, 2, &turns)?;
     let even = turns.next[0].load(Ordering::SeqCst);
     let odd = turns.next[1].load(Ordering::SeqCst);
     Ok(even == 6 && odd == 5 && turns.strayed.load(Ordering::SeqCst) == 0)
 }
 
+/// What several workers answer and do on these envelopes.
+fn are_right<R: Threads + Sync>(
+    rt: &R,
+    alloc: Global,
+    rules: &Rules,
+    snapshot: &Snapshot,
+    all: &[Envelope],
+) -> Result<bool, AllocError> {
+    let are_same = are_same(rt, alloc, rules, snapshot, all)?;
+    let is_met = is_met(rt, alloc, rules, snapshot, all.get(..2).unwrap_or(&[]))?;
+    let is_in_turn = is_in_turn(rt, alloc, rules, snapshot, all.get(..5).unwrap_or(&[]))?;
+    Ok(are_same && is_met && is_in_turn)
+}
+
+fn workers_are_right<R: Threads + Sync>(rt: &R, alloc: Global) -> Option<bool> {
+    let (rules, all) = rules(alloc).zip(envelopes(alloc, 33))?;
+    are_right(rt, alloc, &rules, &Snapshot::empty(alloc), &all).ok()
+}
+
 #[test]
 fn workers_answer_as_one_thread(rt: HostRuntime) -> Result<(), Fail> {
-    let alloc = rt.alloc();
-    let rules = rules(alloc).ok_or("rules")?;
-    let all = envelopes(alloc, 33).ok_or("envelopes")?;
-    let are_same = are_same(&rt, alloc, &rules, &all)?;
-    let is_met = is_met(&rt, alloc, &rules, all.get(..2).unwrap_or(&[]))?;
-    let is_in_turn = is_in_turn(&rt, alloc, &rules, all.get(..5).unwrap_or(&[]))?;
-    assert!(rt; are_same && is_met && is_in_turn);
+    let are_right = workers_are_right(&rt, rt.alloc());
+    assert!(rt; are_right == Some(true));
     Ok(())
 }
 
@@ -271,8 +298,8 @@ fn is_of_three(rules: &Rules, b: &OrgName, d: &OrgName, kv: &Name) -> bool {
 }
 
 fn are_looked_up(alloc: Global) -> Option<bool> {
-    let (b, d) = (org(alloc, b'B')?, org(alloc, b'D')?);
-    Some(is_of_three(&rules(alloc)?, &b, &d, &kv(alloc)?))
+    let (b, d, kv) = (org(alloc, b'B')?, org(alloc, b'D')?, kv(alloc)?);
+    Some(is_of_three(&rules(alloc)?, &b, &d, &kv))
 }
 
 /// A leaf, made without a text.
@@ -290,16 +317,10 @@ fn is_satisfied(policy: &Policy, two: &OrgSet, names: &[OrgName]) -> bool {
 }
 
 fn is_by_two(alloc: Global) -> Option<bool> {
-    let leaf = leaf(alloc)?;
+    let names = orgs(alloc, b"BC")?;
+    let (leaf, two) = leaf(alloc).zip(OrgSet::new(orgs(alloc, b"AC")?))?;
     let is_one = leaf.items().len() == 1;
-    let two = OrgSet::new(orgs(alloc, b"AC")?)?;
-    Some(is_one && is_satisfied(&Policy::Or(leaf), &two, &orgs(alloc, b"BC")?))
-}
-
-/// Whether there are no rules with these policies, of `kv` and of upgrades.
-fn are_no_rules(alloc: Global, policy: Policy, upgrade: Policy) -> Option<bool> {
-    let policies = of_kv(alloc, policy)?;
-    Some(Rules::new(Vec::new(alloc), policies, upgrade, installed(alloc)?).is_none())
+    Some(is_one && is_satisfied(&Policy::Or(leaf), &two, &names))
 }
 
 /// A policy that needs nobody: none of A.
@@ -308,10 +329,12 @@ fn nobody(alloc: Global) -> Option<Policy> {
 }
 
 /// Whether there are no rules where either policy needs nobody.
-fn is_no_rule(alloc: Global) -> Option<bool> {
-    let calls = are_no_rules(alloc, nobody(alloc)?, two_of_three(alloc)?)?;
-    let upgrades = are_no_rules(alloc, two_of_three(alloc)?, nobody(alloc)?)?;
-    Some(calls && upgrades)
+fn is_no_rule(alloc: Global) -> bool {
+    let none = Some(Vec::new(alloc));
+    let calls = rules_of(alloc, none, nobody(alloc), two_of_three(alloc));
+    let none = Some(Vec::new(alloc));
+    let upgrades = rules_of(alloc, none, two_of_three(alloc), nobody(alloc));
+    matches!(calls, Some(None)) && matches!(upgrades, Some(None))
 }
 
 /// Whether a tag is that of its key alone: test case 2 of RFC 4231.
@@ -342,8 +365,8 @@ fn is_each_flip_told() -> bool {
 #[test]
 fn policies_and_rules_are_made(rt: HostRuntime) -> Result<(), Fail> {
     let alloc = rt.alloc();
-    let made = [are_looked_up(alloc), is_by_two(alloc), is_no_rule(alloc)];
-    let is_empty = Policies::new(Vec::new(alloc)).is_none();
-    assert!(rt; made == [Some(true); 3] && is_empty && is_checked() && is_each_flip_told());
+    let made = [are_looked_up(alloc), is_by_two(alloc)];
+    let is_none = is_no_rule(alloc) && Policies::new(Vec::new(alloc)).is_none();
+    assert!(rt; made == [Some(true); 2] && is_none && is_checked() && is_each_flip_told());
     Ok(())
 }
