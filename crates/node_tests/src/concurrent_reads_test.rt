@@ -107,8 +107,7 @@ fn met<R: Threads + Wait + Sync>(rt: &R, alloc: Global, setup: &Setup) -> (Optio
 #[test]
 fn reads_go_on_beside_a_long_endorsement(rt: HostRuntime) -> Result<(), Fail> {
     let alloc = rt.alloc();
-    let setup = opening(alloc, LOOP, BLOCKS)?;
-    let met = met(&rt, alloc, &setup);
+    let met = met(&rt, alloc, &opening(alloc, LOOP, BLOCKS)?);
     assert!(rt; met == (Some(((403, true), true)), usize::from(BLOCKS)));
     Ok(())
 }

@@ -3,9 +3,10 @@
 ghost use Rattle.orderer.specs.Ordering.{AreLimits};
 ghost use Rattle.ledger_setting.specs.Setting.{limits_of};
 
-use crate::samples::{GET_PUT_A, opening};
+use crate::samples::{GET_PUT_A, Setup, opening};
 use fab_types::Proposal;
 use fabric_core::{Audit, Event, Ran, Reply, audit, honest_chains_pass_the_audit, run};
+use host_api::{equal_views, reads_alone};
 use ledger_setting::Genesis;
 use std::alloc::{AllocError, Global};
 use std::test::Fail;
@@ -46,20 +47,26 @@ fn is_done(alloc: Global, genesis: &Genesis, ran: &Ran) -> Result<bool, AllocErr
     Ok(agrees && !ran.refused && snapshot.height() == 0 && are_replies(&ran.replies))
 }
 
-fn is_run(alloc: Global, genesis: &Genesis, events: &[Event]) -> Result<bool, AllocError>
-    requires { AreLimits (limits_of genesis.now) }
+fn is_run(alloc: Global, setup: &Setup) -> Result<bool, AllocError>
+    requires { AreLimits (limits_of setup.now.genesis) }
 {
-    honest_chains_pass_the_audit();
-    let ran = run(alloc, genesis, events)?;
+    let genesis = &setup.genesis;
+    let events = events(alloc, &setup.call.payload.proposal)?;
+    let ran = run(alloc, genesis, &events)?;
     is_done(alloc, genesis, &ran)
+}
+
+#[test]
+fn laws_hold(_rt: HostRuntime) {
+    honest_chains_pass_the_audit();
+    reads_alone();
+    equal_views();
 }
 
 #[test]
 fn a_run_replies_to_each_event(rt: HostRuntime) -> Result<(), Fail> {
     let alloc = rt.alloc();
-    let setup = opening(alloc, GET_PUT_A, 0)?;
-    let events = events(alloc, &setup.call.payload.proposal)?;
-    let is_run = is_run(alloc, &setup.genesis, &events)?;
-    assert!(rt; is_run);
+    let is_run = is_run(alloc, &opening(alloc, GET_PUT_A, 0)?);
+    assert!(rt; is_run == Ok(true));
     Ok(())
 }

@@ -2,7 +2,7 @@
 
 use crate::samples::transaction;
 use fab_types::Envelope;
-use intake::{Intake, ReceiverSeat, SenderSeat};
+use intake::{Full, Intake, ReceiverSeat, SenderSeat};
 use std::alloc::Global;
 use std::sync::Wait;
 use std::test::Fail;
@@ -10,6 +10,16 @@ use std::test::Fail;
 fn nonce(envelope: &Envelope) -> u8 {
     let nonce = envelope.payload.proposal.nonce();
     nonce[0]
+}
+
+/// The nonce of a transaction that is handed back, where that is printed as refused.
+fn refused(alloc: Global, full: &Full) -> Result<u8, Fail> {
+    let text = format!(in alloc; "{full}")?;
+    Ok(if text.as_str() == "refused 411" {
+        nonce(&full.envelope)
+    } else {
+        0
+    })
 }
 
 /// The nonce of a transaction where it is handed back, or 0.
@@ -21,7 +31,7 @@ fn handed_back<R: Wait>(
 ) -> Result<u8, Fail> {
     match seat.submit(rt, transaction(alloc, sent, b'a')?) {
         Ok(()) => Ok(0),
-        Err(full) => Ok(nonce(&full.envelope)),
+        Err(full) => refused(alloc, &full),
     }
 }
 

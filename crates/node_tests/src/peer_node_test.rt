@@ -83,12 +83,29 @@ fn stale<R: Threads + Wait + Sync>(
     }
 }
 
-/// What a seat saw: whether it endorsed, where the key was written after block 1 and after it was
-/// told of block 3, and the number of the refusal of what it had begun before it was told of block
-/// 4.
+/// The number of the refusal of a block, or 0.
+fn commit_refusal<R: Threads + Wait + Sync>(
+    rt: &R,
+    writer: &mut PeerWriter,
+    chain: &Orderer,
+    number: u32,
+) -> Option<u16>
+    ensures { peer_of_writer writer.new ≡ peer_of_writer writer.old }
+{
+    let block = chain.blocks_from(number).first()?.clone().ok()?;
+    match writer.commit(rt, block) {
+        Ok(_) => Some(0),
+        Err(refusal) => Some(refusal.number()),
+    }
+}
+
+/// What a seat saw: whether it endorsed, the refusals of block 2, block 1 and block 1 again, where
+/// the key was written after block 1 and after it was told of block 3, and the number of the refusal
+/// of what it had begun before it was told of block 4.
 #[derive(Clone, Copy, Debug, PartialEq, Eq)]
 struct Sight {
     endorsed: bool,
+    refusals: [Option<u16>; 3],
     places: [Option<(u32, u32)>; 2],
     refused: u16,
 }
@@ -102,17 +119,20 @@ fn seen_by<R: Threads + Wait + Sync>(
     requires { peer_of seat.old ≡ peer_of_writer writer.old }
 {
     let key = &setup.call.payload.writes.as_slice().first()?.key;
-    let proposal = &setup.call.payload.proposal;
+    let (proposal, chain) = (&setup.call.payload.proposal, &setup.chain);
     let endorsed = seat.endorse(proposal).is_ok();
-    commit(rt, writer, &setup.chain, 1)?;
+    let ahead = commit_refusal(rt, writer, chain, 2);
+    let first = commit_refusal(rt, writer, chain, 1);
+    let again = commit_refusal(rt, writer, chain, 1);
     let before = place(seat, key);
-    commit(rt, writer, &setup.chain, 2)?;
-    tell(rt, writer, &setup.chain, 3, seat);
-    let places = [before, place(seat, key)];
-    let refused = stale(rt, writer, &setup.chain, 4, seat, proposal);
+    commit(rt, writer, chain, 2)?;
+    tell(rt, writer, chain, 3, seat);
+    let after = place(seat, key);
+    let refused = stale(rt, writer, chain, 4, seat, proposal);
     Some(Sight {
         endorsed,
-        places,
+        refusals: [ahead, first, again],
+        places: [before, after],
         refused,
     })
 }
@@ -138,58 +158,13 @@ fn seen<R: Threads + Wait + Sync>(rt: &R, alloc: Global, setup: &Setup) -> (Opti
 #[test]
 fn what_was_told_is_read(rt: HostRuntime) -> Result<(), Fail> {
     let alloc = rt.alloc();
-    let setup = opening(alloc, GET_PUT_A, 4)?;
+    let seen = seen(&rt, alloc, &opening(alloc, GET_PUT_A, 4)?);
     let expected = Sight {
         endorsed: true,
+        refusals: [Some(601), Some(0), Some(601)],
         places: [Some((1, 0)), Some((3, 0))],
         refused: 405,
     };
-    assert!(rt; seen(&rt, alloc, &setup) == (Some(expected), 4));
-    Ok(())
-}
-
-/// The number of the refusal of a block, or 0.
-fn commit_refusal<R: Threads + Wait + Sync>(
-    rt: &R,
-    writer: &mut PeerWriter,
-    chain: &Orderer,
-    number: u32,
-) -> Option<u16> {
-    let block = chain.blocks_from(number).first()?.clone().ok()?;
-    match writer.commit(rt, block) {
-        Ok(_) => Some(0),
-        Err(refusal) => Some(refusal.number()),
-    }
-}
-
-/// The refusals of block 2, block 1 and block 1 again, and how many blocks a peer has then.
-fn refusals<R: Threads + Wait + Sync>(
-    rt: &R,
-    alloc: Global,
-    setup: &Setup,
-) -> ([Option<u16>; 3], usize) {
-    let genesis = &setup.genesis;
-    let Some(org) = genesis.peers.first() else {
-        return ([None; 3], 0);
-    };
-    let Ok((mut writer, _seats)) = Peer::open(rt, alloc, genesis, org, 1) else {
-        return ([None; 3], 0);
-    };
-    let refusals = [
-        commit_refusal(rt, &mut writer, &setup.chain, 2),
-        commit_refusal(rt, &mut writer, &setup.chain, 1),
-        commit_refusal(rt, &mut writer, &setup.chain, 1),
-    ];
-    let height = writer.newest().height();
-    writer.close(rt);
-    (refusals, height)
-}
-
-#[test]
-fn a_block_out_of_order_is_refused(rt: HostRuntime) -> Result<(), Fail> {
-    let alloc = rt.alloc();
-    let setup = opening(alloc, GET_PUT_A, 2)?;
-    let refusals = refusals(&rt, alloc, &setup);
-    assert!(rt; refusals == ([Some(601), Some(0), Some(601)], 1));
+    assert!(rt; seen == (Some(expected), 4));
     Ok(())
 }

@@ -1,11 +1,10 @@
 //! Peers that come back with the blocks of their stores.
 
 use crate::peer_node_test::commit;
-use crate::samples::{GET_PUT_A, opening};
+use crate::samples::{GET_PUT_A, Setup, opening};
 use block_store::{append, load};
 use counted::Counted;
 use fab_types::{Block, CommittedBlock, Flag, Key, Value, Version};
-use ledger_setting::{Genesis, commit_checked};
 use orderer::Orderer;
 use peer_node::{Peer, PeerWriter, ReopenRefusal};
 use std::alloc::{AllocError, Global};
@@ -47,44 +46,49 @@ fn store(alloc: Global, blocks: &[Block], other: u32) -> Result<Vec<u8>, Fail> {
     Ok(device.into_inner())
 }
 
-/// Whether blocks have the same flags as others.
-fn are_flagged_alike(one: &[Arc<CommittedBlock>], other: &[Arc<CommittedBlock>]) -> bool {
-    let mut same = one.len() == other.len();
-    for (committed, expected) in one.iter().zip(other.iter()) {
-        same = same && committed.flags() == expected.flags();
+/// Whether each of these blocks has one transaction, which is VALID.
+fn are_valid(blocks: &[Arc<CommittedBlock>]) -> bool {
+    let mut are_valid = true;
+    for block in blocks {
+        are_valid &= block.flags() == [Flag::Valid].as_slice();
     }
-    same
+    are_valid
 }
 
-/// Whether entries of a state are the same as others.
-fn are_same(one: &[(&Key, &(Value, Version))], other: &[(&Key, &(Value, Version))]) -> bool {
-    let mut same = one.len() == other.len();
-    for (entry, expected) in one.iter().zip(other.iter()) {
-        let keys = entry.0.as_slice() == expected.0.as_slice();
-        let values = entry.1.0.as_slice() == expected.1.0.as_slice();
-        same = same && keys && values && entry.1.1 == expected.1.1;
-    }
-    same
+/// Whether an entry of a state is `1` at this key, put by the one transaction of this block.
+fn is_put(entry: &(&Key, &(Value, Version)), key: &[u8], block: u32) -> bool {
+    let (value, version) = entry.1;
+    entry.0.as_slice() == key
+        && value.as_slice() == b"1".as_slice()
+        && version.block() == block
+        && version.place() == 0
 }
 
-/// Whether a chain has the flags and the state of another.
-fn are_alike(alloc: Global, one: &Snapshot, other: &Snapshot) -> Result<bool, AllocError> {
-    let (entries, expected) = (one.entries(alloc)?, other.entries(alloc)?);
-    Ok(are_flagged_alike(one.blocks(), other.blocks()) && are_same(&entries, &expected))
+/// Whether the state of a chain is that after the five blocks.
+fn is_state_of_five(alloc: Global, chain: &Snapshot) -> Result<bool, AllocError> {
+    let entries = chain.entries(alloc)?;
+    Ok(match entries.as_slice() {
+        [a, b, k] => is_put(a, b"a", 4) && is_put(b, b"b", 2) && is_put(k, b"k", 5),
+        _ => false,
+    })
 }
 
-/// The height of a peer, and whether it is like a whole chain once it has taken blocks 4 and 5.
+/// Whether a chain is that of the five blocks.
+fn is_whole(alloc: Global, chain: &Snapshot) -> bool {
+    chain.height() == 5 && are_valid(chain.blocks()) && is_state_of_five(alloc, chain) == Ok(true)
+}
+
+/// The height of a peer, and whether its chain is whole once it has taken blocks 4 and 5.
 fn caught_up<R: Threads + Wait + Sync>(
     rt: &R,
     alloc: Global,
     writer: &mut PeerWriter,
     chain: &Orderer,
-    whole: &Snapshot,
-) -> Result<(usize, bool), AllocError> {
+) -> (usize, bool) {
     let before = writer.newest().height();
     commit(rt, writer, chain, 4);
     commit(rt, writer, chain, 5);
-    Ok((before, are_alike(alloc, writer.newest(), whole)?))
+    (before, is_whole(alloc, writer.newest()))
 }
 
 /// What becomes of a peer that comes back with a store, or why it does not. None where there is
@@ -92,82 +96,54 @@ fn caught_up<R: Threads + Wait + Sync>(
 fn reopened<R: Threads + Wait + Sync>(
     rt: &R,
     alloc: Global,
-    genesis: &Genesis,
-    chain: &Orderer,
-    whole: &Snapshot,
+    setup: &Setup,
     bytes: &[u8],
-) -> Result<Option<Result<(usize, bool), ReopenRefusal>>, AllocError> {
-    let loaded = load(alloc, &mut Counted::new(bytes))?;
-    let Some(org) = genesis.peers.first() else {
-        return Ok(None);
-    };
-    match Peer::reopen(rt, alloc, genesis, org, 1, loaded) {
+) -> Option<Result<(usize, bool), ReopenRefusal>> {
+    let org = setup.genesis.peers.first()?;
+    let loaded = load(alloc, &mut Counted::new(bytes)).ok()?;
+    match Peer::reopen(rt, alloc, &setup.genesis, org, 1, loaded) {
         Ok((mut writer, _seats)) => {
-            let caught_up = caught_up(rt, alloc, &mut writer, chain, whole);
+            let caught_up = caught_up(rt, alloc, &mut writer, &setup.chain);
             writer.close(rt);
-            Ok(Some(Ok(caught_up?)))
+            Some(Ok(caught_up))
         }
-        Err(refusal) => Ok(Some(Err(refusal))),
+        Err(refusal) => Some(Err(refusal)),
     }
-}
-
-/// The snapshot after one block more.
-fn next(
-    alloc: Global,
-    genesis: &Genesis,
-    before: &Snapshot,
-    block: &Block,
-) -> Result<Snapshot, Fail> {
-    match commit_checked(alloc, &genesis.rules, before, block.clone()?) {
-        Ok(snapshot) => Ok(snapshot),
-        Err(_) => Err("a block".into()),
-    }
-}
-
-/// The chain of all blocks.
-fn whole(alloc: Global, genesis: &Genesis, chain: &Orderer) -> Result<Snapshot, Fail> {
-    let mut newest = Snapshot::empty(alloc);
-    for block in chain.blocks() {
-        newest = next(alloc, genesis, &newest, block)?;
-    }
-    Ok(newest)
 }
 
 /// Whether the bytes of a store, but for ten of the end of its fourth record, give three blocks, and
 /// with blocks 4 and 5 the flags and the state of all five.
-fn is_back<R: Threads + Wait + Sync>(
-    rt: &R,
-    alloc: Global,
-    genesis: &Genesis,
-    chain: &Orderer,
-    whole: &Snapshot,
-) -> Result<bool, Fail> {
-    let store = store(alloc, chain.blocks(), 0)?;
+fn is_back<R: Threads + Wait + Sync>(rt: &R, alloc: Global, setup: &Setup) -> Result<bool, Fail> {
+    let store = store(alloc, setup.chain.blocks(), 0)?;
     let end = (store.len() / 5 * 4).saturating_sub(10);
     let cut = store.get(..end).unwrap_or(&[]);
-    Ok(reopened(rt, alloc, genesis, chain, whole, cut)? == Some(Ok((3, true))))
+    Ok(reopened(rt, alloc, setup, cut) == Some(Ok((3, true))))
 }
 
 /// Whether a store with another flag of its second block is refused, and the block is named.
 fn is_refused<R: Threads + Wait + Sync>(
     rt: &R,
     alloc: Global,
-    genesis: &Genesis,
-    chain: &Orderer,
-    whole: &Snapshot,
+    setup: &Setup,
 ) -> Result<bool, Fail> {
-    let store = store(alloc, chain.blocks(), 2)?;
+    let store = store(alloc, setup.chain.blocks(), 2)?;
     let refusal = ReopenRefusal::Stored(RecommitRefusal::Flags(2));
-    Ok(reopened(rt, alloc, genesis, chain, whole, &store)? == Some(Err(refusal)))
+    Ok(reopened(rt, alloc, setup, &store) == Some(Err(refusal)))
+}
+
+/// Whether a peer comes back with a store that is cut, and not with one that has another flag.
+fn comes_back<R: Threads + Wait + Sync>(
+    rt: &R,
+    alloc: Global,
+    setup: &Setup,
+) -> Result<bool, Fail> {
+    Ok(is_back(rt, alloc, setup)? && is_refused(rt, alloc, setup)?)
 }
 
 #[test]
 fn a_peer_comes_back_with_its_store(rt: HostRuntime) -> Result<(), Fail> {
     let alloc = rt.alloc();
-    let setup = opening(alloc, GET_PUT_A, 5)?;
-    let whole = whole(alloc, &setup.genesis, &setup.chain)?;
-    let is_back = is_back(&rt, alloc, &setup.genesis, &setup.chain, &whole)?;
-    let is_refused = is_refused(&rt, alloc, &setup.genesis, &setup.chain, &whole)?;
-    assert!(rt; is_back && is_refused);
+    let comes_back = comes_back(&rt, alloc, &opening(alloc, GET_PUT_A, 5)?)?;
+    assert!(rt; comes_back);
     Ok(())
 }

@@ -2,7 +2,8 @@
 
 ghost use Rattle.std.specs.Prelude.{◌≡◌, ◌<◌, ◌+◌, ◌*◌, IfOk};
 
-use crate::samples::{GET_PUT_A, genesis, transaction};
+use crate::samples::{GET_PUT_A, genesis};
+use fab_types::Name;
 use fabric_core::Audit;
 use seat_threads::{Report, run_seats};
 use std::alloc::Global;
@@ -20,16 +21,12 @@ fn report_of<R: Threads + Wait + Sync + Send + Copy + 'static>(
     requires { (0 < seats) × (seats < 1000) }
     ensures { IfOk result (λ r. r.endorsed + r.refused ≡ seats * rounds) }
 {
-    let call = transaction(alloc, 0, b'a')?;
+    let Some(kv) = Name::new(b"kv".to_vec(alloc)?) else {
+        return Err("a name".into());
+    };
     let mut genesis = genesis(alloc, GET_PUT_A)?;
     genesis.seats = seats;
-    match run_seats(
-        rt,
-        alloc,
-        &genesis,
-        call.payload.proposal.chaincode(),
-        rounds,
-    ) {
+    match run_seats(rt, alloc, &genesis, &kv, rounds) {
         Ok(report) => Ok(report),
         Err(_) => Err("a report".into()),
     }

@@ -4,8 +4,7 @@ ghost use Rattle.std.specs.Prelude.{◌≡◌, [], IfOk};
 ghost use Rattle.snapshot_cell.specs.Lists.{OneMore};
 ghost use Rattle.snapshot_cell.specs.Seats.{published_list, cell_of_reader, cell_of_writer, cell_of_told};
 
-use crate::samples::{GET_PUT_A, chain, genesis};
-use fab_types::Block;
+use crate::samples::{GET_PUT_A, Setup, opening};
 use ledger_setting::commit_checked;
 use snapshot_cell::{Reader, Told, Writer, open};
 use std::alloc::Global;
@@ -14,22 +13,15 @@ use std::test::Fail;
 use std::thread::{Threads, join};
 use world_state::Snapshot;
 
-/// The first block of a chain.
-fn first_block(alloc: Global) -> Result<Block, Fail> {
-    let chain = chain(alloc, 1)?;
-    match chain.blocks().first() {
-        Some(block) => Ok(block.clone()?),
-        None => Err("a block".into()),
-    }
-}
-
-/// The snapshot after one block.
-fn one_block(alloc: Global) -> Result<Snapshot, Fail>
+/// The snapshot after the first block of a chain.
+fn one_block(alloc: Global, setup: &Setup) -> Result<Snapshot, Fail>
     ensures { IfOk result (λ s. OneMore [] s) }
 {
-    let block = first_block(alloc)?;
-    let genesis = genesis(alloc, GET_PUT_A)?;
-    match commit_checked(alloc, &genesis.rules, &Snapshot::empty(alloc), block) {
+    let [first] = setup.chain.blocks() else {
+        return Err("a block".into());
+    };
+    let block = first.clone()?;
+    match commit_checked(alloc, &setup.genesis.rules, &Snapshot::empty(alloc), block) {
         Ok(snapshot) => Ok(snapshot),
         Err(_) => Err("a snapshot".into()),
     }
@@ -70,7 +62,7 @@ fn height_elsewhere<R: Threads + Wait + Sync>(
 #[test]
 fn a_seat_learns_on_a_second_thread(rt: HostRuntime) -> Result<(), Fail> {
     let alloc = rt.alloc();
-    let next = one_block(alloc)?;
+    let next = one_block(alloc, &opening(alloc, GET_PUT_A, 1)?)?;
     let Ok((mut writer, mut seats)) = open(&rt, alloc, Snapshot::empty(alloc), 1) else {
         return Err("a cell".into());
     };
