@@ -3,12 +3,10 @@
 ghost use Rattle.std.specs.Prelude.{◌≡◌, ◌||◌, OnOk, bytes_eq};
 ghost use Rattle.std.specs.Map.{keys_of};
 ghost use Rattle.ledger_model.specs.Chain.{Bytes};
-ghost use Rattle.world_state.specs.Ids.{is_known, is_id_of};
+ghost use Rattle.world_state.specs.Ids.{is_known, is_one_of};
 
-use fab_types::Block;
 use persist_map::PMap;
-use std::alloc::{AllocError, Global};
-use wire::tx_id;
+use std::alloc::AllocError;
 
 /// Ids, each once, in versions that share their pages.
 pub type IdIndex = PMap<[u8; 32], ()>;
@@ -30,18 +28,15 @@ fn index(ids: &mut IdIndex, id: [u8; 32]) -> Result<(), AllocError>
     ids.put(id, ())
 }
 
-/// Adds the ids of a block's transactions.
-pub fn index_block(alloc: Global, ids: &mut IdIndex, block: &Block) -> Result<(), AllocError>
+/// Adds ids.
+pub fn index_all(known: &mut IdIndex, ids: &[[u8; 32]]) -> Result<(), AllocError>
     ensures { OnOk result
         ((sought : Bytes) →
-        is_known (keys_of ids.new.entries) sought
-        ≡ (is_known (keys_of ids.old.entries) sought || is_id_of block.now.envelopes
-        sought)) }
+        is_known (keys_of known.new.entries) sought
+        ≡ (is_known (keys_of known.old.entries) sought || is_one_of ids.now sought)) }
 {
-    let envelopes = block.envelopes.as_slice();
-    for envelope in envelopes {
-        let id = tx_id(alloc, &envelope.payload.proposal)?;
-        index(ids, id)?;
+    for id in ids {
+        index(known, *id)?;
     }
     Ok(())
 }

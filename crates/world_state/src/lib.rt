@@ -13,7 +13,7 @@ mod ranges;
 mod snapshot;
 mod writes;
 
-pub use ids::{TxIds, add_id};
+pub use ids::{TxIds, add_id, tx_ids};
 pub use ranges::{first_entries, range_of};
 pub use snapshot::Snapshot;
 pub use writes::StateMap;

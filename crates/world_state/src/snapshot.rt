@@ -1,18 +1,21 @@
 //! Snapshots.
 
-ghost use Rattle.std.specs.Prelude.{◌≡◌, ◌≤◌, ◌+◌, [], ◌∷◌, ◌++◌, length, map, IfOk, option_map};
+ghost use Rattle.std.specs.Prelude.{◌≡◌, ◌≤◌, ◌+◌, [], ◌∷◌, ◌++◌, length, map, ◌||◌, IfOk, OnOk, OnErr, option_map};
 ghost use Rattle.std.specs.FinMap.{entries};
 ghost use Rattle.std.specs.List.Sorted.{IsStrictlySortedBy};
 ghost use Rattle.std.specs.Map.{keys_of};
 ghost use Rattle.std.specs.Map.Iter.{deref_pair};
-ghost use Rattle.ledger_model.specs.Chain.{history};
+ghost use Rattle.ledger_model.specs.Chain.{Bytes, history};
 ghost use Rattle.ledger_model.specs.Views.{key_cmp, first, entries_within};
 ghost use Rattle.ledger_model.specs.State.{state, state_at};
 ghost use Rattle.wire.specs.Ids.{id_of};
 ghost use Rattle.ledger_model.specs.Flags.{stands_in};
+ghost use Rattle.world_state.specs.Ids.{is_known, is_one_of, ids_of};
 ghost use Rattle.world_state.specs.Shared.{blocks_in};
+ghost use Rattle.world_state.specs.Writing.{as_state, put_block};
 
-use crate::index::{IdIndex, index_block, is_indexed};
+use crate::ids::tx_ids;
+use crate::index::{IdIndex, index_all, is_indexed};
 use crate::ranges::{first_entries, range_in};
 use crate::writes::{StateMap, apply_block};
 use fab_types::limits::LAST_BLOCK;
@@ -46,6 +49,32 @@ fn with_block(
     longer.extend_with_clones(blocks)?;
     longer.push(Arc::new(alloc, block)?)?;
     Ok(longer)
+}
+
+/// The state and the ids after one block more, whose transactions have these flags and ids.
+fn after_block(
+    map: &StateMap,
+    known: &IdIndex,
+    block: &Block,
+    flags: &[Flag],
+    ids: &[[u8; 32]],
+) -> Result<(StateMap, IdIndex), AllocError>
+    requires { length flags.now ≡ length block.now.envelopes }
+    ensures limits { OnOk result (block.now.header.number ≤ LAST_BLOCK) }
+    ensures map { IfOk result
+        (λ t. as_state t.0.entries
+        ≡ put_block (as_state map.now.entries) block.now.header.number 0 block.now.envelopes
+        flags.now) }
+    ensures ids { IfOk result
+        (λ t. (sought : Bytes) →
+        is_known (keys_of t.1.entries) sought
+        ≡ (is_known (keys_of known.now.entries) sought || is_one_of ids.now sought)) }
+{
+    let mut map = map.clone()?;
+    let mut known = known.clone()?;
+    apply_block(&mut map, block, flags)?;
+    index_all(&mut known, ids)?;
+    Ok((map, known))
 }
 
 /// The blocks of a chain from block 1 on, and the state after them.
@@ -167,11 +196,52 @@ impl Snapshot {
         ensures { IfOk result
             (λ s. s ≡ self.now ++ record { block = block; flags = flags.items } ∷ []) }
     {
-        let mut map = self.map.clone()?;
-        let mut ids = self.ids.clone()?;
-        apply_block(&mut map, &block, &flags)?;
-        index_block(alloc, &mut ids, &block)?;
+        let ids = tx_ids(alloc, &block)?;
+        self.extended_with_ids(alloc, block, flags, &ids)
+    }
+
+    /// The snapshot after one block more, as `extended` makes it, where the ids of the block's
+    /// transactions are at hand. The error is of memory.
+    pub fn extended_with_ids(
+        &self,
+        alloc: Global,
+        block: Block,
+        flags: Vec<Flag>,
+        ids: &[[u8; 32]],
+    ) -> Result<Snapshot, AllocError>
+        requires next { block.header.number ≡ length self.now + 1 }
+        requires one_each { length flags.items ≡ length block.envelopes }
+        requires ids { ids.now ≡ ids_of block.envelopes }
+        ensures { IfOk result
+            (λ s. s ≡ self.now ++ record { block = block; flags = flags.items } ∷ []) }
+    {
+        let (map, ids) = after_block(&self.map, &self.ids, &block, &flags, ids)?;
         let blocks = with_block(alloc, &self.blocks, CommittedBlock::new(block, flags))?;
         Ok(Snapshot { blocks, map, ids })
+    }
+
+    /// Becomes the snapshot after one block more, which is the next in number. `ids` are those of
+    /// its transactions. Unlike `extended` it copies no list of blocks. The error is of memory, and
+    /// then nothing is changed.
+    pub fn extend(
+        &mut self,
+        alloc: Global,
+        block: Block,
+        flags: Vec<Flag>,
+        ids: &[[u8; 32]],
+    ) -> Result<(), AllocError>
+        requires next { block.header.number ≡ length self.old + 1 }
+        requires one_each { length flags.items ≡ length block.envelopes }
+        requires ids { ids.now ≡ ids_of block.envelopes }
+        ensures extended { OnOk result
+            (self.new ≡ self.old ++ record { block = block; flags = flags.items } ∷ []) }
+        ensures unchanged { OnErr result (self.new ≡ self.old) }
+    {
+        let (map, ids) = after_block(&self.map, &self.ids, &block, &flags, ids)?;
+        let block = Arc::new(alloc, CommittedBlock::new(block, flags))?;
+        self.blocks.push(block)?;
+        self.map = map;
+        self.ids = ids;
+        Ok(())
     }
 }

@@ -1,0 +1,28 @@
+use Rattle.std.proofs.Common.{◌≡◌, ◌∙◌, ap, sym, ◌+◌, length, arith, ◌++◌, ◌∷◌, [], ◌||◌, subst}
+use Rattle.std.specs.Map.{keys_of}
+use Rattle.ledger_model.specs.Chain.{Committed, Chain}
+use Rattle.world_state.specs.Writing.{as_state, put_block}
+use Rattle.world_state.specs.Ids.{is_known, is_one_of}
+use Rattle.world_state.specs.Inside.{IsRight}
+use Rattle.world_state.specs.Shared.{blocks_in}
+use Rattle.world_state.proofs.Longer.{right_more}
+use Rattle.world_state.proofs.snapshot.Snapshot.extended_with_ids.Goals as goal
+
+pub invariant_of-result : goal.invariant_of-result
+invariant_of-result c =
+    let chain = blocks_in c.self.inside.blocks.items in
+    let b = c.args.block in
+    let new : Committed = record { block = b; flags = c.args.flags.items } in
+    let number : b.header.number ≡ length chain + 1 = omega (arith, ap length c.self.view_is) in
+    let pushed = c.in_ok-blocks.ensures ∙ (λ i. blocks_in (c.deref-2.ensures.value i) ++ c.new.ensures i ∷ []) in
+    subst (λ (bs : Chain). IsRight bs c.in_ok-map.map.entries (keys_of c.in_ok-map.ids.entries)) (sym pushed)
+    (right_more chain new c.self.inside.map.entries _ (keys_of c.self.inside.ids.entries) _ c.self.invariant number c.in_ok-map.ensures.limits
+    c.requires.one_each
+    (c.in_ok-map.ensures.map ∙
+    (λ i. put_block (as_state c.self.inside.map.entries) b.header.number 0 b.envelopes (c.deref.ensures.value i)))
+    (λ q. c.in_ok-map.ensures.ids q ∙ ap (λ ids. is_known (keys_of c.self.inside.ids.entries) q || is_one_of ids q) c.requires.ids))
+
+pub returns : goal.returns
+returns c =
+    let new : Committed = record { block = c.args.block; flags = c.args.flags.items } in
+    c.in_ok-blocks.ensures ∙ (λ i. blocks_in (c.deref-2.ensures.value i) ++ c.new.ensures i ∷ []) ∙ ap (λ bs. bs ++ new ∷ []) c.self.view_is
