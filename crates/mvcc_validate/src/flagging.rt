@@ -5,6 +5,7 @@ ghost use Rattle.ledger_model.specs.Chain.{Placed, history, is_valid};
 ghost use Rattle.ledger_model.specs.State.{state};
 ghost use Rattle.ledger_model.specs.Flags.{stands_in, flag_at, flags_told};
 ghost use Rattle.wire.specs.Ids.{id_of};
+ghost use Rattle.world_state.specs.Ids.{ids_of};
 ghost use Rattle.mvcc_validate.specs.Overlay.{AreNewIds, IsOver};
 
 use crate::overlay::{Written, put_writes};
@@ -13,8 +14,7 @@ use crate::reads::are_reads_current;
 use fab_types::{Block, Flag, Payload, Version};
 use std::alloc::{AllocError, Global};
 use std::collections::{BTreeMap, BTreeSet};
-use wire::tx_id;
-use world_state::{Snapshot, TxIds, add_id};
+use world_state::{Snapshot, TxIds, add_id, tx_ids};
 
 fn is_valid(flag: Flag) -> bool
     ensures { result ≡ is_valid flag }
@@ -93,15 +93,34 @@ pub fn flags(
         ≡ flags_told id_of (history snapshot.now) block.now.header.number 0 block.now.envelopes
         endorsed.now) }
 {
+    let ids = tx_ids(alloc, block)?;
+    flags_with_ids(alloc, snapshot, block, endorsed, &ids)
+}
+
+/// The flags that `flags` gives, where the ids of the block's transactions are at hand. The error
+/// is of memory.
+pub fn flags_with_ids(
+    alloc: Global,
+    snapshot: &Snapshot,
+    block: &Block,
+    endorsed: &[bool],
+    ids: &[[u8; 32]],
+) -> Result<Vec<Flag>, AllocError>
+    requires one_each { length endorsed.now ≡ length block.now.envelopes }
+    requires ids { ids.now ≡ ids_of block.now.envelopes }
+    ensures { IfOk result
+        (λ v. v.items
+        ≡ flags_told id_of (history snapshot.now) block.now.header.number 0 block.now.envelopes
+        endorsed.now) }
+{
     let number = block.header.number.get();
     let envelopes = block.envelopes.as_slice();
-    let mut ids: TxIds = BTreeSet::new(alloc);
+    let mut seen: TxIds = BTreeSet::new(alloc);
     let mut written: Written = BTreeMap::new(alloc);
     let mut flags = Vec::new(alloc);
     for (place, envelope) in envelopes.iter().enumerate() {
         let payload = &envelope.payload;
-        let id = tx_id(alloc, &payload.proposal)?;
-        let stood = add_tx(snapshot, &mut ids, id)?;
+        let stood = add_tx(snapshot, &mut seen, ids[place])?;
         let flag = flag_of(alloc, snapshot, &written, stood, endorsed[place], payload)?;
         if is_valid(flag) {
             let version = Version::new(number, place as u32).unwrap();
