@@ -6,15 +6,17 @@ ghost use Rattle.ledger_model.specs.Flags.{flags_told};
 ghost use Rattle.wire.specs.Ids.{id_of};
 ghost use Rattle.wire.specs.Links.{next_link};
 ghost use Rattle.committer.specs.declared.refusal.CommitRefusal.TheVariants.{OutOfMemory};
+ghost use Rattle.world_state.specs.Ids.{ids_of};
 ghost use Rattle.committer.specs.Fits.{blocks_of, Fits, IsNext, IsRefused};
+ghost use Rattle.committer.specs.Pushes.{Pushes};
 
 use crate::refusal::CommitRefusal;
-use fab_types::Block;
 use fab_types::limits::LAST_BLOCK;
-use mvcc_validate::flags;
+use fab_types::{Block, Flag};
+use mvcc_validate::flags_with_ids;
 use std::alloc::{AllocError, Global};
 use wire::{data_hash, header_hash};
-use world_state::Snapshot;
+use world_state::{Snapshot, tx_ids};
 
 /// The hash that the next header names: that of the last header, or 32 zero bytes where there is
 /// none.
@@ -64,6 +66,29 @@ fn check(alloc: Global, snapshot: &Snapshot, block: &Block) -> Result<(), Commit
     Ok(())
 }
 
+/// The flags of a block that fits, and the ids of its transactions.
+fn judged(
+    alloc: Global,
+    snapshot: &Snapshot,
+    block: &Block,
+    endorsed: &[bool],
+) -> Result<(Vec<Flag>, Vec<[u8; 32]>), CommitRefusal>
+    requires one_each { length endorsed.now ≡ length block.now.envelopes }
+    ensures flags { IfOk result
+        (λ t. t.0.items
+        ≡ flags_told id_of (history snapshot.now) block.now.header.number 0 block.now.envelopes
+        endorsed.now) }
+    ensures ids { IfOk result (λ t. t.1.items ≡ ids_of block.now.envelopes) }
+    ensures fits { OnOk result (Fits (blocks_of snapshot.now) block.now) }
+    ensures refused { IfErr result
+        (λ refusal. IsRefused refusal (blocks_of snapshot.now) block.now) }
+{
+    check(alloc, snapshot, block)?;
+    let ids = tx_ids(alloc, block)?;
+    let flags = flags_with_ids(alloc, snapshot, block, endorsed, &ids)?;
+    Ok((flags, ids))
+}
+
 /// The snapshot after one block more, with the flags of its transactions. `snapshot` stays as it
 /// is. `endorsed` says of each transaction, by its place, whether its chaincode is known and its
 /// policy satisfied.
@@ -98,7 +123,25 @@ pub fn commit_on(
     ensures fits { OnOk result (Fits (blocks_of snapshot.now) block) }
     ensures refused { IfErr result (λ refusal. IsRefused refusal (blocks_of snapshot.now) block) }
 {
-    check(alloc, snapshot, &block)?;
-    let flags = flags(alloc, snapshot, &block, endorsed)?;
-    Ok(snapshot.extended(alloc, block, flags)?)
+    let (flags, ids) = judged(alloc, snapshot, &block, endorsed)?;
+    Ok(snapshot.extended_with_ids(alloc, block, flags, &ids)?)
+}
+
+/// Puts a block behind a snapshot, which becomes the one that `commit_on` gives and copies no list
+/// of blocks.
+///
+/// It refuses as `commit_on` does, and a refusal changes nothing.
+pub fn commit_onto(
+    alloc: Global,
+    snapshot: &mut Snapshot,
+    block: Block,
+    endorsed: &[bool],
+) -> Result<(), CommitRefusal>
+    requires one_each { length endorsed.now ≡ length block.envelopes }
+    ensures after { Pushes snapshot.old block endorsed.now result snapshot.new }
+    ensures fits { OnOk result (Fits (blocks_of snapshot.old) block) }
+    ensures refused { IfErr result (λ refusal. IsRefused refusal (blocks_of snapshot.old) block) }
+{
+    let (flags, ids) = judged(alloc, snapshot, &block, endorsed)?;
+    Ok(snapshot.extend(alloc, block, flags, &ids)?)
 }

@@ -6,6 +6,6 @@ mod commit;
 mod refusal;
 mod replay;
 
-pub use commit::{check_next, commit_on};
+pub use commit::{check_next, commit_on, commit_onto};
 pub use refusal::CommitRefusal;
 pub use replay::Replay;

@@ -6,7 +6,7 @@ ghost use Rattle.ledger_model.specs.Flags.{flags_told};
 ghost use Rattle.wire.specs.Ids.{id_of};
 ghost use Rattle.committer.specs.Fits.{blocks_of, Fits, IsRefused};
 
-use crate::commit::commit_on;
+use crate::commit::commit_onto;
 use crate::refusal::CommitRefusal;
 use fab_types::{Block, Flag};
 use std::alloc::Global;
@@ -66,7 +66,7 @@ impl Replay {
         ensures fits { OnOk result (Fits (blocks_of self.old) block) }
         ensures refused { IfErr result (λ refusal. IsRefused refusal (blocks_of self.old) block) }
     {
-        self.snapshot = commit_on(alloc, &self.snapshot, block, endorsed)?;
+        commit_onto(alloc, &mut self.snapshot, block, endorsed)?;
         Ok(last_flags(&self.snapshot))
     }
 }
