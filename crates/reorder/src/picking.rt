@@ -12,50 +12,52 @@ use crate::pick::Pick;
 use std::alloc::{AllocError, Global};
 
 /// The smallest index that waits and has no edge into it.
-fn first_free(left: &[bool], into: &[usize]) -> Option<usize>
+fn first_free(left: &[bool], into: &[u32]) -> Option<usize>
     requires { length into.now ≡ length left.now }
     ensures { MatchOption result (IsNoneZero left.now into.now)
         (λ i. IsFirstZero left.now into.now i) }
 {
     for (i, waits) in left.iter().enumerate() {
-        if *waits && into[i] == 0 {
+        if into[i] == 0 && *waits {
             return Some(i);
         }
     }
     None
 }
 
+/// One more than the edges in and out of one that waits, and 0 for one that is gone.
+#[inline(always)]
+fn weight_of(is_left: bool, into: u32, out: u32) -> usize
+    ensures left { is_left ≡ true → result ≡ into + out + 1 }
+    ensures gone { is_left ≡ false → result ≡ 0 }
+{
+    let edges = into as usize + out as usize;
+    if is_left { edges + 1 } else { 0 }
+}
+
 /// The one that waits with the most edges, of these the last.
-fn busiest(left: &[bool], into: &[usize], out: &[usize]) -> Option<usize>
+fn busiest(left: &[bool], into: &[u32], out: &[u32]) -> Option<usize>
     requires into_long { length into.now ≡ length left.now }
     requires out_long { length out.now ≡ length left.now }
-    requires into_small { (k : ℕ) → k < length left.now → slice_index into.now k < 2 ^ 32 }
-    requires out_small { (k : ℕ) → k < length left.now → slice_index out.now k < 2 ^ 32 }
     ensures { MatchOption result (IsDone left.now)
         (λ i. IsBusiest (λ k. slice_index into.now k + slice_index out.now k) left.now i) }
 {
-    let mut found = false;
     let mut best = 0;
     let mut most = 0;
     for i in 0..left.len() {
-        if left[i] {
-            found = true;
-            let count = into[i] + out[i];
-            if count >= most {
-                best = i;
-                most = count;
-            }
+        let weight = weight_of(left[i], into[i], out[i]);
+        if weight >= most {
+            best = i;
+            most = weight;
         }
     }
-    if found { Some(best) } else { None }
+    if most > 0 { Some(best) } else { None }
 }
 
 /// The next pick.
-fn next_pick(left: &[bool], into: &[usize], out: &[usize]) -> Option<Pick>
+fn next_pick(left: &[bool], into: &[u32], out: &[u32]) -> Option<Pick>
     requires into_long { length into.now ≡ length left.now }
     requires out_long { length out.now ≡ length left.now }
-    requires into_small { (k : ℕ) → k < length left.now → slice_index into.now k < 2 ^ 32 }
-    requires out_small { (k : ℕ) → k < length left.now → slice_index out.now k < 2 ^ 32 }
     ensures { MatchOption result (IsDone left.now)
         (λ pick. IsCountedPick left.now into.now out.now pick) }
 {
@@ -70,8 +72,8 @@ fn take_out(
     edges: &Matrix,
     back: &Matrix,
     left: &mut Vec<bool>,
-    into: &mut Vec<usize>,
-    out: &mut Vec<usize>,
+    into: &mut Vec<u32>,
+    out: &mut Vec<u32>,
     i: usize,
 )
     requires size { back.now.size ≡ edges.now.size }

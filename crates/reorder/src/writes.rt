@@ -62,14 +62,34 @@ fn first_from(index: &[Written<'_>], bound: &[u8]) -> usize
     index.partition_point(|w| w.key.as_slice().cmp(bound).is_lt())
 }
 
-/// Where the keys after a bound begin.
-fn first_after(index: &[Written<'_>], bound: &[u8]) -> usize
+/// Where the writes of a key begin.
+fn first_of(index: &[Written<'_>], key: &Key) -> usize
     requires { IsSortedByKey key_of key_cmp index.now }
     ensures within { result ≤ length index.now }
-    ensures point { IsPartitionPoint (λ w. is_le (key_cmp w.key.now bound.now) ≡ true)
-        (λ w. is_le (key_cmp w.key.now bound.now) ≡ false) index.now result }
+    ensures point { IsPartitionPoint (λ w. is_lt (key_cmp w.key.now key.now) ≡ true)
+        (λ w. is_lt (key_cmp w.key.now key.now) ≡ false) index.now result }
 {
-    index.partition_point(|w| w.key.as_slice().cmp(bound).is_le())
+    index.partition_point(|w| w.key.cmp(key).is_lt())
+}
+
+/// Where the writes of a key end, which begin at `first`.
+fn end_of(index: &[Written<'_>], key: &Key, first: usize) -> usize
+    requires sorted { IsSortedByKey key_of key_cmp index.now }
+    requires within { first ≤ length index.now }
+    requires begins { IsPartitionPoint (λ w. is_lt (key_cmp w.key.now key.now) ≡ true)
+        (λ w. is_lt (key_cmp w.key.now key.now) ≡ false) index.now first }
+    ensures within { result ≤ length index.now }
+    ensures point { IsPartitionPoint (λ w. is_le (key_cmp w.key.now key.now) ≡ true)
+        (λ w. is_le (key_cmp w.key.now key.now) ≡ false) index.now result }
+{
+    if first >= index.len() {
+        return first;
+    }
+    let next = &index[first];
+    if next.key.cmp(key).is_gt() {
+        return first;
+    }
+    index.partition_point(|w| w.key.cmp(key).is_le())
 }
 
 /// Marks the writers of a stretch.
@@ -92,8 +112,8 @@ fn mark_key(row: &mut [bool], index: &[Written<'_>], key: &Key)
         slice_index_or row.new j false
         ≡ (slice_index_or row.old j false || hits (λ k. same_key key.now k) index.now j) }
 {
-    let first = first_from(index, key.as_slice());
-    let end = first_after(index, key.as_slice());
+    let first = first_of(index, key);
+    let end = end_of(index, key, first);
     if first < end {
         mark(row, &index[first..end]);
     }

@@ -1,10 +1,10 @@
-use Rattle.std.proofs.Common.{◌≡◌, ℕ, ◌+◌, ◌<◌, Bool, true, false, List, [], length, get_or, set, take, replicate, sym, ap, ◌∙◌, subst, arith, rules}
+use Rattle.std.proofs.Common.{◌≡◌, ℕ, ◌+◌, ◌<◌, Bool, true, false, List, [], get_or, set, take, replicate, sym, ap, ◌∙◌, subst, arith, rules}
 use Rattle.std.proofs.lemmas.List.{append-nil, take_more, take_all}
 use Rattle.reorder.specs.Plan.{IsDone, IsPlan, waits, tally, all_but}
 use Rattle.reorder.specs.Counts.{IsCounted, IsCountedPick}
 use Rattle.reorder.specs.Cells.{edge_at}
 use Rattle.reorder.proofs.Plans.{without_more, set_gone}
-use Rattle.reorder.proofs.Counted.{counted_whole, counted_small, counted_waits, same_pick, counts_back, fewer_wait, plan_more}
+use Rattle.reorder.proofs.Counted.{counted_whole, counted_waits, same_pick, counts_back, fewer_wait, plan_more}
 use Rattle.reorder.proofs.picking.picks.Goals as goal
 use Rattle.reorder.proofs.picking.picks.Goals.{then-index, else-index}
 
@@ -53,20 +53,6 @@ loop-pick-init c =
       counted = c.loop-i.invariant.counted;
       goes_on = λ rest p. rw c.in_ok-picks.ensures.items (subst (λ (x : List Bool). IsPlan n edge x rest) left_is p);
     }
-
-pub next_pick-requires-clause-into_small : goal.next_pick-requires-clause-into_small
-next_pick-requires-clause-into_small c =
-    let e : length c.deref.result.now ≡ c.args.edges.now.size = ap length c.deref.ensures.value ∙ c.loop-pick.invariant.counted.left_long in
-    λ k h.
-    let s = counted_small _ _ _ _ _ c.requires.size c.loop-pick.invariant.counted k (omega arith) in
-    rw c.deref-in-loop-pick.ensures.value (s.0)
-
-pub next_pick-requires-clause-out_small : goal.next_pick-requires-clause-out_small
-next_pick-requires-clause-out_small c =
-    let e : length c.deref.result.now ≡ c.args.edges.now.size = ap length c.deref.ensures.value ∙ c.loop-pick.invariant.counted.left_long in
-    λ k h.
-    let s = counted_small _ _ _ _ _ c.requires.size c.loop-pick.invariant.counted k (omega arith) in
-    rw c.deref-in-loop-pick-2.ensures.value (s.1)
 
 pub take_out-requires-in-Some-clause-waits : goal.take_out-requires-in-Some-clause-waits
 take_out-requires-in-Some-clause-waits c =

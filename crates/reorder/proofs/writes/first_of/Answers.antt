@@ -1,0 +1,11 @@
+use Rattle.std.proofs.Common.{rules}
+use Rattle.std.specs.Ordering.{is_lt}
+use Rattle.std.proofs.lemmas.List.Sorted.{IsPartitionPoint-from_clause}
+use Rattle.fab_types.specs.Order.{key_cmp}
+use Rattle.reorder.proofs.Tables.{is_lt_parted}
+use Rattle.reorder.proofs.writes.first_of.Goals as goal
+
+pub returns-clause-point : goal.returns-clause-point
+returns-clause-point c =
+    IsPartitionPoint-from_clause (λ w. is_lt (key_cmp w.key.now c.args.key.now)) _ _ c.partition_point.ensures.partitioned (is_lt_parted _ _ c.requires)
+    (λ a r q k. search rules)
