@@ -13,6 +13,11 @@ pub struct Position {
 }
 
 impl Display for Position {
+    ghost use Rattle.std.specs.Prelude.{◌++◌, Some, codes};
+    ghost use Rattle.std.specs.Fmt.{decimal};
+
+    ghost output = { λ p. Some (decimal p.function ++ codes ":" ++ decimal p.instruction) };
+
     fn fmt<W: Write>(&self, f: &mut Formatter<W>) -> fmt::Result {
         write!(f, "{}:{}", self.function, self.instruction)
     }
