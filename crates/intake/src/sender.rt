@@ -18,13 +18,23 @@ pub struct Full {
     pub envelope: Envelope,
 }
 
-impl Display for Full {
-    ghost use Rattle.std.specs.Prelude.{Some, codes};
+impl Full {
+    /// The number of the refusal: 411.
+    pub fn number(&self) -> u16
+        ensures { result ≡ 411 }
+    {
+        411
+    }
+}
 
-    ghost output = { λ _. Some (codes "refused 411") };
+impl Display for Full {
+    ghost use Rattle.std.specs.Prelude.{◌++◌, Some, codes};
+    ghost use Rattle.std.specs.Fmt.{decimal};
+
+    ghost output = { λ _. Some (codes "refused " ++ decimal 411) };
 
     fn fmt<W: Write>(&self, f: &mut Formatter<W>) -> fmt::Result {
-        write!(f, "refused 411")
+        write!(f, "refused {}", self.number())
     }
 }
 
