@@ -8,7 +8,7 @@ use std::test::Fail;
 fn lengths(proposal: Proposal) -> [usize; 2] {
     match proposal {
         Proposal::Call(call) => [
-            call.chaincode.into_vec().len(),
+            call.chaincode.as_slice().len(),
             call.argument.into_vec().len(),
         ],
         Proposal::Upgrade(_) => [0, 0],
