@@ -5,5 +5,5 @@
 mod committing;
 mod genesis;
 
-pub use committing::commit_checked;
+pub use committing::{commit_checked, commit_checked_onto};
 pub use genesis::Genesis;
