@@ -1,2 +1,4 @@
+pub mod Flags
+pub mod Pushed
 pub mod Going
 pub mod Lawful

@@ -7,8 +7,6 @@ use Rattle.committer.specs.Fits.{Fits, IsRefused, blocks_of}
 use Rattle.committer.specs.declared.refusal.CommitRefusal.{CommitRefusal}
 use Rattle.committer.specs.declared.refusal.CommitRefusal.TheVariants.{OutOfMemory}
 use Rattle.block_store.specs.Loading.{Gives}
-use Rattle.store_replay.specs.declared.replaying.Pushed.{Pushed}
-use Rattle.store_replay.specs.declared.replaying.Pushed.TheVariants as pushed
 use Rattle.store_replay.specs.declared.replaying.Replayed.{Replayed}
 
 -- the block of a record behind a chain, with the flags of the rule
@@ -45,11 +43,11 @@ Replays rule chain (c ∷ cs) last differs refused =
     × Replays rule (chain ++ judged_behind rule chain c ∷ []) cs last later refused))
     ⊎ ((cause : CommitRefusal) × IsUnfit chain c cause × (refused ≡ Some cause) × (last ≡ chain) × (differs ≡ None))
 
--- one record behind a chain
-abbrev pub IsPushed : BlockRule → Chain → Committed → Pushed → Type 0
-IsPushed rule chain c (pushed.Committed snapshot is_same) =
-    Fits (blocks_of chain) c.block × HasTheFlags rule chain c is_same × (snapshot ≡ chain ++ judged_behind rule chain c ∷ [])
-IsPushed rule chain c (pushed.Refused cause) = IsUnfit chain c cause
+-- the block of a record stands behind a chain, which is `last` then, with the flags of the rule; whether these are the record's
+pub record IsPushed (rule : BlockRule) (chain : Chain) (c : Committed) (is_same : Bool) (last : Chain) : Type 0 where
+  pub fits : Fits (blocks_of chain) c.block
+  pub flags : HasTheFlags rule chain c is_same
+  pub grown : last ≡ chain ++ judged_behind rule chain c ∷ []
 
 -- behind what was read before, some bytes were read: the whole blocks that they are, committed, and their end
 pub record IsReplayed (rule : BlockRule) (before now : List ℕ) (r : Replayed) : Type 0 where

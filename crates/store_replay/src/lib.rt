@@ -7,6 +7,7 @@
 //! have the flags of the table; [`recommit_next`] with one record more.
 #![tactic(auto)]
 
+mod pushing;
 mod recommitting;
 mod refusal;
 mod replaying;

@@ -1,18 +1,16 @@
 //! Replays.
 
-ghost use Rattle.std.specs.Prelude.{◌≡◌, ◌≢◌, ℕ, List, [], ◌∷◌, ◌++◌, IfOk, OnErr, MatchBool, None, length};
-ghost use Rattle.fab_types.specs.Committed.{Committed};
-ghost use Rattle.ledger_model.specs.Chain.{Chain};
-ghost use Rattle.committer.specs.Fits.{IsNext, blocks_of};
+ghost use Rattle.std.specs.Prelude.{◌≡◌, [], IfOk, None, length};
 ghost use Rattle.block_store.specs.Loading.{IsTold, ReadsAll};
 ghost use Rattle.ledger_setting.specs.Rule.{table_of};
-ghost use Rattle.store_replay.specs.Replay.{IsPushed, Replays, IsReplayed, earlier, first_of};
+ghost use Rattle.store_replay.specs.Replay.{Replays, IsReplayed, earlier, first_of};
 
+use crate::pushing::push;
 use block_store::{CountedRead, End, load};
 use committer::CommitRefusal;
 use endorsement_policy::Rules;
-use fab_types::{CommittedBlock, Flag};
-use ledger_setting::{Genesis, commit_checked};
+use fab_types::CommittedBlock;
+use ledger_setting::Genesis;
 use std::alloc::{AllocError, Global};
 use world_state::Snapshot;
 
@@ -31,55 +29,12 @@ pub struct Replayed {
     pub end: End,
 }
 
-/// What a record comes to behind a chain.
-#[derive(Drop)]
-pub enum Pushed {
-    /// Its block is on the chain; the store has the table's flags for it, or other ones.
-    Committed { snapshot: Snapshot, is_same: bool },
-    /// Its block does not fit.
-    Refused(CommitRefusal),
-}
-
 /// A chain so far, and what was found on the way.
 #[derive(Drop)]
 struct Progress {
     snapshot: Snapshot,
     differs: Option<usize>,
     refused: Option<CommitRefusal>,
-}
-
-/// The flags of the last block of a chain; none where there is no block.
-fn last_flags(snapshot: &Snapshot) -> &[Flag]
-    ensures { (before : Chain) (last : Committed) → snapshot.now ≡ before ++ last ∷ [] →
-        result.now ≡ last.flags }
-{
-    match snapshot.blocks().last() {
-        None => &[],
-        Some(committed) => committed.flags(),
-    }
-}
-
-/// Commits the block of a record. The error is of memory, and comes where the block is the next one
-/// by its number and the hash that it names.
-pub fn push(
-    alloc: Global,
-    rules: &Rules,
-    snapshot: &Snapshot,
-    stored: CommittedBlock,
-) -> Result<Pushed, AllocError>
-    ensures pushed { IfOk result
-        (λ pushed. IsPushed (table_of rules.now) snapshot.now stored pushed) }
-    ensures memory { OnErr result (IsNext (blocks_of snapshot.now) stored.block) }
-{
-    let (block, flags) = stored.into_parts();
-    match commit_checked(alloc, rules, snapshot, block) {
-        Ok(snapshot) => {
-            let is_same = flags.as_slice() == last_flags(&snapshot);
-            Ok(Pushed::Committed { snapshot, is_same })
-        }
-        Err(CommitRefusal::OutOfMemory) => Err(AllocError),
-        Err(refusal) => Ok(Pushed::Refused(refusal)),
-    }
 }
 
 /// Commits the blocks of records behind one another from the empty state on, as far as they fit.
@@ -98,9 +53,10 @@ fn commit_all(
         refused: None,
     };
     'records: for stored in records {
-        match push(alloc, rules, &progress.snapshot, stored)? {
-            Pushed::Committed { snapshot, is_same } => progress.advance(snapshot, is_same),
-            Pushed::Refused(cause) => {
+        match push(alloc, rules, &mut progress.snapshot, stored) {
+            Ok(is_same) => progress.note(is_same),
+            Err(CommitRefusal::OutOfMemory) => return Err(AllocError),
+            Err(cause) => {
                 progress.refused = Some(cause);
                 break;
             }
@@ -110,17 +66,17 @@ fn commit_all(
 }
 
 impl Progress {
-    /// Goes on to a chain with one block more, for which the store has the table's flags or not.
-    fn advance(&mut self, snapshot: Snapshot, is_same: bool)
-        ensures chain { self.new.snapshot ≡ snapshot }
+    /// Notes whether the store has the table's flags for the last block of the chain.
+    fn note(&mut self, is_same: bool)
+        ensures chain { self.new.snapshot ≡ self.old.snapshot }
         ensures differs { self.new.differs
-            ≡ earlier self.old.differs (first_of is_same (length snapshot) None) }
+            ≡ earlier self.old.differs (first_of is_same (length self.old.snapshot) None) }
         ensures refused { self.new.refused ≡ self.old.refused }
     {
-        if !is_same && self.differs.is_none() {
-            self.differs = Some(snapshot.height());
+        if is_same || self.differs.is_some() {
+            return;
         }
-        self.snapshot = snapshot;
+        self.differs = Some(self.snapshot.height());
     }
 }
 

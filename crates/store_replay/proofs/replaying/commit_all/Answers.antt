@@ -1,11 +1,10 @@
 use Rattle.std.proofs.Common.{rules, ◌≡◌, ◌∙◌, ◌∷◌, sym, subst, Option, ℕ}
 use Rattle.ledger_model.specs.Chain.{Chain}
 use Rattle.ledger_setting.specs.Rule.{table_of}
-use Rattle.store_replay.specs.declared.replaying.Pushed.TheVariants as pushed
-use Rattle.store_replay.specs.Replay.{IsPushed}
+use Rattle.store_replay.specs.Replay.{IsUnfit}
 use Rattle.store_replay.proofs.Going.{GoesOn, goes_on, stops, ends, none_left}
 use Rattle.store_replay.proofs.replaying.commit_all.Goals as goal
-use Rattle.store_replay.proofs.replaying.commit_all.Goals.{in-None, in-Some+in_ok-snapshot+in-Refused}
+use Rattle.store_replay.proofs.replaying.commit_all.Goals.{in-None, in-Some+in-Err}
 
 pub records-preserved : goal.records-preserved
 records-preserved c =
@@ -14,15 +13,15 @@ records-preserved c =
     let chain = c.records.progress.snapshot in
     let differs = c.records.progress.differs in
     let left = c.next.new.self.rest.items in
+    let last = c.push.new.snapshot in
     let steps : c.records.stored-iterator.rest.items ≡ c.in-Some.stored ∷ left = search rules in
-    let is : IsPushed rule chain c.in-Some.stored (pushed.Committed c.in-Committed.snapshot c.in-Committed.is_same) = search rules in
-    let next = goes_on rule all chain differs c.in-Some.stored left c.in-Committed.snapshot c.in-Committed.is_same
-    (subst (GoesOn rule all chain differs) steps c.records.invariant.goes_on) is in
+    let next = goes_on rule all chain differs c.in-Some.stored left c.in-Ok.is_same last
+    (subst (GoesOn rule all chain differs) steps c.records.invariant.goes_on) c.in-Ok.ensures.pushed in
     record {
       goes_on =
-          subst (λ (s : Chain). GoesOn rule all s c.advance.new.self.differs left) (sym c.advance.ensures.chain)
-          (subst (λ (d : Option ℕ). GoesOn rule all c.in-Committed.snapshot d left) (sym c.advance.ensures.differs) next);
-      fits = c.advance.ensures.refused ∙ c.records.invariant.fits;
+          subst (λ (s : Chain). GoesOn rule all s c.note.new.self.differs left) (sym c.note.ensures.chain)
+          (subst (λ (d : Option ℕ). GoesOn rule all last d left) (sym c.note.ensures.differs) next);
+      fits = c.note.ensures.refused ∙ c.records.invariant.fits;
     }
 
 pub returns : goal.returns
@@ -38,11 +37,11 @@ returns c =
           let over = none_left rest.items rest.len rest.ok.0 len in
           let done = ends rule all chain differs (subst (GoesOn rule all chain differs) over c.records.invariant.goes_on) in
           search rules
-      | in-Some+in_ok-snapshot+in-Refused w ↦
+      | in-Some+in-Err w ↦
           let left = c.next.new.self.rest.items in
           let steps : c.records.stored-iterator.rest.items ≡ w.in-Some.stored ∷ left = search rules in
-          let unfit : IsPushed rule chain w.in-Some.stored (pushed.Refused w.in-Refused.cause) = search rules in
-          let done = stops rule all chain differs w.in-Some.stored left w.in-Refused.cause
-          (subst (GoesOn rule all chain differs) steps c.records.invariant.goes_on) unfit in
+          let unfit : IsUnfit chain w.in-Some.stored w.in-Err.cause = search rules in
+          let done = stops rule all chain differs w.in-Some.stored left w.in-Err.cause w.push.new.snapshot
+          (subst (GoesOn rule all chain differs) steps c.records.invariant.goes_on) unfit w.in-Err.ensures.unchanged in
           search rules
     ]
