@@ -19,7 +19,7 @@ picked (x ∷ xs) zero = refl
 picked (x ∷ xs) (suc i) = picked xs i
 
 -- picking one leaves the others
-others_wait : (left : List Bool) (i k : ℕ) → waits (set left i false) k ≡ true → waits left k ≡ true
+pub others_wait : (left : List Bool) (i k : ℕ) → waits (set left i false) k ≡ true → waits left k ≡ true
 others_wait [] zero k h = h
 others_wait [] (suc i) k h = h
 others_wait (x ∷ xs) zero zero h = absurd (cc)

@@ -6,7 +6,7 @@ ghost use Rattle.reorder.specs.Plan.{waits, all_but, IsDone, IsBusiest, IsPlan};
 ghost use Rattle.reorder.specs.Counts.{IsNoneZero, IsFirstZero, IsCountedPick, IsCounted};
 ghost use Rattle.reorder.specs.Cells.{edge_at};
 
-use crate::counting::{counts, lower};
+use crate::counting::{counts_into, counts_out, lower, lower_out};
 use crate::matrix::Matrix;
 use crate::pick::Pick;
 use std::alloc::{AllocError, Global};
@@ -67,18 +67,9 @@ fn next_pick(left: &[bool], into: &[u32], out: &[u32]) -> Option<Pick>
     busiest(left, into, out).map(Pick::Abort)
 }
 
-/// Takes out one that waits, with its edges.
-fn take_out(
-    edges: &Matrix,
-    back: &Matrix,
-    left: &mut Vec<bool>,
-    into: &mut Vec<u32>,
-    out: &mut Vec<u32>,
-    i: usize,
-)
-    requires size { back.now.size ≡ edges.now.size }
-    requires back { (from to : ℕ) → from < edges.now.size → to < edges.now.size →
-        edge_at back.now from to ≡ edge_at edges.now to from }
+/// Takes out one that waits, with its edges. Where none of those that still wait has an edge into
+/// it, as where it is free, no count of edges out changes.
+fn take_out(edges: &Matrix, left: &mut Vec<bool>, into: &mut Vec<u32>, out: &mut Vec<u32>, i: usize)
     requires counted { IsCounted edges.now.size (edge_at edges.now) left.old.items into.old.items
         out.old.items }
     requires waits { waits left.old.items i ≡ true }
@@ -88,7 +79,9 @@ fn take_out(
 {
     left[i] = false;
     lower(into, edges.row(i));
-    lower(out, back.row(i));
+    if into[i] > 0 {
+        lower_out(out, edges, left, i);
+    }
 }
 
 /// The plan of all but `gone`, for edges between these transactions.
@@ -98,19 +91,18 @@ pub fn picks(alloc: Global, edges: &Matrix, gone: &[usize]) -> Result<Vec<Pick>,
     ensures { IfOk result
         (λ v. IsPlan edges.now.size (edge_at edges.now) (all_but gone.now edges.now.size) v.items) }
 {
-    let back = edges.transpose(alloc)?;
     let mut left = vec![in alloc; true; edges.size]?;
-    let mut into = counts(alloc, &back)?;
-    let mut out = counts(alloc, edges)?;
+    let mut into = counts_into(alloc, edges)?;
+    let mut out = counts_out(alloc, edges)?;
     for i in gone {
         let i = *i;
         if left[i] {
-            take_out(edges, &back, &mut left, &mut into, &mut out, i);
+            take_out(edges, &mut left, &mut into, &mut out, i);
         }
     }
     let mut picks = Vec::with_capacity(alloc, edges.size)?;
     while let Some(pick) = next_pick(&left, &into, &out) {
-        take_out(edges, &back, &mut left, &mut into, &mut out, pick.index());
+        take_out(edges, &mut left, &mut into, &mut out, pick.index());
         picks.push(pick)?;
     }
     Ok(picks)

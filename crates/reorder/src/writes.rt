@@ -6,7 +6,7 @@ ghost use Rattle.std.specs.List.Sorted.{IsPermutation, IsSortedByKey, IsPartitio
 ghost use Rattle.std.specs.Ordering.{is_lt, is_le};
 ghost use Rattle.fab_types.specs.Order.{key_cmp, is_within};
 ghost use Rattle.fab_types.specs.Touched.{same_key, sees};
-ghost use Rattle.reorder.specs.Written.{written_by, written_from, as_pair, key_of, hits};
+ghost use Rattle.reorder.specs.Written.{written_by, written_from, as_pair, key_of, AreStarts, hits};
 
 use fab_types::{Envelope, Key, Payload, RangeItem, ReadItem, WriteItem};
 use std::alloc::{AllocError, Global};
@@ -62,34 +62,30 @@ fn first_from(index: &[Written<'_>], bound: &[u8]) -> usize
     index.partition_point(|w| w.key.as_slice().cmp(bound).is_lt())
 }
 
-/// Where the writes of a key begin.
-fn first_of(index: &[Written<'_>], key: &Key) -> usize
+/// Where the writes of a key end: behind those of all keys up to it.
+fn end_of(index: &[Written<'_>], key: &Key) -> usize
     requires { IsSortedByKey key_of key_cmp index.now }
-    ensures within { result ≤ length index.now }
-    ensures point { IsPartitionPoint (λ w. is_lt (key_cmp w.key.now key.now) ≡ true)
-        (λ w. is_lt (key_cmp w.key.now key.now) ≡ false) index.now result }
-{
-    index.partition_point(|w| w.key.cmp(key).is_lt())
-}
-
-/// Where the writes of a key end, which begin at `first`.
-fn end_of(index: &[Written<'_>], key: &Key, first: usize) -> usize
-    requires sorted { IsSortedByKey key_of key_cmp index.now }
-    requires within { first ≤ length index.now }
-    requires begins { IsPartitionPoint (λ w. is_lt (key_cmp w.key.now key.now) ≡ true)
-        (λ w. is_lt (key_cmp w.key.now key.now) ≡ false) index.now first }
     ensures within { result ≤ length index.now }
     ensures point { IsPartitionPoint (λ w. is_le (key_cmp w.key.now key.now) ≡ true)
         (λ w. is_le (key_cmp w.key.now key.now) ≡ false) index.now result }
 {
-    if first >= index.len() {
-        return first;
-    }
-    let next = &index[first];
-    if next.key.cmp(key).is_gt() {
-        return first;
-    }
     index.partition_point(|w| w.key.cmp(key).is_le())
+}
+
+/// For each write, where the writes of its key begin.
+pub fn starts_of(alloc: Global, index: &[Written<'_>]) -> Result<Vec<usize>, AllocError>
+    requires { IsSortedByKey key_of key_cmp index.now }
+    ensures { IfOk result (λ v. AreStarts index.now v.items) }
+{
+    let mut starts = Vec::with_capacity(alloc, index.len())?;
+    let mut start = 0;
+    for (i, written) in index.iter().enumerate() {
+        if index[start].key.cmp(written.key).is_ne() {
+            start = i;
+        }
+        starts.push(start)?;
+    }
+    Ok(starts)
 }
 
 /// Marks the writers of a stretch.
@@ -104,18 +100,23 @@ fn mark(row: &mut [bool], stretch: &[Written<'_>])
     }
 }
 
-/// Marks the writers of a key.
-fn mark_key(row: &mut [bool], index: &[Written<'_>], key: &Key)
+/// Marks the writers of a key. The last write up to the key tells whether the key is written.
+fn mark_key(row: &mut [bool], index: &[Written<'_>], starts: &[usize], key: &Key)
     requires inside { All (λ w. w.writer < length row.old) index.now }
     requires sorted { IsSortedByKey key_of key_cmp index.now }
+    requires starts { AreStarts index.now starts.now }
     ensures { (j : ℕ) →
         slice_index_or row.new j false
         ≡ (slice_index_or row.old j false || hits (λ k. same_key key.now k) index.now j) }
 {
-    let first = first_of(index, key);
-    let end = end_of(index, key, first);
-    if first < end {
-        mark(row, &index[first..end]);
+    let end = end_of(index, key);
+    if end == 0 {
+        return;
+    }
+    let last = &index[end - 1];
+    if last.key.cmp(key).is_eq() {
+        let start = starts[end - 1];
+        mark(row, &index[start..end]);
     }
 }
 
@@ -141,16 +142,17 @@ fn mark_range(row: &mut [bool], index: &[Written<'_>], range: &RangeItem)
 }
 
 /// Marks the writers of the keys that were read.
-fn mark_reads(row: &mut [bool], index: &[Written<'_>], reads: &[ReadItem])
+fn mark_reads(row: &mut [bool], index: &[Written<'_>], starts: &[usize], reads: &[ReadItem])
     requires inside { All (λ w. w.writer < length row.old) index.now }
     requires sorted { IsSortedByKey key_of key_cmp index.now }
+    requires starts { AreStarts index.now starts.now }
     ensures { (j : ℕ) →
         slice_index_or row.new j false
         ≡ (slice_index_or row.old j false || hits
         (λ k. list_any (λ r. same_key r.key k) reads.now) index.now j) }
 {
     for read in reads {
-        mark_key(row, index, &read.key);
+        mark_key(row, index, starts, &read.key);
     }
 }
 
@@ -169,16 +171,23 @@ fn mark_ranges(row: &mut [bool], index: &[Written<'_>], ranges: &[RangeItem])
 }
 
 /// Marks the other transactions of which one sees a write.
-pub fn mark_row(row: &mut [bool], index: &[Written<'_>], payload: &Payload, from: usize)
+pub fn mark_row(
+    row: &mut [bool],
+    index: &[Written<'_>],
+    starts: &[usize],
+    payload: &Payload,
+    from: usize,
+)
     requires inside { All (λ w. w.writer < length row.old) index.now }
     requires sorted { IsSortedByKey key_of key_cmp index.now }
+    requires starts { AreStarts index.now starts.now }
     requires from_in { from < length row.old }
     ensures { (j : ℕ) →
         slice_index_or row.new j false
         ≡ (not (from == j) &&
         (slice_index_or row.old j false || hits (sees payload.now) index.now j)) }
 {
-    mark_reads(row, index, payload.reads.as_slice());
+    mark_reads(row, index, starts, payload.reads.as_slice());
     mark_ranges(row, index, payload.ranges.as_slice());
     row[from] = false;
 }

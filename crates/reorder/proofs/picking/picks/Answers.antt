@@ -1,10 +1,10 @@
-use Rattle.std.proofs.Common.{◌≡◌, ℕ, ◌+◌, ◌<◌, Bool, true, false, List, [], get_or, set, take, replicate, sym, ap, ◌∙◌, subst, arith, rules}
+use Rattle.std.proofs.Common.{◌≡◌, ℕ, ◌+◌, Bool, true, false, List, [], get_or, set, take, replicate, sym, ap, ◌∙◌, subst, arith, rules}
 use Rattle.std.proofs.lemmas.List.{append-nil, take_more, take_all}
-use Rattle.reorder.specs.Plan.{IsDone, IsPlan, waits, tally, all_but}
+use Rattle.reorder.specs.Plan.{IsDone, IsPlan, waits, all_but}
 use Rattle.reorder.specs.Counts.{IsCounted, IsCountedPick}
 use Rattle.reorder.specs.Cells.{edge_at}
 use Rattle.reorder.proofs.Plans.{without_more, set_gone}
-use Rattle.reorder.proofs.Counted.{counted_whole, counted_waits, same_pick, counts_back, fewer_wait, plan_more}
+use Rattle.reorder.proofs.Counted.{counted_whole, counted_waits, same_pick, fewer_wait, plan_more}
 use Rattle.reorder.proofs.picking.picks.Goals as goal
 use Rattle.reorder.proofs.picking.picks.Goals.{then-index, else-index}
 
@@ -12,12 +12,8 @@ pub loop-i-init : goal.loop-i-init
 loop-i-init c =
     let n = c.args.edges.now.size in
     let edge = edge_at c.args.edges.now in
-    let back = c.in_ok-back.back in
-    let size = c.in_ok-back.ensures.size in
-    let into_is : (i : ℕ) → i < n → get_or c.in_ok-into.into.items i 0 ≡ tally n (λ k. edge k i) =
-    counts_back n back.size edge (edge_at back) c.in_ok-into.into.items size c.in_ok-back.ensures.edges c.in_ok-into.ensures.each in
     let whole : IsCounted n edge (replicate n true) c.in_ok-into.into.items c.in_ok-out.out.items =
-    counted_whole n edge c.in_ok-into.into.items c.in_ok-out.out.items (c.in_ok-into.ensures.long ∙ size) c.in_ok-out.ensures.long into_is
+    counted_whole n edge c.in_ok-into.into.items c.in_ok-out.out.items c.in_ok-into.ensures.long c.in_ok-out.ensures.long c.in_ok-into.ensures.each
     c.in_ok-out.ensures.each in
     let left_is : c.in_ok-left.left.items ≡ replicate n true = search rules in
     record {
