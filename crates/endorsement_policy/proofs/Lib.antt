@@ -12,3 +12,4 @@ pub mod Needed
 pub mod Definitions
 pub mod Sources
 pub mod Rights
+pub mod RightOrgs

@@ -1,13 +1,14 @@
 //! Whether envelopes are endorsed.
 
-ghost use Rattle.std.specs.Prelude.{◌≡◌, IfOk, map};
+ghost use Rattle.std.specs.Prelude.{◌≡◌, IfOk, length, map, take};
 ghost use Rattle.ledger_model.specs.Chain.{history};
 ghost use Rattle.ledger_model.specs.State.{state};
 ghost use Rattle.ledger_model.specs.Views.{values_of};
-ghost use Rattle.endorsement_policy.specs.Endorsed.{is_endorsed};
+ghost use Rattle.endorsement_policy.specs.Endorsed.{is_endorsed, right_orgs};
 ghost use Rattle.endorsement_policy.specs.Judge.{judges};
 
 use crate::judge::Judge;
+use crate::org_set::OrgSet;
 use crate::rules::Rules;
 use fab_types::Envelope;
 use std::alloc::{AllocError, Global};
@@ -28,7 +29,7 @@ pub fn is_endorsed(
         (λ b. b ≡ is_endorsed rules.now (values_of (state (history snapshot.now))) envelope.now) }
 {
     let judge = Judge::new(alloc, rules, snapshot, &[])?;
-    judge.is_endorsed(alloc, envelope)
+    judge.is_endorsed(alloc, envelope, None)
 }
 
 /// For each envelope whether it is endorsed, by one thread. The text of a chaincode's policy is
@@ -43,8 +44,42 @@ pub fn check_plain(
         ≡ map (is_endorsed rules.now (values_of (state (history snapshot.now))))
         envelopes.now) }
 {
+    check_with_first(alloc, rules, snapshot, envelopes, &[])
+}
+
+/// The same where it is known of each envelope which organisations' tags on it are right, as
+/// `right_orgs_of_blocks` tells: no tag is computed. The only error is want of memory.
+pub fn check_with_right_orgs(
+    alloc: Global,
+    rules: &Rules,
+    snapshot: &Snapshot,
+    envelopes: &[Envelope],
+    right: &[OrgSet],
+) -> Result<Vec<bool>, AllocError>
+    requires { right.now ≡ map (right_orgs rules.now.orgs) envelopes.now }
+    ensures { IfOk result (λ v. v.items
+        ≡ map (is_endorsed rules.now (values_of (state (history snapshot.now))))
+        envelopes.now) }
+{
+    check_with_first(alloc, rules, snapshot, envelopes, right)
+}
+
+/// The same where it is known of the first envelopes, so many as are given.
+fn check_with_first(
+    alloc: Global,
+    rules: &Rules,
+    snapshot: &Snapshot,
+    envelopes: &[Envelope],
+    right: &[OrgSet],
+) -> Result<Vec<bool>, AllocError>
+    requires { right.now
+        ≡ take (length right.now) (map (right_orgs rules.now.orgs) envelopes.now) }
+    ensures { IfOk result (λ v. v.items
+        ≡ map (is_endorsed rules.now (values_of (state (history snapshot.now))))
+        envelopes.now) }
+{
     let judge = Judge::new(alloc, rules, snapshot, envelopes)?;
-    check_each(alloc, &judge, envelopes)
+    check_each(alloc, &judge, envelopes, right)
 }
 
 /// For each envelope whether it is endorsed, as the judge says.
@@ -52,12 +87,16 @@ fn check_each(
     alloc: Global,
     judge: &Judge<'_>,
     envelopes: &[Envelope],
+    right: &[OrgSet],
 ) -> Result<Vec<bool>, AllocError>
+    requires { right.now
+        ≡ take (length right.now) (map (right_orgs judge.now.listed.orgs) envelopes.now) }
     ensures { IfOk result (λ v. v.items ≡ map (judges judge.now) envelopes.now) }
 {
     let mut answers = Vec::with_capacity(alloc, envelopes.len())?;
-    for envelope in envelopes {
-        answers.push(judge.is_endorsed(alloc, envelope)?)?;
+    for (place, envelope) in envelopes.iter().enumerate() {
+        let orgs = right.get(place);
+        answers.push(judge.is_endorsed(alloc, envelope, orgs)?)?;
     }
     Ok(answers)
 }

@@ -4,7 +4,8 @@ ghost use Rattle.std.specs.Prelude.{◌≡◌, IfOk, IfSome, option_map};
 ghost use Rattle.endorsement_policy.specs.Endorsed.{is_call_endorsed, is_met_by, is_upgrade_endorsed, right_orgs};
 ghost use Rattle.endorsement_policy.specs.Judge.{judged_policy, judges, plain_after, policy_from};
 
-use crate::evaluate::is_satisfied_by;
+use crate::evaluate::satisfied;
+use crate::org_set::OrgSet;
 use crate::payloads::{is_upgrade_payload, names_no_other, reads_own};
 use crate::policy::Policy;
 use crate::rules::Rules;
@@ -88,13 +89,21 @@ impl<'a> Judge<'a> {
         Some(&found.source)
     }
 
-    /// Whether an envelope is endorsed. The only error is want of memory.
-    pub(crate) fn is_endorsed(&self, alloc: Global, envelope: &Envelope) -> Result<bool, AllocError>
+    /// Whether an envelope is endorsed. It may be known which organisations' tags on it are right.
+    /// The only error is want of memory.
+    pub(crate) fn is_endorsed(
+        &self,
+        alloc: Global,
+        envelope: &Envelope,
+        right: Option<&OrgSet>,
+    ) -> Result<bool, AllocError>
+        requires { IfSome right
+            (λ orgs. orgs.now ≡ right_orgs self.now.listed.orgs envelope.now) }
         ensures { IfOk result (λ b. b ≡ judges self.now envelope.now) }
     {
         match &envelope.payload.proposal {
-            Proposal::Call(call) => self.is_call_endorsed(alloc, call, envelope),
-            Proposal::Upgrade(upgrade) => self.is_upgrade_endorsed(alloc, upgrade, envelope),
+            Proposal::Call(call) => self.is_call_endorsed(alloc, call, envelope, right),
+            Proposal::Upgrade(upgrade) => self.is_upgrade_endorsed(alloc, upgrade, envelope, right),
         }
     }
 
@@ -104,7 +113,10 @@ impl<'a> Judge<'a> {
         alloc: Global,
         call: &Call,
         envelope: &Envelope,
+        right: Option<&OrgSet>,
     ) -> Result<bool, AllocError>
+        requires { IfSome right
+            (λ orgs. orgs.now ≡ right_orgs self.now.listed.orgs envelope.now) }
         ensures { IfOk result (λ b. b
             ≡ is_call_endorsed self.now.listed (plain_after self.now.chain) call.now
             envelope.now) }
@@ -113,10 +125,10 @@ impl<'a> Judge<'a> {
             return Ok(false);
         }
         if let Some(source) = self.known(&call.chaincode) {
-            return is_met_by(alloc, self.rules, source.policy(), envelope);
+            return is_met_by(alloc, self.rules, source.policy(), envelope, right);
         }
         let source = Source::of(alloc, self.rules, self.snapshot, &call.chaincode)?;
-        is_met_by(alloc, self.rules, source.policy(), envelope)
+        is_met_by(alloc, self.rules, source.policy(), envelope, right)
     }
 
     /// Whether an envelope with an upgrade is endorsed.
@@ -125,7 +137,10 @@ impl<'a> Judge<'a> {
         alloc: Global,
         upgrade: &Upgrade,
         envelope: &Envelope,
+        right: Option<&OrgSet>,
     ) -> Result<bool, AllocError>
+        requires { IfSome right
+            (λ orgs. orgs.now ≡ right_orgs self.now.listed.orgs envelope.now) }
         ensures { IfOk result (λ b. b ≡ is_upgrade_endorsed self.now.listed upgrade.now
             envelope.now) }
     {
@@ -136,18 +151,21 @@ impl<'a> Judge<'a> {
         if !installed.is_usable(alloc, &upgrade.definition)? {
             return Ok(false);
         }
-        is_met_by(alloc, self.rules, Some(self.rules.upgrade()), envelope)
+        let policy = Some(self.rules.upgrade());
+        is_met_by(alloc, self.rules, policy, envelope, right)
     }
 }
 
 /// Whether the organisations of which the envelope carries a right tag satisfy the policy. No tag
-/// is computed where there is none.
+/// is computed where there is none, or where it is known whose tags are right.
 fn is_met_by(
     alloc: Global,
     rules: &Rules,
     policy: Option<&Policy>,
     envelope: &Envelope,
+    right: Option<&OrgSet>,
 ) -> Result<bool, AllocError>
+    requires { IfSome right (λ orgs. orgs.now ≡ right_orgs rules.now.orgs envelope.now) }
     ensures { IfOk result (λ b. b
         ≡ is_met_by (right_orgs rules.now.orgs envelope.now)
         (option_map (λ p. p.now) policy.entry)) }
@@ -155,6 +173,9 @@ fn is_met_by(
     let Some(policy) = policy else {
         return Ok(false);
     };
+    if let Some(orgs) = right {
+        return Ok(satisfied(policy, orgs));
+    }
     let orgs = right_orgs(alloc, rules, envelope)?;
-    Ok(is_satisfied_by(policy, &orgs))
+    Ok(satisfied(policy, &orgs))
 }

@@ -13,7 +13,8 @@
 //! A tag is right where it is that of the organisation that it names, on the payload's bytes. An
 //! envelope is endorsed where the organisations of which it carries a right tag satisfy a policy
 //! (`specs/Endorsed.antt`): for a call the one that its chaincode has in the state, and for an
-//! upgrade the one of upgrades.
+//! upgrade the one of upgrades. Which tags are right depends on no state, so that it can be found
+//! for many blocks at once.
 #![tactic(auto)]
 
 mod check;
@@ -34,7 +35,7 @@ mod source;
 mod tag_key;
 mod tags;
 
-pub use check::{check_plain, is_endorsed};
+pub use check::{check_plain, check_with_right_orgs, is_endorsed};
 pub use evaluate::satisfied;
 pub use fault::{DefinitionFault, PolicyFault};
 pub use installed::{Installed, ModuleId, Usable};
@@ -47,3 +48,4 @@ pub use policy::{Policies, Policy};
 pub use reading::parse;
 pub use rules::{ChaincodePolicy, Organisation, Rules};
 pub use tag_key::TagKey;
+pub use tags::right_orgs_of_blocks;

@@ -96,7 +96,7 @@ fn check_share<G: Gate>(
     let mut index = worker;
     while index < envelopes.len() {
         gate.before(index);
-        let answer = judge.is_endorsed(alloc, &envelopes[index]);
+        let answer = judge.is_endorsed(alloc, &envelopes[index], None);
         gate.after(index);
         answers.push(answer?)?;
         index += workers;

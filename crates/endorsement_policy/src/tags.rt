@@ -1,11 +1,14 @@
-//! Whose tags on an envelope are right.
+//! Whose tags on envelopes are right.
 
-ghost use Rattle.std.specs.Prelude.{◌≡◌, IfOk};
+ghost use Rattle.std.specs.Prelude.{◌≡◌, ◌≤◌, IfOk, map};
+ghost use Rattle.std.specs.Thread.{IsSync};
 ghost use Rattle.endorsement_policy.specs.Endorsed.{right_orgs};
 
+use crate::org_set::OrgSet;
 use crate::rules::Rules;
-use fab_types::{Envelope, OrgName};
+use fab_types::Envelope;
 use std::alloc::{AllocError, Global};
+use std::thread::{Threads, join};
 use wire::encode_payload;
 
 /// The organisations of which the envelope carries a right tag.
@@ -13,8 +16,8 @@ pub(crate) fn right_orgs(
     alloc: Global,
     rules: &Rules,
     envelope: &Envelope,
-) -> Result<Vec<OrgName>, AllocError>
-    ensures { IfOk result (λ v. v.items ≡ right_orgs rules.now.orgs envelope.now) }
+) -> Result<OrgSet, AllocError>
+    ensures { IfOk result (λ orgs. orgs ≡ right_orgs rules.now.orgs envelope.now) }
 {
     let bytes = encode_payload(alloc, &envelope.payload)?;
     let mut names = Vec::new(alloc);
@@ -23,5 +26,80 @@ pub(crate) fn right_orgs(
             names.push(endorsement.org.clone()?)?;
         }
     }
-    Ok(names)
+    Ok(OrgSet::new(names).unwrap())
+}
+
+/// The same of each envelope of a block.
+fn right_orgs_of_block(
+    alloc: Global,
+    rules: &Rules,
+    envelopes: &[Envelope],
+) -> Result<Vec<OrgSet>, AllocError>
+    ensures { IfOk result (λ v. v.items ≡ map (right_orgs rules.now.orgs) envelopes.now) }
+{
+    let mut right = Vec::with_capacity(alloc, envelopes.len())?;
+    for envelope in envelopes {
+        right.push(right_orgs(alloc, rules, envelope)?)?;
+    }
+    Ok(right)
+}
+
+/// The same of each envelope of each block, by one thread.
+fn right_orgs_in_turn(
+    alloc: Global,
+    rules: &Rules,
+    blocks: &[&[Envelope]],
+) -> Result<Vec<Vec<OrgSet>>, AllocError>
+    ensures { IfOk result (λ v. map (λ right. right.items) v.items
+        ≡ map (λ block. map (right_orgs rules.now.orgs) block.now) blocks.now) }
+{
+    let mut all = Vec::with_capacity(alloc, blocks.len())?;
+    for block in blocks {
+        all.push(right_orgs_of_block(alloc, rules, *block)?)?;
+    }
+    Ok(all)
+}
+
+/// For each envelope of each block the organisations of which it carries a right tag, by 1 to 16
+/// workers at once: the same for every number of them. Each takes a part of the blocks, one as
+/// large as another. The caller is one of the workers, and does the part of one that cannot be
+/// started. The only error is want of memory.
+///
+/// What is found depends on no state, so that the tags of many blocks can be judged at once, and
+/// each block then by `check_with_right_orgs` on the state before it.
+#[cycle(workers)]
+pub fn right_orgs_of_blocks<R: Threads + Sync>(
+    rt: &R,
+    alloc: Global,
+    rules: &Rules,
+    blocks: &[&[Envelope]],
+    workers: usize,
+) -> Result<Vec<Vec<OrgSet>>, AllocError>
+    requires least { 1 ≤ workers }
+    requires greatest { workers ≤ 16 }
+    ensures { IfOk result (λ v. map (λ right. right.items) v.items
+        ≡ map (λ block. map (right_orgs rules.now.orgs) block.now) blocks.now) }
+{
+    if workers == 1 || blocks.len() < 2 {
+        return right_orgs_in_turn(alloc, rules, blocks);
+    }
+    let front_workers = workers / 2;
+    let back_workers = workers - front_workers;
+    let cut = (blocks.len().saturating_mul(front_workers) / workers).min(blocks.len());
+    let (front, back) = blocks.split_at(cut);
+    let front_share = move || -> Result<Vec<Vec<OrgSet>>, AllocError>
+        requires { IsSync R.row × (1 ≤ front_workers) × (front_workers ≤ 16) }
+        ensures { IfOk result (λ v. map (λ right. right.items) v.items
+            ≡ map (λ block. map (right_orgs rules.entry.now.orgs) block.now) front.entry.now) }
+    { right_orgs_of_blocks(rt, alloc, rules, front, front_workers) };
+    let back_share = move || -> Result<Vec<Vec<OrgSet>>, AllocError>
+        requires { IsSync R.row × (1 ≤ back_workers) × (back_workers ≤ 16) }
+        ensures { IfOk result (λ v. map (λ right. right.items) v.items
+            ≡ map (λ block. map (right_orgs rules.entry.now.orgs) block.now) back.entry.now) }
+    { right_orgs_of_blocks(rt, alloc, rules, back, back_workers) };
+    let (low, high) = join(rt, front_share, back_share);
+    let mut all = low?;
+    let mut rest = high?;
+    all.append(&mut rest)?;
+    Ok(all)
 }

@@ -1,7 +1,0 @@
-use Rattle.std.proofs.Common.{◌≡◌, IfOk, map, subst}
-use Rattle.endorsement_policy.specs.Judge.{Judge, judges}
-use Rattle.endorsement_policy.proofs.check.check_plain.Goals as goal
-
-pub returns : goal.returns
-returns c =
-    subst (λ (j : Judge). IfOk c.check_each.result (λ v. v.items ≡ map (judges j) c.args.envelopes.now)) c.in_ok-judge.ensures c.check_each.ensures
