@@ -1,7 +1,10 @@
 //! Short byte strings, which lie in the value that has them.
 
-ghost use Rattle.std.specs.Prelude.{◌≡◌, ◌≤◌, ◌<◌, ◌^◌, length};
+ghost use Rattle.std.specs.Prelude.{◌≡◌, ◌≤◌, ◌<◌, ◌^◌, ◌%◌, length};
+ghost use Rattle.fab_types.specs.Order.{key_cmp};
 
+use crate::order::compare;
+use std::cmp::Ordering;
 use std::fmt::{self, Debug, Formatter, Write};
 use std::marker::Model;
 
@@ -14,13 +17,13 @@ pub struct ShortBytes<const N: usize> {
 }
 
 impl<const N: usize> Model for ShortBytes<N> {
-    ghost use Rattle.std.specs.Prelude.{List, ℕ, take, ◌≤◌};
+    ghost use Rattle.std.specs.Prelude.{List, ℕ, take, drop, replicate, ◌≡◌, ◌≤◌, ◌-◌};
 
     ghost Value = { List ℕ };
 
     ghost view = { λ s. take s.len s.bytes };
 
-    ghost invariant = { λ s. s.len ≤ N };
+    ghost invariant = { λ s. (s.len ≤ N) × (drop s.len s.bytes ≡ replicate (N - s.len) 0) };
 }
 
 impl<const N: usize> ShortBytes<N> {
@@ -44,6 +47,16 @@ impl<const N: usize> ShortBytes<N> {
         ensures { result.now ≡ self.now }
     {
         &self.bytes[..usize::from(self.len)]
+    }
+
+    /// How two byte strings compare.
+    #[inline]
+    pub fn compare(&self, other: &ShortBytes<N>) -> Ordering
+        requires { N % 8 ≡ 0 }
+        ensures { result ≡ key_cmp self.now other.now }
+    {
+        let (m, n) = (usize::from(self.len), usize::from(other.len));
+        compare(&self.bytes, m, &other.bytes, n)
     }
 
     /// The same bytes once more.
