@@ -16,8 +16,8 @@ returns-in-Some c =
     subst (λ (p : Option Policy). IfOk c.defined.result (λ s. policy_from s ≡ p))
     (ap₂ defined_policy c.installed.ensures c.as_slice.ensures.value ∙ defined_right c.args.rules.now chain name c.in-Some.value.now there) c.defined.ensures
 
-pub returns : goal.returns
-returns c =
+pub returns-in-None : goal.returns-in-None
+returns-in-None c =
     let chain = c.args.snapshot.now in
     let name = c.args.chaincode.now in
     let absent : get (plain_after chain) (definition_key name) ≡ None =
