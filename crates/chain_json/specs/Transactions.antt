@@ -1,5 +1,5 @@
 -- Transactions as JSON.
-use Rattle.std.specs.Prelude.{◌≡◌, ℕ, List, codes}
+use Rattle.std.specs.Prelude.{ℕ, List, codes}
 use Rattle.std.specs.List.{find}
 use Rattle.wasm_profile.specs.Numbers.{number_of}
 use Rattle.fab_types.specs.FlagNumber.{flag_number}
@@ -16,8 +16,6 @@ use Rattle.wire.specs.Spelling.{payload_bytes}
 use Rattle.endorsement_policy.specs.Endorsed.{is_org, is_tag_of}
 use Rattle.endorsement_policy.specs.declared.rules.Organisation.{Organisation}
 use Rattle.serde_json.specs.Data.{Data, boolean, number, unsigned, string, object, member, no_members}
-use Rattle.serde_json.specs.View.{view}
-use Rattle.chain_json.specs.declared.transaction.Parts.{Parts}
 use Rattle.chain_json.specs.Texts.{hex_json, list_json}
 use Rattle.chain_json.specs.Sets.{range_json, read_json, write_json}
 
@@ -53,18 +51,13 @@ proposal_json (proposal.Upgrade u) = upgrade_json u
 abbrev pub endorsements_json : List Organisation → Envelope → Data
 endorsements_json orgs e = list_json (endorsement_json orgs (payload_bytes e.payload)) e.endorsements
 
--- a transaction with its flag, under the keys of these organisations
-abbrev pub transaction_json : List Organisation → Envelope → Flag → Data
-transaction_json orgs e flag =
+-- made of what a call and an upgrade have in common
+abbrev pub of_parts : (json : (endorsements id ranges reads result writes : Data) → Data) → List Organisation → Envelope → Data
+of_parts json orgs e =
     let p = e.payload in
-    proposal_json p.proposal flag (endorsements_json orgs e) (hex_json (id_of p.proposal)) (list_json range_json p.ranges) (list_json read_json p.reads)
+    json (endorsements_json orgs e) (hex_json (id_of p.proposal)) (list_json range_json p.ranges) (list_json read_json p.reads)
     (hex_json p.result) (list_json write_json p.writes)
 
--- what a call and an upgrade have in common
-pub record AreParts (orgs : List Organisation) (e : Envelope) (parts : Parts) : Type 0 where
-  pub endorsements : view parts.endorsements ≡ endorsements_json orgs e
-  pub id : view parts.id ≡ hex_json (id_of e.payload.proposal)
-  pub ranges : view parts.ranges ≡ list_json range_json e.payload.ranges
-  pub reads : view parts.reads ≡ list_json read_json e.payload.reads
-  pub result : view parts.result ≡ hex_json e.payload.result
-  pub writes : view parts.writes ≡ list_json write_json e.payload.writes
+-- a transaction with its flag, under the keys of these organisations
+abbrev pub transaction_json : List Organisation → Envelope → Flag → Data
+transaction_json orgs e flag = of_parts (proposal_json e.payload.proposal flag) orgs e

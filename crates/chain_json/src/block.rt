@@ -24,16 +24,12 @@ pub(crate) fn block_of(
 {
     let header = &committed.block().header;
     let envelopes = committed.block().envelopes.as_slice();
-    let data = hex_of(alloc, &header.data_hash)?;
-    let hash = hex_of(alloc, &header_hash(header))?;
-    let previous = hex_of(alloc, &header.previous_hash)?;
-    let transactions = transactions_of(alloc, rules, envelopes, committed.flags())?;
     json!(in alloc; {
         "block": header.number.get(),
-        "data": data,
-        "hash": hash,
-        "previous": previous,
-        "txs": transactions
+        "data": hex_of(alloc, &header.data_hash)?,
+        "hash": hex_of(alloc, &header_hash(header))?,
+        "previous": hex_of(alloc, &header.previous_hash)?,
+        "txs": transactions_of(alloc, rules, envelopes, committed.flags())?
     })
 }
 

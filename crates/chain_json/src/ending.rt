@@ -31,12 +31,10 @@ pub(crate) fn ending_of(
 ) -> Result<Value, AllocError>
     ensures { IfOk result (λ v. view v ≡ ending_json finding blocks end) }
 {
-    let audit = finding_words(alloc, finding)?;
-    let end = end_words(alloc, end)?;
     json!(in alloc; {
-        "audit": audit,
+        "audit": finding_words(alloc, finding)?,
         "blocks": blocks,
-        "end": end,
+        "end": end_words(alloc, end)?,
         "rerun": rerun_of(finding)
     })
 }

@@ -20,10 +20,11 @@ pub(crate) fn entry_of(
 ) -> Result<Value, AllocError>
     ensures { IfOk result (λ v. view v ≡ entry_json key.now value.now version) }
 {
-    let key = hex_of(alloc, key.as_slice())?;
-    let value = hex_of(alloc, value.as_slice())?;
-    let version = version.to_json(alloc)?;
-    json!(in alloc; {"key": key, "value": value, "version": version})
+    json!(in alloc; {
+        "key": hex_of(alloc, key.as_slice())?,
+        "value": hex_of(alloc, value.as_slice())?,
+        "version": version.to_json(alloc)?
+    })
 }
 
 /// What the transaction of this id wrote to a key, at its place in the chain. The only error is
@@ -39,14 +40,11 @@ pub(crate) fn write_of(
     ensures { IfOk result
         (λ v. view v ≡ placed_write_json id.now block place key.now value.now) }
 {
-    let id = hex_of(alloc, id)?;
-    let key = hex_of(alloc, key.as_slice())?;
-    let value = value_of(alloc, value)?;
     json!(in alloc; {
         "block": block,
-        "id": id,
-        "key": key,
+        "id": hex_of(alloc, id)?,
+        "key": hex_of(alloc, key.as_slice())?,
         "place": place,
-        "value": value
+        "value": value_of(alloc, value)?
     })
 }

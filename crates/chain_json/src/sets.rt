@@ -24,9 +24,10 @@ impl ToJson for ReadItem {
     ghost json = { read_json };
 
     fn to_json(&self, alloc: Global) -> Result<Value, AllocError> {
-        let key = hex_of(alloc, self.key.as_slice())?;
-        let version = seen(alloc, self.version)?;
-        json!(in alloc; {"key": key, "version": version})
+        json!(in alloc; {
+            "key": hex_of(alloc, self.key.as_slice())?,
+            "version": seen(alloc, self.version)?
+        })
     }
 }
 
@@ -34,9 +35,10 @@ impl ToJson for RangeEntry {
     ghost json = { entry_json };
 
     fn to_json(&self, alloc: Global) -> Result<Value, AllocError> {
-        let key = hex_of(alloc, self.key.as_slice())?;
-        let version = self.version.to_json(alloc)?;
-        json!(in alloc; {"key": key, "version": version})
+        json!(in alloc; {
+            "key": hex_of(alloc, self.key.as_slice())?,
+            "version": self.version.to_json(alloc)?
+        })
     }
 }
 
@@ -44,11 +46,12 @@ impl ToJson for RangeItem {
     ghost json = { range_json };
 
     fn to_json(&self, alloc: Global) -> Result<Value, AllocError> {
-        let end = hex_of(alloc, self.end().as_slice())?;
-        let entries = list(alloc, self.entries())?;
-        let limit = self.limit();
-        let start = hex_of(alloc, self.start().as_slice())?;
-        json!(in alloc; {"end": end, "entries": entries, "limit": limit, "start": start})
+        json!(in alloc; {
+            "end": hex_of(alloc, self.end().as_slice())?,
+            "entries": list(alloc, self.entries())?,
+            "limit": self.limit(),
+            "start": hex_of(alloc, self.start().as_slice())?
+        })
     }
 }
 
@@ -56,8 +59,9 @@ impl ToJson for WriteItem {
     ghost json = { write_json };
 
     fn to_json(&self, alloc: Global) -> Result<Value, AllocError> {
-        let key = hex_of(alloc, self.key.as_slice())?;
-        let value = value_of(alloc, &self.value)?;
-        json!(in alloc; {"key": key, "value": value})
+        json!(in alloc; {
+            "key": hex_of(alloc, self.key.as_slice())?,
+            "value": value_of(alloc, &self.value)?
+        })
     }
 }

@@ -22,27 +22,18 @@ pub(crate) fn setting_of(alloc: Global, genesis: &Genesis) -> Result<Value, Allo
     ensures { IfOk result (λ v. view v ≡ setting_json genesis.now) }
 {
     let installed = genesis.book.installed();
-    let chaincodes = chaincodes_of(
-        alloc,
-        &genesis.rules,
-        genesis.book.chaincodes(),
-        installed.modules(),
-    )?;
-    let modules = list(alloc, installed.modules())?;
-    let orgs = list(alloc, installed.orgs())?;
-    let peers = list(alloc, &genesis.peers)?;
-    let upgrade = policy_text(alloc, genesis.rules.upgrade())?;
+    let chaincodes = genesis.book.chaincodes();
     json!(in alloc; {
         "absolute": genesis.absolute,
-        "chaincodes": chaincodes,
+        "chaincodes": chaincodes_of(alloc, &genesis.rules, chaincodes, installed.modules())?,
         "count": genesis.count,
         "ledger": 1u8,
-        "modules": modules,
-        "orgs": orgs,
-        "peers": peers,
+        "modules": list(alloc, installed.modules())?,
+        "orgs": list(alloc, installed.orgs())?,
+        "peers": list(alloc, &genesis.peers)?,
         "preferred": genesis.preferred,
         "reorder": genesis.reorder,
-        "upgrade": upgrade
+        "upgrade": policy_text(alloc, genesis.rules.upgrade())?
     })
 }
 
@@ -50,8 +41,10 @@ impl ToJson for ModuleId {
     ghost json = { module_json };
 
     fn to_json(&self, alloc: Global) -> Result<Value, AllocError> {
-        let digest = hex_of(alloc, &self.digest)?;
-        json!(in alloc; {"module": digest, "profile": self.profile.number()})
+        json!(in alloc; {
+            "module": hex_of(alloc, &self.digest)?,
+            "profile": self.profile.number()
+        })
     }
 }
 
@@ -84,13 +77,11 @@ fn chaincode_of(
     ensures { IfOk result
         (λ v. view v ≡ chaincode_json rules.now.policies chaincode.now id.now) }
 {
-    let digest = hex_of(alloc, &id.digest)?;
-    let policy = policy_of(alloc, rules, &chaincode.name)?;
     json!(in alloc; {
         "fuel": chaincode.fuel,
-        "module": digest,
+        "module": hex_of(alloc, &id.digest)?,
         "name": name_of(&chaincode.name),
-        "policy": policy,
+        "policy": policy_of(alloc, rules, &chaincode.name)?,
         "profile": id.profile.number()
     })
 }

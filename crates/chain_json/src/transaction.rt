@@ -4,9 +4,9 @@ ghost use Rattle.std.specs.Prelude.{◌≡◌, IfOk};
 ghost use Rattle.std.specs.List.{find};
 ghost use Rattle.endorsement_policy.specs.Endorsed.{is_org, is_tag_of};
 ghost use Rattle.serde_json.specs.View.{view};
-ghost use Rattle.wire.specs.Spelling.{payload_bytes};
-ghost use Rattle.chain_json.specs.Texts.{list_json};
-ghost use Rattle.chain_json.specs.Transactions.{AreParts, call_json, definition_json, endorsement_json, transaction_json, upgrade_json};
+ghost use Rattle.wire.specs.Ids.{id_of};
+ghost use Rattle.chain_json.specs.Texts.{hex_json, list_json};
+ghost use Rattle.chain_json.specs.Transactions.{of_parts, call_json, definition_json, endorsement_json, endorsements_json, transaction_json, upgrade_json};
 
 use crate::sets;
 use crate::texts::{hex_of, name_of, policy_of};
@@ -16,17 +16,6 @@ use fab_types::{Call, Definition, Endorsement, Envelope, Flag, Proposal, Upgrade
 use serde_json::{Value, json};
 use std::alloc::{AllocError, Global};
 use wire::{encode_payload, tx_id};
-
-/// What a call and an upgrade have in common, as JSON.
-#[derive(Drop)]
-struct Parts {
-    endorsements: Value,
-    id: Value,
-    ranges: Value,
-    reads: Value,
-    result: Value,
-    writes: Value,
-}
 
 /// A transaction, its flag, and which of its tags are right under these rules. The only error is
 /// want of memory.
@@ -38,95 +27,95 @@ pub(crate) fn transaction_of(
 ) -> Result<Value, AllocError>
     ensures { IfOk result (λ v. view v ≡ transaction_json rules.now.orgs envelope.now flag) }
 {
-    let parts = parts_of(alloc, rules, envelope)?;
     match &envelope.payload.proposal {
-        Proposal::Call(call) => call_of(alloc, call, flag, parts),
-        Proposal::Upgrade(upgrade) => upgrade_of(alloc, upgrade, flag, parts),
+        Proposal::Call(call) => call_of(alloc, rules, envelope, flag, call),
+        Proposal::Upgrade(upgrade) => upgrade_of(alloc, rules, envelope, flag, upgrade),
     }
 }
 
-fn parts_of(alloc: Global, rules: &Rules, envelope: &Envelope) -> Result<Parts, AllocError>
-    ensures { IfOk result (AreParts rules.now.orgs envelope.now) }
-{
-    let payload = &envelope.payload;
-    let bytes = encode_payload(alloc, payload)?;
-    Ok(Parts {
-        endorsements: endorsements_of(alloc, rules, &bytes, envelope.endorsements.as_slice())?,
-        id: hex_of(alloc, &tx_id(alloc, &payload.proposal)?)?,
-        ranges: list(alloc, payload.ranges.as_slice())?,
-        reads: list(alloc, payload.reads.as_slice())?,
-        result: hex_of(alloc, payload.result.as_slice())?,
-        writes: list(alloc, payload.writes.as_slice())?,
-    })
-}
-
-/// A call, with its parts.
-fn call_of(alloc: Global, call: &Call, flag: Flag, parts: Parts) -> Result<Value, AllocError>
-    ensures { IfOk result
-        (λ v. view v
-        ≡ call_json call.now flag (view parts.endorsements) (view parts.id) (view parts.ranges)
-        (view parts.reads) (view parts.result) (view parts.writes)) }
-{
-    let argument = hex_of(alloc, call.argument.as_slice())?;
-    let nonce = hex_of(alloc, &call.nonce)?;
-    json!(in alloc; {
-        "arg": argument,
-        "chaincode": name_of(&call.chaincode),
-        "endorsements": parts.endorsements,
-        "flag": flag.number(),
-        "id": parts.id,
-        "nonce": nonce,
-        "ranges": parts.ranges,
-        "reads": parts.reads,
-        "result": parts.result,
-        "writes": parts.writes
-    })
-}
-
-/// An upgrade, with its parts.
-fn upgrade_of(
+/// A transaction of this call. Each member is made where it is put in, so that no other is at hand
+/// where one fails.
+fn call_of(
     alloc: Global,
-    upgrade: &Upgrade,
+    rules: &Rules,
+    envelope: &Envelope,
     flag: Flag,
-    parts: Parts,
+    call: &Call,
 ) -> Result<Value, AllocError>
     ensures { IfOk result
-        (λ v. view v
-        ≡ upgrade_json upgrade.now flag (view parts.endorsements) (view parts.id)
-        (view parts.ranges) (view parts.reads) (view parts.result) (view parts.writes)) }
+        (λ v. view v ≡ of_parts (call_json call.now flag) rules.now.orgs envelope.now) }
 {
-    let nonce = hex_of(alloc, &upgrade.nonce)?;
-    let definition = upgrade.definition.to_json(alloc)?;
+    let payload = &envelope.payload;
+    json!(in alloc; {
+        "arg": hex_of(alloc, call.argument.as_slice())?,
+        "chaincode": name_of(&call.chaincode),
+        "endorsements": endorsements_of(alloc, rules, envelope)?,
+        "flag": flag.number(),
+        "id": id_of(alloc, &payload.proposal)?,
+        "nonce": hex_of(alloc, &call.nonce)?,
+        "ranges": list(alloc, payload.ranges.as_slice())?,
+        "reads": list(alloc, payload.reads.as_slice())?,
+        "result": hex_of(alloc, payload.result.as_slice())?,
+        "writes": list(alloc, payload.writes.as_slice())?
+    })
+}
+
+/// A transaction of this upgrade.
+fn upgrade_of(
+    alloc: Global,
+    rules: &Rules,
+    envelope: &Envelope,
+    flag: Flag,
+    upgrade: &Upgrade,
+) -> Result<Value, AllocError>
+    ensures { IfOk result
+        (λ v. view v ≡ of_parts (upgrade_json upgrade.now flag) rules.now.orgs envelope.now) }
+{
+    let payload = &envelope.payload;
     json!(in alloc; {
         "chaincode": name_of(&upgrade.chaincode),
-        "endorsements": parts.endorsements,
+        "endorsements": endorsements_of(alloc, rules, envelope)?,
         "flag": flag.number(),
-        "id": parts.id,
-        "nonce": nonce,
-        "ranges": parts.ranges,
-        "reads": parts.reads,
-        "result": parts.result,
-        "upgrade": definition,
-        "writes": parts.writes
+        "id": id_of(alloc, &payload.proposal)?,
+        "nonce": hex_of(alloc, &upgrade.nonce)?,
+        "ranges": list(alloc, payload.ranges.as_slice())?,
+        "reads": list(alloc, payload.reads.as_slice())?,
+        "result": hex_of(alloc, payload.result.as_slice())?,
+        "upgrade": upgrade.definition.to_json(alloc)?,
+        "writes": list(alloc, payload.writes.as_slice())?
     })
+}
+
+/// The id of a transaction with this proposal.
+fn id_of(alloc: Global, proposal: &Proposal) -> Result<Value, AllocError>
+    ensures { IfOk result (λ v. view v ≡ hex_json (id_of proposal.now)) }
+{
+    hex_of(alloc, &tx_id(alloc, proposal)?)
 }
 
 impl ToJson for Definition {
     ghost json = { definition_json };
 
     fn to_json(&self, alloc: Global) -> Result<Value, AllocError> {
-        let digest = hex_of(alloc, &self.digest)?;
         json!(in alloc; {
             "fuel": self.fuel.get(),
-            "module": digest,
+            "module": hex_of(alloc, &self.digest)?,
             "policy": policy_of(&self.policy),
             "profile": self.profile.number()
         })
     }
 }
 
-/// Endorsements over a payload of these bytes, each with whether its tag is right.
-fn endorsements_of(
+/// The endorsements of a transaction, each with whether its tag is right.
+fn endorsements_of(alloc: Global, rules: &Rules, envelope: &Envelope) -> Result<Value, AllocError>
+    ensures { IfOk result (λ v. view v ≡ endorsements_json rules.now.orgs envelope.now) }
+{
+    let bytes = encode_payload(alloc, &envelope.payload)?;
+    endorsements_over(alloc, rules, &bytes, envelope.endorsements.as_slice())
+}
+
+/// The same over a payload of these bytes.
+fn endorsements_over(
     alloc: Global,
     rules: &Rules,
     bytes: &[u8],
@@ -151,10 +140,11 @@ fn endorsement_of(
     ensures { IfOk result
         (λ v. view v ≡ endorsement_json rules.now.orgs bytes.now endorsement.now) }
 {
-    let org = endorsement.org.to_json(alloc)?;
-    let right = is_right(rules, endorsement, bytes);
-    let tag = hex_of(alloc, &endorsement.tag)?;
-    json!(in alloc; {"org": org, "right": right, "tag": tag})
+    json!(in alloc; {
+        "org": endorsement.org.to_json(alloc)?,
+        "right": is_right(rules, endorsement, bytes),
+        "tag": hex_of(alloc, &endorsement.tag)?
+    })
 }
 
 /// Whether the organisation that an endorsement names is known, and the tag is its tag on these

@@ -1,7 +1,7 @@
 use Rattle.std.proofs.Common.{◌≡◌, ◌++◌, map, drop}
 use Rattle.serde_json.specs.View.{view}
 use Rattle.chain_json.specs.Transactions.{endorsement_json}
-use Rattle.chain_json.proofs.transaction.endorsements_of.Given as goal
+use Rattle.chain_json.proofs.transaction.endorsements_over.Given as goal
 
 abbrev pub invariant-loop-item : goal.invariant-loop-item
 invariant-loop-item l =
