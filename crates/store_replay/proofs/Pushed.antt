@@ -11,6 +11,7 @@ use Rattle.store_replay.specs.Replay.{judged_behind, HasTheFlags, IsPushed}
 use Rattle.store_replay.specs.Lawful.{AreLawful, IsNextRefused}
 use Rattle.store_replay.specs.declared.refusal.RecommitRefusal.{RecommitRefusal}
 use Rattle.store_replay.specs.declared.refusal.RecommitRefusal.TheVariants.{Flags}
+use Rattle.store_replay.proofs.Lawful.{is_judged}
 
 by_test : (rule : BlockRule) (chain : Chain) (c : Committed) (b : Bool) →
     MatchBool b (c.flags ≡ (judged_behind rule chain c).flags) (c.flags ≢ (judged_behind rule chain c).flags) → HasTheFlags rule chain c b
@@ -43,7 +44,7 @@ pub stands : (rule : BlockRule) (chain : Chain) (c : Committed) (is_same : Bool)
     last ≡ chain ++ c ∷ []
 stands rule chain c is_same last is same =
     let flags : c.flags ≡ (judged_behind rule chain c).flags = subst (λ (b : Bool). HasTheFlags rule chain c b) same is.flags in
-    is.grown ∙ ap (λ (fs : List Flag). chain ++ record { block = c.block; flags = fs } ∷ []) (sym flags)
+    is.grown ∙ ap (λ (x : Committed). chain ++ x ∷ []) (sym (is_judged rule chain c flags))
 
 pub lawful : (rule : BlockRule) (chain : Chain) (c : Committed) (is_same : Bool) (last : Chain) → IsPushed rule chain c is_same last → is_same ≡ true →
     AreLawful rule chain (c ∷ [])
