@@ -4,7 +4,8 @@
 //!   COUNT` flags so many in blocks of 500. MODULE is the asset register of `examples/chaincode`;
 //!   the state has 1,000 assets.
 //! - `check WORKERS COUNT` checks a batch of 512 envelopes so many times, each with two tags of
-//!   three organisations.
+//!   three organisations. `blocks WORKERS COUNT` checks so many blocks of such a batch at once: the
+//!   tags of all of them by the workers, and then each block by what is known of its tags.
 //! - `order COUNT` orders so many envelopes of 1,024 bytes in blocks of 64.
 //! - `commit COUNT` checks and commits so many blocks of 512 transactions.
 //! - `plan KEYS COUNT` reorders a batch of 512 transactions so many times, each with four reads and
@@ -47,7 +48,7 @@ use std::time::Clock;
 use std::{env, fs};
 
 const USAGE: &str = "usage: ledger_bench simulate|flags MODULE COUNT
-       ledger_bench check WORKERS COUNT
+       ledger_bench check|blocks WORKERS COUNT
        ledger_bench order|commit COUNT
        ledger_bench plan|valid|state KEYS COUNT
        ledger_bench read BLOCKS COUNT
@@ -84,6 +85,9 @@ fn carry_out<R: Files + Threads + Wait + Clock + Sync>(
         Task::Simulate { module, count } => simulate(rt, alloc, module, count),
         Task::Flags { module, count } => flag(rt, alloc, module, count),
         Task::Check { workers, count } => parts::check(rt, alloc, workers as usize, count),
+        Task::Blocks { workers, count } => {
+            parts::check_blocks(rt, alloc, workers as usize, count)
+        }
         Task::Order { count } => parts::order(alloc, count),
         Task::Commit { count } => parts::commit(alloc, count),
         Task::Plan { keys, count } => parts::plan(alloc, keys, count),

@@ -1,5 +1,8 @@
 //! Calls of the ledger's parts, as often as one likes.
 
+ghost use Rattle.std.specs.Prelude.{◌≡◌, map};
+ghost use Rattle.endorsement_policy.specs.Endorsed.{right_orgs};
+
 use crate::channel::{BATCH, Channel, submit};
 use crate::done::Done;
 use crate::failure::Failure;
@@ -7,7 +10,9 @@ use crate::members::{endorsed, rules, tagged_bytes};
 use crate::workload::Workload;
 use block_store::End;
 use counted::Counted;
-use endorsement_policy::{Gate, check_all};
+use endorsement_policy::{
+    Gate, OrgSet, Rules, check_all, check_with_right_orgs, right_orgs_of_blocks,
+};
 use fab_types::{Block, Envelope};
 use orderer::Orderer;
 use reorder::{Plan, reorder};
@@ -35,7 +40,7 @@ impl Gate for Open {
     fn after(&self, _index: usize) {}
 }
 
-/// Checks so many batches by 1 to 16 workers.
+/// Checks so many batches by 1 to 16 workers, one batch after another.
 pub fn check<R: Threads + Sync>(
     rt: &R,
     alloc: Global,
@@ -50,11 +55,57 @@ pub fn check<R: Threads + Sync>(
     let snapshot = Snapshot::empty(alloc);
     for _ in 0..count {
         let answers = check_all(rt, alloc, &rules, &snapshot, &batch, workers, &Open)?;
-        if answers.contains(&false) {
-            return Err(Failure::Invalid);
-        }
+        expect_all(&answers)?;
     }
     Ok(Done::hashed(count, BATCH as u64, tags_of(&batch)))
+}
+
+/// Checks so many blocks of a batch at once: the tags of all of them by 1 to 16 workers, and then
+/// each block by what is known of its tags.
+pub fn check_blocks<R: Threads + Sync>(
+    rt: &R,
+    alloc: Global,
+    workers: usize,
+    count: u32,
+) -> Result<Done, Failure> {
+    if workers == 0 || workers > 16 {
+        return Err(Failure::Limit);
+    }
+    let rules = rules(alloc)?;
+    let batch = batch(alloc, KEYS)?;
+    let mut blocks = Vec::new(alloc);
+    for _ in 0..count {
+        blocks.push(batch.as_slice())?;
+    }
+    let right = right_orgs_of_blocks(rt, alloc, &rules, &blocks, workers)?;
+    check_each(alloc, &rules, &blocks, &right)?;
+    Ok(Done::hashed(count, BATCH as u64, tags_of(&batch)))
+}
+
+/// Checks blocks on the empty state, of which it is known whose tags are right.
+fn check_each(
+    alloc: Global,
+    rules: &Rules,
+    blocks: &[&[Envelope]],
+    right: &[Vec<OrgSet>],
+) -> Result<(), Failure>
+    requires { map (λ orgs. orgs.items) right.now
+        ≡ map (λ block. map (right_orgs rules.now.orgs) block.now) blocks.now }
+{
+    let snapshot = Snapshot::empty(alloc);
+    for place in 0..blocks.len() {
+        let (block, orgs) = (blocks[place], &right[place]);
+        expect_all(&check_with_right_orgs(alloc, rules, &snapshot, block, orgs)?)?;
+    }
+    Ok(())
+}
+
+/// Each envelope has to be endorsed.
+fn expect_all(answers: &[bool]) -> Result<(), Failure> {
+    if answers.contains(&false) {
+        return Err(Failure::Invalid);
+    }
+    Ok(())
 }
 
 /// Orders so many envelopes, in blocks of 64 and as they come.

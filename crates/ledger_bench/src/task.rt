@@ -7,8 +7,10 @@ pub enum Task<'a> {
     Simulate { module: &'a str, count: u32 },
     /// Flag so many transfers.
     Flags { module: &'a str, count: u32 },
-    /// Check so many batches by so many workers.
+    /// Check so many batches by so many workers, one after another.
     Check { workers: u32, count: u32 },
+    /// Check so many batches as blocks, their tags at once by so many workers.
+    Blocks { workers: u32, count: u32 },
     /// Order so many envelopes.
     Order { count: u32 },
     /// Check and commit so many blocks.
@@ -61,6 +63,10 @@ fn of_two<'a>(kind: &str, word: &'a str, count: &str) -> Option<Task<'a>> {
             count,
         }),
         "check" => Some(Task::Check {
+            workers: number(word)?,
+            count,
+        }),
+        "blocks" => Some(Task::Blocks {
             workers: number(word)?,
             count,
         }),

@@ -1,8 +1,10 @@
 //! Policies and rules that no text spells, and checks of envelopes by several workers.
 
+ghost use Rattle.std.specs.Prelude.{◌≤◌};
+
 use endorsement_policy::{
     ChaincodePolicy, Gate, Installed, ModuleId, OrgSet, Organisation, Policies, Policy, Rules,
-    TagKey, check_all, check_plain, parse, satisfied,
+    TagKey, check_all, check_plain, check_with_right_orgs, parse, right_orgs_of_blocks, satisfied,
 };
 use fab_types::{Envelope, Name, OrgName};
 use hmac_tag::{check, tag};
@@ -180,6 +182,47 @@ fn are_same<R: Threads + Sync>(
     Ok(are)
 }
 
+/// Whether each block has the right answers by the tags that so many workers judged.
+fn are_right_by_tags<R: Threads + Sync>(
+    rt: &R,
+    alloc: Global,
+    rules: &Rules,
+    snapshot: &Snapshot,
+    blocks: &[&[Envelope]],
+    workers: usize,
+) -> Result<bool, AllocError>
+    requires least { 1 ≤ workers }
+    requires greatest { workers ≤ 16 }
+{
+    let right = right_orgs_of_blocks(rt, alloc, rules, blocks, workers)?;
+    let mut are_right = true;
+    for place in 0..blocks.len() {
+        let (block, orgs) = (blocks[place], &right[place]);
+        let answers = check_with_right_orgs(alloc, rules, snapshot, block, orgs)?;
+        are_right &= answers.len() == block.len() && is_first_of_four(&answers);
+    }
+    Ok(are_right)
+}
+
+/// The same by 1, 2, 3 and 16 workers, of blocks of no envelope, one and all of these.
+fn are_same_by_tags<R: Threads + Sync>(
+    rt: &R,
+    alloc: Global,
+    rules: &Rules,
+    snapshot: &Snapshot,
+    envelopes: &[Envelope],
+) -> Result<bool, AllocError> {
+    let one = envelopes.get(..1).unwrap_or(&[]);
+    let none = envelopes.get(..0).unwrap_or(&[]);
+    let blocks = [envelopes, none, one, envelopes, one];
+    let are = are_right_by_tags(rt, alloc, rules, snapshot, &blocks, 1)?
+        && are_right_by_tags(rt, alloc, rules, snapshot, &blocks, 2)?
+        && are_right_by_tags(rt, alloc, rules, snapshot, &blocks, 3)?
+        && are_right_by_tags(rt, alloc, rules, snapshot, &blocks, 16)?
+        && are_right_by_tags(rt, alloc, rules, snapshot, &[], 2)?;
+    Ok(are)
+}
+
 /// Two checks, each of which waits for the other.
 #[derive(Drop)]
 struct Meeting {
@@ -267,7 +310,8 @@ fn are_right<R: Threads + Sync>(
     let are_same = are_same(rt, alloc, rules, snapshot, all)?;
     let is_met = is_met(rt, alloc, rules, snapshot, all.get(..2).unwrap_or(&[]))?;
     let is_in_turn = is_in_turn(rt, alloc, rules, snapshot, all.get(..5).unwrap_or(&[]))?;
-    Ok(are_same && is_met && is_in_turn)
+    let are_same_by_tags = are_same_by_tags(rt, alloc, rules, snapshot, all)?;
+    Ok(are_same && is_met && is_in_turn && are_same_by_tags)
 }
 
 fn workers_are_right<R: Threads + Sync>(rt: &R, alloc: Global) -> Option<bool> {
