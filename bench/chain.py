@@ -1,15 +1,16 @@
-"""Writes genesis.json and events.jsonl into a folder: 1,000 blocks of 20 calls of the asset register, all of which end
-VALID. Two of three organisations endorse each. usage: chain.py MODULE FOLDER"""
+"""Writes genesis.json and events.jsonl into a folder: blocks of calls of the asset register, 1,000 of 20 where nothing else
+is asked for, all of which end VALID. Two of three organisations endorse each. usage: chain.py MODULE FOLDER [BLOCKS CALLS]"""
 
 import json
 import pathlib
 import sys
 
-BLOCKS, CALLS, ASSETS = 1000, 20, 1000
+BLOCKS, CALLS = map(int, sys.argv[3:] or (1000, 20))
+ASSETS = 1000
 ORGANISATIONS = ["A", "B", "C"]
 ENDORSERS = [0, 1]
 
-module, folder = map(pathlib.Path, sys.argv[1:])
+module, folder = map(pathlib.Path, sys.argv[1:3])
 lines = []
 
 
