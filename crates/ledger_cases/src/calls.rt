@@ -4,39 +4,60 @@ ghost use Rattle.std.specs.Prelude.{◌≡◌};
 ghost use Rattle.wasm_validate.specs.HostCalls.{arity};
 
 use crate::bytes::{bytes_of, split_word};
-use crate::drafts::Draft;
 use crate::fault::CaseFault;
-use crate::texts::{write_result, write_words};
-use fab_types::{Value, WriteItem};
+use crate::texts::{write_hex, write_result, write_words};
+use crate::transactions::write_item;
+use fab_types::Value;
 use host_api::{Parts, PlainMap, Recorder};
 use interp::{Host, HostAnswer, HostCall};
 use std::alloc::{AllocError, Global};
 use std::fmt::Write;
 use wasm_instance::Memory;
 
-/// What the host answers to calls, and what it recorded.
-pub fn call_host(alloc: Global, text: &str) -> Result<String, CaseFault> {
-    let (state, rest) = text.split_once(" | ").ok_or(CaseFault::BadLine)?;
-    let (argument, rest) = rest.split_once(" | ").ok_or(CaseFault::BadLine)?;
-    let (memory, calls) = rest.split_once(" | ").ok_or(CaseFault::BadLine)?;
-    let state = state_of(alloc, state)?;
-    let argument = Value::new(bytes_of(alloc, argument)?).ok_or(CaseFault::BadLine)?;
-    let memory = bytes_of(alloc, memory)?;
-    record_calls(alloc, &state, &argument, &memory, calls)
+/// The parts of a case.
+#[derive(Clone, Copy)]
+struct Case<'a> {
+    state: &'a str,
+    argument: &'a str,
+    memory: &'a str,
+    calls: &'a str,
 }
 
-/// The state that the writes among the words leave.
-fn state_of(alloc: Global, words: &str) -> Result<PlainMap, CaseFault> {
-    let mut draft = Draft::new(alloc, [0; 16]);
-    draft.add_words(alloc, words)?;
+/// What the host answers to calls, and what it recorded.
+pub fn call_host(alloc: Global, text: &str) -> Result<String, CaseFault> {
+    let case = case_of(text).ok_or(CaseFault::BadLine)?;
+    let argument = argument_of(alloc, case.argument)?;
+    let memory = bytes_of(alloc, case.memory)?;
+    let state = state_of(alloc, case.state)?;
+    record_calls(alloc, &state, &argument, &memory, case.calls)
+}
+
+fn case_of(text: &str) -> Option<Case<'_>> {
+    let (state, rest) = text.split_once(" | ")?;
+    let (argument, rest) = rest.split_once(" | ")?;
+    let (memory, calls) = rest.split_once(" | ")?;
+    Some(Case {
+        state,
+        argument,
+        memory,
+        calls,
+    })
+}
+
+fn argument_of(alloc: Global, pieces: &str) -> Result<Value, CaseFault> {
+    Value::new(bytes_of(alloc, pieces)?).ok_or(CaseFault::BadLine)
+}
+
+/// The state that the writes leave.
+fn state_of(alloc: Global, writes: &str) -> Result<PlainMap, CaseFault> {
     let mut state = PlainMap::empty(alloc);
-    write_each(&mut state, &draft.writes)?;
+    write_each(alloc, &mut state, writes)?;
     Ok(state)
 }
 
-fn write_each(state: &mut PlainMap, writes: &[WriteItem]) -> Result<(), AllocError> {
-    for write in writes {
-        state.write(write)?;
+fn write_each(alloc: Global, state: &mut PlainMap, writes: &str) -> Result<(), CaseFault> {
+    for word in writes.split_whitespace() {
+        state.write(&write_item(alloc, word)?)?;
     }
     Ok(())
 }
@@ -48,39 +69,59 @@ fn record_calls(
     memory: &[u8],
     calls: &str,
 ) -> Result<String, CaseFault> {
-    let mut answer = String::new(alloc);
     let mut changed = Memory::new(alloc, memory.len())?;
     changed.write(0, memory);
     let mut host = Recorder::new(alloc, state, argument);
-    call_each(alloc, &mut answer, &mut host, &mut changed, calls)?;
-    let changed = changed.front(memory.len());
-    if *changed != *memory {
-        write!(answer, ", memory {}", hex::encode(alloc, changed)?)?;
-    }
-    write_parts(&mut answer, &host.into_parts())?;
+    let answers = answers(alloc, &mut host, &mut changed, memory, calls);
+    with_parts(answers, &host.into_parts())
+}
+
+/// The answers to the calls, and the memory where it is no longer as it was.
+fn answers(
+    alloc: Global,
+    host: &mut Recorder<'_, PlainMap>,
+    memory: &mut Memory,
+    before: &[u8],
+    calls: &str,
+) -> Result<String, CaseFault> {
+    let mut answer = call_each(alloc, host, memory, calls)?;
+    write_change(&mut answer, before, memory.front(before.len()))?;
     Ok(answer)
 }
 
-fn write_parts(answer: &mut String, parts: &Parts) -> Result<(), AllocError> {
-    answer.push_str(", recorded")?;
-    write_result(answer, &parts.result)?;
-    write_words(answer, &parts.reads, &parts.ranges, &parts.writes)
-}
-
+/// The answers to the calls, with blanks between them.
 fn call_each(
     alloc: Global,
-    answer: &mut String,
     host: &mut Recorder<'_, PlainMap>,
     memory: &mut Memory,
     calls: &str,
-) -> Result<(), CaseFault> {
+) -> Result<String, CaseFault> {
+    let mut answer = String::new(alloc);
     for call in calls.split(" | ") {
         if !answer.is_empty() {
             answer.push(' ')?;
         }
-        write_answer(answer, call_once(alloc, host, memory, call)?)?;
+        write_answer(&mut answer, call_once(alloc, host, memory, call)?)?;
     }
-    Ok(())
+    Ok(answer)
+}
+
+/// The memory, where it is no longer as it was.
+fn write_change(answer: &mut String, before: &[u8], memory: &[u8]) -> Result<(), AllocError> {
+    if memory == before {
+        return Ok(());
+    }
+    answer.push_str(", memory ")?;
+    write_hex(answer, memory)
+}
+
+/// The answers, and behind them what was recorded.
+fn with_parts(answers: Result<String, CaseFault>, parts: &Parts) -> Result<String, CaseFault> {
+    let mut answer = answers?;
+    answer.push_str(", recorded")?;
+    write_result(&mut answer, &parts.result)?;
+    write_words(&mut answer, &parts.reads, &parts.ranges, &parts.writes)?;
+    Ok(answer)
 }
 
 /// A word as a signed number.

@@ -37,13 +37,6 @@ fn without_note(line: &str) -> &str {
 fn answer_case(alloc: Global, line: &str) -> Result<String, CaseFault> {
     let (verb, rest) = split_word(line);
     match verb {
-        "payload" => show_payload(alloc, rest),
-        "envelope" => show_envelope(alloc, rest),
-        "block" => show_block(alloc, rest),
-        "definition" => show_definition(alloc, rest),
-        "tx_id" => show_id(alloc, rest),
-        "hashes" => show_hashes(alloc, rest),
-        "tag" => show_tag(alloc, rest),
         "policy" => show_policy(alloc, rest),
         "satisfied" => show_satisfied(alloc, rest),
         "endorsed" => show_endorsed(alloc, rest),
@@ -56,6 +49,20 @@ fn answer_case(alloc: Global, line: &str) -> Result<String, CaseFault> {
         "call" => call_host(alloc, rest),
         "simulate" => simulate_calls(alloc, rest, Profile::Core1),
         "simulate2" => simulate_calls(alloc, rest, Profile::SignExtension),
+        _ => answer_bytes(alloc, verb, rest),
+    }
+}
+
+/// What a case of bytes gives, by its verb.
+fn answer_bytes(alloc: Global, verb: &str, pieces: &str) -> Result<String, CaseFault> {
+    match verb {
+        "payload" => show_payload(alloc, pieces),
+        "envelope" => show_envelope(alloc, pieces),
+        "block" => show_block(alloc, pieces),
+        "definition" => show_definition(alloc, pieces),
+        "tx_id" => show_id(alloc, pieces),
+        "hashes" => show_hashes(alloc, pieces),
+        "tag" => show_tag(alloc, pieces),
         _ => Err(CaseFault::BadLine),
     }
 }

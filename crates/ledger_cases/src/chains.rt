@@ -3,42 +3,69 @@
 ghost use Rattle.std.specs.Prelude.{◌≡◌, ◌↔◌, ◌+◌, IsTrue, length};
 
 use crate::bytes::split_word;
-use crate::drafts::{Asked, Draft, asked_range, key_of};
 use crate::fault::CaseFault;
 use crate::texts::{write_pair, write_version};
+use crate::transactions::{Asked, asked_range, is_endorsed, key_of, payload_of, unendorsed};
 use fab_types::{Block, BlockData, BlockNumber, Envelope, Flag, Header, Key, Value, Version};
 use mvcc_validate::flags;
 use std::alloc::{AllocError, Global};
 use std::fmt::Write;
 use world_state::Snapshot;
 
+/// What is shown of a chain.
+#[derive(Clone, Copy)]
+enum Look<'a> {
+    /// The flags of each block.
+    Flags,
+    /// Each key of the state after it, with its value and version.
+    State,
+    /// What that state has at a key.
+    Key(&'a Key),
+    /// The first entries of a range in that state.
+    Range(&'a Asked),
+}
+
 /// The flags of each block of a chain.
 pub fn show_flags(alloc: Global, chain: &str) -> Result<String, CaseFault> {
-    let mut answer = String::new(alloc);
-    judge_chain(alloc, &mut answer, chain)?;
-    Ok(answer)
+    show_chain(alloc, Look::Flags, chain)
 }
 
 /// Each key of the state after a chain, with its value and version.
 pub fn show_state(alloc: Global, chain: &str) -> Result<String, CaseFault> {
-    let snapshot = state_after(alloc, chain)?;
-    Ok(state_text(alloc, &snapshot)?)
+    show_chain(alloc, Look::State, chain)
 }
 
 /// What the state after a chain has at the key that the first word is.
 pub fn show_key(alloc: Global, text: &str) -> Result<String, CaseFault> {
     let (key, chain) = split_word(text);
     let key = key_of(alloc, key)?;
-    let snapshot = state_after(alloc, chain)?;
-    Ok(key_text(alloc, &snapshot, &key)?)
+    show_chain(alloc, Look::Key(&key), chain)
 }
 
 /// The first entries of the range that the first word is, in the state after a chain.
 pub fn show_range(alloc: Global, text: &str) -> Result<String, CaseFault> {
     let (asked, chain) = split_word(text);
     let asked = asked_range(alloc, asked)?;
-    let snapshot = state_after(alloc, chain)?;
-    Ok(range_text(alloc, &snapshot, &asked)?)
+    show_chain(alloc, Look::Range(&asked), chain)
+}
+
+fn show_chain(alloc: Global, look: Look<'_>, chain: &str) -> Result<String, CaseFault> {
+    show_on(alloc, &mut Snapshot::empty(alloc), look, chain)
+}
+
+fn show_on(
+    alloc: Global,
+    snapshot: &mut Snapshot,
+    look: Look<'_>,
+    chain: &str,
+) -> Result<String, CaseFault> {
+    let flags = judge_chain(alloc, snapshot, chain)?;
+    Ok(match look {
+        Look::Flags => flags,
+        Look::State => state_text(alloc, snapshot)?,
+        Look::Key(key) => key_text(alloc, snapshot, key)?,
+        Look::Range(asked) => range_text(alloc, snapshot, asked)?,
+    })
 }
 
 fn state_text(alloc: Global, snapshot: &Snapshot) -> Result<String, AllocError> {
@@ -84,50 +111,49 @@ fn write_entry(
     write_version(answer, Some(version))
 }
 
-/// The snapshot after the blocks of a chain.
-pub fn state_after(alloc: Global, chain: &str) -> Result<Snapshot, CaseFault> {
-    judge_chain(alloc, &mut String::new(alloc), chain)
-}
-
-/// The same. The flags of the blocks are added to the answer.
-fn judge_chain(alloc: Global, answer: &mut String, chain: &str) -> Result<Snapshot, CaseFault> {
-    let mut snapshot = Snapshot::empty(alloc);
+/// The flags of the blocks of a chain, which are added to the snapshot.
+pub fn judge_chain(
+    alloc: Global,
+    snapshot: &mut Snapshot,
+    chain: &str,
+) -> Result<String, CaseFault> {
+    let mut answer = String::new(alloc);
     for text in chain.split(" / ") {
-        snapshot = judge_block(alloc, answer, &snapshot, text)?;
+        judge_block(alloc, &mut answer, snapshot, text)?;
     }
-    Ok(snapshot)
+    Ok(answer)
 }
 
-/// A block that was judged.
-#[derive(Drop)]
-struct Judged {
-    block: Block,
-    flags: Vec<Flag>,
-}
-
+/// Adds the flags of the next block to the answer, and the block to the snapshot.
 fn judge_block(
     alloc: Global,
     answer: &mut String,
-    snapshot: &Snapshot,
+    snapshot: &mut Snapshot,
     text: &str,
-) -> Result<Snapshot, CaseFault> {
-    let judged = judged_block(alloc, snapshot, text)?;
-    if !answer.is_empty() {
-        answer.push_str(" /")?;
-    }
-    write_flags(answer, &judged.flags)?;
-    extended(alloc, snapshot, judged.block, judged.flags)
+) -> Result<(), CaseFault> {
+    let mut endorsed = Vec::new(alloc);
+    let block = next_block(alloc, snapshot.height(), &mut endorsed, text)?;
+    let flags = judged(alloc, answer, snapshot, &block, &endorsed)?;
+    extend(alloc, snapshot, block, flags)
 }
 
-fn judged_block(alloc: Global, snapshot: &Snapshot, text: &str) -> Result<Judged, CaseFault> {
-    let mut endorsed = Vec::new(alloc);
-    let envelopes = envelopes_of(alloc, snapshot.height(), &mut endorsed, text)?;
-    let block = block_of(snapshot.height(), envelopes)?;
+/// The flags of the next block, which are added to the answer.
+fn judged(
+    alloc: Global,
+    answer: &mut String,
+    snapshot: &Snapshot,
+    block: &Block,
+    endorsed: &[bool],
+) -> Result<Vec<Flag>, CaseFault> {
     if endorsed.len() != block.envelopes.as_slice().len() {
         return Err(CaseFault::BadLine);
     }
-    let flags = flags(alloc, snapshot, &block, &endorsed)?;
-    Ok(Judged { block, flags })
+    let flags = flags(alloc, snapshot, block, endorsed)?;
+    if !answer.is_empty() {
+        answer.push_str(" /")?;
+    }
+    write_flags(answer, &flags)?;
+    Ok(flags)
 }
 
 /// The numbers of flags, with blanks between them.
@@ -141,27 +167,33 @@ fn write_flags(answer: &mut String, flags: &[Flag]) -> Result<(), AllocError> {
     Ok(())
 }
 
-/// The transactions of a block, each with a nonce of its own, and which of them are endorsed.
-fn envelopes_of(
+/// The block that comes next after so many. Which of its transactions are endorsed is added.
+fn next_block(
     alloc: Global,
     height: usize,
     endorsed: &mut Vec<bool>,
     text: &str,
-) -> Result<Vec<Envelope>, CaseFault> {
+) -> Result<Block, CaseFault> {
+    let header = header_after(height)?;
     let mut envelopes = Vec::new(alloc);
-    for words in text.split(" | ") {
-        let nonce = nonce_at(height, envelopes.len());
-        let draft = draft_of(alloc, nonce, words)?;
-        endorsed.push(draft.endorsed)?;
-        envelopes.push(draft.into_envelope(alloc)?)?;
-    }
-    Ok(envelopes)
+    add_envelopes(alloc, height, &mut envelopes, endorsed, text)?;
+    block_of(header, envelopes)
 }
 
-fn draft_of(alloc: Global, nonce: [u8; 16], words: &str) -> Result<Draft, CaseFault> {
-    let mut draft = Draft::new(alloc, nonce);
-    draft.add_words(alloc, words)?;
-    Ok(draft)
+/// Adds the transactions of a block, each with a nonce of its own, and which of them are endorsed.
+fn add_envelopes(
+    alloc: Global,
+    height: usize,
+    envelopes: &mut Vec<Envelope>,
+    endorsed: &mut Vec<bool>,
+    text: &str,
+) -> Result<(), CaseFault> {
+    for words in text.split(" | ") {
+        let nonce = nonce_at(height, envelopes.len());
+        endorsed.push(is_endorsed(words))?;
+        envelopes.push(unendorsed(alloc, payload_of(alloc, nonce, words)?))?;
+    }
+    Ok(())
 }
 
 /// A nonce for each place of the first 256 blocks: the bytes of both, and 1 in all others.
@@ -173,31 +205,37 @@ fn nonce_at(height: usize, place: usize) -> [u8; 16] {
     nonce
 }
 
-/// The block with these envelopes that comes next after so many.
-pub fn block_of(height: usize, envelopes: Vec<Envelope>) -> Result<Block, CaseFault> {
+/// The header of the block that comes next after so many.
+pub fn header_after(height: usize) -> Result<Header, CaseFault> {
     let number = u32::try_from(height).unwrap_or(u32::MAX).saturating_add(1);
     let number = BlockNumber::new(number).ok_or(CaseFault::BadLine)?;
-    let envelopes = BlockData::new(envelopes).ok_or(CaseFault::BadLine)?;
-    let header = Header {
+    Ok(Header {
         number,
         previous_hash: [0; 32],
         data_hash: [0; 32],
-    };
-    Ok(Block { header, envelopes })
+    })
 }
 
-/// The snapshot after one block more. A bad line where the block is not the next, or has other
-/// flags.
-pub fn extended(
+/// The block of a header and these envelopes.
+pub fn block_of(header: Header, envelopes: Vec<Envelope>) -> Result<Block, CaseFault> {
+    match BlockData::new(envelopes) {
+        Some(envelopes) => Ok(Block { header, envelopes }),
+        None => Err(CaseFault::BadLine),
+    }
+}
+
+/// Adds a block to the snapshot. A bad line where the block is not the next, or has other flags.
+pub fn extend(
     alloc: Global,
-    snapshot: &Snapshot,
+    snapshot: &mut Snapshot,
     block: Block,
     flags: Vec<Flag>,
-) -> Result<Snapshot, CaseFault> {
+) -> Result<(), CaseFault> {
     if !comes_next(snapshot, &block, &flags) {
         return Err(CaseFault::BadLine);
     }
-    Ok(snapshot.extended(alloc, block, flags)?)
+    *snapshot = snapshot.extended(alloc, block, flags)?;
+    Ok(())
 }
 
 /// Whether the block is the next in number, with a flag for each transaction.

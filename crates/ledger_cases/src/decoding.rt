@@ -3,7 +3,7 @@
 use crate::bytes::{bytes_of, split_word};
 use crate::fault::CaseFault;
 use crate::texts::{write_definition, write_endorsements, write_payload};
-use fab_types::{Block, Definition, Envelope, Payload};
+use fab_types::{Block, Definition, Envelope, Payload, Proposal};
 use hmac_tag::tag;
 use std::alloc::{AllocError, Global};
 use std::fmt::Write;
@@ -16,45 +16,45 @@ use wire::{
 pub fn show_payload(alloc: Global, pieces: &str) -> Result<String, CaseFault> {
     let bytes = bytes_of(alloc, pieces)?;
     let payload = decode_payload(alloc, &bytes)?;
-    Ok(payload_text(alloc, &bytes, &payload)?)
+    payload_text(alloc, &bytes, &payload)
 }
 
 /// The envelope that the bytes spell.
 pub fn show_envelope(alloc: Global, pieces: &str) -> Result<String, CaseFault> {
     let bytes = bytes_of(alloc, pieces)?;
     let envelope = decode_envelope(alloc, &bytes)?;
-    Ok(envelope_text(alloc, &bytes, &envelope)?)
+    envelope_text(alloc, &bytes, &envelope)
 }
 
 /// The block that the bytes spell.
 pub fn show_block(alloc: Global, pieces: &str) -> Result<String, CaseFault> {
     let bytes = bytes_of(alloc, pieces)?;
     let block = decode_block(alloc, &bytes)?;
-    Ok(block_text(alloc, &bytes, &block)?)
+    block_text(alloc, &bytes, &block)
 }
 
 /// The definition that the bytes spell.
 pub fn show_definition(alloc: Global, pieces: &str) -> Result<String, CaseFault> {
     let bytes = bytes_of(alloc, pieces)?;
     let definition = decode_definition(alloc, &bytes)?;
-    Ok(definition_text(alloc, &bytes, &definition)?)
+    definition_text(alloc, &bytes, &definition)
 }
 
-fn payload_text(alloc: Global, bytes: &[u8], payload: &Payload) -> Result<String, AllocError> {
+fn payload_text(alloc: Global, bytes: &[u8], payload: &Payload) -> Result<String, CaseFault> {
     let mut answer = String::new(alloc);
     write_payload(&mut answer, payload)?;
     write_comparison(&mut answer, bytes, &encode_payload(alloc, payload)?)?;
     Ok(answer)
 }
 
-fn envelope_text(alloc: Global, bytes: &[u8], envelope: &Envelope) -> Result<String, AllocError> {
+fn envelope_text(alloc: Global, bytes: &[u8], envelope: &Envelope) -> Result<String, CaseFault> {
     let mut answer = String::new(alloc);
     write_envelope(&mut answer, envelope)?;
     write_comparison(&mut answer, bytes, &encode_envelope(alloc, envelope)?)?;
     Ok(answer)
 }
 
-fn block_text(alloc: Global, bytes: &[u8], block: &Block) -> Result<String, AllocError> {
+fn block_text(alloc: Global, bytes: &[u8], block: &Block) -> Result<String, CaseFault> {
     let mut answer = String::new(alloc);
     write_block(&mut answer, block)?;
     write_comparison(&mut answer, bytes, &encode_block(alloc, block)?)?;
@@ -65,7 +65,7 @@ fn definition_text(
     alloc: Global,
     bytes: &[u8],
     definition: &Definition,
-) -> Result<String, AllocError> {
+) -> Result<String, CaseFault> {
     let mut answer = String::from_str(alloc, "definition")?;
     write_definition(&mut answer, definition)?;
     write_comparison(&mut answer, bytes, &encode_definition(alloc, definition)?)?;
@@ -76,7 +76,11 @@ fn definition_text(
 pub fn show_id(alloc: Global, pieces: &str) -> Result<String, CaseFault> {
     let bytes = bytes_of(alloc, pieces)?;
     let payload = decode_payload(alloc, &bytes)?;
-    let id = tx_id(alloc, &payload.proposal)?;
+    id_text(alloc, &payload.proposal)
+}
+
+fn id_text(alloc: Global, proposal: &Proposal) -> Result<String, CaseFault> {
+    let id = tx_id(alloc, proposal)?;
     Ok(hex::encode(alloc, &id)?)
 }
 
@@ -84,13 +88,13 @@ pub fn show_id(alloc: Global, pieces: &str) -> Result<String, CaseFault> {
 pub fn show_hashes(alloc: Global, pieces: &str) -> Result<String, CaseFault> {
     let bytes = bytes_of(alloc, pieces)?;
     let block = decode_block(alloc, &bytes)?;
-    Ok(hashes_text(alloc, &block)?)
+    hashes_text(alloc, &block)
 }
 
-fn hashes_text(alloc: Global, block: &Block) -> Result<String, AllocError> {
+fn hashes_text(alloc: Global, block: &Block) -> Result<String, CaseFault> {
     let header = hex::encode(alloc, &header_hash(&block.header))?;
     let data = hex::encode(alloc, &data_hash(alloc, &block.envelopes)?)?;
-    format!(in alloc; "{header} {data}")
+    Ok(format!(in alloc; "{header} {data}")?)
 }
 
 /// The tag of the bytes under the key, which is the first piece.

@@ -1,10 +1,9 @@
 //! Cases `event TEXT`: what a line of an events file asks for.
 
-use crate::texts::write_definition;
+use crate::texts::{write_characters, write_definition, write_hex};
 use events::{Action, BadLine, read_event};
 use fab_types::Proposal;
 use std::alloc::{AllocError, Global};
-use std::fmt::Write;
 
 /// The answer of a case.
 pub fn event_line(alloc: Global, text: &str) -> Result<String, AllocError> {
@@ -32,22 +31,22 @@ fn shown(alloc: Global, action: &Action) -> Result<String, AllocError> {
 }
 
 fn begun(alloc: Global, peer: u64, seat: u64, proposal: &Proposal) -> Result<String, AllocError> {
-    let mut chaincode = String::new(alloc);
-    for byte in proposal.chaincode().as_slice() {
-        chaincode.push(char::from(*byte))?;
-    }
-    let nonce = bytes(alloc, proposal.nonce().as_slice())?;
+    let mut text = format!(in alloc; "begin {peer}.{seat} ")?;
+    write_characters(&mut text, proposal.chaincode().as_slice())?;
+    write_asked(&mut text, proposal)?;
+    text.push(' ')?;
+    write_hex_or_none(&mut text, proposal.nonce().as_slice())?;
+    Ok(text)
+}
+
+/// The argument of a call, or the definition of an upgrade.
+fn write_asked(text: &mut String, proposal: &Proposal) -> Result<(), AllocError> {
     match proposal {
         Proposal::Call(call) => {
-            let argument = bytes(alloc, call.argument.as_slice())?;
-            format!(in alloc; "begin {peer}.{seat} {chaincode} {argument} {nonce}")
+            text.push(' ')?;
+            write_hex_or_none(text, call.argument.as_slice())
         }
-        Proposal::Upgrade(upgrade) => {
-            let mut text = format!(in alloc; "begin {peer}.{seat} {chaincode}")?;
-            write_definition(&mut text, &upgrade.definition)?;
-            write!(text, " {nonce}")?;
-            Ok(text)
-        }
+        Proposal::Upgrade(upgrade) => write_definition(text, &upgrade.definition),
     }
 }
 
@@ -60,15 +59,16 @@ fn used(alloc: Global, names: &[String]) -> Result<String, AllocError> {
     Ok(text)
 }
 
-fn submitted(alloc: Global, of: &[u8]) -> Result<String, AllocError> {
-    let text = bytes(alloc, of)?;
-    format!(in alloc; "hex {text}")
+fn submitted(alloc: Global, bytes: &[u8]) -> Result<String, AllocError> {
+    let mut text = String::from_str(alloc, "hex ")?;
+    write_hex_or_none(&mut text, bytes)?;
+    Ok(text)
 }
 
 /// Bytes in hex; `-` for none.
-fn bytes(alloc: Global, of: &[u8]) -> Result<String, AllocError> {
-    if of.is_empty() {
-        return String::from_str(alloc, "-");
+fn write_hex_or_none(text: &mut String, bytes: &[u8]) -> Result<(), AllocError> {
+    if bytes.is_empty() {
+        return text.push('-');
     }
-    hex::encode(alloc, of)
+    write_hex(text, bytes)
 }

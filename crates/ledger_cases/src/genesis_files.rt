@@ -1,7 +1,10 @@
 //! Cases `genesis TEXT`: what the genesis has that a text spells, or why it spells none.
 
+use crate::texts::write_hex;
+use endorsement_policy::ModuleId;
 use genesis::{GenesisFile, read_genesis};
 use std::alloc::{AllocError, Global};
+use std::fmt::Write;
 use wasm_profile::Profile;
 
 /// The answer of a case.
@@ -14,25 +17,30 @@ pub fn genesis_file(alloc: Global, text: &str) -> Result<String, AllocError> {
 
 /// How many there are of each, the numbers, and the digests of the modules.
 fn contents(alloc: Global, genesis: &GenesisFile) -> Result<String, AllocError> {
-    let counts = counts(alloc, genesis)?;
-    let numbers = numbers(alloc, genesis)?;
-    let installed = installed(alloc, genesis)?;
-    format!(in alloc; "read {counts} {numbers} installed={installed}")
+    let mut text = String::new(alloc);
+    write_counts(&mut text, genesis)?;
+    write_numbers(&mut text, genesis)?;
+    text.push_str(" installed=")?;
+    write_installed(&mut text, genesis.book.installed().modules())?;
+    Ok(text)
 }
 
-fn counts(alloc: Global, genesis: &GenesisFile) -> Result<String, AllocError> {
-    format!(in alloc;
-        "chaincodes={} modules={} policies={} peers={}",
+fn write_counts(text: &mut String, genesis: &GenesisFile) -> Result<(), AllocError> {
+    let (chaincodes, modules) = (
         genesis.book.chaincodes().len(),
         genesis.book.modules().len(),
-        genesis.rules.policies().len(),
-        genesis.peers.len()
+    );
+    let (policies, peers) = (genesis.rules.policies().len(), genesis.peers.len());
+    write!(
+        text,
+        "read chaincodes={chaincodes} modules={modules} policies={policies} peers={peers}"
     )
 }
 
-fn numbers(alloc: Global, genesis: &GenesisFile) -> Result<String, AllocError> {
-    format!(in alloc;
-        "seats={} queue={} count={} preferred={} absolute={} reorder={}",
+fn write_numbers(text: &mut String, genesis: &GenesisFile) -> Result<(), AllocError> {
+    write!(
+        text,
+        " seats={} queue={} count={} preferred={} absolute={} reorder={}",
         genesis.seats,
         genesis.queue,
         genesis.count,
@@ -43,16 +51,20 @@ fn numbers(alloc: Global, genesis: &GenesisFile) -> Result<String, AllocError> {
 }
 
 /// The digests in hex, with `/2` behind those of profile 2, and commas between them.
-fn installed(alloc: Global, genesis: &GenesisFile) -> Result<String, AllocError> {
-    let mut text = String::new(alloc);
-    for id in genesis.book.installed().modules() {
-        if !text.is_empty() {
+fn write_installed(text: &mut String, ids: &[ModuleId]) -> Result<(), AllocError> {
+    for (place, id) in ids.iter().enumerate() {
+        if place > 0 {
             text.push(',')?;
         }
-        text.push_str(&hex::encode(alloc, id.digest)?)?;
-        if id.profile == Profile::SignExtension {
-            text.push_str("/2")?;
-        }
+        write_id(text, id)?;
     }
-    Ok(text)
+    Ok(())
+}
+
+fn write_id(text: &mut String, id: &ModuleId) -> Result<(), AllocError> {
+    write_hex(text, &id.digest)?;
+    if id.profile == Profile::SignExtension {
+        text.push_str("/2")?;
+    }
+    Ok(())
 }

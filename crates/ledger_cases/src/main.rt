@@ -51,13 +51,13 @@ mod calls;
 mod cases;
 mod chains;
 mod decoding;
-mod drafts;
 mod event_lines;
 mod fault;
 mod genesis_files;
 mod policies;
 mod simulations;
 mod texts;
+mod transactions;
 
 use crate::cases::answer;
 use std::io::{self, BufRead, BufReader};

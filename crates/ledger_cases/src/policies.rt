@@ -1,14 +1,14 @@
 //! Policies, and which envelopes they endorse.
 
 use crate::bytes::split_word;
-use crate::chains::state_after;
-use crate::drafts::{Draft, chaincode_name};
+use crate::chains::judge_chain;
 use crate::fault::CaseFault;
+use crate::transactions::{chaincode_name, payload_of};
 use endorsement_policy::{
-    ChaincodePolicy, Installed, ModuleId, OrgSet, Organisation, Policy, Rules, TagKey, is_endorsed,
-    parse, satisfied,
+    ChaincodePolicy, Installed, ModuleId, OrgSet, Organisation, Policy, PolicyFault, Rules, TagKey,
+    is_endorsed, parse, satisfied,
 };
-use fab_types::{Endorsement, Endorsements, Envelope, OrgName};
+use fab_types::{Endorsement, Endorsements, Envelope, OrgName, Payload};
 use hmac_tag::tag;
 use std::alloc::Global;
 use wasm_profile::Profile;
@@ -18,10 +18,18 @@ use world_state::Snapshot;
 /// Whether the text spells a policy over the organisations that the first word lists, or its fault.
 pub fn show_policy(alloc: Global, rest: &str) -> Result<String, CaseFault> {
     let (known, text) = split_word(rest);
+    Ok(match fault_of(alloc, known, text)? {
+        None => String::from_str(alloc, "policy")?,
+        Some(fault) => format!(in alloc; "{fault}")?,
+    })
+}
+
+/// Why the text spells no policy over these organisations. None where it spells one.
+fn fault_of(alloc: Global, known: &str, text: &str) -> Result<Option<PolicyFault>, CaseFault> {
     let orgs = orgs_of(alloc, known)?;
     match parse(alloc, text, &orgs) {
-        Ok(_) => Ok(String::from_str(alloc, "policy")?),
-        Err(fault) => Ok(format!(in alloc; "{fault}")?),
+        Ok(_) => Ok(None),
+        Err(fault) => Ok(Some(fault)),
     }
 }
 
@@ -29,9 +37,13 @@ pub fn show_policy(alloc: Global, rest: &str) -> Result<String, CaseFault> {
 pub fn show_satisfied(alloc: Global, rest: &str) -> Result<String, CaseFault> {
     let (known, rest) = split_word(rest);
     let (present, text) = split_word(rest);
-    let set = OrgSet::new(orgs_of(alloc, present)?).ok_or(CaseFault::BadLine)?;
     let policy = policy_of(alloc, known, text)?;
-    Ok(format!(in alloc; "{}", satisfied(&policy, &set))?)
+    satisfied_by(alloc, &policy, present)
+}
+
+fn satisfied_by(alloc: Global, policy: &Policy, present: &str) -> Result<String, CaseFault> {
+    let set = OrgSet::new(orgs_of(alloc, present)?).ok_or(CaseFault::BadLine)?;
+    Ok(format!(in alloc; "{}", satisfied(policy, &set))?)
 }
 
 /// What a call that does nothing reads: its definition, which is absent.
@@ -44,17 +56,34 @@ pub fn show_endorsed(alloc: Global, rest: &str) -> Result<String, CaseFault> {
     let (text, rest) = rest.split_once(" | ").unwrap_or((rest, NOTHING));
     let (words, chain) = rest.split_once(" / ").unwrap_or((rest, ""));
     let rules = rules_of(alloc, known, text)?;
-    let envelope = envelope_of(alloc, tags, words)?;
-    let snapshot = snapshot_of(alloc, chain)?;
-    Ok(format!(in alloc; "{}", is_endorsed(alloc, &rules, &snapshot, &envelope)?)?)
+    endorsed_after(alloc, &rules, chain, tags, words)
 }
 
-/// The state after a chain, which may be empty.
-fn snapshot_of(alloc: Global, chain: &str) -> Result<Snapshot, CaseFault> {
-    if chain.is_empty() {
-        return Ok(Snapshot::empty(alloc));
+/// The same by rules, on the state after a chain.
+fn endorsed_after(
+    alloc: Global,
+    rules: &Rules,
+    chain: &str,
+    tags: &str,
+    words: &str,
+) -> Result<String, CaseFault> {
+    let envelope = envelope_of(alloc, tags, words)?;
+    endorsed_on(alloc, rules, &mut Snapshot::empty(alloc), chain, &envelope)
+}
+
+/// The same on a snapshot, to which the chain, which may be empty, is added.
+fn endorsed_on(
+    alloc: Global,
+    rules: &Rules,
+    snapshot: &mut Snapshot,
+    chain: &str,
+    envelope: &Envelope,
+) -> Result<String, CaseFault> {
+    if !chain.is_empty() {
+        judge_chain(alloc, snapshot, chain)?;
     }
-    state_after(alloc, chain)
+    let endorsed = is_endorsed(alloc, rules, snapshot, envelope)?;
+    Ok(format!(in alloc; "{endorsed}")?)
 }
 
 /// The words between commas. `-` is none.
@@ -63,7 +92,7 @@ fn words_of(list: &str) -> &str {
 }
 
 fn org_of(alloc: Global, name: &str) -> Result<OrgName, CaseFault> {
-    OrgName::new(Vec::from_slice(alloc, name.as_bytes())?).ok_or(CaseFault::BadLine)
+    OrgName::new(name.as_bytes().to_vec(alloc)?).ok_or(CaseFault::BadLine)
 }
 
 fn orgs_of(alloc: Global, list: &str) -> Result<Vec<OrgName>, CaseFault> {
@@ -84,15 +113,18 @@ fn policy_of(alloc: Global, known: &str, text: &str) -> Result<Policy, CaseFault
 
 /// The organisations with their names as keys, the policy of calls and of upgrades, and a module.
 fn rules_of(alloc: Global, known: &str, text: &str) -> Result<Rules, CaseFault> {
-    let policy = ChaincodePolicy {
-        chaincode: chaincode_name(alloc)?,
-        policy: policy_of(alloc, known, text)?,
-    };
-    let policies = vec![in alloc; policy]?;
-    let upgrade = policy_of(alloc, known, text)?;
-    let installed = installed(alloc, known)?;
     let organisations = organisations_of(alloc, known)?;
+    let installed = installed(alloc, known)?;
+    let policies = policies_of(alloc, known, text)?;
+    let upgrade = policy_of(alloc, known, text)?;
     Rules::new(organisations, policies, upgrade, installed).ok_or(CaseFault::BadLine)
+}
+
+/// The policy of calls.
+fn policies_of(alloc: Global, known: &str, text: &str) -> Result<Vec<ChaincodePolicy>, CaseFault> {
+    let chaincode = chaincode_name(alloc)?;
+    let policy = policy_of(alloc, known, text)?;
+    Ok(vec![in alloc; ChaincodePolicy { chaincode, policy }]?)
 }
 
 /// A module of profile 1 whose digest has bytes 7, and the organisations.
@@ -112,34 +144,39 @@ fn organisations_of(alloc: Global, known: &str) -> Result<Vec<Organisation>, Cas
     Ok(organisations)
 }
 
-fn organisation_of(alloc: Global, name: &str) -> Result<Organisation, CaseFault> {
-    let key = Vec::from_slice(alloc, name.as_bytes())?;
-    let key = TagKey::new(key).ok_or(CaseFault::BadLine)?;
-    let name = org_of(alloc, name)?;
+fn organisation_of(alloc: Global, word: &str) -> Result<Organisation, CaseFault> {
+    let name = org_of(alloc, word)?;
+    let key = TagKey::new(word.as_bytes().to_vec(alloc)?).ok_or(CaseFault::BadLine)?;
     Ok(Organisation { name, key })
 }
 
 /// The transaction of these words, with these tags.
 fn envelope_of(alloc: Global, tags: &str, words: &str) -> Result<Envelope, CaseFault> {
-    let mut draft = Draft::new(alloc, [0; 16]);
-    draft.add_words(alloc, words)?;
-    let payload = draft.into_envelope(alloc)?.payload;
-    let bytes = encode_payload(alloc, &payload)?;
-    let items = endorsements_of(alloc, &bytes, tags)?;
-    let endorsements = Endorsements::new(items).ok_or(CaseFault::BadLine)?;
+    let payload = payload_of(alloc, [0; 16], words)?;
+    let endorsements = endorsements_of(alloc, &payload, tags)?;
     Ok(Envelope {
         payload,
         endorsements,
     })
 }
 
-fn endorsements_of(alloc: Global, bytes: &[u8], tags: &str) -> Result<Vec<Endorsement>, CaseFault> {
+fn endorsements_of(
+    alloc: Global,
+    payload: &Payload,
+    tags: &str,
+) -> Result<Endorsements, CaseFault> {
+    let bytes = encode_payload(alloc, payload)?;
     let mut items = Vec::new(alloc);
     for word in words_of(tags).split_terminator(',') {
-        let (name, key) = word.split_once('/').ok_or(CaseFault::BadLine)?;
-        let org = org_of(alloc, name)?;
-        let tag = tag(key.as_bytes(), bytes);
-        items.push(Endorsement { org, tag })?;
+        items.push(endorsement_of(alloc, &bytes, word)?)?;
     }
-    Ok(items)
+    Endorsements::new(items).ok_or(CaseFault::BadLine)
+}
+
+/// The tag of bytes that `NAME/KEY` asks for.
+fn endorsement_of(alloc: Global, bytes: &[u8], word: &str) -> Result<Endorsement, CaseFault> {
+    let (name, key) = word.split_once('/').ok_or(CaseFault::BadLine)?;
+    let org = org_of(alloc, name)?;
+    let tag = tag(key.as_bytes(), bytes);
+    Ok(Endorsement { org, tag })
 }

@@ -1,12 +1,12 @@
 //! Calls and upgrades of a chaincode, each on the state that the earlier ones leave.
 
 use crate::bytes::{bytes_of, split_word};
-use crate::chains::{block_of, extended};
-use crate::drafts::{definition_of, name_of, proposal_of};
+use crate::chains::{block_of, extend, header_after};
 use crate::fault::CaseFault;
 use crate::texts::write_payload;
+use crate::transactions::{call_with, definition_of, name_of, unendorsed, upgrade_to};
 use endorsement_policy::{Installed, ModuleId};
-use fab_types::{Endorsements, Envelope, Flag, OrgName, Payload, Proposal, Value};
+use fab_types::{Block, Flag, Header, OrgName, Payload, Proposal, Value};
 use simulator::{Book, Chaincode, SimRefusal, simulate};
 use std::alloc::{AllocError, Global};
 use std::fmt::Write;
@@ -18,17 +18,25 @@ use world_state::Snapshot;
 /// The payload or the refusal of each call of a module of a profile.
 pub fn simulate_calls(alloc: Global, text: &str, profile: Profile) -> Result<String, CaseFault> {
     let (head, calls) = text.split_once(" |").ok_or(CaseFault::BadLine)?;
+    let book = book_of(alloc, head, profile)?;
+    call_each(alloc, &book, &mut Snapshot::empty(alloc), calls)
+}
+
+/// The book that has the module of a profile under a name, by `NAME FUEL MODULE`.
+fn book_of(alloc: Global, head: &str, profile: Profile) -> Result<Book, CaseFault> {
+    let installed = installed(alloc, profile)?;
+    let chaincodes = chaincodes_of(alloc, head, profile)?;
+    Book::new(chaincodes, Vec::new(alloc), installed).ok_or(CaseFault::BadLine)
+}
+
+/// The one chaincode of the book.
+fn chaincodes_of(alloc: Global, head: &str, profile: Profile) -> Result<Vec<Chaincode>, CaseFault> {
     let (name, rest) = split_word(head);
     let (fuel, pieces) = split_word(rest);
-    let chaincode = Chaincode {
-        name: name_of(alloc, name)?,
-        module: module_of(alloc, pieces, profile)?,
-        fuel: fuel_of(fuel)?,
-    };
-    let chaincodes = vec![in alloc; chaincode]?;
-    let installed = installed(alloc, profile)?;
-    let book = Book::new(chaincodes, Vec::new(alloc), installed).ok_or(CaseFault::BadLine)?;
-    call_each(alloc, &book, calls)
+    let fuel = fuel_of(fuel)?;
+    let name = name_of(alloc, name)?;
+    let module = module_of(alloc, pieces, profile)?;
+    Ok(vec![in alloc; Chaincode { name, module, fuel }]?)
 }
 
 /// A module of this profile whose digest has bytes 7, and the organisation A.
@@ -58,50 +66,66 @@ fn module_of(alloc: Global, pieces: &str, profile: Profile) -> Result<ValidModul
     }
 }
 
-fn call_each(alloc: Global, book: &Book, calls: &str) -> Result<String, CaseFault> {
+/// What each call gives, on the state that the earlier ones leave.
+fn call_each(
+    alloc: Global,
+    book: &Book,
+    snapshot: &mut Snapshot,
+    calls: &str,
+) -> Result<String, CaseFault> {
     let mut answer = String::new(alloc);
-    let mut snapshot = Snapshot::empty(alloc);
-    for argument in calls.split(" |") {
+    for text in calls.split(" |") {
         if !answer.is_empty() {
             answer.push_str(" / ")?;
         }
-        if let Some(next) = call_once(alloc, &mut answer, book, &snapshot, argument)? {
-            snapshot = next;
-        }
+        call_once(alloc, &mut answer, book, snapshot, text)?;
     }
     Ok(answer)
 }
 
-/// Adds what a call gives to the answer. The snapshot after its payload, if it has one.
+/// Adds what a call gives to the answer, and a block with its payload, if it has one, to the
+/// snapshot.
 fn call_once(
     alloc: Global,
     answer: &mut String,
     book: &Book,
-    snapshot: &Snapshot,
-    argument: &str,
-) -> Result<Option<Snapshot>, CaseFault> {
-    let proposal = proposal_in(alloc, argument)?;
-    match simulate(alloc, book, snapshot, &proposal) {
+    snapshot: &mut Snapshot,
+    text: &str,
+) -> Result<(), CaseFault> {
+    let proposal = proposal_in(alloc, text)?;
+    propose(alloc, answer, book, snapshot, &proposal)
+}
+
+fn propose(
+    alloc: Global,
+    answer: &mut String,
+    book: &Book,
+    snapshot: &mut Snapshot,
+    proposal: &Proposal,
+) -> Result<(), CaseFault> {
+    let header = header_after(snapshot.height())?;
+    let flags = vec![in alloc; Flag::Valid]?;
+    match simulate(alloc, book, snapshot, proposal) {
         Ok(payload) => {
             write_payload(answer, &payload)?;
-            Ok(Some(after(alloc, snapshot, payload)?))
+            let block = block_with(alloc, header, payload)?;
+            extend(alloc, snapshot, block, flags)
         }
-        Err(refusal) => {
-            write_refusal(answer, refusal)?;
-            Ok(None)
-        }
+        Err(refusal) => Ok(write_refusal(answer, refusal)?),
     }
 }
 
 /// The upgrade of `kv` where the text has a colon, or the call with the text, behind the blank.
 fn proposal_in(alloc: Global, text: &str) -> Result<Proposal, CaseFault> {
     let text = text.strip_prefix(" ").unwrap_or(text);
-    let definition = match text.split_once(':') {
-        Some((kind, text)) => Some(definition_of(alloc, kind, text)?),
-        None => None,
-    };
-    let argument = Value::new(Vec::from_slice(alloc, text.as_bytes())?).ok_or(CaseFault::BadLine)?;
-    proposal_of(alloc, definition, argument, [0; 16])
+    match text.split_once(':') {
+        Some((kind, text)) => upgrade_to(alloc, definition_of(alloc, kind, text)?, [0; 16]),
+        None => call_with(alloc, argument_of(alloc, text)?, [0; 16]),
+    }
+}
+
+fn argument_of(alloc: Global, text: &str) -> Result<Value, CaseFault> {
+    Value::new(text.as_bytes().to_vec(alloc)?).ok_or(CaseFault::BadLine)
 }
 
 /// The text of a refusal, and the fuel used up to a trap.
@@ -113,13 +137,8 @@ fn write_refusal(answer: &mut String, refusal: SimRefusal) -> Result<(), AllocEr
     }
 }
 
-/// The snapshot after a block with this payload alone.
-fn after(alloc: Global, snapshot: &Snapshot, payload: Payload) -> Result<Snapshot, CaseFault> {
-    let endorsements = Endorsements::new(Vec::new(alloc)).ok_or(CaseFault::BadLine)?;
-    let envelope = Envelope {
-        payload,
-        endorsements,
-    };
-    let block = block_of(snapshot.height(), vec![in alloc; envelope]?)?;
-    extended(alloc, snapshot, block, vec![in alloc; Flag::Valid]?)
+/// The block of a header and a payload alone.
+fn block_with(alloc: Global, header: Header, payload: Payload) -> Result<Block, CaseFault> {
+    let envelopes = vec![in alloc; unendorsed(alloc, payload)]?;
+    block_of(header, envelopes)
 }

@@ -1,8 +1,8 @@
 //! Values as the words of a line.
 
 use fab_types::{
-    Definition, Endorsements, Key, Payload, Proposal, RangeEntry, RangeItem, Ranges, ReadItem,
-    ReadSet, Value, Version, WriteItem, WriteSet,
+    Definition, Endorsement, Endorsements, Key, Payload, Proposal, RangeEntry, RangeItem, Ranges,
+    ReadItem, ReadSet, Value, Version, WriteItem, WriteSet,
 };
 use std::alloc::AllocError;
 use std::fmt::Write;
@@ -17,14 +17,16 @@ pub fn write_bytes(answer: &mut String, bytes: &[u8]) -> Result<(), AllocError> 
     }
 }
 
-fn write_characters(answer: &mut String, bytes: &[u8]) -> Result<(), AllocError> {
+/// Bytes as the characters that they are.
+pub fn write_characters(answer: &mut String, bytes: &[u8]) -> Result<(), AllocError> {
     for byte in bytes {
         answer.push(char::from(*byte))?;
     }
     Ok(())
 }
 
-fn write_hex(answer: &mut String, bytes: &[u8]) -> Result<(), AllocError> {
+/// Bytes in hex.
+pub fn write_hex(answer: &mut String, bytes: &[u8]) -> Result<(), AllocError> {
     for byte in bytes {
         write!(answer, "{byte:02x}")?;
     }
@@ -100,14 +102,18 @@ fn write_reads(answer: &mut String, reads: &[ReadItem]) -> Result<(), AllocError
 
 fn write_ranges(answer: &mut String, ranges: &[RangeItem]) -> Result<(), AllocError> {
     for range in ranges {
-        answer.push_str(" q:")?;
-        write_bytes(answer, range.start().as_slice())?;
-        answer.push_str("..")?;
-        write_bytes(answer, range.end().as_slice())?;
-        write!(answer, "*{}", range.limit())?;
-        write_entries(answer, range.entries())?;
+        write_range(answer, range)?;
     }
     Ok(())
+}
+
+fn write_range(answer: &mut String, range: &RangeItem) -> Result<(), AllocError> {
+    answer.push_str(" q:")?;
+    write_bytes(answer, range.start().as_slice())?;
+    answer.push_str("..")?;
+    write_bytes(answer, range.end().as_slice())?;
+    write!(answer, "*{}", range.limit())?;
+    write_entries(answer, range.entries())
 }
 
 fn write_entries(answer: &mut String, entries: &[RangeEntry]) -> Result<(), AllocError> {
@@ -165,10 +171,14 @@ pub fn write_endorsements(
     endorsements: &Endorsements,
 ) -> Result<(), AllocError> {
     for endorsement in endorsements.as_slice() {
-        answer.push_str(" e:")?;
-        write_bytes(answer, endorsement.org.as_slice())?;
-        answer.push('=')?;
-        write_hex(answer, &endorsement.tag)?;
+        write_endorsement(answer, endorsement)?;
     }
     Ok(())
+}
+
+fn write_endorsement(answer: &mut String, endorsement: &Endorsement) -> Result<(), AllocError> {
+    answer.push_str(" e:")?;
+    write_bytes(answer, endorsement.org.as_slice())?;
+    answer.push('=')?;
+    write_hex(answer, &endorsement.tag)
 }

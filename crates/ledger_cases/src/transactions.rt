@@ -10,91 +10,127 @@ use fab_types::{
 use std::alloc::Global;
 use wasm_profile::Profile;
 
-/// A transaction as its words say it.
-#[derive(Drop)]
-pub struct Draft {
-    pub reads: Vec<ReadItem>,
-    pub ranges: Vec<RangeItem>,
-    pub writes: Vec<WriteItem>,
-    pub nonce: [u8; 16],
-    pub endorsed: bool,
-    /// What an upgrade defines. None for a call.
-    pub definition: Option<Definition>,
+/// The payload of the transaction that the words say. `nonce` stands until a word says another. A
+/// bad line where its sets are not within their limits.
+pub fn payload_of(alloc: Global, nonce: [u8; 16], words: &str) -> Result<Payload, CaseFault> {
+    let reads = reads_of(alloc, words)?;
+    let writes = writes_of(alloc, words)?;
+    let ranges = ranges_of(alloc, words)?;
+    let proposal = proposal_of(alloc, nonce, words)?;
+    Ok(Payload {
+        proposal,
+        result: empty_value(alloc),
+        reads,
+        ranges,
+        writes,
+    })
 }
 
-impl Draft {
-    /// A transaction without words. `nonce` stands until a word says another.
-    pub fn new(alloc: Global, nonce: [u8; 16]) -> Draft {
-        Draft {
-            reads: Vec::new(alloc),
-            ranges: Vec::new(alloc),
-            writes: Vec::new(alloc),
-            nonce,
-            endorsed: true,
-            definition: None,
+/// The envelope of a payload, without endorsements.
+pub fn unendorsed(alloc: Global, payload: Payload) -> Envelope {
+    let endorsements = Endorsements::new(Vec::new(alloc)).unwrap();
+    Envelope {
+        payload,
+        endorsements,
+    }
+}
+
+/// Whether the transaction of these words is endorsed: no word says otherwise, or a later one says
+/// that it is.
+pub fn is_endorsed(words: &str) -> bool {
+    let mut endorsed = true;
+    for word in words.split_whitespace() {
+        if let Some(text) = word.strip_prefix("e:") {
+            endorsed = text != "no";
         }
     }
+    endorsed
+}
 
-    /// Adds what the words say.
-    pub fn add_words(&mut self, alloc: Global, words: &str) -> Result<(), CaseFault> {
-        for word in words.split_whitespace() {
-            self.add_word(alloc, word)?;
+fn reads_of(alloc: Global, words: &str) -> Result<ReadSet, CaseFault> {
+    let mut reads = Vec::new(alloc);
+    for word in words.split_whitespace() {
+        if let Some(text) = word.strip_prefix("r:") {
+            reads.push(read_item(alloc, text)?)?;
         }
-        Ok(())
     }
+    ReadSet::new(reads).ok_or(CaseFault::BadLine)
+}
 
-    fn add_word(&mut self, alloc: Global, word: &str) -> Result<(), CaseFault> {
+fn ranges_of(alloc: Global, words: &str) -> Result<Ranges, CaseFault> {
+    let mut ranges = Vec::new(alloc);
+    for word in words.split_whitespace() {
+        if let Some(text) = word.strip_prefix("q:") {
+            ranges.push(range_item(alloc, text)?)?;
+        }
+    }
+    Ranges::new(ranges).ok_or(CaseFault::BadLine)
+}
+
+fn writes_of(alloc: Global, words: &str) -> Result<WriteSet, CaseFault> {
+    let mut writes = Vec::new(alloc);
+    for word in words.split_whitespace() {
+        if word.starts_with("w:") || word.starts_with("d:") {
+            writes.push(write_item(alloc, word)?)?;
+        }
+    }
+    WriteSet::new(writes).ok_or(CaseFault::BadLine)
+}
+
+/// The upgrade that a word says, or else the call with an empty argument.
+fn proposal_of(alloc: Global, nonce: [u8; 16], words: &str) -> Result<Proposal, CaseFault> {
+    let nonce = nonce_of(nonce, words)?;
+    match definition_in(alloc, words)? {
+        Some(definition) => upgrade_to(alloc, definition, nonce),
+        None => call_with(alloc, empty_value(alloc), nonce),
+    }
+}
+
+/// The nonce that the words say, or else this one.
+fn nonce_of(nonce: [u8; 16], words: &str) -> Result<[u8; 16], CaseFault> {
+    let mut nonce = nonce;
+    for word in words.split_whitespace() {
+        if let Some(text) = word.strip_prefix("n:") {
+            nonce = [number_of(text)?; 16];
+        }
+    }
+    Ok(nonce)
+}
+
+/// What an upgrade among the words defines. A bad line where a word says nothing.
+fn definition_in(alloc: Global, words: &str) -> Result<Option<Definition>, CaseFault> {
+    let mut definition = None;
+    for word in words.split_whitespace() {
         let (kind, text) = word.split_once(':').ok_or(CaseFault::BadLine)?;
-        match kind {
-            "r" => self.reads.push(read_item(alloc, text)?)?,
-            "q" => self.ranges.push(range_item(alloc, text)?)?,
-            "w" => self.writes.push(put_item(alloc, text)?)?,
-            "d" => self.writes.push(delete_item(alloc, text)?)?,
-            "n" => self.nonce = [number_of(text)?; 16],
-            "e" => self.endorsed = text != "no",
-            _ => self.definition = Some(definition_of(alloc, kind, text)?),
+        if !matches!(kind, "r" | "q" | "w" | "d" | "n" | "e") {
+            definition = Some(definition_of(alloc, kind, text)?);
         }
-        Ok(())
     }
-
-    /// The transaction, without endorsements. A bad line where its sets are not within their
-    /// limits.
-    pub fn into_envelope(self, alloc: Global) -> Result<Envelope, CaseFault> {
-        let payload = Payload {
-            proposal: proposal_of(alloc, self.definition, value_of(alloc, "")?, self.nonce)?,
-            result: value_of(alloc, "")?,
-            reads: ReadSet::new(self.reads).ok_or(CaseFault::BadLine)?,
-            ranges: Ranges::new(self.ranges).ok_or(CaseFault::BadLine)?,
-            writes: WriteSet::new(self.writes).ok_or(CaseFault::BadLine)?,
-        };
-        let endorsements = Endorsements::new(Vec::new(alloc)).ok_or(CaseFault::BadLine)?;
-        Ok(Envelope {
-            payload,
-            endorsements,
-        })
-    }
+    Ok(definition)
 }
 
-/// The upgrade to a definition, or else the call with an argument.
-pub fn proposal_of(
+/// The upgrade of the chaincode to a definition.
+pub fn upgrade_to(
     alloc: Global,
-    definition: Option<Definition>,
-    argument: Value,
+    definition: Definition,
     nonce: [u8; 16],
 ) -> Result<Proposal, CaseFault> {
     let chaincode = chaincode_name(alloc)?;
-    Ok(match definition {
-        Some(definition) => Proposal::Upgrade(Upgrade {
-            chaincode,
-            definition,
-            nonce,
-        }),
-        None => Proposal::Call(Call {
-            chaincode,
-            argument,
-            nonce,
-        }),
-    })
+    Ok(Proposal::Upgrade(Upgrade {
+        chaincode,
+        definition,
+        nonce,
+    }))
+}
+
+/// The call of the chaincode with an argument.
+pub fn call_with(alloc: Global, argument: Value, nonce: [u8; 16]) -> Result<Proposal, CaseFault> {
+    let chaincode = chaincode_name(alloc)?;
+    Ok(Proposal::Call(Call {
+        chaincode,
+        argument,
+        nonce,
+    }))
 }
 
 /// The profile of an upgrade's first word: `u` for 1, `u2` for 2.
@@ -110,16 +146,27 @@ fn profile_of(kind: &str) -> Result<Profile, CaseFault> {
 pub fn definition_of(alloc: Global, kind: &str, text: &str) -> Result<Definition, CaseFault> {
     let (byte, rest) = text.split_once(',').ok_or(CaseFault::BadLine)?;
     let (fuel, policy) = rest.split_once(',').ok_or(CaseFault::BadLine)?;
-    let Ok(fuel) = fuel.parse::<u32>() else {
-        return Err(CaseFault::BadLine);
-    };
-    let policy = Vec::from_slice(alloc, policy.as_bytes())?;
+    let profile = profile_of(kind)?;
+    let digest = [number_of(byte)?; 32];
+    let fuel = fuel_of(fuel)?;
+    let policy = policy_text_of(alloc, policy)?;
     Ok(Definition {
-        profile: profile_of(kind)?,
-        digest: [number_of(byte)?; 32],
-        fuel: Fuel::new(fuel).ok_or(CaseFault::BadLine)?,
-        policy: PolicyText::new(policy).ok_or(CaseFault::BadLine)?,
+        profile,
+        digest,
+        fuel,
+        policy,
     })
+}
+
+fn fuel_of(text: &str) -> Result<Fuel, CaseFault> {
+    match text.parse::<u32>() {
+        Ok(units) => Fuel::new(units).ok_or(CaseFault::BadLine),
+        Err(_) => Err(CaseFault::BadLine),
+    }
+}
+
+fn policy_text_of(alloc: Global, text: &str) -> Result<PolicyText, CaseFault> {
+    PolicyText::new(text.as_bytes().to_vec(alloc)?).ok_or(CaseFault::BadLine)
 }
 
 /// The chaincode that every case calls: `kv`.
@@ -138,8 +185,12 @@ pub fn key_of(alloc: Global, text: &str) -> Result<Key, CaseFault> {
 }
 
 /// The value that a word spells.
-pub fn value_of(alloc: Global, text: &str) -> Result<Value, CaseFault> {
+fn value_of(alloc: Global, text: &str) -> Result<Value, CaseFault> {
     Value::new(word_bytes(alloc, text)?).ok_or(CaseFault::BadLine)
+}
+
+fn empty_value(alloc: Global) -> Value {
+    Value::new(Vec::new(alloc)).unwrap()
 }
 
 fn bound_of(alloc: Global, text: &str) -> Result<Bound, CaseFault> {
@@ -178,6 +229,16 @@ fn version_of(text: &str) -> Result<Version, CaseFault> {
     let (block, place) = text.split_once('.').ok_or(CaseFault::BadLine)?;
     match (block.parse::<u32>(), place.parse::<u32>()) {
         (Ok(block), Ok(place)) => Version::new(block, place).ok_or(CaseFault::BadLine),
+        _ => Err(CaseFault::BadLine),
+    }
+}
+
+/// What `w:KEY=VALUE` puts or `d:KEY` deletes.
+pub fn write_item(alloc: Global, word: &str) -> Result<WriteItem, CaseFault> {
+    let (kind, text) = word.split_once(':').ok_or(CaseFault::BadLine)?;
+    match kind {
+        "w" => put_item(alloc, text),
+        "d" => delete_item(alloc, text),
         _ => Err(CaseFault::BadLine),
     }
 }
