@@ -3,29 +3,29 @@
 ghost use Rattle.std.specs.Prelude.{◌≡◌, ◌+◌, length, IfOk};
 
 use crate::failure::Failure;
-use fab_types::{Block, BlockNumber, Endorsements, Envelope, Flag, Payload};
+use fab_types::{Block, BlockNumber, Endorsements, Envelope, Flag, Header, Payload};
 use mvcc_validate::flags;
 use std::alloc::Global;
 use world_state::Snapshot;
 
 /// The envelope of a payload, without endorsements.
-pub fn envelope_of(alloc: Global, payload: Payload) -> Result<Envelope, Failure> {
-    let endorsements = Endorsements::new(Vec::new(alloc)).ok_or(Failure::Limit)?;
-    Ok(Envelope {
+pub fn envelope_of(alloc: Global, payload: Payload) -> Envelope {
+    Envelope {
         payload,
-        endorsements,
-    })
+        endorsements: Endorsements::new(Vec::new(alloc)).unwrap(),
+    }
 }
 
-/// The number of the block that comes next.
-pub fn next_number(snapshot: &Snapshot) -> Result<BlockNumber, Failure>
-    ensures { IfOk result (λ n. n ≡ length snapshot.now + 1) }
+/// The header of the block that comes next. Its hashes are zeros.
+pub fn next_header(snapshot: &Snapshot) -> Result<Header, Failure>
+    ensures { IfOk result (λ h. h.number ≡ length snapshot.now + 1) }
 {
-    let Ok(height) = u32::try_from(snapshot.height()) else {
-        return Err(Failure::Limit);
-    };
-    let number = height.checked_add(1).ok_or(Failure::Limit)?;
-    BlockNumber::new(number).ok_or(Failure::Limit)
+    let number = snapshot.height() as u32 + 1;
+    Ok(Header {
+        number: BlockNumber::new(number).ok_or(Failure::Limit)?,
+        previous_hash: [0; 32],
+        data_hash: [0; 32],
+    })
 }
 
 /// The flags of the next block, of which each transaction is endorsed.
@@ -35,4 +35,12 @@ pub fn judge(alloc: Global, snapshot: &Snapshot, block: &Block) -> Result<Vec<Fl
 {
     let endorsed = vec![in alloc; true; block.envelopes.as_slice().len()]?;
     Ok(flags(alloc, snapshot, block, &endorsed)?)
+}
+
+/// The snapshot after one block more, of which each transaction is endorsed.
+pub fn extended(alloc: Global, snapshot: &Snapshot, block: Block) -> Result<Snapshot, Failure>
+    requires { block.header.number ≡ length snapshot.now + 1 }
+{
+    let judged = judge(alloc, snapshot, &block)?;
+    Ok(snapshot.extended(alloc, block, judged)?)
 }

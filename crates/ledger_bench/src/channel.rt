@@ -1,7 +1,7 @@
 //! An orderer, and a peer that commits each block at once.
 
 use crate::failure::Failure;
-use crate::members::{endorsed, rules};
+use crate::members::{rules, transaction};
 use crate::workload::Workload;
 use committer::commit_on;
 use endorsement_policy::{Rules, check_plain};
@@ -32,18 +32,24 @@ impl Channel {
             orderer: Orderer::new(alloc, BATCH, 524_288, 524_288, reorder),
             snapshot: Snapshot::empty(alloc),
         };
-        for _ in 0..blocks {
-            channel.submit_batch(alloc)?;
-            channel.commit_last(alloc)?;
-        }
+        channel.advance(alloc, blocks)?;
         Ok(channel)
+    }
+
+    /// Orders and commits so many blocks.
+    fn advance(&mut self, alloc: Global, blocks: u32) -> Result<(), Failure> {
+        for _ in 0..blocks {
+            self.submit_batch(alloc)?;
+            self.commit_last(alloc)?;
+        }
+        Ok(())
     }
 
     /// Orders a batch of transactions that are made on the newest state.
     fn submit_batch(&mut self, alloc: Global) -> Result<(), Failure> {
         for _ in 0..BATCH {
-            let payload = self.workload.payload(alloc, &self.snapshot)?;
-            submit(&mut self.orderer, endorsed(alloc, payload)?)?;
+            let envelope = transaction(alloc, &mut self.workload, &self.snapshot)?;
+            submit(&mut self.orderer, envelope)?;
         }
         Ok(())
     }
@@ -101,8 +107,6 @@ fn committed(
     snapshot: &Snapshot,
     block: &Block,
 ) -> Result<Snapshot, Failure> {
-    let block = block.clone()?;
     let endorsed = check_plain(alloc, rules, snapshot, block.envelopes.as_slice())?;
-    let next = commit_on(alloc, snapshot, block, &endorsed)?;
-    Ok(next)
+    Ok(commit_on(alloc, snapshot, block.clone()?, &endorsed)?)
 }

@@ -1,13 +1,14 @@
 //! Why nothing was measured.
 
 use committer::CommitRefusal;
+use module_file::ModuleRefusal;
 use orderer::OrderCause;
 use simulator::SimRefusal;
 use std::alloc::{AllocError, AllocFailed};
 use std::fmt::{self, Display, Formatter, Write};
 
 /// Why nothing was measured.
-#[derive(Clone, Copy, Debug, PartialEq, Eq)]
+#[derive(Clone, Copy)]
 pub enum Failure {
     /// Want of memory.
     Memory,
@@ -54,6 +55,12 @@ impl From<AllocError> for Failure {
 impl<T: Drop> From<AllocFailed<T>> for Failure {
     fn from(_error: AllocFailed<T>) -> Failure {
         Failure::Memory
+    }
+}
+
+impl From<ModuleRefusal> for Failure {
+    fn from(_refusal: ModuleRefusal) -> Failure {
+        Failure::Module
     }
 }
 

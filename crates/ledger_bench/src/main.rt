@@ -36,7 +36,7 @@ mod workload;
 
 use crate::done::Done;
 use crate::failure::Failure;
-use crate::register::{BATCH, Register};
+use crate::register::{flag_transfers, simulate_transfers};
 use crate::task::Task;
 use std::alloc::Global;
 use std::io::{self, Read, Write};
@@ -99,15 +99,11 @@ fn carry_out<R: Files + Threads + Wait + Clock + Sync>(
 }
 
 fn simulate<R: Files>(rt: &R, alloc: Global, module: &str, count: u32) -> Result<Done, Failure> {
-    let register = Register::open(alloc, &bytes_of(rt, alloc, module)?)?;
-    register.simulate(alloc, count)?;
-    Ok(Done::Count(u64::from(count)))
+    simulate_transfers(alloc, &bytes_of(rt, alloc, module)?, count)
 }
 
 fn flag<R: Files>(rt: &R, alloc: Global, module: &str, count: u32) -> Result<Done, Failure> {
-    let register = Register::open(alloc, &bytes_of(rt, alloc, module)?)?;
-    register.flag(alloc, count / BATCH)?;
-    Ok(Done::Count(u64::from(count)))
+    flag_transfers(alloc, &bytes_of(rt, alloc, module)?, count)
 }
 
 fn load<R: Files>(rt: &R, alloc: Global, store: &str) -> Result<Done, Failure> {
@@ -120,10 +116,10 @@ fn load<R: Files>(rt: &R, alloc: Global, store: &str) -> Result<Done, Failure> {
 /// The bytes of a file. A module has at most 262,144 bytes; one more is read, so that a longer file
 /// is told apart.
 fn bytes_of<R: Files>(rt: &R, alloc: Global, file: &str) -> Result<Vec<u8>, Failure> {
-    let mut bytes = Vec::new(alloc);
     let Ok(opened) = fs::open(rt, file) else {
         return Err(Failure::File);
     };
+    let mut bytes = Vec::new(alloc);
     match opened.take(262_145).read_to_end(&mut bytes) {
         Ok(_) => Ok(bytes),
         Err(_) => Err(Failure::File),

@@ -1,7 +1,7 @@
-//! Three organisations, of which two have to endorse each transaction.
+//! The organisations A, B and C, of which two have to endorse each transaction: A and B do.
 
 use crate::failure::Failure;
-use crate::workload::chaincode;
+use crate::workload::{Workload, chaincode};
 use endorsement_policy::{
     ChaincodePolicy, Installed, Organisation, Policies, Policy, Rules, TagKey,
 };
@@ -9,11 +9,7 @@ use fab_types::{Endorsement, Endorsements, Envelope, OrgName, Payload};
 use hmac_tag::tag;
 use std::alloc::Global;
 use wire::encode_payload;
-
-/// The names of the organisations, and of those that endorse.
-const ORGANISATIONS: [u8; 3] = *b"ABC";
-
-const ENDORSERS: [u8; 2] = *b"AB";
+use world_state::Snapshot;
 
 /// How many bytes two endorsements of organisations with names of one letter take behind a payload.
 const ENDORSEMENTS_SIZE: usize = 1 + 2 * 34;
@@ -23,16 +19,23 @@ const TAG_SIZE: u64 = 64 + 64 + 32;
 
 /// The rules of the organisations. Nothing is installed.
 pub fn rules(alloc: Global) -> Result<Rules, Failure> {
-    let policies = policies(alloc)?;
-    let organisations = organisations(alloc)?;
-    let installed = Installed::new(Vec::new(alloc), Vec::new(alloc));
-    Rules::new(organisations, policies, two_of_three(alloc)?, installed).ok_or(Failure::Limit)
+    Rules::new(
+        organisations(alloc)?,
+        policies(alloc)?,
+        two_of_three(alloc)?,
+        Installed::new(Vec::new(alloc), Vec::new(alloc)),
+    )
+    .ok_or(Failure::Limit)
 }
 
-/// The envelope of a payload, with two right tags.
-pub fn endorsed(alloc: Global, payload: Payload) -> Result<Envelope, Failure> {
-    let bytes = encode_payload(alloc, &payload)?;
-    let endorsements = endorsements(alloc, &bytes)?;
+/// The next transaction of a workload, made on this state, with two right tags.
+pub fn transaction(
+    alloc: Global,
+    workload: &mut Workload,
+    snapshot: &Snapshot,
+) -> Result<Envelope, Failure> {
+    let payload = workload.payload(alloc, snapshot)?;
+    let endorsements = endorsements(alloc, &payload)?;
     Ok(Envelope {
         payload,
         endorsements,
@@ -45,12 +48,11 @@ pub fn tagged_bytes(envelope: &Envelope) -> u64 {
     (payload as u64).saturating_add(TAG_SIZE).saturating_mul(2)
 }
 
-fn endorsements(alloc: Global, bytes: &[u8]) -> Result<Endorsements, Failure> {
-    let mut items = Vec::new(alloc);
-    for letter in &ENDORSERS {
-        items.push(endorsement(alloc, *letter, bytes)?)?;
-    }
-    Endorsements::new(items).ok_or(Failure::Limit)
+fn endorsements(alloc: Global, payload: &Payload) -> Result<Endorsements, Failure> {
+    let bytes = encode_payload(alloc, payload)?;
+    let first = endorsement(alloc, b'A', &bytes)?;
+    let second = endorsement(alloc, b'B', &bytes)?;
+    Endorsements::new(vec![in alloc; first, second]?).ok_or(Failure::Limit)
 }
 
 fn endorsement(alloc: Global, letter: u8, bytes: &[u8]) -> Result<Endorsement, Failure> {
@@ -66,29 +68,24 @@ fn policies(alloc: Global) -> Result<Vec<ChaincodePolicy>, Failure> {
 }
 
 fn two_of_three(alloc: Global) -> Result<Policy, Failure> {
-    let leaves = Policies::new(leaves(alloc)?).ok_or(Failure::Limit)?;
+    let first = org(alloc, b'A')?;
+    let second = org(alloc, b'B')?;
+    let third = org(alloc, b'C')?;
+    let leaves = vec![in alloc; Policy::Org(first), Policy::Org(second), Policy::Org(third)]?;
+    let leaves = Policies::new(leaves).ok_or(Failure::Limit)?;
     Ok(Policy::OutOf(2, leaves))
 }
 
-fn leaves(alloc: Global) -> Result<Vec<Policy>, Failure> {
-    let mut leaves = Vec::new(alloc);
-    for letter in &ORGANISATIONS {
-        leaves.push(Policy::Org(org(alloc, *letter)?))?;
-    }
-    Ok(leaves)
-}
-
 fn organisations(alloc: Global) -> Result<Vec<Organisation>, Failure> {
-    let mut organisations = Vec::new(alloc);
-    for letter in &ORGANISATIONS {
-        organisations.push(organisation(alloc, *letter)?)?;
-    }
-    Ok(organisations)
+    let first = organisation(alloc, b'A')?;
+    let second = organisation(alloc, b'B')?;
+    let third = organisation(alloc, b'C')?;
+    Ok(vec![in alloc; first, second, third]?)
 }
 
 fn organisation(alloc: Global, letter: u8) -> Result<Organisation, Failure> {
-    let name = org(alloc, letter)?;
     let key = TagKey::new(secret(letter).to_vec(alloc)?).ok_or(Failure::Limit)?;
+    let name = org(alloc, letter)?;
     Ok(Organisation { name, key })
 }
 

@@ -1,21 +1,21 @@
 //! Calls of the ledger's parts, as often as one likes.
 
-ghost use Rattle.std.specs.Prelude.{◌≡◌, map};
+ghost use Rattle.std.specs.Prelude.{◌≡◌, ◌≤◌, map};
 ghost use Rattle.endorsement_policy.specs.Endorsed.{right_orgs};
 
 use crate::channel::{BATCH, Channel, submit};
 use crate::done::Done;
 use crate::failure::Failure;
-use crate::members::{endorsed, rules, tagged_bytes};
+use crate::members::{rules, tagged_bytes, transaction};
 use crate::workload::Workload;
-use block_store::End;
+use block_store::{End, Loaded};
 use counted::Counted;
 use endorsement_policy::{
     Gate, OrgSet, Rules, check_all, check_with_right_orgs, right_orgs_of_blocks,
 };
 use fab_types::{Block, Envelope};
 use orderer::Orderer;
-use reorder::{Plan, reorder};
+use reorder::reorder;
 use std::alloc::Global;
 use std::io::Read;
 use std::thread::Threads;
@@ -50,14 +50,8 @@ pub fn check<R: Threads + Sync>(
     if workers == 0 || workers > 16 {
         return Err(Failure::Limit);
     }
-    let rules = rules(alloc)?;
-    let batch = batch(alloc, KEYS)?;
-    let snapshot = Snapshot::empty(alloc);
-    for _ in 0..count {
-        let answers = check_all(rt, alloc, &rules, &snapshot, &batch, workers, &Open)?;
-        expect_all(&answers)?;
-    }
-    Ok(Done::hashed(count, BATCH as u64, tags_of(&batch)))
+    let checked = Checked::new(alloc)?;
+    checked.one_by_one(rt, alloc, workers, count)
 }
 
 /// Checks so many blocks of a batch at once: the tags of all of them by 1 to 16 workers, and then
@@ -71,31 +65,89 @@ pub fn check_blocks<R: Threads + Sync>(
     if workers == 0 || workers > 16 {
         return Err(Failure::Limit);
     }
-    let rules = rules(alloc)?;
-    let batch = batch(alloc, KEYS)?;
-    let mut blocks = Vec::new(alloc);
-    for _ in 0..count {
-        blocks.push(batch.as_slice())?;
-    }
-    let right = right_orgs_of_blocks(rt, alloc, &rules, &blocks, workers)?;
-    check_each(alloc, &rules, &blocks, &right)?;
-    Ok(Done::hashed(count, BATCH as u64, tags_of(&batch)))
+    let checked = Checked::new(alloc)?;
+    checked.at_once(rt, alloc, workers, count)
 }
 
-/// Checks blocks on the empty state, of which it is known whose tags are right.
+/// A batch of transactions that is checked, and what it is checked by.
+#[derive(Drop)]
+struct Checked {
+    rules: Rules,
+    batch: Vec<Envelope>,
+    snapshot: Snapshot,
+}
+
+impl Checked {
+    /// A batch on the empty state.
+    fn new(alloc: Global) -> Result<Checked, Failure> {
+        Ok(Checked {
+            rules: rules(alloc)?,
+            batch: batch(alloc, KEYS)?,
+            snapshot: Snapshot::empty(alloc),
+        })
+    }
+
+    /// Checks the batch so many times.
+    fn one_by_one<R: Threads + Sync>(
+        &self,
+        rt: &R,
+        alloc: Global,
+        workers: usize,
+        count: u32,
+    ) -> Result<Done, Failure>
+        requires least { 1 ≤ workers }
+        requires greatest { workers ≤ 16 }
+    {
+        for _ in 0..count {
+            let answers = check_all(
+                rt,
+                alloc,
+                &self.rules,
+                &self.snapshot,
+                &self.batch,
+                workers,
+                &Open,
+            )?;
+            expect_all(&answers)?;
+        }
+        Ok(Done::hashed(count, BATCH as u64, tags_of(&self.batch)))
+    }
+
+    /// Checks so many blocks of the batch.
+    fn at_once<R: Threads + Sync>(
+        &self,
+        rt: &R,
+        alloc: Global,
+        workers: usize,
+        count: u32,
+    ) -> Result<Done, Failure>
+        requires least { 1 ≤ workers }
+        requires greatest { workers ≤ 16 }
+    {
+        let mut blocks = Vec::new(alloc);
+        for _ in 0..count {
+            blocks.push(self.batch.as_slice())?;
+        }
+        let right = right_orgs_of_blocks(rt, alloc, &self.rules, &blocks, workers)?;
+        check_each(alloc, &self.rules, &self.snapshot, &blocks, &right)?;
+        Ok(Done::hashed(count, BATCH as u64, tags_of(&self.batch)))
+    }
+}
+
+/// Checks blocks on a state, of which it is known whose tags are right.
 fn check_each(
     alloc: Global,
     rules: &Rules,
+    snapshot: &Snapshot,
     blocks: &[&[Envelope]],
     right: &[Vec<OrgSet>],
 ) -> Result<(), Failure>
     requires { map (λ orgs. orgs.items) right.now
         ≡ map (λ block. map (right_orgs rules.now.orgs) block.now) blocks.now }
 {
-    let snapshot = Snapshot::empty(alloc);
     for place in 0..blocks.len() {
         let (block, orgs) = (blocks[place], &right[place]);
-        expect_all(&check_with_right_orgs(alloc, rules, &snapshot, block, orgs)?)?;
+        expect_all(&check_with_right_orgs(alloc, rules, snapshot, block, orgs)?)?;
     }
     Ok(())
 }
@@ -111,11 +163,15 @@ fn expect_all(answers: &[bool]) -> Result<(), Failure> {
 /// Orders so many envelopes, in blocks of 64 and as they come.
 pub fn order(alloc: Global, count: u32) -> Result<Done, Failure> {
     let mut workload = Workload::new(KEYS, ARGUMENT);
-    let payload = workload.payload(alloc, &Snapshot::empty(alloc))?;
-    let envelope = endorsed(alloc, payload)?;
+    let envelope = transaction(alloc, &mut workload, &Snapshot::empty(alloc))?;
     let mut orderer = Orderer::new(alloc, 64, 524_288, 524_288, false);
+    order_copies(&mut orderer, &envelope, count)
+}
+
+/// Orders so many copies of an envelope.
+fn order_copies(orderer: &mut Orderer, envelope: &Envelope, count: u32) -> Result<Done, Failure> {
     for _ in 0..count {
-        submit(&mut orderer, envelope.clone()?)?;
+        submit(orderer, envelope.clone()?)?;
     }
     Ok(Done::hashed(count, 1, envelope.size() as u64))
 }
@@ -123,7 +179,11 @@ pub fn order(alloc: Global, count: u32) -> Result<Done, Failure> {
 /// Checks and commits so many blocks, the same few again and again.
 pub fn commit(alloc: Global, count: u32) -> Result<Done, Failure> {
     let channel = Channel::after(alloc, CHAIN, KEYS, false)?;
-    let rounds = count / CHAIN;
+    commit_rounds(alloc, &channel, count / CHAIN)
+}
+
+/// Checks and commits the blocks of a channel so many times.
+fn commit_rounds(alloc: Global, channel: &Channel, rounds: u32) -> Result<Done, Failure> {
     for _ in 0..rounds {
         channel.commit_again(alloc)?;
     }
@@ -134,8 +194,16 @@ pub fn commit(alloc: Global, count: u32) -> Result<Done, Failure> {
 /// Plans a batch over so many keys so many times.
 pub fn plan(alloc: Global, keys: u32, count: u32) -> Result<Done, Failure> {
     let batch = batch(alloc, keys)?;
+    plan_again(alloc, &batch, count)
+}
+
+/// Plans a batch so many times.
+fn plan_again(alloc: Global, batch: &[Envelope], count: u32) -> Result<Done, Failure> {
+    if batch.len() > BATCH {
+        return Err(Failure::Limit);
+    }
     for _ in 0..count {
-        let _plan = planned(alloc, &batch)?;
+        let _plan = reorder(alloc, batch, &[])?;
     }
     Ok(Done::Count(u64::from(count)))
 }
@@ -143,18 +211,27 @@ pub fn plan(alloc: Global, keys: u32, count: u32) -> Result<Done, Failure> {
 /// Commits so many batches over so many keys, as they were cut, and such ones in the orderer's
 /// order.
 pub fn valid(alloc: Global, keys: u32, count: u32) -> Result<Done, Failure> {
-    let as_cut = Channel::after(alloc, count, keys, false)?.valid();
-    let ordered = Channel::after(alloc, count, keys, true)?.valid();
     Ok(Done::Valid {
         transactions: u64::from(count).saturating_mul(BATCH as u64),
-        as_cut,
-        ordered,
+        as_cut: valid_after(alloc, count, keys, false)?,
+        ordered: valid_after(alloc, count, keys, true)?,
     })
+}
+
+/// How many transactions of so many batches are VALID.
+fn valid_after(alloc: Global, blocks: u32, keys: u32, ordered: bool) -> Result<u64, Failure> {
+    let channel = Channel::after(alloc, blocks, keys, ordered)?;
+    Ok(channel.valid())
 }
 
 /// Reads a store, which has to end with a record.
 pub fn load<R: Read + Drop>(alloc: Global, store: R) -> Result<Done, Failure> {
     let loaded = block_store::load(alloc, &mut Counted::new(store))?;
+    blocks_of(&loaded)
+}
+
+/// How many blocks were loaded, of a store that ends with a record.
+fn blocks_of(loaded: &Loaded) -> Result<Done, Failure> {
     match loaded.end {
         End::Clean => Ok(Done::Count(loaded.blocks.len() as u64)),
         _ => Err(Failure::File),
@@ -163,22 +240,24 @@ pub fn load<R: Read + Drop>(alloc: Global, store: R) -> Result<Done, Failure> {
 
 /// A batch over so many keys, made on the empty state.
 fn batch(alloc: Global, keys: u32) -> Result<Vec<Envelope>, Failure> {
-    let mut workload = Workload::new(keys, 0);
-    let snapshot = Snapshot::empty(alloc);
     let mut batch = Vec::new(alloc);
-    for _ in 0..BATCH {
-        let payload = workload.payload(alloc, &snapshot)?;
-        batch.push(endorsed(alloc, payload)?)?;
-    }
+    fill(alloc, keys, &Snapshot::empty(alloc), &mut batch)?;
     Ok(batch)
 }
 
-/// The plan of a batch.
-fn planned(alloc: Global, batch: &[Envelope]) -> Result<Plan, Failure> {
-    if batch.len() > BATCH {
-        return Err(Failure::Limit);
+/// Puts a batch over so many keys, made on this state, into a vector.
+fn fill(
+    alloc: Global,
+    keys: u32,
+    snapshot: &Snapshot,
+    batch: &mut Vec<Envelope>,
+) -> Result<(), Failure> {
+    let mut workload = Workload::new(keys, 0);
+    for _ in 0..BATCH {
+        let envelope = transaction(alloc, &mut workload, snapshot)?;
+        batch.push(envelope)?;
     }
-    Ok(reorder(alloc, batch, &[])?)
+    Ok(())
 }
 
 /// How many bytes a check of the tags of these envelopes hashes.

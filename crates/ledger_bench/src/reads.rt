@@ -29,33 +29,48 @@ pub fn read<R: Threads + Wait + Clock + Sync>(
 ) -> Result<Done, Failure> {
     let channel = Channel::after(alloc, blocks, KEYS, false)?;
     let genesis = genesis(alloc)?;
+    read_by(rt, alloc, &genesis, channel.blocks(), count)
+}
+
+/// The time of the reads of a seat of a peer with this genesis, while its writer commits blocks.
+fn read_by<R: Threads + Wait + Clock + Sync>(
+    rt: &R,
+    alloc: Global,
+    genesis: &Genesis,
+    blocks: &[Block],
+    count: u32,
+) -> Result<Done, Failure> {
     let key = key(alloc, 0)?;
-    let Ok((mut writer, mut seats)) = Peer::open(rt, alloc, &genesis, &org(alloc, b'A')?, 1) else {
+    let org = org(alloc, b'A')?;
+    let Ok((mut writer, seats)) = Peer::open(rt, alloc, genesis, &org, 1) else {
         return Err(Failure::Memory);
     };
-    let micros = match seats.pop() {
-        Some(seat) => beside(rt, &mut writer, channel.blocks(), seat, &key, count),
+    let micros = match last_of(seats) {
+        Some(seat) => beside(rt, &mut writer, blocks, seat, &key, count),
         None => None,
     };
     writer.close(rt);
-    match micros {
-        Some(micros) => Ok(Done::Timed {
-            count: u64::from(count),
-            micros,
-        }),
-        None => Err(Failure::Clock),
-    }
+    let micros = micros.ok_or(Failure::Clock)?;
+    Ok(Done::Timed {
+        count: u64::from(count),
+        micros,
+    })
+}
+
+/// One of the seats.
+fn last_of(mut seats: Vec<Seat>) -> Option<Seat> {
+    seats.pop()
 }
 
 /// A genesis without chaincodes.
 fn genesis(alloc: Global) -> Result<Genesis, Failure> {
-    let installed = Installed::new(Vec::new(alloc), Vec::new(alloc));
-    let book = Book::new(Vec::new(alloc), Vec::new(alloc), installed).ok_or(Failure::Limit)?;
-    let rules = rules(alloc)?;
+    let peers = vec![in alloc; org(alloc, b'A')?]?;
+    let rules = Arc::new(alloc, rules(alloc)?)?;
+    let book = empty_book(alloc)?;
     Ok(Genesis {
-        book: Arc::new(alloc, book)?,
-        rules: Arc::new(alloc, rules)?,
-        peers: vec![in alloc; org(alloc, b'A')?]?,
+        book,
+        rules,
+        peers,
         seats: 1,
         queue: 1,
         count: 512,
@@ -63,6 +78,13 @@ fn genesis(alloc: Global) -> Result<Genesis, Failure> {
         absolute: 524_288,
         reorder: false,
     })
+}
+
+/// A book without chaincodes.
+fn empty_book(alloc: Global) -> Result<Arc<Book>, Failure> {
+    let installed = Installed::new(Vec::new(alloc), Vec::new(alloc));
+    let book = Book::new(Vec::new(alloc), Vec::new(alloc), installed).ok_or(Failure::Limit)?;
+    Ok(Arc::new(alloc, book)?)
 }
 
 /// The microseconds that the reads take beside the commits.
@@ -89,6 +111,17 @@ fn timed<R: Clock>(
     count: u32,
     ended: &AtomicU64,
 ) -> Option<u64> {
+    timed_reads(rt, &mut seat, key, count, ended)
+}
+
+/// The same of a seat that is lent.
+fn timed_reads<R: Clock>(
+    rt: &R,
+    seat: &mut Seat,
+    key: &Key,
+    count: u32,
+    ended: &AtomicU64,
+) -> Option<u64> {
     let start = Instant::now(rt).ok()?;
     for _ in 0..count {
         seat.read(key).ok()?;
@@ -106,11 +139,16 @@ fn commit_until<R: Threads + Wait + Sync>(
     ended: &AtomicU64,
 ) {
     for block in blocks {
-        let Ok(block) = block.clone() else {
-            return;
-        };
-        if ended.load(Ordering::SeqCst) == 1 || writer.commit(rt, block).is_err() {
+        if ended.load(Ordering::SeqCst) == 1 || !commit_copy(rt, writer, block) {
             return;
         }
+    }
+}
+
+/// Commits a copy of a block. Whether it was committed.
+fn commit_copy<R: Threads + Wait + Sync>(rt: &R, writer: &mut PeerWriter, block: &Block) -> bool {
+    match block.clone() {
+        Ok(block) => writer.commit(rt, block).is_ok(),
+        Err(_) => false,
     }
 }

@@ -1,85 +1,105 @@
-//! A state with 1,000 assets, and calls on it.
+//! Calls by a register of 1,000 assets.
 
 ghost use Rattle.std.specs.Prelude.{◌≡◌, ◌+◌, length, IfOk};
 
-use crate::blocks::{envelope_of, judge, next_number};
+use crate::blocks::{envelope_of, extended, judge, next_header};
+use crate::done::Done;
 use crate::failure::Failure;
 use endorsement_policy::{Installed, ModuleId};
-use fab_types::{Block, BlockData, Call, Flag, Header, Name, Proposal, Value};
+use fab_types::{Block, BlockData, Call, Flag, Name, Payload, Proposal, Value};
+use module_file::valid_module;
 use simulator::{Book, Chaincode, simulate};
 use std::alloc::Global;
-use wasm_decode::decode;
 use wasm_profile::Profile;
-use wasm_validate::validate;
 use world_state::Snapshot;
 
 /// How many assets there are.
 const ASSETS: u32 = 1000;
 
 /// How many transactions a block has.
-pub const BATCH: u32 = 500;
+const BATCH: u32 = 500;
 
-/// The chaincode, and a state on which each asset is there.
-#[derive(Drop)]
-pub struct Register {
-    book: Book,
-    snapshot: Snapshot,
+/// Simulates so many transfers by the chaincode of these bytes, one after another.
+pub fn simulate_transfers(alloc: Global, bytes: &[u8], count: u32) -> Result<Done, Failure> {
+    let book = book_of(alloc, bytes)?;
+    simulate_by(alloc, &book, count)
 }
 
-impl Register {
-    /// Creates the assets by the chaincode of these bytes.
-    pub fn open(alloc: Global, bytes: &[u8]) -> Result<Register, Failure> {
-        let book = book_of(alloc, bytes)?;
-        let mut snapshot = Snapshot::empty(alloc);
-        for first in 0..ASSETS / BATCH {
-            let block = block_of(alloc, &book, &snapshot, "create", first * BATCH)?;
-            let judged = judge(alloc, &snapshot, &block)?;
-            snapshot = snapshot.extended(alloc, block, judged)?;
-        }
-        Ok(Register { book, snapshot })
-    }
+fn simulate_by(alloc: Global, book: &Book, count: u32) -> Result<Done, Failure> {
+    let snapshot = created(alloc, book)?;
+    simulate_each(alloc, book, &snapshot, count)
+}
 
-    /// Simulates transfers, one after another.
-    pub fn simulate(&self, alloc: Global, count: u32) -> Result<(), Failure> {
-        for asset in 0..count {
-            let proposal = proposal_of(alloc, "transfer", asset % ASSETS)?;
-            let _payload = simulate(alloc, &self.book, &self.snapshot, &proposal)?;
-        }
-        Ok(())
+fn simulate_each(
+    alloc: Global,
+    book: &Book,
+    snapshot: &Snapshot,
+    count: u32,
+) -> Result<Done, Failure> {
+    for asset in 0..count {
+        let _payload = called(alloc, book, snapshot, "transfer", asset % ASSETS)?;
     }
+    Ok(Done::Count(u64::from(count)))
+}
 
-    /// Flags a block of transfers so many times.
-    pub fn flag(&self, alloc: Global, rounds: u32) -> Result<(), Failure> {
-        let block = block_of(alloc, &self.book, &self.snapshot, "transfer", 0)?;
-        for _ in 0..rounds {
-            let judged = judge(alloc, &self.snapshot, &block)?;
-            if judged.iter().any(|flag| *flag != Flag::Valid) {
-                return Err(Failure::Invalid);
-            }
-        }
-        Ok(())
+/// Flags so many transfers by the chaincode of these bytes, the same block of them again and again.
+pub fn flag_transfers(alloc: Global, bytes: &[u8], count: u32) -> Result<Done, Failure> {
+    let book = book_of(alloc, bytes)?;
+    flag_by(alloc, &book, count)
+}
+
+fn flag_by(alloc: Global, book: &Book, count: u32) -> Result<Done, Failure> {
+    let snapshot = created(alloc, book)?;
+    let block = block_of(alloc, book, &snapshot, "transfer", 0)?;
+    flag_again(alloc, &snapshot, &block, count)
+}
+
+/// The state on which each asset is there.
+fn created(alloc: Global, book: &Book) -> Result<Snapshot, Failure> {
+    let mut snapshot = Snapshot::empty(alloc);
+    for first in 0..ASSETS / BATCH {
+        let block = block_of(alloc, book, &snapshot, "create", first * BATCH)?;
+        snapshot = extended(alloc, &snapshot, block)?;
     }
+    Ok(snapshot)
+}
+
+/// Flags so many transactions, a block of them again and again.
+fn flag_again(
+    alloc: Global,
+    snapshot: &Snapshot,
+    block: &Block,
+    count: u32,
+) -> Result<Done, Failure>
+    requires { block.now.header.number ≡ length snapshot.now + 1 }
+{
+    for _ in 0..count / BATCH {
+        expect_valid(&judge(alloc, snapshot, block)?)?;
+    }
+    Ok(Done::Count(u64::from(count)))
+}
+
+/// Each transaction has to be VALID.
+fn expect_valid(flags: &[Flag]) -> Result<(), Failure> {
+    if flags.iter().any(|flag| *flag != Flag::Valid) {
+        return Err(Failure::Invalid);
+    }
+    Ok(())
 }
 
 /// The book whose only chaincode is the module of these bytes. No upgrade names its digest.
 fn book_of(alloc: Global, bytes: &[u8]) -> Result<Book, Failure> {
-    let Ok(module) = decode(alloc, bytes) else {
-        return Err(Failure::Module);
-    };
-    let Ok(module) = validate(alloc, module) else {
-        return Err(Failure::Module);
-    };
-    let chaincode = Chaincode {
-        name: name(alloc)?,
-        module,
-        fuel: 10_000_000,
-    };
-    let chaincodes = vec![in alloc; chaincode]?;
     let id = ModuleId {
         digest: [0; 32],
         profile: Profile::Core1,
     };
     let installed = Installed::new(vec![in alloc; id]?, Vec::new(alloc));
+    let chaincode = Chaincode {
+        name: name(alloc)?,
+        module: valid_module(alloc, bytes, Profile::Core1)?,
+        fuel: 10_000_000,
+    };
+    let chaincodes = vec![in alloc; chaincode]?;
     Book::new(chaincodes, Vec::new(alloc), installed).ok_or(Failure::Limit)
 }
 
@@ -108,17 +128,36 @@ fn block_of(
 ) -> Result<Block, Failure>
     ensures { IfOk result (λ b. b.header.number ≡ length snapshot.now + 1) }
 {
+    Ok(Block {
+        header: next_header(snapshot)?,
+        envelopes: calls_of(alloc, book, snapshot, verb, first)?,
+    })
+}
+
+/// Calls for 500 assets, from this one on.
+fn calls_of(
+    alloc: Global,
+    book: &Book,
+    snapshot: &Snapshot,
+    verb: &str,
+    first: u32,
+) -> Result<BlockData, Failure> {
     let mut envelopes = Vec::new(alloc);
     for asset in 0..BATCH {
-        let proposal = proposal_of(alloc, verb, first.wrapping_add(asset))?;
-        let payload = simulate(alloc, book, snapshot, &proposal)?;
-        envelopes.push(envelope_of(alloc, payload)?)?;
+        let payload = called(alloc, book, snapshot, verb, first.wrapping_add(asset))?;
+        envelopes.push(envelope_of(alloc, payload))?;
     }
-    let header = Header {
-        number: next_number(snapshot)?,
-        previous_hash: [0; 32],
-        data_hash: [0; 32],
-    };
-    let envelopes = BlockData::new(envelopes).ok_or(Failure::Limit)?;
-    Ok(Block { header, envelopes })
+    BlockData::new(envelopes).ok_or(Failure::Limit)
+}
+
+/// What a call for an asset comes to.
+fn called(
+    alloc: Global,
+    book: &Book,
+    snapshot: &Snapshot,
+    verb: &str,
+    asset: u32,
+) -> Result<Payload, Failure> {
+    let proposal = proposal_of(alloc, verb, asset)?;
+    Ok(simulate(alloc, book, snapshot, &proposal)?)
 }

@@ -1,10 +1,10 @@
 //! Blocks committed on a state of many keys.
 
-use crate::blocks::{envelope_of, judge, next_number};
+use crate::blocks::{envelope_of, extended, next_header};
 use crate::done::Done;
 use crate::failure::Failure;
 use crate::workload::Workload;
-use fab_types::{Block, BlockData, Header};
+use fab_types::{Block, BlockData, Envelope};
 use std::alloc::Global;
 use std::time::{Clock, Instant};
 use world_state::Snapshot;
@@ -27,6 +27,11 @@ pub fn commit<R: Clock>(rt: &R, alloc: Global, keys: u32, count: u32) -> Result<
         return Err(Failure::Clock);
     };
     let _snapshots = committed(alloc, first, batches)?;
+    done_since(rt, &start, count)
+}
+
+/// So many blocks were committed since this instant.
+fn done_since<R: Clock>(rt: &R, start: &Instant, count: u32) -> Result<Done, Failure> {
     let Ok(took) = start.elapsed(rt) else {
         return Err(Failure::Clock);
     };
@@ -59,12 +64,22 @@ fn filling(
         let start = first.saturating_add(index * KEYS);
         let end = start.saturating_add(KEYS).min(keys);
         if start < end {
-            let numbers: Vec<u64> = (start..end).collect(alloc)?;
-            let payload = workload.writing(alloc, &numbers)?;
-            envelopes.push(envelope_of(alloc, payload)?)?;
+            envelopes.push(writing(alloc, workload, start, end)?)?;
         }
     }
     BlockData::new(envelopes).ok_or(Failure::Limit)
+}
+
+/// A transaction that writes the keys from one number up to another.
+fn writing(
+    alloc: Global,
+    workload: &mut Workload,
+    start: u64,
+    end: u64,
+) -> Result<Envelope, Failure> {
+    let numbers: Vec<u64> = (start..end).collect(alloc)?;
+    let payload = workload.writing(alloc, &numbers)?;
+    Ok(envelope_of(alloc, payload))
 }
 
 /// The transactions of so many blocks.
@@ -80,7 +95,7 @@ fn batch(alloc: Global, workload: &mut Workload) -> Result<BlockData, Failure> {
     let mut envelopes = Vec::new(alloc);
     for _ in 0..BATCH {
         let payload = workload.blind(alloc)?;
-        envelopes.push(envelope_of(alloc, payload)?)?;
+        envelopes.push(envelope_of(alloc, payload))?;
     }
     BlockData::new(envelopes).ok_or(Failure::Limit)
 }
@@ -93,23 +108,27 @@ fn committed(
 ) -> Result<Vec<Snapshot>, Failure> {
     let mut snapshots = vec![in alloc; first]?;
     for envelopes in batches {
-        let Some(newest) = snapshots.last() else {
-            return Err(Failure::Invalid);
-        };
-        let snapshot = next(alloc, newest, envelopes)?;
-        snapshots.push(snapshot)?;
+        add_next(alloc, &mut snapshots, envelopes)?;
     }
     Ok(snapshots)
 }
 
+/// Puts the snapshot after one block more behind the others.
+fn add_next(
+    alloc: Global,
+    snapshots: &mut Vec<Snapshot>,
+    envelopes: BlockData,
+) -> Result<(), Failure> {
+    let Some(newest) = snapshots.last() else {
+        return Err(Failure::Invalid);
+    };
+    let snapshot = next(alloc, newest, envelopes)?;
+    snapshots.push(snapshot)?;
+    Ok(())
+}
+
 /// The snapshot after one block more, whose transactions are endorsed.
 fn next(alloc: Global, snapshot: &Snapshot, envelopes: BlockData) -> Result<Snapshot, Failure> {
-    let header = Header {
-        number: next_number(snapshot)?,
-        previous_hash: [0; 32],
-        data_hash: [0; 32],
-    };
-    let block = Block { header, envelopes };
-    let judged = judge(alloc, snapshot, &block)?;
-    Ok(snapshot.extended(alloc, block, judged)?)
+    let header = next_header(snapshot)?;
+    extended(alloc, snapshot, Block { header, envelopes })
 }

@@ -62,28 +62,26 @@ fn of_two<'a>(kind: &str, word: &'a str, count: &str) -> Option<Task<'a>> {
             module: word,
             count,
         }),
+        _ => of_numbers(kind, number(word)?, count),
+    }
+}
+
+/// The task of this kind with two numbers.
+fn of_numbers(kind: &str, first: u32, count: u32) -> Option<Task<'static>> {
+    match kind {
         "check" => Some(Task::Check {
-            workers: number(word)?,
+            workers: first,
             count,
         }),
         "blocks" => Some(Task::Blocks {
-            workers: number(word)?,
+            workers: first,
             count,
         }),
-        "plan" => Some(Task::Plan {
-            keys: number(word)?,
-            count,
-        }),
-        "valid" => Some(Task::Valid {
-            keys: number(word)?,
-            count,
-        }),
-        "state" => Some(Task::State {
-            keys: number(word)?,
-            count,
-        }),
+        "plan" => Some(Task::Plan { keys: first, count }),
+        "valid" => Some(Task::Valid { keys: first, count }),
+        "state" => Some(Task::State { keys: first, count }),
         "read" => Some(Task::Read {
-            blocks: number(word)?,
+            blocks: first,
             count,
         }),
         _ => None,

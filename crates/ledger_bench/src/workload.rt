@@ -38,9 +38,10 @@ impl Workload {
 
     /// The next transaction, which reads its chaincode's definition and its keys on this state.
     pub fn payload(&mut self, alloc: Global, snapshot: &Snapshot) -> Result<Payload, Failure> {
-        let reads = reads(alloc, snapshot, &self.draw(alloc, READS)?)?;
-        let writes = writes(alloc, &self.draw(alloc, WRITES)?)?;
-        self.payload_of(alloc, reads, writes)
+        let read = self.draw(alloc, READS)?;
+        let written = self.draw(alloc, WRITES)?;
+        let reads = reads(alloc, snapshot, &read)?;
+        self.payload_of(alloc, reads, &written)
     }
 
     /// The next transaction, which reads nothing.
@@ -52,41 +53,39 @@ impl Workload {
     /// The next transaction, which reads nothing and writes the keys of these numbers, which
     /// ascend.
     pub fn writing(&mut self, alloc: Global, numbers: &[u64]) -> Result<Payload, Failure> {
-        let reads = ReadSet::new(Vec::new(alloc)).ok_or(Failure::Limit)?;
-        let writes = writes(alloc, numbers)?;
-        self.payload_of(alloc, reads, writes)
+        self.payload_of(alloc, ReadSet::new(Vec::new(alloc)).unwrap(), numbers)
     }
 
+    /// The next transaction, which reads this and writes the keys of these numbers.
     fn payload_of(
         &mut self,
         alloc: Global,
         reads: ReadSet,
-        writes: WriteSet,
+        numbers: &[u64],
     ) -> Result<Payload, Failure> {
-        let ranges = Ranges::new(Vec::new(alloc)).ok_or(Failure::Limit)?;
-        let result = value(alloc, 0)?;
-        let proposal = self.proposal(alloc)?;
+        let call = self.call(alloc)?;
+        let writes = writes(alloc, numbers)?;
         Ok(Payload {
-            proposal,
-            result,
+            proposal: Proposal::Call(call),
+            result: Value::new(Vec::new(alloc)).unwrap(),
             reads,
-            ranges,
+            ranges: Ranges::new(Vec::new(alloc)).unwrap(),
             writes,
         })
     }
 
     /// A call of the chaincode `bench`, whose nonce tells it from the others.
-    fn proposal(&mut self, alloc: Global) -> Result<Proposal, Failure> {
+    fn call(&mut self, alloc: Global) -> Result<Call, Failure> {
         self.made = self.made.wrapping_add(1);
         let mut nonce = [0; 16];
         nonce[8..].copy_from_slice(&self.made.to_be_bytes());
         let argument = value(alloc, self.argument)?;
         let chaincode = chaincode(alloc)?;
-        Ok(Proposal::Call(Call {
+        Ok(Call {
             chaincode,
             argument,
             nonce,
-        }))
+        })
     }
 
     /// The numbers of keys, ascending.
@@ -158,10 +157,8 @@ fn writes(alloc: Global, numbers: &[u64]) -> Result<WriteSet, Failure> {
 }
 
 fn write(alloc: Global, number: u64) -> Result<WriteItem, Failure> {
-    let value = value(alloc, VALUE)?;
-    let key = key(alloc, number)?;
     Ok(WriteItem {
-        key,
-        value: Some(value),
+        key: key(alloc, number)?,
+        value: Some(value(alloc, VALUE)?),
     })
 }
