@@ -37,13 +37,38 @@ pub fn commit<F: Files, W: Write>(
         return Err(Failure::File);
     };
     let mut lines = InputLines::new(alloc, files.input())?;
+    commit_to(alloc, genesis, file, &mut lines, out)
+}
+
+/// Opens the store of a file, and commits the block of each line that has one.
+fn commit_to<D: Read + Write + Seek + OpenFile + Drop, R: Read + Drop, W: Write>(
+    alloc: Global,
+    genesis: &Genesis,
+    file: D,
+    lines: &mut InputLines<R>,
+    out: &mut Printer<'_, W>,
+) -> Result<(), Failure>
+    ensures tells { Tells out.old out.new result }
+{
     match StoredChain::open(alloc, genesis.rules.clone()?, file) {
-        Ok((mut chain, cut)) => {
-            print_opened(chain.height(), cut, out)?;
-            commit_lines(alloc, &mut chain, &mut lines, out)
-        }
+        Ok((mut chain, cut)) => commit_behind(alloc, &mut chain, cut, lines, out),
         Err(refusal) => Err(end(refusal, out)),
     }
+}
+
+/// Prints with how many blocks a store was opened, and commits the block of each line.
+fn commit_behind<D: Read + Write + Seek + OpenFile + Drop, R: Read + Drop, W: Write>(
+    alloc: Global,
+    chain: &mut StoredChain<D>,
+    cut: usize,
+    lines: &mut InputLines<R>,
+    out: &mut Printer<'_, W>,
+) -> Result<(), Failure>
+    requires stored { IsStored chain.old }
+    ensures tells { Tells out.old out.new result }
+{
+    print_opened(chain.height(), cut, out)?;
+    commit_lines(alloc, chain, lines, out)
 }
 
 /// Prints with how many blocks a store was opened, and how many bytes were cut off, if any.

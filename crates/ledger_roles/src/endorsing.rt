@@ -1,6 +1,6 @@
 //! The command `endorse`.
 
-ghost use Rattle.std.specs.Prelude.{OnOk};
+ghost use Rattle.std.specs.Prelude.{IfOk, OnOk};
 ghost use Rattle.ledger_lines.specs.Told.{Tells};
 ghost use Rattle.ledger_roles.specs.Following.{IsFollowed};
 
@@ -12,7 +12,7 @@ use fab_types::{Endorsement, Endorsements, Envelope, OrgName, Payload, Proposal}
 use ledger_lines::{Failure, Files, Printer};
 use ledger_setting::Genesis;
 use simulator::SimRefusal;
-use std::alloc::Global;
+use std::alloc::{AllocError, Global};
 use std::io::{Read, Write};
 use wire::{encode_envelope, encode_payload};
 
@@ -40,9 +40,35 @@ pub fn endorse<F: Files, W: Write>(
         return Err(Failure::File);
     };
     let mut lines = InputLines::new(alloc, files.input())?;
-    let (book, rules) = (genesis.book.clone()?, genesis.rules.clone()?);
-    let mut follower = StoreFollower::new(alloc, book, rules, org.clone()?, file)?;
-    endorse_lines(alloc, &mut follower, &mut lines, out)
+    endorse_after(alloc, genesis, org, file, &mut lines, out)
+}
+
+/// Follows the store of a file, and answers each line.
+fn endorse_after<S: Read + Drop, R: Read + Drop, W: Write>(
+    alloc: Global,
+    genesis: &Genesis,
+    org: &OrgName,
+    file: S,
+    lines: &mut InputLines<R>,
+    out: &mut Printer<'_, W>,
+) -> Result<(), Failure>
+    ensures tells { Tells out.old out.new result }
+{
+    let mut follower = follower_of(alloc, genesis, org.clone()?, file)?;
+    endorse_lines(alloc, &mut follower, lines, out)
+}
+
+/// An endorser of an organisation by a genesis that has read nothing of a file.
+fn follower_of<S: Read + Drop>(
+    alloc: Global,
+    genesis: &Genesis,
+    org: OrgName,
+    file: S,
+) -> Result<StoreFollower<S>, AllocError>
+    ensures followed { IfOk result (λ f. IsFollowed f) }
+{
+    let rules = genesis.rules.clone()?;
+    StoreFollower::new(alloc, genesis.book.clone()?, rules, org, file)
 }
 
 /// Answers each line.
@@ -113,8 +139,7 @@ fn answer<S: Read + Drop, W: Write>(
     }
 }
 
-/// Prints the bytes of a payload, and those of an endorsement as they stand in an envelope: behind
-/// the payload and the count.
+/// Prints the bytes of a payload and of an endorsement.
 fn print_endorsed<W: Write>(
     alloc: Global,
     payload: Payload,
@@ -123,17 +148,34 @@ fn print_endorsed<W: Write>(
 ) -> Result<(), Failure>
     ensures tells { Tells out.old out.new result }
 {
-    let length = encode_payload(alloc, &payload)?.len();
-    let Some(endorsements) = Endorsements::new(vec![in alloc; endorsement]?) else {
-        return Ok(());
-    };
-    let envelope = encode_envelope(
-        alloc,
-        &Envelope {
-            payload,
-            endorsements,
-        },
-    )?;
+    let envelope = envelope_of(alloc, payload, endorsement)?;
+    print_envelope(alloc, &envelope, out)
+}
+
+/// A payload with one endorsement.
+fn envelope_of(
+    alloc: Global,
+    payload: Payload,
+    endorsement: Endorsement,
+) -> Result<Envelope, AllocError> {
+    let endorsements = Endorsements::new(vec![in alloc; endorsement]?).unwrap();
+    Ok(Envelope {
+        payload,
+        endorsements,
+    })
+}
+
+/// Prints the bytes of a payload, and those of its endorsement as they stand in an envelope: behind
+/// the payload and the count.
+fn print_envelope<W: Write>(
+    alloc: Global,
+    envelope: &Envelope,
+    out: &mut Printer<'_, W>,
+) -> Result<(), Failure>
+    ensures tells { Tells out.old out.new result }
+{
+    let length = encode_payload(alloc, &envelope.payload)?.len();
+    let envelope = encode_envelope(alloc, envelope)?;
     let payload = hex::encode(alloc, &envelope[..length])?;
     let endorsement = hex::encode(alloc, &envelope[length + 1..])?;
     writeln!(out, "endorsed {payload} {endorsement}")

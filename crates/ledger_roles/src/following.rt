@@ -50,11 +50,12 @@ impl<R: Read + Drop> StoreFollower<R> {
             (λ s. endorses_by s
             ≡ record { book = arc_value book; listed = arc_value rules; org = org }) }
     {
+        let piece = vec![in alloc; 0u8; PIECE]?;
         Ok(StoreFollower {
             follower: Follower::new(alloc, book, rules, org),
             records: RecordReader::new(alloc),
             file: Counted::new(file),
-            piece: vec![in alloc; 0u8; PIECE]?,
+            piece,
         })
     }
 
