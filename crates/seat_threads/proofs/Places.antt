@@ -1,8 +1,6 @@
 -- What holds at each place of a list, as its end comes and goes.
 use Rattle.std.proofs.Common.{◌≡◌, ℕ, zero, suc, ◌+◌, ◌++◌, List, [], ◌∷◌, length, length-append, slice_get, slice_index_or, Some, ◌<◌, refl, sym, ◌∙◌, ap}
 use Rattle.std.proofs.Common.{subst, ⊎_elim, arith}
-use Rattle.std.specs.Prelude.{Option}
-use Rattle.std.specs.Option.{option_to_list}
 use Rattle.intake.proofs.Mails.{last_or}
 
 pub at_last : {X : Type 0} (xs : List X) (x : X) → slice_get (xs ++ x ∷ []) (length xs) ≡ Some x
@@ -31,10 +29,9 @@ pushed {X} P xs x all here k y at =
 pub pushed_to : {X : Type 0} (P : ℕ → X → Type 0) (xs ys : List X) (x : X) → ys ≡ xs ++ x ∷ [] → AllAt P xs → P (length xs) x → AllAt P ys
 pushed_to {X} P xs ys x is all here = subst (λ (l : List X). AllAt P l) (sym is) (pushed P xs x all here)
 
--- by the clause of `pop` on the items
-pub popped : {X : Type 0} (P : ℕ → X → Type 0) (xs ys : List X) (r : Option X) (x : X) → xs ≡ ys ++ option_to_list r → r ≡ Some x → AllAt P xs →
+-- by the clause of `take_last` on the items
+pub taken : {X : Type 0} (P : ℕ → X → Type 0) (xs ys : List X) (x : X) → xs ≡ ys ++ x ∷ [] → AllAt P xs →
     AllAt P ys × P (length ys) x × (length xs ≡ length ys + 1)
-popped {X} P xs ys r x is last all =
-    let items = is ∙ ap (λ (o : Option X). ys ++ option_to_list o) last in
-    let whole : AllAt P (ys ++ x ∷ []) = subst (λ (l : List X). AllAt P l) items all in
-    ((λ k y at. whole k y (at_left ys (x ∷ []) k y at)), whole (length ys) x (at_last ys x), ap (λ (l : List X). length l) items ∙ length-append ys (x ∷ []))
+taken {X} P xs ys x is all =
+    let whole : AllAt P (ys ++ x ∷ []) = subst (λ (l : List X). AllAt P l) is all in
+    ((λ k y at. whole k y (at_left ys (x ∷ []) k y at)), whole (length ys) x (at_last ys x), ap (λ (l : List X). length l) is ∙ length-append ys (x ∷ []))

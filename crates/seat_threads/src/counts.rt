@@ -8,7 +8,7 @@ use peer_node::FinishRefusal;
 use simulator::SimRefusal;
 
 /// How many rounds ended in each way.
-#[derive(Clone, Copy, Debug, PartialEq, Eq)]
+#[derive(Clone, Copy)]
 pub struct Counts {
     /// Endorsed, and taken in by the intake.
     pub endorsed: u64,

@@ -26,8 +26,8 @@ impl Promise<Worker> for Rounds {
     ghost kept_by = { λ p w. Works p.rounds p.worker.value w };
 }
 
-/// The threads that were started, and how many of their workers have ended.
-#[derive(Drop)]
+/// The threads that were started, and how many of their workers have ended. It is ended by
+/// `retire`.
 pub struct Crew {
     pub threads: Vec<PromisedHandle<Worker, Rounds>>,
     pub ended: Arc<AtomicU64>,
@@ -39,30 +39,30 @@ impl Crew {
         ensures none { IfOk result (λ c. c.threads.items ≡ []) }
         ensures room { IfOk result (λ c. size ≤ vec_capacity c.threads) }
     {
-        Ok(Crew {
-            threads: Vec::with_capacity(alloc, size)?,
-            ended: Arc::new(alloc, AtomicU64::new(0))?,
-        })
+        let ended = Arc::new(alloc, AtomicU64::new(0))?;
+        let threads = Vec::with_capacity(alloc, size)?;
+        Ok(Crew { threads, ended })
     }
 
-    /// Starts a thread for each worker, from the first seat on. Where one is refused, no further
-    /// ones are started, and the workers without a thread are dropped.
+    /// Starts a thread for each worker, from the first seat on. Where one is refused, its worker is
+    /// dropped, no further ones are started, and the other workers without a thread are left.
     pub fn start_all<R: Threads + Wait + Send + Copy + 'static>(
         &mut self,
         rt: &R,
-        mut workers: Vec<Worker>,
+        workers: &mut Vec<Worker>,
         rounds: u32,
     ) -> Result<(), AllocError>
         requires none { self.old.threads.items ≡ [] }
-        requires room { length workers.items ≤ vec_capacity self.old.threads }
+        requires room { length workers.old.items ≤ vec_capacity self.old.threads }
         ensures each { (task : Task) (intake : TableId) → rounds ≡ task.rounds →
-            AreWorkersOf task intake (length workers.items) workers.items →
+            AreWorkersOf task intake (length workers.old.items) workers.old.items →
             AllPromise task intake self.new.threads.items }
-        ensures all { OnOk result (length self.new.threads.items ≡ length workers.items) }
-        ensures most { length self.new.threads.items ≤ length workers.items }
+        ensures all { OnOk result (length self.new.threads.items ≡ length workers.old.items) }
+        ensures most { length self.new.threads.items ≤ length workers.old.items }
     {
         for _started in 0..workers.len() {
-            self.start(rt, workers.pop().unwrap(), rounds)?;
+            let ended = Arc::try_clone(&self.ended)?;
+            self.start(rt, workers.take_last(), rounds, ended)?;
         }
         Ok(())
     }
@@ -73,6 +73,7 @@ impl Crew {
         rt: &R,
         worker: Worker,
         rounds: u32,
+        ended: Arc<AtomicU64>,
     ) -> Result<(), AllocError>
         requires { length self.old.threads.items < vec_capacity self.old.threads }
         ensures each { (task : Task) (intake : TableId) → rounds ≡ task.rounds →
@@ -88,14 +89,13 @@ impl Crew {
             worker: Snapshot::of(&worker),
             rounds,
         };
-        let ended = Arc::try_clone(&self.ended)?;
         let thread = thread_of(rt, worker, promise, ended)?;
-        self.threads.push(thread).unwrap();
+        self.threads.push_reserved(thread);
         Ok(())
     }
 
     /// Joins the threads, takes in the seats of their workers, and adds up what they counted.
-    pub fn retire<R: Threads>(mut self, rt: &R, desk: &mut Desk) -> Counts
+    pub fn retire<R: Threads>(self, rt: &R, desk: &mut Desk) -> Counts
         requires work { IsAtWork desk.old }
         requires each { (task : Task) × (task.rounds < 2 ^ 32)
             × AllPromise task (intake_of_receiver desk.old.receiver) self.threads.items }
@@ -108,13 +108,18 @@ impl Crew {
             (knows desk.old.receiver).known (knows desk.new.receiver).known }
         ensures senders { (knows desk.new.receiver).senders ≡ (knows desk.old.receiver).senders }
     {
+        let Crew {
+            mut threads,
+            ended: _,
+        } = self;
         let mut counts = Counts::none();
-        for _joined in 0..self.threads.len() {
-            let thread = self.threads.pop().unwrap();
+        for _joined in 0..threads.len() {
+            let thread = threads.take_last();
             let worker = thread.join(rt);
             counts = worker.counts.plus(counts);
             desk.retire(worker.sender);
         }
+        threads.destroy_empty();
         counts
     }
 }

@@ -92,9 +92,14 @@ impl Desk {
     {
         ordering_laws();
         match self.orderer.accept(envelope) {
-            Ok(_) => self.commit_new(rt),
+            Ok(reports) => {
+                drop(reports);
+                self.commit_new(rt);
+            }
             Err(refusal) => {
-                if matches!(refusal.cause, OrderCause::OutOfMemory) {
+                let cause = refusal.cause;
+                drop(refusal);
+                if matches!(cause, OrderCause::OutOfMemory) {
                     self.starved = true;
                 } else {
                     self.missing = self.missing.saturating_add(1);
@@ -114,9 +119,14 @@ impl Desk {
     {
         ordering_laws();
         match self.orderer.tick() {
-            Ok(_) => self.commit_new(rt),
+            Ok(report) => {
+                drop(report);
+                self.commit_new(rt);
+            }
             Err(refusal) => {
-                if matches!(refusal.cause, OrderCause::OutOfMemory) {
+                let cause = refusal.cause;
+                drop(refusal);
+                if matches!(cause, OrderCause::OutOfMemory) {
                     self.starved = true;
                 }
             }
@@ -168,10 +178,10 @@ pub fn take_until_ended<R: Threads + Wait + Sync>(
 {
     'takes: for _ in rt.forever() {
         let have_ended = ended.load(Ordering::SeqCst) >= workers;
-        match desk.receiver.take(rt) {
-            Some(envelope) => desk.order(rt, envelope),
-            None if have_ended => break,
-            None => thread::yield_now(),
+        desk.take_rest(rt);
+        if have_ended {
+            break;
         }
+        thread::yield_now();
     }
 }

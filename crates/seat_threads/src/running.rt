@@ -81,8 +81,9 @@ pub fn run_seats<R: Threads + Wait + Sync + Send + Copy + 'static>(
     ensures refused { IfErr result
         (IsSeatsRefused (task_of genesis.now chaincode.now rounds) genesis.now.seats) }
 {
-    let (workers, mut desk) = opened(rt, alloc, genesis, chaincode)?;
-    let report = at_work(rt, alloc, genesis, rounds, workers, &mut desk);
+    let (mut workers, mut desk) = opened(rt, alloc, genesis, chaincode)?;
+    let report = at_work(rt, alloc, genesis, rounds, &mut workers, &mut desk);
+    drop(workers);
     desk.close(rt);
     report
 }
@@ -161,17 +162,18 @@ fn workers(
 {
     let mut workers = Vec::with_capacity(alloc, seats.len())?;
     for _worker in 0..seats.len() {
-        let (seat, sender) = (seats.pop().unwrap(), senders.pop().unwrap());
-        let number = senders.len() as u64;
         let called = chaincode.clone()?;
-        workers.push(Worker {
+        let seat = seats.take_last();
+        let sender = senders.take_last();
+        let number = senders.len() as u64;
+        workers.push_reserved(Worker {
             alloc,
             number,
             chaincode: called,
             seat,
             sender,
             counts: Counts::none(),
-        })?;
+        });
     }
     Ok(workers)
 }
@@ -183,30 +185,31 @@ fn at_work<R: Threads + Wait + Sync + Send + Copy + 'static>(
     alloc: Global,
     genesis: &Genesis,
     rounds: u32,
-    workers: Vec<Worker>,
+    workers: &mut Vec<Worker>,
     desk: &mut Desk,
 ) -> Result<Report, SeatsRefusal>
-    requires count { length workers.items < 2 ^ 32 }
+    requires count { length workers.old.items < 2 ^ 32 }
     requires work { IsAtWork desk.old }
     requires receiver { knows desk.old.receiver
-        ≡ receiver (length workers.items) (length workers.items) [] [] }
+        ≡ receiver (length workers.old.items) (length workers.old.items) [] [] }
     requires workers { (task : Task) × (rounds ≡ task.rounds) ×
-        AreWorkersOf task (intake_of_receiver desk.old.receiver) (length workers.items)
-        workers.items }
-    ensures counted { IfOk result (λ r. r.endorsed + r.refused ≡ length workers.items * rounds) }
+        AreWorkersOf task (intake_of_receiver desk.old.receiver) (length workers.old.items)
+        workers.old.items }
+    ensures counted { IfOk result
+        (λ r. r.endorsed + r.refused ≡ length workers.old.items * rounds) }
     ensures tells { IfOk result
         (λ r. (task : Task) → rounds ≡ task.rounds →
         task.book ≡ arc_value genesis.now.book →
         task.listed ≡ arc_value (rules_of desk.old.writer) →
-        AreWorkersOf task (intake_of_receiver desk.old.receiver) (length workers.items)
-        workers.items →
-        TellsOfSeats task (length workers.items) desk.old.orderer.reorder
+        AreWorkersOf task (intake_of_receiver desk.old.receiver) (length workers.old.items)
+        workers.old.items →
+        TellsOfSeats task (length workers.old.items) desk.old.orderer.reorder
         desk.old.orderer.limits r) }
     ensures refused { IfErr result
         (λ r. (task : Task) → rounds ≡ task.rounds →
-        AreWorkersOf task (intake_of_receiver desk.old.receiver) (length workers.items)
-        workers.items →
-        IsWorkRefused task (length workers.items) r) }
+        AreWorkersOf task (intake_of_receiver desk.old.receiver) (length workers.old.items)
+        workers.old.items →
+        IsWorkRefused task (length workers.old.items) r) }
 {
     let mut crew = Crew::new(alloc, workers.len())?;
     let started = crew.start_all(rt, workers, rounds);

@@ -29,7 +29,7 @@ retire-counts-requires-clause-each g c =
 pub returns-clause-counted : goal.returns-clause-counted
 returns-clause-counted g c =
     let task = c.requires.workers.0 in
-    let seats = length c.args.workers.items in
+    let seats = length c.args.workers.now.items in
     let counts = c.retire-counts.result in
     let threads = c.start_all-started.new.self.threads.items in
     let promised = subst (λ (i : TableId). AllPromise task i threads) (sym c.take_until_ended.ensures.same.0)
@@ -41,7 +41,7 @@ returns-clause-counted g c =
 
 pub returns-clause-tells : goal.returns-clause-tells
 returns-clause-tells g c =
-    let seats = length c.args.workers.items in
+    let seats = length c.args.workers.now.items in
     let counts = c.retire-counts.result in
     let threads = c.start_all-started.new.self.threads.items in
     let desk = c.tick.new.self in
@@ -76,7 +76,7 @@ returns-clause-tells g c =
 
 pub returns-clause-refused : goal.returns-clause-refused
 returns-clause-refused g c =
-    let seats = length c.args.workers.items in
+    let seats = length c.args.workers.now.items in
     let counts = c.retire-counts.result in
     let threads = c.start_all-started.new.self.threads.items in
     if_err _ _ c.reported.result

@@ -1,5 +1,4 @@
-use Rattle.std.proofs.Common.{rules, ◌≡◌, ◌+◌, [], ℕ, length, sym, ◌∙◌, subst, IfSome, arith}
-use Rattle.std.specs.Prelude.{Option}
+use Rattle.std.proofs.Common.{rules, ◌≡◌, ◌+◌, [], ℕ, Some, length, sym, ◌∙◌, arith}
 use Rattle.std.proofs.lemmas.List.Elements.{All-pop}
 use Rattle.atomic_table.specs.Seated.{TableId}
 use Rattle.intake.specs.declared.sender.SenderSeat.{SenderSeat}
@@ -8,7 +7,7 @@ use Rattle.peer_node.specs.declared.seat.Seat.{Seat}
 use Rattle.peer_node.specs.Seats.{endorser_of, Serves}
 use Rattle.seat_threads.specs.declared.worker.Worker.{Worker}
 use Rattle.seat_threads.specs.Work.{Task, IsWorkerOf}
-use Rattle.seat_threads.proofs.Places.{popped, pushed_to}
+use Rattle.seat_threads.proofs.Places.{taken, pushed_to}
 use Rattle.seat_threads.proofs.running.workers.Goals as goal
 
 -- a fresh sender at the place of its number
@@ -24,23 +23,22 @@ loop-worker-preserved c = (
   search rules,
   search rules,
   search rules,
+  omega (arith, c.loop-worker.invariant.3, c.push_reserved.ensures.capacity),
   λ task intake called serves fresh.
       let inv = c.loop-worker.invariant in
       let seats = length c.args.senders.items in
       let workers = c.loop-worker.workers.items in
-      let both = inv.3 task intake called serves fresh in
+      let both = inv.4 task intake called serves fresh in
       let IsServing : Seat → Type 0 = λ s. Serves task.book task.listed task.org (endorser_of s) in
-      let seat = All-pop IsServing _ _ _ c.pop.ensures.items both.0 in
-      let serving : IsServing c.unwrap-seat.result = subst (λ (o : Option Seat). IfSome o IsServing) c.unwrap-seat.ensures seat.1 in
-      let sender = popped (IsFreshAt intake) c.loop-worker.senders.items _ _ c.unwrap-sender.result c.pop-in-loop-worker.ensures.items c.unwrap-sender.ensures
-      both.1 in
-      let left = length c.pop-in-loop-worker.new.self.items in
+      let seat = All-pop IsServing _ _ (Some c.take_last-seat.result) c.take_last-seat.ensures.items both.0 in
+      let sender = taken (IsFreshAt intake) c.loop-worker.senders.items _ c.take_last-sender.result c.take_last-sender.ensures.items both.1 in
+      let left = length c.take_last-sender.new.self.items in
       let place : length workers + left + 1 ≡ seats = omega (arith, inv.0, inv.2, sender.2) in
       let copied : c.in_ok-called.called ≡ c.args.chaincode.now = search rules in
       let named = copied ∙ sym called in (
         seat.0,
         sender.0,
-        pushed_to (IsPlaced task intake seats) workers _ _ c.in_ok-push.ensures.items both.2 (
+        pushed_to (IsPlaced task intake seats) workers _ _ c.push_reserved.ensures.items both.2 (
           left,
           place,
           record {
@@ -49,11 +47,11 @@ loop-worker-preserved c = (
             fresh = sender.1.2;
             seat_is = search rules;
             chaincode = named;
-            endorser = serving;
+            endorser = seat.1;
           },
         ),
       ),
 )
 
 pub returns-clause-each : goal.returns-clause-each
-returns-clause-each c = λ task intake called serves fresh. (c.loop-worker.invariant.3 task intake called serves fresh).2
+returns-clause-each c = λ task intake called serves fresh. (c.loop-worker.invariant.4 task intake called serves fresh).2

@@ -1,4 +1,5 @@
-use Rattle.std.proofs.Common.{◌≡◌, ◌+◌, All, length}
+use Rattle.std.proofs.Common.{◌≡◌, ◌≤◌, ◌+◌, All, length}
+use Rattle.std.specs.Prelude.{vec_capacity}
 use Rattle.atomic_table.specs.Seated.{TableId}
 use Rattle.peer_node.specs.Seats.{endorser_of, Serves}
 use Rattle.seat_threads.specs.Work.{Task, AreSenders, AreWorkersOf}
@@ -8,6 +9,7 @@ abbrev pub invariant-loop-worker : goal.invariant-loop-worker
 invariant-loop-worker l =
     let all = l.fn.senders.items in
     (length l.workers.items ≡ l._worker) × (length l.seats.items + l._worker ≡ length all) × (length l.senders.items + l._worker ≡ length all)
+    × (length all ≤ vec_capacity l.workers)
     × ((task : Task) (intake : TableId) → task.chaincode ≡ l.chaincode → All (λ s. Serves task.book task.listed task.org (endorser_of s)) l.fn.seats.items →
     AreSenders intake all →
     All (λ s. Serves task.book task.listed task.org (endorser_of s)) l.seats.items × AreSenders intake l.senders.items

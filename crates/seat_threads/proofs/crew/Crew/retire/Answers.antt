@@ -6,7 +6,7 @@ use Rattle.seat_threads.specs.declared.crew.Rounds.{Rounds}
 use Rattle.seat_threads.specs.declared.worker.Worker.{Worker}
 use Rattle.seat_threads.specs.Rounds.{rounds_in, sum_of}
 use Rattle.seat_threads.specs.Work.{Task, IsWorkerOf, AllCameTo, puts_of}
-use Rattle.seat_threads.proofs.Places.{popped}
+use Rattle.seat_threads.proofs.Places.{taken}
 use Rattle.seat_threads.proofs.Retiring.{has_ended, known_more}
 use Rattle.seat_threads.proofs.Sums.{bounded, counted, totalled}
 use Rattle.seat_threads.proofs.crew.Crew.retire.Goals as goal
@@ -19,10 +19,10 @@ pub retire-requires-clause-intake : goal.retire-requires-clause-intake
 retire-requires-clause-intake g c =
     let inv = c.loop-joined.invariant in
     let intake = intake_of_receiver c.args.desk.now.receiver in
-    let thread = c.unwrap-thread.result in
+    let thread = c.take_last-thread.result in
     let task = c.requires.each.0 in
     let both = inv.4 task c.requires.each.2 in
-    let last = popped (IsOf task intake) c.loop-joined.self.threads.items _ _ thread c.pop.ensures.items c.unwrap-thread.ensures both.0 in
+    let last = taken (IsOf task intake) c.loop-joined.threads.items _ thread c.take_last-thread.ensures.items both.0 in
     let ended = has_ended task intake _ thread.promise.rounds thread.promise.worker.value c.join-worker.result last.1.0 last.1.1 c.join-worker.ensures in
     ended.intake_is ∙ sym inv.1.0
 
@@ -30,11 +30,11 @@ pub plus-counts-requires : goal.plus-counts-requires
 plus-counts-requires g c =
     let inv = c.loop-joined.invariant in
     let intake = intake_of_receiver c.args.desk.now.receiver in
-    let thread = c.unwrap-thread.result in
+    let thread = c.take_last-thread.result in
     let task = c.requires.each.0 in
     let joined = c.loop-joined._joined in
     let both = inv.4 task c.requires.each.2 in
-    let last = popped (IsOf task intake) c.loop-joined.self.threads.items _ _ thread c.pop.ensures.items c.unwrap-thread.ensures both.0 in
+    let last = taken (IsOf task intake) c.loop-joined.threads.items _ thread c.take_last-thread.ensures.items both.0 in
     let ended = has_ended task intake _ thread.promise.rounds thread.promise.worker.value c.join-worker.result last.1.0 last.1.1 c.join-worker.ensures in
     let few : joined < 2 ^ 32 = omega (arith, c.requires.count, inv.3) in
     let most = bounded joined task.rounds few c.requires.each.1 in
@@ -48,16 +48,16 @@ loop-joined-preserved g c =
     let inv = c.loop-joined.invariant in
     let same = c.retire.ensures.same in
     let intake = intake_of_receiver c.args.desk.now.receiver in
-    let thread = c.unwrap-thread.result in
-    let seat = length c.pop.new.self.items in
-    let left = length c.loop-joined.self.threads.items in (
+    let thread = c.take_last-thread.result in
+    let seat = length c.take_last-thread.new.self.items in
+    let left = length c.loop-joined.threads.items in (
       c.retire.ensures.work,
       (same.0 ∙ inv.1.0, same.1 ∙ inv.1.1, same.2 ∙ inv.1.2, same.3 ∙ inv.1.3),
       c.retire.ensures.senders ∙ inv.2,
       search rules,
       λ task all.
           let both = inv.4 task all in
-          let last = popped (IsOf task intake) c.loop-joined.self.threads.items _ _ thread c.pop.ensures.items c.unwrap-thread.ensures both.0 in
+          let last = taken (IsOf task intake) c.loop-joined.threads.items _ thread c.take_last-thread.ensures.items both.0 in
           let ended = has_ended task intake seat thread.promise.rounds thread.promise.worker.value c.join-worker.result last.1.0 last.1.1 c.join-worker.ensures
           in (
             last.0,
@@ -76,7 +76,7 @@ loop-joined-preserved g c =
 pub returns-clause-retired : goal.returns-clause-retired
 returns-clause-retired g c = λ task all.
     let inv = c.loop-joined.invariant in
-    let left = length c.loop-joined.self.threads.items in
+    let left = length c.loop-joined.threads.items in
     let end : c.loop-joined._joined ≡ length c.args.self.threads.items = search rules in
     let none : left ≡ 0 = omega (arith, inv.3, end) in
     let both = inv.4 task all in

@@ -8,7 +8,7 @@ use Rattle.seat_threads.proofs.crew.Crew.retire.Given as goal
 abbrev pub invariant-loop-joined : goal.invariant-loop-joined
 invariant-loop-joined g l =
     let all = l.fn.self.threads.items in
-    let left = l.self.threads.items in
+    let left = l.threads.items in
     let intake = intake_of_receiver l.fn.desk.receiver in
     IsAtWork l.desk × IsSameDesk l.desk l.fn.desk × ((knows l.desk.receiver).senders ≡ (knows l.fn.desk.receiver).senders)
     × (length left + l._joined ≡ length all)

@@ -1,4 +1,4 @@
-use Rattle.std.proofs.Common.{rules, ◌≡◌, ◌++◌, ◌∷◌, [], ℕ, List, length, sym, subst}
+use Rattle.std.proofs.Common.{◌≡◌, ◌++◌, ◌∷◌, [], ℕ, List, length, sym, subst}
 use Rattle.std.specs.declared.thread.PromisedHandle.{PromisedHandle}
 use Rattle.seat_threads.specs.declared.crew.Rounds.{Rounds}
 use Rattle.seat_threads.specs.declared.worker.Worker.{Worker}
@@ -12,7 +12,7 @@ returns-clause-each g c = λ task intake same is all.
     let thread = c.in_ok-thread.thread in
     let P : ℕ → PromisedHandle Worker Rounds → Type 0 =
     λ seat t. IsWorkerOf task intake seat t.promise.worker.value × (t.promise.rounds ≡ task.rounds) in
-    let longer : c.push.new.self.items ≡ threads ++ thread ∷ [] = search rules in
+    let longer : c.push_reserved.new.self.items ≡ threads ++ thread ∷ [] = c.push_reserved.ensures.items in
     let worker = subst (λ (w : Worker). IsWorkerOf task intake (length threads) w) (sym c.of.ensures) is in
     let here : P (length threads) thread =
     subst (λ (p : Rounds). IsWorkerOf task intake (length threads) p.worker.value × (p.rounds ≡ task.rounds)) (sym c.in_ok-thread.ensures) (worker, same) in

@@ -17,14 +17,14 @@ returns-in-Ok-clause-ordered g c = λ given h fed.
     let desk = c.args.self.now in
     let mark = message c.args.envelope in
     let now = c.commit_new.new.self in
-    let reports = c.in-Ok.field-0.items in
+    let reports = c.in-Ok.reports.items in
     let takes = subst (λ (o : Ordering). Takes desk.orderer mark reports o) (sym c.commit_new.ensures.kept.1) c.in-Ok.ensures.taken in
     one_taken given c.args.envelope desk.orderer now.orderer desk.missing now.missing
     (λ marks was. c.ordering_laws.ensures.step marks desk.orderer now.orderer mark reports was takes) takes.limits takes.reorder c.commit_new.ensures.kept.2
     (h (c.commit_new.ensures.starved fed))
 
-pub returns-clause-ordered : goal.returns-clause-ordered
-returns-clause-ordered g c = λ given h fed.
+pub returns-else-matches-clause-ordered : goal.returns-else-matches-clause-ordered
+returns-else-matches-clause-ordered g c = λ given h fed.
     let desk = c.args.self.now in
     let other : c.in-Err.refusal.cause ≢ OutOfMemory =
     elim c.match-matches.branch [ in-OutOfMemory w ↦ absurd (true≢false (sym w.matches-is ∙ c.if-matches.false)) | in_default w ↦ w.in_default.not-OutOfMemory ]

@@ -15,7 +15,7 @@ pub returns-in-Ok-clause-cut : goal.returns-in-Ok-clause-cut
 returns-in-Ok-clause-cut g c = λ given h fed.
     let desk = c.args.self.now in
     let now = c.commit_new.new.self in
-    let reports = option_to_list c.in-Ok.field-0 in
+    let reports = option_to_list c.in-Ok.report in
     let kept = c.commit_new.ensures.kept in
     let takes = subst (λ (o : Ordering). Takes desk.orderer timeout reports o) (sym kept.1) c.in-Ok.ensures.taken in
     one_timeout given desk.orderer now.orderer desk.missing now.missing
