@@ -9,6 +9,7 @@ use Rattle.fab_types.specs.declared.envelope.Endorsement.{Endorsement}
 use Rattle.ledger_model.specs.Chain.{Bytes, Chain, history}
 use Rattle.ledger_model.specs.State.{state, state_at}
 use Rattle.mvcc_validate.specs.Current.{is_current}
+use Rattle.endorser.specs.Rechecks.{IsRecheckRefused}
 use Rattle.simulator.specs.Books.{Book}
 use Rattle.simulator.specs.declared.refusal.SimRefusal.{SimRefusal}
 use Rattle.simulator.specs.declared.refusal.SimRefusal.TheVariants.{UnknownChaincode, NotInstalled, BadPolicy, Trapped, Spent, Status, Stale, Memory}
@@ -76,6 +77,15 @@ FinishesBy e p first before after (Ok answer) =
     (answer.1 ≡ seal_of (arc_value e.rules) e.org answer.0)
 FinishesBy e p first before after (Err (Simulation r)) = IsFinishRefused e p first before after r
 FinishesBy e p first before after (Err NoEntry) = IsOk (simulate_on e p first) × (after ≡ before)
+
+-- it is the tag of this endorser's organisation on a payload of which all that was read is as it is after a chain
+abbrev pub IsEndorsedOn : Endorser → Chain → Payload → Endorsement → Type 0
+IsEndorsedOn e chain payload tag = (is_current (state (history chain)) payload ≡ true) × (tag ≡ seal_of (arc_value e.rules) e.org payload)
+
+-- something that a payload read is not as it is after a chain, or there was no memory
+abbrev pub IsNotEndorsed : Chain → Payload → FinishRefusal → Type 0
+IsNotEndorsed chain payload (Simulation r) = IsRecheckRefused (state (history chain)) payload r
+IsNotEndorsed chain payload NoEntry = ⊥
 
 -- refused as the take of a snapshot was, with nothing seen; or begun on a list that begins with all that was seen, and finished
 abbrev pub Endorses : Endorser → Proposal → (before after : Chain) → Result (Payload × Endorsement) FinishRefusal → Type 0

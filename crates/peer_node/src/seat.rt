@@ -1,6 +1,6 @@
 //! A seat of a peer: it endorses and reads, and never waits.
 
-ghost use Rattle.std.specs.Prelude.{◌≡◌, IfOk, OnErr, IsSome};
+ghost use Rattle.std.specs.Prelude.{◌≡◌, IfOk, IfErr, OnErr, IsSome};
 ghost use Rattle.ledger_model.specs.Chain.{history};
 ghost use Rattle.ledger_model.specs.State.{state_at};
 
@@ -39,12 +39,29 @@ pub struct Begun {
     pub snapshot: Arc<Snapshot>,
 }
 
+impl Endorser {
+    ghost use Rattle.peer_node.specs.Seats.{IsEndorsedOn, IsNotEndorsed};
+
+    /// Endorses a payload of which all that was read is as it is in a snapshot's state.
+    fn endorse_on(&self, newest: &Snapshot, payload: &Payload) -> Result<Endorsement, FinishRefusal>
+        ensures endorsed { IfOk result (λ tag. IsEndorsedOn self.now newest.now payload.now tag) }
+        ensures refused { IfErr result (λ r. IsNotEndorsed newest.now payload.now r) }
+    {
+        recheck(self.alloc, payload, newest)?;
+        let key = self.rules.key(&self.org);
+        Ok(seal(self.alloc, &self.org, key, payload)?)
+    }
+}
+
 impl Seat {
-    ghost use Rattle.std.specs.Prelude.{◌⊎◌, IfErr};
+    ghost use Rattle.std.specs.Prelude.{◌⊎◌, Ok, Err};
     ghost use Rattle.std.specs.Arc.{arc_value};
     ghost use mathlib.Core.List.{IsPrefix};
+    ghost use Rattle.fab_types.specs.declared.proposal.Proposal.{Proposal};
+    ghost use Rattle.ledger_model.specs.Chain.{Chain};
     ghost use Rattle.snapshot_cell.specs.Seats.{cell_of_told, told_list};
-    ghost use Rattle.peer_node.specs.Seats.{seen_chain, peer_of, endorser_of, FinishesBy, Endorses, IsReadRefused};
+    ghost use Rattle.peer_node.specs.declared.seat.Endorser.{Endorser};
+    ghost use Rattle.peer_node.specs.Seats.{seen_chain, peer_of, endorser_of, simulate_on, FinishesBy, IsEndorsedOn, Endorses, IsReadRefused};
 
     /// Takes the snapshot on which a proposal is simulated: its blocks begin with all that this
     /// seat has seen or was told of, and are what it has seen afterwards.
@@ -78,17 +95,37 @@ impl Seat {
         ensures same { (endorser_of self.new ≡ endorser_of self.old) ×
             (peer_of self.new ≡ peer_of self.old) }
     {
-        let Endorser {
-            book,
-            rules,
-            org,
-            alloc,
-        } = &self.endorser;
+        self.finish_begun(&begun)
+    }
+
+    /// Finishes what was begun as `finish` does.
+    fn finish_begun(&mut self, begun: &Begun) -> Result<(Payload, Endorsement), FinishRefusal>
+        ensures finished { FinishesBy (endorser_of self.old) begun.now.proposal
+            (arc_value begun.now.snapshot) (seen_chain self.old) (seen_chain self.new) result }
+        ensures same { (endorser_of self.new ≡ endorser_of self.old) ×
+            (peer_of self.new ≡ peer_of self.old) }
+    {
+        let Endorser { book, alloc, .. } = &self.endorser;
         let payload = simulate(*alloc, book, &begun.snapshot, &begun.proposal)?;
-        let newest = self.reader.take()?;
-        recheck(*alloc, &payload, &newest)?;
-        let endorsement = seal(*alloc, org, rules.key(org), &payload)?;
+        let endorsement = self.endorse_newest(&payload)?;
         Ok((payload, endorsement))
+    }
+
+    /// Endorses a payload of which all that was read is as it was on the newest snapshot, which is
+    /// then what this seat has seen.
+    fn endorse_newest(&mut self, payload: &Payload) -> Result<Endorsement, FinishRefusal>
+        ensures endorsed { IfOk result
+            (λ tag. IsPrefix (seen_chain self.old) (seen_chain self.new) ×
+            IsEndorsedOn (endorser_of self.old) (seen_chain self.new) payload.now tag) }
+        ensures refused { IfErr result
+            (λ r. (e : Endorser) (p : Proposal) (first : Chain) →
+            simulate_on e p first ≡ Ok payload.now →
+            FinishesBy e p first (seen_chain self.old) (seen_chain self.new) (Err r)) }
+        ensures same { (endorser_of self.new ≡ endorser_of self.old) ×
+            (peer_of self.new ≡ peer_of self.old) }
+    {
+        let newest = self.reader.take()?;
+        self.endorser.endorse_on(&newest, payload)
     }
 
     /// Begins and finishes a proposal. Refused as these are: with nothing new seen where it was not

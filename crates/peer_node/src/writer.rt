@@ -219,10 +219,13 @@ fn endorser(alloc: Global, genesis: &Genesis, org: &OrgName) -> Result<Endorser,
     ensures { IfOk result
         (λ e. Serves (arc_value genesis.now.book) (arc_value genesis.now.rules) org.now e) }
 {
+    let org = org.clone()?;
+    let rules = Arc::try_clone(&genesis.rules)?;
+    let book = Arc::try_clone(&genesis.book)?;
     Ok(Endorser {
-        book: Arc::try_clone(&genesis.book)?,
-        rules: Arc::try_clone(&genesis.rules)?,
-        org: org.clone()?,
+        book,
+        rules,
+        org,
         alloc,
     })
 }
@@ -244,9 +247,9 @@ fn seats_of(
 {
     let mut seats = Vec::with_capacity(alloc, readers.len())?;
     for _seat in 0..readers.len() {
-        let reader = readers.pop().unwrap();
         let endorser = endorser(alloc, genesis, org)?;
-        seats.push(Seat { reader, endorser })?;
+        let reader = readers.take_last();
+        seats.push_reserved(Seat { reader, endorser });
     }
     Ok(seats)
 }

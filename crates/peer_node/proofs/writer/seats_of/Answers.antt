@@ -1,5 +1,4 @@
-use Rattle.std.proofs.Common.{rules, ◌≡◌, List, Some, All, IfSome, sym, subst}
-use Rattle.std.specs.Prelude.{Option}
+use Rattle.std.proofs.Common.{rules, ◌≡◌, List, Some, All, sym, subst, arith}
 use Rattle.std.specs.Arc.{arc_value}
 use Rattle.std.proofs.lemmas.List.Elements.{All-push, All-pop}
 use Rattle.snapshot_cell.specs.declared.reader.Reader.{Reader}
@@ -12,17 +11,12 @@ pub loop-seat-preserved : goal.loop-seat-preserved
 loop-seat-preserved c = (
   search rules,
   search rules,
+  omega (arith, c.loop-seat.invariant.2, c.push_reserved.ensures.capacity),
   λ peer chain h.
-      let both = c.loop-seat.invariant.2 peer chain h in
-      let popped = All-pop _ _ _ _ c.pop.ensures.items both.0 in
-      let there : c.pop.result ≡ Some c.unwrap-reader.result = search rules in
+      let both = c.loop-seat.invariant.3 peer chain h in
       let P : Reader → Type 0 = λ r. (cell_of_reader r ≡ peer) × (seen_list r ≡ chain) in
-      let begins : P c.unwrap-reader.result = subst (λ (o : Option Reader). IfSome o P) there popped.1 in
-      let added = All-push (IsSeatBehind (arc_value c.args.genesis.now.book) (arc_value c.args.genesis.now.rules) c.args.org.now peer chain) _ _ both.1
-      (begins.0, begins.1, c.in_ok-endorser.ensures) in (
-        popped.0,
-        subst (λ (seats : List Seat).
-            All (IsSeatBehind (arc_value c.args.genesis.now.book) (arc_value c.args.genesis.now.rules) c.args.org.now peer chain) seats)
-            (sym c.in_ok-push.ensures.items) added,
-      ),
+      let left = All-pop P _ _ (Some c.take_last-reader.result) c.take_last-reader.ensures.items both.0 in
+      let behind = IsSeatBehind (arc_value c.args.genesis.now.book) (arc_value c.args.genesis.now.rules) c.args.org.now peer chain in
+      let added = All-push behind _ _ both.1 (left.1.0, left.1.1, c.in_ok-endorser.ensures) in
+      (left.0, subst (λ (seats : List Seat). All behind seats) (sym c.push_reserved.ensures.items) added),
 )
