@@ -85,8 +85,12 @@ impl<'a> Judge<'a> {
         ensures { IfSome result
             (λ s. policy_from s.now ≡ judged_policy self.now chaincode.now) }
     {
-        let found = self.known.iter().find(|k| k.is_of(chaincode))?;
-        Some(&found.source)
+        for known in &self.known {
+            if known.is_of(chaincode) {
+                return Some(&known.source);
+            }
+        }
+        None
     }
 
     /// Whether an envelope is endorsed. It may be known which organisations' tags on it are right.

@@ -5,7 +5,7 @@ ghost use Rattle.std.specs.List.{list_all, prefix_len};
 ghost use Rattle.fab_types.specs.Limits.{is_digit, is_org_name_byte};
 ghost use Rattle.endorsement_policy.specs.Parsing.{Parses, Passes};
 ghost use Rattle.endorsement_policy.specs.Operators.{rule_of};
-ghost use Rattle.endorsement_policy.specs.Reading.{after_spaces, comma_at, is_quoted, opening_at, quoted_at, tag_at, threshold_at, token_at, word_at};
+ghost use Rattle.endorsement_policy.specs.Reading.{after_spaces, bracket_at, comma_at, is_quoted, opening_at, out_of_at, quoted_at, tag_at, threshold_at, token_at, word_at};
 ghost use Rattle.endorsement_policy.specs.Spelling.{decimal_after, leads_with_zero};
 
 use crate::fault::PolicyFault;
@@ -146,21 +146,34 @@ impl<'a> Reader<'a> {
         ensures { Parses rule_of result self.new (opening_at self.old) }
     {
         if self.word(b"AND") {
-            self.token(b'(')?;
-            return Ok(Operator::And);
+            return self.bracket(Operator::And);
         }
         if self.word(b"OR") {
-            self.token(b'(')?;
-            return Ok(Operator::Or);
+            return self.bracket(Operator::Or);
         }
         if self.word(b"OutOf") {
-            self.token(b'(')?;
-            self.skip_spaces();
-            let threshold = self.threshold()?;
-            self.token(b',')?;
-            return Ok(Operator::OutOf(threshold));
+            return self.out_of();
         }
         Err(self.syntax())
+    }
+
+    /// The bracket of an operator without a threshold.
+    fn bracket(&mut self, operator: Operator) -> Result<Operator, PolicyFault>
+        ensures { Parses rule_of result self.new (bracket_at (rule_of operator) self.old) }
+    {
+        self.token(b'(')?;
+        Ok(operator)
+    }
+
+    /// The bracket, the threshold and the comma of an operator with a threshold.
+    fn out_of(&mut self) -> Result<Operator, PolicyFault>
+        ensures { Parses rule_of result self.new (out_of_at self.old) }
+    {
+        self.token(b'(')?;
+        self.skip_spaces();
+        let threshold = self.threshold()?;
+        self.token(b',')?;
+        Ok(Operator::OutOf(threshold))
     }
 
     /// Whether another child comes, after a comma, or the operator ends.
