@@ -216,8 +216,8 @@ impl Peer {
     {
         let snapshot = extended(alloc, rules, &self.snapshot, block)?;
         let flags = Seq::new(last_flags(alloc, &snapshot)?);
-        let reply = Reply::Committed(snapshot.height(), flags);
+        let height = snapshot.height();
         self.snapshot = Arc::new(alloc, snapshot)?;
-        Ok(reply)
+        Ok(Reply::Committed(height, flags))
     }
 }

@@ -42,10 +42,10 @@ impl Ran {
         ensures keeps { KeepsSetting self.old.system self.new.system }
         ensures refused { self.new.refused ≡ self.old.refused }
     {
-        let event = event.clone()?;
         self.replies.reserve(1)?;
+        let event = event.clone()?;
         let reply = self.system.step(event)?;
-        self.replies.push(reply)?;
+        self.replies.push_reserved(reply);
         Ok(())
     }
 }

@@ -1,8 +1,10 @@
 //! The system, and its steps.
 
-ghost use Rattle.std.specs.Prelude.{◌≡◌, ◌≤◌, [], IfOk, OnErr, option_map, length};
+ghost use Rattle.std.specs.Prelude.{◌≡◌, ◌≤◌, [], IfErr, IfOk, OnErr, OnOk, option_map, length};
+ghost use Rattle.std.specs.Option.{option_to_list};
+ghost use Rattle.batch_cutter.specs.Division.{timeout};
 ghost use Rattle.wire.specs.Links.{AreLinked};
-ghost use Rattle.orderer.specs.Ordering.{AreLimits};
+ghost use Rattle.orderer.specs.Ordering.{AreLimits, Takes, IsRefused};
 ghost use Rattle.ledger_setting.specs.Setting.{limits_of};
 ghost use Rattle.fabric_core.specs.System.{opening, Begin, Finish, Submit, Take, Tick, Commit, chain_of};
 ghost use Rattle.simulator.specs.Execution.{exec_of};
@@ -14,7 +16,7 @@ use endorsement_policy::Rules;
 use fab_types::limits::LAST_BLOCK;
 use fab_types::{Block, Envelope, Proposal};
 use ledger_setting::Genesis;
-use orderer::{OrderCause, Orderer};
+use orderer::{BatchReport, OrderCause, Orderer};
 use seq::Seq;
 use simulator::Book;
 use std::alloc::{AllocError, Global};
@@ -68,6 +70,20 @@ impl Model for System {
         } };
 
     ghost invariant = { λ s. IsRight s.rules.value s.peers.items s.orderer.chain };
+}
+
+/// The batch that the orderer's timeout ends, or the cause why it does not end.
+fn timed_out(orderer: &mut Orderer) -> Result<Option<BatchReport>, OrderCause>
+    ensures taken { IfOk result
+        (λ report. Takes orderer.old timeout (option_to_list report) orderer.new) }
+    ensures numbers { OnOk result (length orderer.new.chain ≤ LAST_BLOCK) }
+    ensures refused { IfErr result (λ cause. IsRefused cause orderer.old timeout) }
+    ensures unchanged { OnErr result (orderer.new ≡ orderer.old) }
+{
+    match orderer.tick() {
+        Ok(report) => Ok(report),
+        Err(refusal) => Err(refusal.cause),
+    }
 }
 
 impl System {
@@ -174,10 +190,10 @@ impl System {
         ensures keeps { KeepsSetting self.old self.new }
         ensures unchanged { OnErr result (self.new ≡ self.old) }
     {
-        match self.orderer.tick() {
+        match timed_out(&mut self.orderer) {
             Ok(None) => Ok(Reply::Nothing),
             Ok(Some(report)) => Ok(Reply::Cut(report)),
-            Err(refusal) => match refusal.cause {
+            Err(cause) => match cause {
                 OrderCause::NoNumber => Ok(Reply::NoBlockLeft(None)),
                 OrderCause::TooLarge | OrderCause::OutOfMemory => Err(AllocError),
             },

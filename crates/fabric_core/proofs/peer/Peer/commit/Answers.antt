@@ -5,8 +5,8 @@ use Rattle.fabric_core.proofs.peer.Peer.commit.Goals as goal
 
 pub returns-clause-reply : goal.returns-clause-reply
 returns-clause-reply c =
-    put_reply (table_of c.args.rules.now) c.args.self.now.snapshot.value c.deref.result.now c.in_ok-snapshot.snapshot c.args.block c.height.result
-    c.new-flags.result c.deref.ensures c.in_ok-snapshot.ensures c.height.ensures.value
+    put_reply (table_of c.args.rules.now) c.args.self.now.snapshot.value c.deref.result.now c.in_ok-snapshot.snapshot c.args.block c.height-height.result
+    c.new-flags.result c.deref.ensures c.in_ok-snapshot.ensures c.height-height.ensures.value
     (λ before last is. c.new-flags.ensures ∙ c.in_ok-last_flags.ensures before last is)
 
 pub returns-clause-chain : goal.returns-clause-chain
