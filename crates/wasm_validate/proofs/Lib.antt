@@ -1,4 +1,5 @@
 pub mod Lists
+pub mod Types
 pub mod Heights
 pub mod Stands
 pub mod Sound
@@ -9,3 +10,4 @@ pub mod WellFormed
 pub mod Fronts
 pub mod Functions
 pub mod Modules
+pub mod PlainInstructions

@@ -13,3 +13,4 @@ pub mod Refused
 pub mod Inside
 pub mod Marks
 pub mod Broken
+pub mod Plain

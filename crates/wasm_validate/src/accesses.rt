@@ -47,9 +47,9 @@ pub fn check_load(
         (KeepsOwn (context_of scope.now labels.now)
         (op.Load load argument.align argument.offset))) }
 {
-    if scope.memories.is_empty() {
+    let Some(_memory) = scope.memory() else {
         return Err(ValidateFault::Index);
-    }
+    };
     if !is_aligned(argument.align, load.width()) {
         return Err(ValidateFault::Alignment);
     }
@@ -80,9 +80,9 @@ pub fn check_store(
         (KeepsOwn (context_of scope.now labels.now)
         (op.Store store argument.align argument.offset))) }
 {
-    if scope.memories.is_empty() {
+    let Some(_memory) = scope.memory() else {
         return Err(ValidateFault::Index);
-    }
+    };
     if !is_aligned(argument.align, store.width()) {
         return Err(ValidateFault::Alignment);
     }
@@ -106,9 +106,9 @@ pub fn check_memory_size(
     ensures keeps { IfErr result (λ e. Mismatch e
         (KeepsOwn (context_of scope.now labels.now) (op.MemorySize))) }
 {
-    if scope.memories.is_empty() {
+    let Some(_memory) = scope.memory() else {
         return Err(ValidateFault::Index);
-    }
+    };
     stack.push(Some(I32))
 }
 
@@ -128,8 +128,8 @@ pub fn check_memory_grow(
     ensures keeps { IfErr result (λ e. Mismatch e
         (KeepsOwn (context_of scope.now labels.now) (op.MemoryGrow))) }
 {
-    if scope.memories.is_empty() {
+    let Some(_memory) = scope.memory() else {
         return Err(ValidateFault::Index);
-    }
+    };
     check_one(I32, I32, stack)
 }

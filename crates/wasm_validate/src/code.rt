@@ -19,10 +19,10 @@ ghost use Rattle.wasm_validate.specs.Inside.{context_of};
 use crate::fault::ValidateFault;
 use crate::labels::Labels;
 use crate::operands::OperandStack;
+use crate::plain::check_plain;
 use crate::scope::Scope;
-use crate::{accesses, numbers, shapes, variables};
 use std::alloc::Global;
-use wasm_ast::ValueType::{I32, I64};
+use wasm_ast::ValueType::I32;
 use wasm_ast::{Block, BlockType, Body, Conditional, Func, Instr, Module};
 
 /// Whether each function's body is typed. The indices are those of all functions' types, the
@@ -95,37 +95,10 @@ fn check_instr(
         stack.old.here)) }
 {
     match instr {
-        Instr::Unreachable => shapes::check_unreachable(stack),
-        Instr::Nop => Ok(()),
         Instr::Block(block) => check_block(scope, labels, stack, block.result, block),
         Instr::Loop(block) => check_block(scope, labels, stack, None, block),
         Instr::If(choice) => check_if(scope, labels, stack, choice),
-        Instr::Br(label) => shapes::check_br(scope, labels, stack, *label),
-        Instr::BrIf(label) => shapes::check_br_if(scope, labels, stack, *label),
-        Instr::BrTable(table) => shapes::check_br_table(scope, labels, stack, table),
-        Instr::Return => shapes::check_return(scope, labels, stack),
-        Instr::Call(function) => shapes::check_call(scope, labels, stack, *function),
-        Instr::CallIndirect(index) => shapes::check_call_indirect(scope, labels, stack, *index),
-        Instr::Drop => shapes::check_drop(stack),
-        Instr::Select => shapes::check_select(stack),
-        Instr::LocalGet(local) => variables::check_local_get(scope, labels, stack, *local),
-        Instr::LocalSet(local) => variables::check_local_set(scope, labels, stack, *local),
-        Instr::LocalTee(local) => variables::check_local_tee(scope, labels, stack, *local),
-        Instr::GlobalGet(global) => variables::check_global_get(scope, labels, stack, *global),
-        Instr::GlobalSet(global) => variables::check_global_set(scope, labels, stack, *global),
-        Instr::Load(load, at) => accesses::check_load(scope, labels, stack, *load, *at),
-        Instr::Store(store, at) => accesses::check_store(scope, labels, stack, *store, *at),
-        Instr::MemorySize => accesses::check_memory_size(scope, labels, stack),
-        Instr::MemoryGrow => accesses::check_memory_grow(scope, labels, stack),
-        Instr::I32Const(word) => numbers::check_constant(I32, *word as u64, stack),
-        Instr::I64Const(word) => numbers::check_constant(I64, *word, stack),
-        Instr::I32Eqz | Instr::I32Unary(_) => numbers::check_one(I32, I32, stack),
-        Instr::I64Eqz => numbers::check_one(I64, I32, stack),
-        Instr::I64Unary(_) => numbers::check_one(I64, I64, stack),
-        Instr::I32Compare(_) | Instr::I32Binary(_) => numbers::check_two(I32, I32, stack),
-        Instr::I64Compare(_) => numbers::check_two(I64, I32, stack),
-        Instr::I64Binary(_) => numbers::check_two(I64, I64, stack),
-        Instr::Convert(conversion) => numbers::check_convert(*conversion, stack),
+        _ => check_plain(scope, labels, stack, instr),
     }
 }
 

@@ -1,6 +1,7 @@
 //! Exports (Core 1.0, sections 3.4.8 and 3.4.10).
 
 ghost use Rattle.std.specs.Prelude.{◌≡◌, ◌≢◌, ◌<◌, ℕ, length, IfOk, IfErr, IsTrue, ◌↔◌, false};
+ghost use Rattle.std.specs.Prelude.{MatchOption, None};
 ghost use Rattle.wasm_ast.specs.declared.module.Export.{Export};
 ghost use Rattle.wasm_validate.specs.Typing.{at};
 ghost use Rattle.wasm_validate.specs.ModuleRules.{count_of, type_indices, function_types, invoke_of, invoke_in, invoke_type};
@@ -76,12 +77,23 @@ pub fn find_entry(given: &Module, functions: &[u32]) -> Result<u32, ValidateFaul
     let Some(entry) = invoke_in(given.exports.as_slice()) else {
         return Err(ValidateFault::NoInvoke);
     };
-    match functions.get(entry as usize) {
-        Some(type_index) if is_invoke_type(&given.types.as_slice()[*type_index as usize]) => Ok(
-            entry,
-        ),
+    match type_of(given, functions, entry) {
+        Some(function_type) if is_invoke_type(function_type) => Ok(entry),
         _ => Err(ValidateFault::NoInvoke),
     }
+}
+
+// The type of a function.
+fn type_of<'a>(given: &'a Module, functions: &[u32], function: u32) -> Option<&'a FuncType>
+    requires indices { functions.now ≡ type_indices given.now }
+    requires known { AreTypes functions.now given.now.types }
+    ensures { let found = at (function_types given.now) function
+        in MatchOption result (found ≡ None) (λ t. found ≡ Some t.now) }
+{
+    let Some(type_index) = functions.get(function as usize) else {
+        return None;
+    };
+    Some(&given.types.as_slice()[*type_index as usize])
 }
 
 // The index of the first function that some exports name `invoke`.

@@ -74,17 +74,26 @@ pub fn function_indices(alloc: Global, given: &Module) -> Result<Vec<u32>, Valid
     ensures known { IfOk result (λ _. AreTypes (type_indices given.now) given.now.types) }
     ensures broken { IfErr result (λ e. Broken e given.now) }
 {
-    let mut indices = Vec::new(alloc);
-    for import in given.imports.as_slice() {
-        if let ImportKind::Function(type_index) = import.kind {
-            indices.push(type_index)?;
-        }
-    }
+    let mut indices = imported_indices(alloc, given)?;
     for function in given.functions.as_slice() {
         if function.type_index as usize >= given.types.len() {
             return Err(ValidateFault::Index);
         }
         indices.push(function.type_index)?;
+    }
+    Ok(indices)
+}
+
+// The index of the type of each imported function.
+fn imported_indices(alloc: Global, given: &Module) -> Result<Vec<u32>, ValidateFault>
+    ensures indices { IfOk result (λ v. v.items ≡ imported_functions given.now.imports) }
+    ensures fault { IfErr result (λ e. e ≡ ValidateFault.Memory) }
+{
+    let mut indices = Vec::new(alloc);
+    for import in given.imports.as_slice() {
+        if let ImportKind::Function(type_index) = import.kind {
+            indices.push(type_index)?;
+        }
     }
     Ok(indices)
 }

@@ -28,6 +28,7 @@ mod labels;
 mod limits;
 mod numbers;
 mod operands;
+mod plain;
 mod scope;
 mod segments;
 mod shapes;

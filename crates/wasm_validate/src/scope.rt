@@ -32,8 +32,46 @@ impl<'a> Scope<'a> {
         ensures { let found = at (map (type_at self.now.types.now) self.now.functions.now) function
             in MatchOption result (found ≡ None) (λ t. found ≡ Some t.now) }
     {
-        let type_index = *self.functions.get(function as usize)?;
+        let Some(type_index) = self.type_index_of(function) else {
+            return None;
+        };
         Some(&self.types[type_index as usize])
+    }
+
+    // The index of the type of a function.
+    fn type_index_of(&self, function: u32) -> Option<u32>
+        ensures { result ≡ at self.now.functions.now function }
+    {
+        Some(*self.functions.get(function as usize)?)
+    }
+
+    /// The type at an index.
+    pub fn type_at_index(&self, index: u32) -> Option<&'a FuncType>
+        ensures { let found = at self.now.types.now index
+            in MatchOption result (found ≡ None) (λ t. found ≡ Some t.now) }
+    {
+        self.types.get(index as usize)
+    }
+
+    /// The type of a local.
+    pub fn type_of_local(&self, local: u32) -> Option<ValueType>
+        ensures { result ≡ at self.now.locals.now local }
+    {
+        Some(*self.locals.get(local as usize)?)
+    }
+
+    /// The table, if there is one.
+    pub fn table(&self) -> Option<Limits>
+        ensures { result ≡ at self.now.tables.now 0 }
+    {
+        self.tables.first().copied()
+    }
+
+    /// The memory, if there is one.
+    pub fn memory(&self) -> Option<Limits>
+        ensures { result ≡ at self.now.memories.now 0 }
+    {
+        self.memories.first().copied()
     }
 
     /// The type of a global.

@@ -8,7 +8,7 @@ ghost use Rattle.wasm_validate.specs.Algorithm.{step, select};
 ghost use Rattle.wasm_validate.specs.Breaks.{Breaks, KeepsOwn};
 ghost use Rattle.wasm_validate.specs.Refused.{Refused};
 ghost use Rattle.wasm_validate.specs.Mistyped.{Mismatch};
-ghost use Rattle.wasm_validate.specs.Operands.{from_here, then, pop};
+ghost use Rattle.wasm_validate.specs.Operands.{from_here, then, pop, shared};
 ghost use Rattle.wasm_validate.specs.Inside.{context_of};
 
 use crate::fault::ValidateFault;
@@ -47,10 +47,20 @@ pub fn check_select(stack: &mut OperandStack) -> Result<(), ValidateFault>
     stack.pop_as(ValueType::I32)?;
     let upper = stack.pop()?;
     let lower = stack.pop()?;
+    match shared(upper, lower) {
+        None => Err(ValidateFault::TypeMismatch),
+        Some(operand) => stack.push(operand),
+    }
+}
+
+// The type that two operands have in common.
+fn shared(upper: Option<ValueType>, lower: Option<ValueType>) -> Option<Option<ValueType>>
+    ensures { result ≡ shared upper lower }
+{
     match (upper, lower) {
-        (None, _) => stack.push(lower),
-        (Some(found), Some(other)) if found != other => Err(ValidateFault::TypeMismatch),
-        _ => stack.push(upper),
+        (None, _) => Some(lower),
+        (Some(found), Some(other)) if found != other => None,
+        _ => Some(upper),
     }
 }
 
@@ -205,10 +215,10 @@ pub fn check_call_indirect(
     ensures keeps { IfErr result (λ e. Mismatch e
         (KeepsOwn (context_of scope.now labels.now) (op.CallIndirect type_index))) }
 {
-    if scope.tables.is_empty() {
+    let Some(_table) = scope.table() else {
         return Err(ValidateFault::Index);
-    }
-    let Some(called) = scope.types.get(type_index as usize) else {
+    };
+    let Some(called) = scope.type_at_index(type_index) else {
         return Err(ValidateFault::Index);
     };
     stack.pop_as(ValueType::I32)?;

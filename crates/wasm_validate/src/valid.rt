@@ -1,10 +1,13 @@
 //! Modules that are known to be valid.
 
-ghost use Rattle.std.specs.Prelude.{◌≡◌, ◌≢◌, IfOk, IfErr, IfSome, Some};
+ghost use Rattle.std.specs.Prelude.{◌≡◌, ◌≢◌, ℕ, IfOk, IfErr, Some};
 ghost use Rattle.flat_text.specs.Spelling.{Spells};
+ghost use Rattle.wasm_ast.specs.declared.module.Import.{Import};
 ghost use Rattle.wasm_validate.specs.Flat.{context_of};
 ghost use Rattle.wasm_validate.specs.HostCalls.{host_calls};
-ghost use Rattle.wasm_validate.specs.ModuleRules.{IsValid, invoke_of};
+ghost use Rattle.wasm_validate.specs.Indices.{AreTypes};
+ghost use Rattle.wasm_validate.specs.ModuleRules.{IsValid, IsValidImport, invoke_of, type_indices};
+ghost use Rattle.wasm_validate.specs.Typing.{at};
 ghost use Rattle.wasm_validate.specs.Broken.{Broken, BreaksAlone};
 
 use crate::code::check_code;
@@ -104,14 +107,54 @@ pub fn validate(alloc: Global, given: Module) -> Result<ValidModule, ValidateFau
     ensures alone { IfErr result (λ e. e ≢ ValidateFault.Memory →
         (only : ValidateFault) → BreaksAlone only given → e ≡ only) }
 {
-    let (calls, invoke) = check_module(alloc, &given)?;
-    let flat = flatten_module(alloc, &given, &calls)?;
+    let (calls, invoke, flat) = check_module(alloc, &given)?;
     Ok(ValidModule {
         module: given,
         calls,
         invoke,
         flat,
     })
+}
+
+// What a run looks up in a module, where that is valid: the host calls, the index of `invoke`, and
+// the flat code.
+fn check_module(
+    alloc: Global,
+    given: &Module,
+) -> Result<(Vec<HostCall>, u32, FlatText), ValidateFault>
+    ensures valid { IfOk result (λ _. IsValid given.now) }
+    ensures calls { IfOk result (λ found. found.0.items ≡ host_calls given.now.imports) }
+    ensures invoke { IfOk result (λ found. invoke_of given.now ≡ Some found.1) }
+    ensures flat { IfOk result (λ found. Spells found.2 (context_of given.now)) }
+    ensures broken { IfErr result (λ e. Broken e given.now) }
+{
+    let calls = check_imports(alloc, given)?;
+    let functions = function_indices(alloc, given)?;
+    let invoke = check_sections(alloc, given, &functions)?;
+    let flat = flatten_module(alloc, given, &calls)?;
+    Ok((calls, invoke, flat))
+}
+
+// The index of `invoke` of a module that is valid. Its imports were checked, and the indices are
+// those of all functions' types.
+fn check_sections(alloc: Global, given: &Module, functions: &[u32]) -> Result<u32, ValidateFault>
+    requires imports { (k : ℕ) → (i : Import) → at given.now.imports k ≡ Some i →
+        IsValidImport given.now.types i }
+    requires indices { functions.now ≡ type_indices given.now }
+    requires known { AreTypes functions.now given.now.types }
+    ensures valid { IfOk result (λ _. IsValid given.now) }
+    ensures invoke { IfOk result (λ entry. invoke_of given.now ≡ Some entry) }
+    ensures broken { IfErr result (λ e. Broken e given.now) }
+{
+    check_tables(given)?;
+    check_memories(given)?;
+    check_globals(given)?;
+    check_exports(given, functions)?;
+    let invoke = find_entry(given, functions)?;
+    check_elements(given, functions)?;
+    check_code(alloc, given, functions)?;
+    check_data(given)?;
+    Ok(invoke)
 }
 
 // The flat code of a valid module with these host calls. Its branches name labels, so there is one.
@@ -131,24 +174,4 @@ fn flatten_module(
         defined: &given.functions,
     };
     Ok(flatten(alloc, &source)?.unwrap())
-}
-
-// The host calls and the index of `invoke` of a module that is valid.
-fn check_module(alloc: Global, given: &Module) -> Result<(Vec<HostCall>, u32), ValidateFault>
-    ensures valid { IfOk result (λ _. IsValid given.now) }
-    ensures calls { IfOk result (λ found. found.0.items ≡ host_calls given.now.imports) }
-    ensures invoke { IfOk result (λ found. invoke_of given.now ≡ Some found.1) }
-    ensures broken { IfErr result (λ e. Broken e given.now) }
-{
-    let calls = check_imports(alloc, given)?;
-    let functions = function_indices(alloc, given)?;
-    check_tables(given)?;
-    check_memories(given)?;
-    check_globals(given)?;
-    check_exports(given, &functions)?;
-    let invoke = find_entry(given, &functions)?;
-    check_elements(given, &functions)?;
-    check_code(alloc, given, &functions)?;
-    check_data(given)?;
-    Ok((calls, invoke))
 }

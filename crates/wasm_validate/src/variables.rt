@@ -30,9 +30,9 @@ pub fn check_local_get(
     ensures keeps { IfErr result (λ e. Mismatch e
         (KeepsOwn (context_of scope.now labels.now) (op.LocalGet local))) }
 {
-    match scope.locals.get(local as usize) {
+    match scope.type_of_local(local) {
         None => Err(ValidateFault::Index),
-        Some(value_type) => stack.push(Some(*value_type)),
+        Some(value_type) => stack.push(Some(value_type)),
     }
 }
 
@@ -53,9 +53,9 @@ pub fn check_local_set(
     ensures keeps { IfErr result (λ e. Mismatch e
         (KeepsOwn (context_of scope.now labels.now) (op.LocalSet local))) }
 {
-    match scope.locals.get(local as usize) {
+    match scope.type_of_local(local) {
         None => Err(ValidateFault::Index),
-        Some(value_type) => stack.pop_as(*value_type),
+        Some(value_type) => stack.pop_as(value_type),
     }
 }
 
@@ -76,11 +76,11 @@ pub fn check_local_tee(
     ensures keeps { IfErr result (λ e. Mismatch e
         (KeepsOwn (context_of scope.now labels.now) (op.LocalTee local))) }
 {
-    match scope.locals.get(local as usize) {
+    match scope.type_of_local(local) {
         None => Err(ValidateFault::Index),
         Some(value_type) => {
-            stack.pop_as(*value_type)?;
-            stack.push(Some(*value_type))
+            stack.pop_as(value_type)?;
+            stack.push(Some(value_type))
         }
     }
 }

@@ -8,6 +8,7 @@ use Rattle.wasm_validate.specs.Algorithm.{check, instruction}
 use Rattle.wasm_validate.specs.Breaks.{BreaksInstr}
 use Rattle.wasm_validate.specs.Refused.{Refused}
 use Rattle.wasm_validate.specs.Inside.{context_of}
+use Rattle.wasm_validate.proofs.PlainInstructions.{plain_unless}
 use Rattle.wasm_validate.proofs.Instructions.{item_size, check_next, refused_next}
 use Rattle.wasm_validate.specs.Mistyped.{Mismatch, Mistyped, MistypedFirst}
 use Rattle.wasm_validate.proofs.Fronts.{mistyped_next, mistyped_refused}
@@ -72,3 +73,7 @@ check_body-loop-instr-preserved t c =
           (mistyped_next (context_of c.args.scope.now c.enter.new.self) c.args.left c.loop-instr.instr-index c.items-instr-items.result.now c.instr-item.result
           c.loop-instr.stack.here c.check_instr.new.stack.here c.loop-instr-test.true c.instr-item.is new m);
     }
+
+pub check_instr-check_plain-requires : goal.check_instr-check_plain-requires
+check_instr-check_plain-requires t c =
+    plain_unless c.args.instr.now c.in_default.not-Block c.in_default.not-Loop c.in_default.not-If

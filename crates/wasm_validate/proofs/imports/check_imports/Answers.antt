@@ -1,7 +1,8 @@
 use Rattle.std.proofs.Common.{◌+◌, ◌++◌, ◌∙◌, ap, drop}
+use Rattle.std.proofs.lemmas.Result.{err_from_is_err_and}
 use Rattle.wasm_validate.specs.HostCalls.{host_calls}
 use Rattle.wasm_validate.specs.ModuleRules.{IsValidImport}
-use Rattle.wasm_validate.proofs.Lists.{one_more, each_item}
+use Rattle.wasm_validate.proofs.Lists.{item_in, one_more, each_item}
 use Rattle.wasm_validate.proofs.Modules.{calls_next}
 use Rattle.wasm_validate.proofs.imports.check_imports.Goals as goal
 
@@ -23,3 +24,10 @@ returns-clause-imports c =
     let items = c.as_slice-import-items in
     each_item (IsValidImport c.args.given.now.types) items.result.now c.args.given.now.imports c.loop-import.import-index items.ensures c.loop-import-test.false
     c.loop-import.invariant.imports
+
+pub returns-in_err-check_import-clause-broken : goal.returns-in_err-check_import-clause-broken
+returns-in_err-check_import-clause-broken c =
+    let items = c.as_slice-import-items in
+    let p = err_from_is_err_and c.from_residual.result c.from_residual.ensures.1 in
+    rw (p.1, p.2) (c.in_err-check_import.ensures.broken c.loop-import.import-index
+    (item_in items.result.now c.args.given.now.imports c.loop-import.import-index c.import-item.result items.ensures c.loop-import-test.true c.import-item.is))

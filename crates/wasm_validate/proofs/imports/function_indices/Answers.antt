@@ -20,7 +20,7 @@ loop-function-preserved c =
     let known : function.type_index < length c.args.given.now.types = omega (arith, c.len.ensures) in
     record {
       indices = ap (λ is. is ++ map (λ (f : Func). f.type_index) (drop (c.loop-function.function-index + 1) c.args.given.now.functions))
-          c.in_ok-push-2.ensures.items ∙
+          c.in_ok-push.ensures.items ∙
           mapped_next (λ (f : Func). f.type_index) items.result.now c.args.given.now.functions c.loop-function.function-index function
           c.loop-function.indices.items items.ensures.same c.loop-function-test.true c.function-item.is ∙ c.loop-function.invariant.indices;
       known = one_more (λ (f : Func). f.type_index < length c.args.given.now.types) items.result.now c.args.given.now.functions c.loop-function.function-index

@@ -1,12 +1,8 @@
 use Rattle.std.proofs.Common.{◌≡◌, ◌<◌, ◌++◌, ℕ, Some, drop, map, length}
 use Rattle.wasm_ast.specs.declared.module.Func.{Func}
 use Rattle.wasm_validate.specs.Typing.{at}
-use Rattle.wasm_validate.specs.ModuleRules.{imported_functions, type_indices}
+use Rattle.wasm_validate.specs.ModuleRules.{type_indices}
 use Rattle.wasm_validate.proofs.imports.function_indices.Given as goal
-
-abbrev pub invariant-loop-import : goal.invariant-loop-import
-invariant-loop-import l =
-    l.indices.items ++ imported_functions (drop l.import-index l.given.imports) ≡ imported_functions l.given.imports
 
 abbrev pub invariant-loop-function : goal.invariant-loop-function
 invariant-loop-function l =
