@@ -1,6 +1,7 @@
 pub mod Rows
 pub mod OperatorRows
 pub mod Loop
+pub mod Made
 pub mod Groups
 pub mod Turns
 pub mod Walks

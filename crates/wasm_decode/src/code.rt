@@ -13,7 +13,7 @@ ghost use Rattle.wasm_decode.specs.OpReading.{reserved_at, reserved_index_at, ar
 ghost use Rattle.wasm_decode.specs.CodeReading.{block_at, conditional_at, step_at, body_at, below, closed_at, expression_at};
 
 use crate::fault::{DecodeFault, FaultKind, refuse};
-use crate::item::list;
+use crate::item::{list, unsigned};
 use crate::limits::{MOST_INSTRUCTIONS, MOST_LABELS, MOST_NESTING};
 use crate::operators::{load, operator, store};
 use crate::types::block_type;
@@ -56,7 +56,7 @@ fn branch_table(
     ensures tells { TellsBy profile result cursor.old cursor.new }
 {
     let labels = list::<u32>(alloc, cursor, profile, MOST_LABELS)?;
-    let default = cursor.u32_leb()?;
+    let default = unsigned(cursor)?;
     Ok(BranchTable { labels, default })
 }
 
@@ -93,8 +93,8 @@ fn memory_argument(cursor: &mut Cursor<'_>) -> Result<MemoryArgument, DecodeFaul
     ensures read { Parses (λ a. a) result cursor.new (argument_at cursor.old.rest) }
     ensures tells { Tells result cursor.old cursor.new }
 {
-    let align = cursor.u32_leb()?;
-    let offset = cursor.u32_leb()?;
+    let align = unsigned(cursor)?;
+    let offset = unsigned(cursor)?;
     Ok(MemoryArgument { align, offset })
 }
 
@@ -130,19 +130,19 @@ fn other(
     Ok(match opcode.byte {
         0x00 => Instr::Unreachable,
         0x01 => Instr::Nop,
-        0x0c => Instr::Br(cursor.u32_leb()?),
-        0x0d => Instr::BrIf(cursor.u32_leb()?),
+        0x0c => Instr::Br(unsigned(cursor)?),
+        0x0d => Instr::BrIf(unsigned(cursor)?),
         0x0e => Instr::BrTable(Box::new(alloc, branch_table(alloc, cursor, profile)?)?),
         0x0f => Instr::Return,
-        0x10 => Instr::Call(cursor.u32_leb()?),
+        0x10 => Instr::Call(unsigned(cursor)?),
         0x11 => Instr::CallIndirect(reserved_index(cursor)?),
         0x1a => Instr::Drop,
         0x1b => Instr::Select,
-        0x20 => Instr::LocalGet(cursor.u32_leb()?),
-        0x21 => Instr::LocalSet(cursor.u32_leb()?),
-        0x22 => Instr::LocalTee(cursor.u32_leb()?),
-        0x23 => Instr::GlobalGet(cursor.u32_leb()?),
-        0x24 => Instr::GlobalSet(cursor.u32_leb()?),
+        0x20 => Instr::LocalGet(unsigned(cursor)?),
+        0x21 => Instr::LocalSet(unsigned(cursor)?),
+        0x22 => Instr::LocalTee(unsigned(cursor)?),
+        0x23 => Instr::GlobalGet(unsigned(cursor)?),
+        0x24 => Instr::GlobalSet(unsigned(cursor)?),
         0x3f => {
             reserved(cursor)?;
             Instr::MemorySize
@@ -193,10 +193,11 @@ fn block(
     opcode: Opcode,
     nesting: u32,
     left: &mut u32,
-) -> Result<Block, DecodeFault>
+) -> Result<Box<Block>, DecodeFault>
     requires here { slice_get cursor.old.whole opcode.offset ≡ Some opcode.byte }
     requires opens { (0x02 ≤ opcode.byte) × (opcode.byte ≤ 0x04) }
-    ensures read { Parses (λ b. record { result = b.result; body = b.body; left = left.new }) result
+    ensures read { Parses
+        (λ b. record { result = b.value.result; body = b.value.body; left = left.new }) result
         cursor.new (block_at (below profile nesting) left.old cursor.old.rest) }
     ensures tells { TellsBy profile result cursor.old cursor.new }
     ensures fewer { OnOk result (left.new ≤ left.old) }
@@ -206,7 +207,7 @@ fn block(
     }
     let result = block_type(cursor)?;
     let body = closed(alloc, cursor, profile, nesting - 1, left)?;
-    Ok(Block { result, body })
+    Ok(Box::new(alloc, Block { result, body })?)
 }
 
 /// The bodies of an `if`, in which blocks may nest one level less.
@@ -260,12 +261,10 @@ fn instruction(
     ensures fewer { OnOk result (left.new ≤ left.old) }
 {
     if opcode.byte == 0x02 {
-        let block = block(alloc, cursor, profile, opcode, nesting, left)?;
-        return Ok(Instr::Block(Box::new(alloc, block)?));
+        return Ok(Instr::Block(block(alloc, cursor, profile, opcode, nesting, left)?));
     }
     if opcode.byte == 0x03 {
-        let block = block(alloc, cursor, profile, opcode, nesting, left)?;
-        return Ok(Instr::Loop(Box::new(alloc, block)?));
+        return Ok(Instr::Loop(block(alloc, cursor, profile, opcode, nesting, left)?));
     }
     if opcode.byte == 0x04 {
         let conditional = conditional(alloc, cursor, profile, opcode, nesting, left)?;

@@ -9,7 +9,7 @@ ghost use Rattle.wasm_decode.specs.Tables.{external_kind_rows};
 ghost use Rattle.wasm_decode.specs.ExternalReading.{import_after, import_at, export_at};
 
 use crate::fault::{DecodeFault, FaultKind, refuse};
-use crate::item::Item;
+use crate::item::{Item, unsigned};
 use crate::types::{global_type, memory_type, table_type};
 use std::alloc::Global;
 use wasm_ast::{Export, ExternalKind, Import, ImportKind, Name};
@@ -53,7 +53,7 @@ fn import_kind(cursor: &mut Cursor<'_>, kind: ExternalKind) -> Result<ImportKind
     ensures tells { Tells result cursor.old cursor.new }
 {
     Ok(match kind {
-        ExternalKind::Function => ImportKind::Function(cursor.u32_leb()?),
+        ExternalKind::Function => ImportKind::Function(unsigned(cursor)?),
         ExternalKind::Table => ImportKind::Table(table_type(cursor)?),
         ExternalKind::Memory => ImportKind::Memory(memory_type(cursor)?),
         ExternalKind::Global => ImportKind::Global(global_type(cursor)?),
@@ -92,7 +92,7 @@ impl Item for Export {
     ) -> Result<Export, DecodeFault> {
         let name = name(alloc, cursor)?;
         let kind = external_kind(cursor)?;
-        let index = cursor.u32_leb()?;
+        let index = unsigned(cursor)?;
         Ok(Export { name, kind, index })
     }
 }

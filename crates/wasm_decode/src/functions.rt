@@ -8,7 +8,7 @@ ghost use Rattle.wasm_decode.specs.FunctionReading.{groups_at, locals_at, code_p
 
 use crate::code::expression;
 use crate::fault::{DecodeFault, FaultKind, refuse};
-use crate::item::{Item, list, number};
+use crate::item::{Item, list, number, unsigned};
 use crate::limits::{MODULE_BYTES, MOST_ENTRIES, MOST_FUNCTIONS, MOST_LOCALS};
 use crate::types::{global_type, value_type};
 use seq::Seq;
@@ -52,7 +52,7 @@ fn locals(alloc: Global, cursor: &mut Cursor<'_>) -> Result<Seq<ValueType>, Deco
     ensures read { Parses (λ x. x) result cursor.new (locals_at cursor.old.rest) }
     ensures tells { Tells result cursor.old cursor.new }
 {
-    let count = cursor.u32_leb()?;
+    let count = unsigned(cursor)?;
     groups(alloc, cursor, count)
 }
 
@@ -166,7 +166,7 @@ impl Item for ElementSegment {
         cursor: &mut Cursor<'_>,
         profile: Profile,
     ) -> Result<ElementSegment, DecodeFault> {
-        let table = cursor.u32_leb()?;
+        let table = unsigned(cursor)?;
         let offset = expression(alloc, cursor, profile)?;
         let functions = list::<u32>(alloc, cursor, profile, MOST_ENTRIES)?;
         Ok(ElementSegment {
@@ -188,7 +188,7 @@ impl Item for DataSegment {
         cursor: &mut Cursor<'_>,
         profile: Profile,
     ) -> Result<DataSegment, DecodeFault> {
-        let memory = cursor.u32_leb()?;
+        let memory = unsigned(cursor)?;
         let offset = expression(alloc, cursor, profile)?;
         let bytes = list::<u8>(alloc, cursor, profile, u32::MAX)?;
         Ok(DataSegment {

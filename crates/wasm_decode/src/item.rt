@@ -32,6 +32,14 @@ pub(crate) trait Item {
         ensures tells { TellsBy profile result cursor.old cursor.new };
 }
 
+/// An unsigned number of 32 bits.
+pub(crate) fn unsigned(cursor: &mut Cursor<'_>) -> Result<u32, DecodeFault>
+    ensures read { Parses (λ n. n) result cursor.new (u32_at cursor.old.rest) }
+    ensures tells { Tells result cursor.old cursor.new }
+{
+    Ok(cursor.u32_leb()?)
+}
+
 /// A number that is at most so large.
 pub(crate) fn number(cursor: &mut Cursor<'_>, most: u32) -> Result<u32, DecodeFault>
     ensures read { Parses (λ x. x) result cursor.new (at_most most u32_at cursor.old.rest) }

@@ -65,9 +65,16 @@ fn nothing(alloc: Global) -> Parts
     }
 }
 
+/// The parts of a module from all of its bytes, where there are none yet.
 #[tactic(auto, unfolding(crate::specs::ModuleReading::module_at))]
-fn module(alloc: Global, bytes: &[u8], profile: Profile) -> Result<Module, DecodeFault>
-    ensures read { Makes (λ m. m) result (module_at profile bytes.now) }
+fn read_parts(
+    alloc: Global,
+    bytes: &[u8],
+    profile: Profile,
+    parts: &mut Parts,
+) -> Result<(), DecodeFault>
+    requires { parts.old ≡ no_parts }
+    ensures read { Makes (λ _. parts.new.«module») result (module_at profile bytes.now) }
     ensures tells { IfErr result (λ e. Says profile e (length bytes.now) bytes.now) }
 {
     if bytes.len() > MODULE_BYTES {
@@ -75,11 +82,19 @@ fn module(alloc: Global, bytes: &[u8], profile: Profile) -> Result<Module, Decod
     }
     let mut cursor = Cursor::new(bytes);
     header(&mut cursor)?;
-    let mut parts = nothing(alloc);
-    sections(alloc, &mut cursor, profile, &mut parts)?;
+    sections(alloc, &mut cursor, profile, parts)?;
     if parts.type_indices.len() != parts.module.functions.len() {
         return refuse(FaultKind::CountsDiffer, bytes.len());
     }
+    Ok(())
+}
+
+fn module(alloc: Global, bytes: &[u8], profile: Profile) -> Result<Module, DecodeFault>
+    ensures read { Makes (λ m. m) result (module_at profile bytes.now) }
+    ensures tells { IfErr result (λ e. Says profile e (length bytes.now) bytes.now) }
+{
+    let mut parts = nothing(alloc);
+    read_parts(alloc, bytes, profile, &mut parts)?;
     Ok(parts.module)
 }
 

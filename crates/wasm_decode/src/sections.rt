@@ -3,20 +3,23 @@
 ghost use Rattle.std.specs.Prelude.{◌≡◌, ◌<◌, ◌≤◌, ℕ, List, Option, Some, None, OnOk, length, slice_get};
 ghost use Rattle.grammar.specs.Reading.{whole_at};
 ghost use Rattle.grammar.specs.Table.{row_at};
-ghost use Rattle.wasm_bytes.specs.Reading.{sized_at};
+ghost use Rattle.wasm_bytes.specs.Reading.{list_at, sized_at};
 ghost use Rattle.wasm_profile.specs.declared.profile.Profile.{Profile};
 ghost use Rattle.wasm_decode.specs.Parses.{Parses, Makes};
 ghost use Rattle.wasm_decode.specs.Faults.{IsFaultOf, Tells, TellsBy};
+ghost use Rattle.wasm_decode.specs.declared.sections.Kind.TheVariants as kinds;
 ghost use Rattle.wasm_decode.specs.SectionReading.{section_rows, custom_at, fill_at, section_at, sections_at};
 
 use crate::fault::{DecodeFault, FaultKind, refuse};
 use crate::functions::functions;
-use crate::item::list;
+use crate::item::{Item, list};
 use crate::limits::{MODULE_BYTES, MOST_FUNCTIONS, MOST_PARTS, MOST_TYPES};
 use crate::types::{MemoryType, TableType};
 use seq::Seq;
 use std::alloc::Global;
-use wasm_ast::{DataSegment, ElementSegment, Export, FuncType, Import, Module};
+use wasm_ast::{
+    DataSegment, ElementSegment, Export, FuncType, Global as ModuleGlobal, Import, Module,
+};
 use wasm_bytes::Cursor;
 use wasm_profile::Profile;
 
@@ -72,6 +75,52 @@ fn order_fault(last: u8, id: u8) -> FaultKind
     }
 }
 
+/// At most so many items, in place of those that were there.
+fn refill<T: Item>(
+    alloc: Global,
+    cursor: &mut Cursor<'_>,
+    profile: Profile,
+    most: u32,
+    items: &mut Seq<T::Value>,
+) -> Result<(), DecodeFault>
+    ensures read { Parses (λ _. items.new) result cursor.new
+        (list_at most (T.reads profile) cursor.old.rest) }
+    ensures tells { TellsBy profile result cursor.old cursor.new }
+{
+    *items = list::<T>(alloc, cursor, profile, most)?;
+    Ok(())
+}
+
+/// At most [`MOST_PARTS`] items, in place of those that were there.
+fn refill_part<T: Item>(
+    alloc: Global,
+    cursor: &mut Cursor<'_>,
+    profile: Profile,
+    items: &mut Seq<T::Value>,
+) -> Result<(), DecodeFault>
+    ensures read { Parses (λ _. items.new) result cursor.new
+        (list_at MOST_PARTS (T.reads profile) cursor.old.rest) }
+    ensures tells { TellsBy profile result cursor.old cursor.new }
+{
+    refill::<T>(alloc, cursor, profile, MOST_PARTS, items)
+}
+
+/// The functions whose types were read, in place of those that were there.
+fn refill_functions(
+    alloc: Global,
+    cursor: &mut Cursor<'_>,
+    profile: Profile,
+    parts: &mut Parts,
+) -> Result<(), DecodeFault>
+    requires { length cursor.old.rest ≤ MODULE_BYTES }
+    ensures read { Parses (λ _. parts.new) result cursor.new
+        (fill_at profile kinds.Functions parts.old cursor.old.rest) }
+    ensures tells { TellsBy profile result cursor.old cursor.new }
+{
+    parts.module.functions = functions(alloc, cursor, profile, parts.type_indices.as_slice())?;
+    Ok(())
+}
+
 /// The part of the module that a section holds.
 fn fill(
     alloc: Global,
@@ -86,38 +135,33 @@ fn fill(
     ensures tells { TellsBy profile result cursor.old cursor.new }
 {
     match kind {
-        Kind::Types => parts.module.types = list::<FuncType>(alloc, cursor, profile, MOST_TYPES)?,
-        Kind::Imports => parts.module.imports = list::<Import>(alloc, cursor, profile, MOST_PARTS)?,
-        Kind::TypeIndices => parts.type_indices = list::<u32>(
-            alloc,
-            cursor,
-            profile,
-            MOST_FUNCTIONS,
-        )?,
-        Kind::Tables => parts.module.tables = list::<TableType>(
-            alloc, cursor, profile, MOST_PARTS,
-        )?,
-        Kind::Memories => parts.module.memories = list::<MemoryType>(
-            alloc, cursor, profile, MOST_PARTS,
-        )?,
-        Kind::Globals => parts.module.globals = list::<wasm_ast::Global>(
-            alloc, cursor, profile, MOST_PARTS,
-        )?,
-        Kind::Exports => parts.module.exports = list::<Export>(alloc, cursor, profile, MOST_PARTS)?,
-        Kind::Elements => parts.module.elements = list::<ElementSegment>(
-            alloc, cursor, profile, MOST_PARTS,
-        )?,
-        Kind::Functions => {
-            parts.module.functions = functions(
+        Kind::Types => {
+            refill::<FuncType>(alloc, cursor, profile, MOST_TYPES, &mut parts.module.types)
+        }
+        Kind::Imports => refill_part::<Import>(alloc, cursor, profile, &mut parts.module.imports),
+        Kind::TypeIndices => {
+            refill::<u32>(
                 alloc,
                 cursor,
                 profile,
-                parts.type_indices.as_slice(),
-            )?;
+                MOST_FUNCTIONS,
+                &mut parts.type_indices,
+            )
         }
-        Kind::Data => parts.module.data = list::<DataSegment>(alloc, cursor, profile, MOST_PARTS)?,
+        Kind::Tables => refill_part::<TableType>(alloc, cursor, profile, &mut parts.module.tables),
+        Kind::Memories => {
+            refill_part::<MemoryType>(alloc, cursor, profile, &mut parts.module.memories)
+        }
+        Kind::Globals => {
+            refill_part::<ModuleGlobal>(alloc, cursor, profile, &mut parts.module.globals)
+        }
+        Kind::Exports => refill_part::<Export>(alloc, cursor, profile, &mut parts.module.exports),
+        Kind::Elements => {
+            refill_part::<ElementSegment>(alloc, cursor, profile, &mut parts.module.elements)
+        }
+        Kind::Functions => refill_functions(alloc, cursor, profile, parts),
+        Kind::Data => refill_part::<DataSegment>(alloc, cursor, profile, &mut parts.module.data),
     }
-    Ok(())
 }
 
 /// A custom section after its id: a name, and any bytes.

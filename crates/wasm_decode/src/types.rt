@@ -10,7 +10,7 @@ ghost use Rattle.wasm_decode.specs.Tables.{value_type_rows, block_type_rows, fla
 ghost use Rattle.wasm_decode.specs.TypeReading.{value_type_at, result_at, func_type_at, limits_at, table_type_at, memory_type_at, global_type_at};
 
 use crate::fault::{DecodeFault, FaultKind, refuse};
-use crate::item::{Item, list, number};
+use crate::item::{Item, list, number, unsigned};
 use crate::limits::{MOST_ENTRIES, MOST_PAGES, MOST_PARAMETERS};
 use std::alloc::Global;
 use wasm_ast::{BlockType, FuncType, GlobalType, Limits, Parameters, ValueType};
@@ -158,7 +158,7 @@ fn limits(cursor: &mut Cursor<'_>, most: u32) -> Result<Limits, DecodeFault>
             greatest: None,
         });
     }
-    let greatest = Some(cursor.u32_leb()?);
+    let greatest = Some(unsigned(cursor)?);
     Ok(Limits { least, greatest })
 }
 

@@ -17,7 +17,12 @@ block-returns-then-nesting-eq0-clause-read t c =
 pub block-returns-clause-read : goal.block-returns-clause-read
 unfolding block_at
 block-returns-clause-read t c =
-    rw (below_is c.args.profile c.args.nesting c.if-nesting-eq0.false, c.in_ok-result.ensures.read, c.in_ok-body.ensures.read) refl
+    rw (
+      below_is c.args.profile c.args.nesting c.if-nesting-eq0.false,
+      c.in_ok-result.ensures.read,
+      c.in_ok-body.ensures.read,
+      c.in_ok-new.ensures.ok,
+    ) refl
 
 pub conditional-returns-clause-read : goal.conditional-returns-clause-read
 unfolding conditional_at
