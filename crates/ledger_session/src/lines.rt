@@ -5,11 +5,11 @@ ghost use Rattle.std.specs.Io.KnownBytes.{Appends};
 ghost use Rattle.ledger_lines.specs.Told.{Tells};
 ghost use Rattle.ledger_session.specs.Replies.{refusal_line};
 
-use fab_types::Flag;
+use fab_types::{Flag, Key, Value, Version};
 use fabric_core::{Audit, Reply};
 use ledger_lines::{Failure, Printer, hex_of, version_of};
 use orderer::BatchReport;
-use std::alloc::Global;
+use std::alloc::{AllocError, Global};
 use std::io::Write;
 use world_state::Snapshot;
 
@@ -22,12 +22,25 @@ pub(crate) fn print_state<W: Write>(
     ensures tells { Tells out.old out.new result }
 {
     for (key, (value, version)) in snapshot.entries(alloc)? {
-        let key = hex_of(alloc, key.as_slice())?;
-        let version = version_of(alloc, *version)?;
-        let value = hex_of(alloc, value.as_slice())?;
-        writeln!(out, "state {key} {version} {value}")?;
+        print_entry(alloc, key, value, *version, out)?;
     }
     Ok(())
+}
+
+/// Prints a key of the state with its version and value.
+fn print_entry<W: Write>(
+    alloc: Global,
+    key: &Key,
+    value: &Value,
+    version: Version,
+    out: &mut Printer<'_, W>,
+) -> Result<(), Failure>
+    ensures tells { Tells out.old out.new result }
+{
+    let key = hex_of(alloc, key.as_slice())?;
+    let version = version_of(alloc, version)?;
+    let value = hex_of(alloc, value.as_slice())?;
+    writeln!(out, "state {key} {version} {value}")
 }
 
 /// Prints what an audit says, and answers whether all transactions agree with their reruns.
@@ -89,7 +102,7 @@ fn print_committed<W: Write>(
 }
 
 /// Prints a reply. Of one with the height of a begin or with a payload, nothing.
-pub(crate) fn print_reply<W: Write>(reply: &Reply, out: &mut Printer<'_, W>) -> Result<(), Failure>
+fn print_reply<W: Write>(reply: &Reply, out: &mut Printer<'_, W>) -> Result<(), Failure>
     ensures tells { Tells out.old out.new result }
     ensures refused { OnOk result
         (IfSome (refusal_line reply.now) (Appends out.old.bytes out.new.bytes)) }
@@ -108,5 +121,34 @@ pub(crate) fn print_reply<W: Write>(reply: &Reply, out: &mut Printer<'_, W>) -> 
             Some(number) => writeln!(out, "refused {number}"),
             None => Ok(()),
         },
+    }
+}
+
+/// Prints the reply to a step, which is looked at where it stands: a reply that is moved is dear to
+/// prove.
+pub(crate) fn print_step<W: Write>(
+    reply: &Result<Reply, AllocError>,
+    out: &mut Printer<'_, W>,
+) -> Result<(), Failure>
+    ensures tells { Tells out.old out.new result }
+{
+    match reply {
+        Ok(reply) => print_reply(reply, out),
+        Err(_) => Err(Failure::Memory),
+    }
+}
+
+/// Prints the reply to a begin at a seat: where, and on what height, if it was begun.
+pub(crate) fn print_begun<W: Write>(
+    peer: usize,
+    seat: usize,
+    reply: &Result<Reply, AllocError>,
+    out: &mut Printer<'_, W>,
+) -> Result<(), Failure>
+    ensures tells { Tells out.old out.new result }
+{
+    match reply {
+        Ok(Reply::Begun(height)) => writeln!(out, "begun {peer}.{seat} at {height}"),
+        reply => print_step(reply, out),
     }
 }

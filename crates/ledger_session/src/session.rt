@@ -1,11 +1,11 @@
 //! The command `run`: a system, on which the lines of a file are events.
 
-ghost use Rattle.std.specs.Prelude.{◌≡◌, ◌<◌, false, IfOk, IfErr};
+ghost use Rattle.std.specs.Prelude.{◌≡◌, ◌<◌, false, IfOk};
 ghost use Rattle.orderer.specs.Ordering.{AreLimits};
 ghost use Rattle.ledger_setting.specs.Setting.{limits_of};
-ghost use Rattle.ledger_lines.specs.Told.{IsSilent, Tells};
+ghost use Rattle.ledger_lines.specs.Told.{Tells};
 
-use crate::lines::{print_audit, print_reply, print_state};
+use crate::lines::{print_audit, print_begun, print_state, print_step};
 use crate::reading::{Next, next_line};
 use crate::storing::write_store;
 use events::{Action, BadLine, Bindings, read_event};
@@ -46,28 +46,50 @@ pub fn run<F: Files, W: Write>(
         return Err(Failure::File);
     };
     let mut lines = BufReader::new(alloc, events)?;
+    run_read(alloc, files, genesis, &mut lines, store, out)
+}
+
+/// The same of the lines of a file, which are read as the run goes.
+fn run_read<F: Files, B: BufRead, W: Write>(
+    alloc: Global,
+    files: &mut F,
+    genesis: &Genesis,
+    lines: &mut B,
+    store: Option<&str>,
+    out: &mut Printer<'_, W>,
+) -> Result<(), Failure>
+    requires { AreLimits (limits_of genesis.now) }
+    ensures tells { Tells out.old out.new result }
+{
     let target = match store {
         Some(name) => Some(files.target(alloc, name)?),
         None => None,
     };
-    let mut session = Session::open(alloc, genesis)?;
-    session.run_to_end(files, genesis, &mut lines, target.as_ref(), out)
+    run_into(alloc, files, genesis, lines, target.as_ref(), out)
+}
+
+/// The same, where the chain is written to this place if there is one.
+fn run_into<F: Files, B: BufRead, W: Write>(
+    alloc: Global,
+    files: &mut F,
+    genesis: &Genesis,
+    lines: &mut B,
+    store: Option<&Target>,
+    out: &mut Printer<'_, W>,
+) -> Result<(), Failure>
+    requires { AreLimits (limits_of genesis.now) }
+    ensures tells { Tells out.old out.new result }
+{
+    let system = System::new(alloc, genesis)?;
+    let mut session = Session {
+        alloc,
+        system,
+        bindings: Bindings::new(alloc),
+    };
+    session.run_to_end(files, genesis, lines, store, out)
 }
 
 impl Session {
-    /// The system that a genesis opens.
-    fn open(alloc: Global, genesis: &Genesis) -> Result<Session, Failure>
-        requires { AreLimits (limits_of genesis.now) }
-        ensures silent { IfErr result IsSilent }
-    {
-        let system = System::new(alloc, genesis)?;
-        Ok(Session {
-            alloc,
-            system,
-            bindings: Bindings::new(alloc),
-        })
-    }
-
     /// Runs the lines, prints how the first peer stands then, and writes its chain to a store if
     /// there is one.
     fn run_to_end<F: Files, B: BufRead, W: Write>(
@@ -164,8 +186,7 @@ impl Session {
     fn step<W: Write>(&mut self, event: Event, out: &mut Printer<'_, W>) -> Result<(), Failure>
         ensures tells { Tells out.old out.new result }
     {
-        let reply = self.system.step(event)?;
-        print_reply(&reply, out)
+        print_step(&self.system.step(event), out)
     }
 
     /// Begins a proposal at a seat. Prints where, and on what height.
@@ -182,11 +203,8 @@ impl Session {
             peer,
             seat,
             proposal,
-        })?;
-        match &reply {
-            Reply::Begun(height) => writeln!(out, "begun {peer}.{seat} at {height}"),
-            reply => print_reply(reply, out),
-        }
+        });
+        print_begun(peer, seat, &reply, out)
     }
 
     /// Finishes what a seat has begun. What is endorsed gets the name.
@@ -199,9 +217,9 @@ impl Session {
     ) -> Result<(), Failure>
         ensures tells { Tells out.old out.new result }
     {
-        match self.system.step(Event::Finish { peer, seat })? {
-            Reply::Endorsed(payload, endorsement) => self.bind(name, payload, endorsement, out),
-            reply => print_reply(&reply, out),
+        match self.system.step(Event::Finish { peer, seat }) {
+            Ok(Reply::Endorsed(payload, endorsement)) => self.bind(name, payload, endorsement, out),
+            reply => print_step(&reply, out),
         }
     }
 
