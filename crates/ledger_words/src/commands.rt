@@ -3,6 +3,28 @@
 use clap::{Arg, ArgAction, Command};
 use std::alloc::{AllocError, Global};
 
+/// A command: its name, its words in their order, and its options.
+type Form = (
+    &'static str,
+    &'static [&'static str],
+    &'static [&'static str],
+);
+
+/// All commands. They stand in a table, since each place that hands a command on is dear to prove.
+const COMMANDS: [Form; 11] = [
+    ("check", &["MODULE"], &["profile"]),
+    ("sim", &["GENESIS", "CHAINCODE", "ARG"], &["nonce", "store"]),
+    ("run", &["GENESIS", "EVENTS"], &["store"]),
+    ("threads", &["GENESIS", "CHAINCODE", "ROUNDS"], &[]),
+    ("audit", &["GENESIS", "STORE"], &[]),
+    ("show", &["GENESIS", "STORE"], &["from", "to"]),
+    ("state", &["GENESIS", "STORE"], &["at", "key"]),
+    ("trace", &["GENESIS", "CHAINCODE", "ARG"], &["steps"]),
+    ("order", &["GENESIS"], &[]),
+    ("commit", &["GENESIS", "STORE"], &[]),
+    ("endorse", &["GENESIS", "ORG", "STORE"], &[]),
+];
+
 /// A word that has to be there, in its place.
 fn word<'a>(alloc: Global, name: &'a str) -> Arg<'a> {
     Arg::new(alloc, name).required(true).action(ArgAction::Set)
@@ -13,13 +35,9 @@ fn option<'a>(alloc: Global, name: &'a str) -> Arg<'a> {
     Arg::new(alloc, name).long(name).action(ArgAction::Set)
 }
 
-/// A command of this name, with its words in their order, and its options.
-fn command<'a>(
-    alloc: Global,
-    name: &'a str,
-    words: &[&'a str],
-    options: &[&'a str],
-) -> Result<Command<'a>, AllocError> {
+/// A command of this form.
+fn command<'a>(alloc: Global, form: &Form) -> Result<Command<'a>, AllocError> {
+    let (name, words, options) = *form;
     let mut command = Command::new(alloc, name);
     for name in words {
         command = command.arg(word(alloc, name))?;
@@ -30,39 +48,14 @@ fn command<'a>(
     Ok(command)
 }
 
-/// A command more.
-fn with_command<'a>(
-    alloc: Global,
-    ledger: Command<'a>,
-    name: &'a str,
-    words: &[&'a str],
-    options: &[&'a str],
-) -> Result<Command<'a>, AllocError> {
-    ledger.subcommand(command(alloc, name, words, options)?)
-}
-
-/// All commands.
+/// The commands, as one that has them.
 pub(crate) fn commands<'a>(alloc: Global) -> Result<Command<'a>, AllocError> {
-    let call = ["GENESIS", "CHAINCODE", "ARG"];
-    let ledger = Command::new(alloc, "ledger")
+    let mut ledger = Command::new(alloc, "ledger")
         .no_binary_name(true)
         .subcommand_required(true);
-    let ledger = with_command(alloc, ledger, "check", &["MODULE"], &["profile"])?;
-    let ledger = with_command(alloc, ledger, "sim", &call, &["nonce", "store"])?;
-    let ledger = with_command(alloc, ledger, "run", &["GENESIS", "EVENTS"], &["store"])?;
-    let ledger = with_command(
-        alloc,
-        ledger,
-        "threads",
-        &["GENESIS", "CHAINCODE", "ROUNDS"],
-        &[],
-    )?;
-    let store = ["GENESIS", "STORE"];
-    let ledger = with_command(alloc, ledger, "audit", &store, &[])?;
-    let ledger = with_command(alloc, ledger, "show", &store, &["from", "to"])?;
-    let ledger = with_command(alloc, ledger, "state", &store, &["at", "key"])?;
-    let ledger = with_command(alloc, ledger, "trace", &call, &["steps"])?;
-    let ledger = with_command(alloc, ledger, "order", &["GENESIS"], &[])?;
-    let ledger = with_command(alloc, ledger, "commit", &store, &[])?;
-    with_command(alloc, ledger, "endorse", &["GENESIS", "ORG", "STORE"], &[])
+    for form in &COMMANDS {
+        let command = command(alloc, form)?;
+        ledger = ledger.subcommand(command)?;
+    }
+    Ok(ledger)
 }

@@ -120,15 +120,31 @@ fn task_of<'a>(alloc: Global, matches: &ArgMatches<'a>) -> Result<Task<'a>, Word
     let Some((name, command)) = matches.subcommand() else {
         return Err(WordsFault::Usage);
     };
-    if name == "check" {
-        let module = text(command, "MODULE")?;
-        let profile = profile(command.get_str("profile").unwrap_or("1"))?;
-        return Ok(Task::Check { module, profile });
+    match name {
+        "check" => check(command),
+        "order" => order(command),
+        name => of_genesis(alloc, name, command),
     }
+}
+
+fn check<'a>(command: &ArgMatches<'a>) -> Result<Task<'a>, WordsFault> {
+    let module = text(command, "MODULE")?;
+    let profile = profile(command.get_str("profile").unwrap_or("1"))?;
+    Ok(Task::Check { module, profile })
+}
+
+fn order<'a>(command: &ArgMatches<'a>) -> Result<Task<'a>, WordsFault> {
     let genesis = text(command, "GENESIS")?;
-    if name == "order" {
-        return Ok(Task::Order { genesis });
-    }
+    Ok(Task::Order { genesis })
+}
+
+/// What a command of this name asks for of a genesis.
+fn of_genesis<'a>(
+    alloc: Global,
+    name: &str,
+    command: &ArgMatches<'a>,
+) -> Result<Task<'a>, WordsFault> {
+    let genesis = text(command, "GENESIS")?;
     let work = work_of(alloc, name, command)?;
     Ok(Task::Work { genesis, work })
 }
@@ -140,37 +156,65 @@ fn work_of<'a>(
     command: &ArgMatches<'a>,
 ) -> Result<Work<'a>, WordsFault> {
     match name {
-        "sim" => Ok(Work::Simulate {
-            proposal: Proposal::Call(call(alloc, command, command.get_str("nonce"))?),
-            store: command.get_str("store"),
-        }),
-        "run" => Ok(Work::Run {
-            events: text(command, "EVENTS")?,
-            store: command.get_str("store"),
-        }),
-        "threads" => Ok(Work::Threads {
-            rounds: count(text(command, "ROUNDS")?)?,
-            chaincode: chaincode(alloc, command)?,
-        }),
-        "audit" => Ok(Work::Audit {
-            store: text(command, "STORE")?,
-        }),
-        "show" => Ok(Work::Show {
-            store: text(command, "STORE")?,
-            from: command.get_str("from").map_or(Ok(1), block)?,
-            to: command.get_str("to").map_or(Ok(LAST_BLOCK), block)?,
-        }),
-        "state" => Ok(Work::State {
-            store: text(command, "STORE")?,
-            at: command.get_str("at").map_or(Ok(LAST_BLOCK), block)?,
-            key: key(alloc, command.get_str("key"))?,
-        }),
-        "trace" => Ok(Work::Trace {
-            most: command.get_str("steps").map_or(Ok(MOST_COUNT), count)?,
-            call: call(alloc, command, None)?,
-        }),
+        "sim" => simulate(alloc, command),
+        "run" => run(command),
+        "threads" => threads(alloc, command),
+        "audit" => audit(command),
+        "show" => show(command),
+        "state" => state(alloc, command),
+        "trace" => trace(alloc, command),
         _ => role_of(alloc, name, command),
     }
+}
+
+fn simulate<'a>(alloc: Global, command: &ArgMatches<'a>) -> Result<Work<'a>, WordsFault> {
+    Ok(Work::Simulate {
+        proposal: Proposal::Call(call(alloc, command, command.get_str("nonce"))?),
+        store: command.get_str("store"),
+    })
+}
+
+fn run<'a>(command: &ArgMatches<'a>) -> Result<Work<'a>, WordsFault> {
+    Ok(Work::Run {
+        events: text(command, "EVENTS")?,
+        store: command.get_str("store"),
+    })
+}
+
+fn threads<'a>(alloc: Global, command: &ArgMatches<'a>) -> Result<Work<'a>, WordsFault> {
+    Ok(Work::Threads {
+        rounds: count(text(command, "ROUNDS")?)?,
+        chaincode: chaincode(alloc, command)?,
+    })
+}
+
+fn audit<'a>(command: &ArgMatches<'a>) -> Result<Work<'a>, WordsFault> {
+    Ok(Work::Audit {
+        store: text(command, "STORE")?,
+    })
+}
+
+fn show<'a>(command: &ArgMatches<'a>) -> Result<Work<'a>, WordsFault> {
+    Ok(Work::Show {
+        store: text(command, "STORE")?,
+        from: command.get_str("from").map_or(Ok(1), block)?,
+        to: command.get_str("to").map_or(Ok(LAST_BLOCK), block)?,
+    })
+}
+
+fn state<'a>(alloc: Global, command: &ArgMatches<'a>) -> Result<Work<'a>, WordsFault> {
+    Ok(Work::State {
+        store: text(command, "STORE")?,
+        at: command.get_str("at").map_or(Ok(LAST_BLOCK), block)?,
+        key: key(alloc, command.get_str("key"))?,
+    })
+}
+
+fn trace<'a>(alloc: Global, command: &ArgMatches<'a>) -> Result<Work<'a>, WordsFault> {
+    Ok(Work::Trace {
+        most: command.get_str("steps").map_or(Ok(MOST_COUNT), count)?,
+        call: call(alloc, command, None)?,
+    })
 }
 
 /// What a command of this name asks for that works on lines as they come.
