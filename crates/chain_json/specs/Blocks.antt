@@ -4,9 +4,10 @@ use Rattle.sha2.specs.Sha256.{sha256}
 use Rattle.fab_types.specs.Committed.{Committed}
 use Rattle.fab_types.specs.declared.envelope.Envelope.{Envelope}
 use Rattle.fab_types.specs.declared.flag.Flag.{Flag}
+use Rattle.fab_types.specs.declared.block.Header.{Header}
 use Rattle.wire.specs.Spelling.{header_bytes}
 use Rattle.endorsement_policy.specs.declared.rules.Organisation.{Organisation}
-use Rattle.serde_json.specs.Data.{Data, array, number, unsigned, object, member, no_members}
+use Rattle.serde_json.specs.Data.{Data, array, number, unsigned, Members, object, member, no_members, put}
 use Rattle.serde_json.specs.View.{items_of}
 use Rattle.chain_json.specs.Texts.{hex_json, pairs_json}
 use Rattle.chain_json.specs.Transactions.{transaction_json}
@@ -22,3 +23,9 @@ block_json orgs c =
     object (member (codes "block") (number (unsigned header.number)) (member (codes "data") (hex_json header.data_hash)
     (member (codes "hash") (hex_json (sha256 (header_bytes header))) (member (codes "previous") (hex_json header.previous_hash)
     (member (codes "txs") (array (items_of (transactions_json orgs c.block.envelopes c.flags))) no_members)))))
+
+-- what a header has and its hash, as they are put in
+abbrev pub with_header : Header → Members → Members
+with_header h ms =
+    put (codes "previous") (hex_json h.previous_hash) (put (codes "hash") (hex_json (sha256 (header_bytes h)))
+    (put (codes "data") (hex_json h.data_hash) (put (codes "block") (number (unsigned h.number)) ms)))

@@ -1,4 +1,5 @@
 pub mod Texts
+pub mod Members
 pub mod Sets
 pub mod Transactions
 pub mod Blocks

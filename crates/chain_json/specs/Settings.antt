@@ -8,7 +8,7 @@ use Rattle.endorsement_policy.specs.declared.rules.ChaincodePolicy.{ChaincodePol
 use Rattle.policy_text.specs.Text.{policy_text}
 use Rattle.simulator.specs.declared.book.Chaincode.{Chaincode}
 use Rattle.ledger_setting.specs.declared.genesis.Genesis.{Genesis}
-use Rattle.serde_json.specs.Data.{Data, null, boolean, array, number, unsigned, string, object, member, no_members}
+use Rattle.serde_json.specs.Data.{Data, null, boolean, array, number, unsigned, string, Members, object, member, no_members, put}
 use Rattle.serde_json.specs.View.{items_of}
 use Rattle.chain_json.specs.Texts.{hex_json, list_json, pairs_json}
 
@@ -41,3 +41,20 @@ setting_json g =
     (member (codes "modules") (list_json module_json book.installed.modules) (member (codes "orgs") (list_json string book.installed.orgs)
     (member (codes "peers") (list_json string g.peers.items) (member (codes "preferred") (number (unsigned g.preferred))
     (member (codes "reorder") (boolean g.reorder) (member (codes "upgrade") (string (policy_text rules.upgrade)) no_members))))))))))
+
+-- ---- the same members as they are put in
+
+-- what batches are cut and ordered by, and the number of this form of a setting
+abbrev pub with_limits : Genesis → Members → Members
+with_limits g ms =
+    put (codes "reorder") (boolean g.reorder) (put (codes "preferred") (number (unsigned g.preferred)) (put (codes "ledger") (number (unsigned 1))
+    (put (codes "count") (number (unsigned g.count)) (put (codes "absolute") (number (unsigned g.absolute)) ms))))
+
+-- what is installed, who takes part, and the policies
+abbrev pub with_book : Genesis → Members → Members
+with_book g ms =
+    let book = g.book.value in
+    let rules = g.rules.value in
+    put (codes "upgrade") (string (policy_text rules.upgrade)) (put (codes "peers") (list_json string g.peers.items)
+    (put (codes "orgs") (list_json string book.installed.orgs) (put (codes "modules") (list_json module_json book.installed.modules)
+    (put (codes "chaincodes") (array (items_of (chaincodes_json rules.policies book.chaincodes book.installed.modules))) ms))))

@@ -7,6 +7,7 @@ use Rattle.fab_types.specs.declared.definition.Definition.{Definition}
 use Rattle.fab_types.specs.declared.envelope.Endorsement.{Endorsement}
 use Rattle.fab_types.specs.declared.envelope.Envelope.{Envelope}
 use Rattle.fab_types.specs.declared.flag.Flag.{Flag}
+use Rattle.fab_types.specs.declared.payload.Payload.{Payload}
 use Rattle.fab_types.specs.declared.proposal.Call.{Call}
 use Rattle.fab_types.specs.declared.proposal.Upgrade.{Upgrade}
 use Rattle.fab_types.specs.declared.proposal.Proposal.{Proposal}
@@ -15,7 +16,7 @@ use Rattle.wire.specs.Ids.{id_of}
 use Rattle.wire.specs.Spelling.{payload_bytes}
 use Rattle.endorsement_policy.specs.Endorsed.{is_org, is_tag_of}
 use Rattle.endorsement_policy.specs.declared.rules.Organisation.{Organisation}
-use Rattle.serde_json.specs.Data.{Data, boolean, number, unsigned, string, object, member, no_members}
+use Rattle.serde_json.specs.Data.{Data, boolean, number, unsigned, string, Members, object, member, no_members, put}
 use Rattle.chain_json.specs.Texts.{hex_json, list_json}
 use Rattle.chain_json.specs.Sets.{range_json, read_json, write_json}
 
@@ -61,3 +62,23 @@ of_parts json orgs e =
 -- a transaction with its flag, under the keys of these organisations
 abbrev pub transaction_json : List Organisation → Envelope → Flag → Data
 transaction_json orgs e flag = of_parts (proposal_json e.payload.proposal flag) orgs e
+
+-- ---- the same members as they are put in
+
+abbrev pub with_call : Call → Members → Members
+with_call c ms = put (codes "nonce") (hex_json c.nonce) (put (codes "chaincode") (string c.chaincode) (put (codes "arg") (hex_json c.argument) ms))
+
+abbrev pub with_upgrade : Upgrade → Members → Members
+with_upgrade u ms =
+    put (codes "upgrade") (definition_json u.definition) (put (codes "nonce") (hex_json u.nonce) (put (codes "chaincode") (string u.chaincode) ms))
+
+abbrev pub with_payload : Payload → Members → Members
+with_payload p ms =
+    put (codes "writes") (list_json write_json p.writes) (put (codes "result") (hex_json p.result)
+    (put (codes "reads") (list_json read_json p.reads) (put (codes "ranges") (list_json range_json p.ranges) ms)))
+
+-- what a call and an upgrade have in common
+abbrev pub with_rest : List Organisation → Envelope → Flag → Members → Members
+with_rest orgs e flag ms =
+    with_payload e.payload (put (codes "id") (hex_json (id_of e.payload.proposal)) (put (codes "flag") (number (unsigned (flag_number flag)))
+    (put (codes "endorsements") (endorsements_json orgs e) ms)))

@@ -1,15 +1,16 @@
 //! Blocks as JSON.
 
-ghost use Rattle.std.specs.Prelude.{◌≡◌, IfOk, length};
+ghost use Rattle.std.specs.Prelude.{◌≡◌, IfOk, OnOk, length};
 ghost use Rattle.serde_json.specs.Data.{array};
 ghost use Rattle.serde_json.specs.View.{items_of, view};
-ghost use Rattle.chain_json.specs.Blocks.{block_json, transactions_json};
+ghost use Rattle.chain_json.specs.Blocks.{block_json, transactions_json, with_header};
+ghost use Rattle.chain_json.specs.Members.{members_in};
 
-use crate::texts::hex_of;
+use crate::object::Object;
 use crate::transaction::transaction_of;
 use endorsement_policy::Rules;
-use fab_types::{CommittedBlock, Envelope, Flag};
-use serde_json::{Value, json};
+use fab_types::{CommittedBlock, Envelope, Flag, Header};
+use serde_json::Value;
 use std::alloc::{AllocError, Global};
 use wire::header_hash;
 
@@ -22,15 +23,23 @@ pub(crate) fn block_of(
 ) -> Result<Value, AllocError>
     ensures { IfOk result (λ v. view v ≡ block_json rules.now.orgs committed.now) }
 {
-    let header = &committed.block().header;
+    let mut object = Object::new(alloc);
+    put_header(&mut object, &committed.block().header)?;
     let envelopes = committed.block().envelopes.as_slice();
-    json!(in alloc; {
-        "block": header.number.get(),
-        "data": hex_of(alloc, &header.data_hash)?,
-        "hash": hex_of(alloc, &header_hash(header))?,
-        "previous": hex_of(alloc, &header.previous_hash)?,
-        "txs": transactions_of(alloc, rules, envelopes, committed.flags())?
-    })
+    let transactions = transactions_of(alloc, rules, envelopes, committed.flags())?;
+    object.put("txs", transactions)?;
+    Ok(object.into_value())
+}
+
+/// Puts in what a header has, and its hash.
+fn put_header(object: &mut Object, header: &Header) -> Result<(), AllocError>
+    ensures { OnOk result
+        (members_in object.new ≡ with_header header.now (members_in object.old)) }
+{
+    object.put("block", Value::from(header.number.get()))?;
+    object.put_hex("data", &header.data_hash)?;
+    object.put_hex("hash", &header_hash(header))?;
+    object.put_hex("previous", &header.previous_hash)
 }
 
 /// The transactions of a block, each with its flag.

@@ -4,10 +4,11 @@ ghost use Rattle.std.specs.Prelude.{◌≡◌, IfOk, string_bytes};
 ghost use Rattle.serde_json.specs.View.{view};
 ghost use Rattle.chain_json.specs.Endings.{end_words, ending_json, finding_words, rerun_of};
 
+use crate::object::Object;
 use block_store::End;
 use committer::CommitRefusal;
 use fabric_core::Audit;
-use serde_json::{Value, json};
+use serde_json::Value;
 use std::alloc::{AllocError, Global};
 
 /// What is found of a store's blocks.
@@ -31,12 +32,12 @@ pub(crate) fn ending_of(
 ) -> Result<Value, AllocError>
     ensures { IfOk result (λ v. view v ≡ ending_json finding blocks end) }
 {
-    json!(in alloc; {
-        "audit": finding_words(alloc, finding)?,
-        "blocks": blocks,
-        "end": end_words(alloc, end)?,
-        "rerun": rerun_of(finding)
-    })
+    let mut object = Object::new(alloc);
+    object.put("audit", Value::String(finding_words(alloc, finding)?))?;
+    object.put("blocks", Value::from(blocks))?;
+    object.put("end", Value::String(end_words(alloc, end)?))?;
+    object.put("rerun", Value::from(rerun_of(finding)))?;
+    Ok(object.into_value())
 }
 
 fn finding_words(alloc: Global, finding: Finding) -> Result<String, AllocError>

@@ -4,10 +4,10 @@ ghost use Rattle.std.specs.Prelude.{◌≡◌, IfOk};
 ghost use Rattle.serde_json.specs.View.{view};
 ghost use Rattle.chain_json.specs.Entries.{entry_json, placed_write_json};
 
-use crate::texts::{hex_of, value_of};
-use crate::to_json::ToJson;
+use crate::object::Object;
+use crate::texts::value_of;
 use fab_types::{Key, Version};
-use serde_json::{Value, json};
+use serde_json::Value;
 use std::alloc::{AllocError, Global};
 
 /// A key of a state, with its value and the version of its last writer. The only error is want of
@@ -20,11 +20,11 @@ pub(crate) fn entry_of(
 ) -> Result<Value, AllocError>
     ensures { IfOk result (λ v. view v ≡ entry_json key.now value.now version) }
 {
-    json!(in alloc; {
-        "key": hex_of(alloc, key.as_slice())?,
-        "value": hex_of(alloc, value.as_slice())?,
-        "version": version.to_json(alloc)?
-    })
+    let mut object = Object::new(alloc);
+    object.put_hex("key", key.as_slice())?;
+    object.put_hex("value", value.as_slice())?;
+    object.put_json("version", &version)?;
+    Ok(object.into_value())
 }
 
 /// What the transaction of this id wrote to a key, at its place in the chain. The only error is
@@ -40,11 +40,11 @@ pub(crate) fn write_of(
     ensures { IfOk result
         (λ v. view v ≡ placed_write_json id.now block place key.now value.now) }
 {
-    json!(in alloc; {
-        "block": block,
-        "id": hex_of(alloc, id)?,
-        "key": hex_of(alloc, key.as_slice())?,
-        "place": place,
-        "value": value_of(alloc, value)?
-    })
+    let mut object = Object::new(alloc);
+    object.put("block", Value::from(block))?;
+    object.put_hex("id", id)?;
+    object.put_hex("key", key.as_slice())?;
+    object.put("place", Value::from(place))?;
+    object.put("value", value_of(alloc, value)?)?;
+    Ok(object.into_value())
 }

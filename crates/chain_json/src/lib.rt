@@ -8,6 +8,7 @@ mod block;
 mod ending;
 mod entries;
 mod line;
+mod object;
 mod sets;
 mod setting;
 mod texts;

@@ -4,10 +4,11 @@ ghost use Rattle.std.specs.Prelude.{◌≡◌, IfOk};
 ghost use Rattle.serde_json.specs.View.{view};
 ghost use Rattle.chain_json.specs.Sets.{entry_json, range_json, read_json, seen_json, write_json};
 
-use crate::texts::{hex_of, value_of};
-use crate::to_json::{ToJson, list};
+use crate::object::Object;
+use crate::texts::value_of;
+use crate::to_json::ToJson;
 use fab_types::{RangeEntry, RangeItem, ReadItem, Version, WriteItem};
-use serde_json::{Value, json};
+use serde_json::Value;
 use std::alloc::{AllocError, Global};
 
 /// The version that was seen; null where the key was absent.
@@ -24,10 +25,10 @@ impl ToJson for ReadItem {
     ghost json = { read_json };
 
     fn to_json(&self, alloc: Global) -> Result<Value, AllocError> {
-        json!(in alloc; {
-            "key": hex_of(alloc, self.key.as_slice())?,
-            "version": seen(alloc, self.version)?
-        })
+        let mut object = Object::new(alloc);
+        object.put_hex("key", self.key.as_slice())?;
+        object.put("version", seen(alloc, self.version)?)?;
+        Ok(object.into_value())
     }
 }
 
@@ -35,10 +36,10 @@ impl ToJson for RangeEntry {
     ghost json = { entry_json };
 
     fn to_json(&self, alloc: Global) -> Result<Value, AllocError> {
-        json!(in alloc; {
-            "key": hex_of(alloc, self.key.as_slice())?,
-            "version": self.version.to_json(alloc)?
-        })
+        let mut object = Object::new(alloc);
+        object.put_hex("key", self.key.as_slice())?;
+        object.put_json("version", &self.version)?;
+        Ok(object.into_value())
     }
 }
 
@@ -46,12 +47,12 @@ impl ToJson for RangeItem {
     ghost json = { range_json };
 
     fn to_json(&self, alloc: Global) -> Result<Value, AllocError> {
-        json!(in alloc; {
-            "end": hex_of(alloc, self.end().as_slice())?,
-            "entries": list(alloc, self.entries())?,
-            "limit": self.limit(),
-            "start": hex_of(alloc, self.start().as_slice())?
-        })
+        let mut object = Object::new(alloc);
+        object.put_hex("end", self.end().as_slice())?;
+        object.put_list("entries", self.entries())?;
+        object.put("limit", Value::from(self.limit()))?;
+        object.put_hex("start", self.start().as_slice())?;
+        Ok(object.into_value())
     }
 }
 
@@ -59,9 +60,9 @@ impl ToJson for WriteItem {
     ghost json = { write_json };
 
     fn to_json(&self, alloc: Global) -> Result<Value, AllocError> {
-        json!(in alloc; {
-            "key": hex_of(alloc, self.key.as_slice())?,
-            "value": value_of(alloc, &self.value)?
-        })
+        let mut object = Object::new(alloc);
+        object.put_hex("key", self.key.as_slice())?;
+        object.put("value", value_of(alloc, &self.value)?)?;
+        Ok(object.into_value())
     }
 }

@@ -1,18 +1,20 @@
 //! What a ledger begins with, as JSON.
 
-ghost use Rattle.std.specs.Prelude.{◌≡◌, ◌≤◌, IfOk, length};
+ghost use Rattle.std.specs.Prelude.{◌≡◌, ◌≤◌, IfOk, OnOk, length};
 ghost use Rattle.serde_json.specs.Data.{array};
 ghost use Rattle.serde_json.specs.View.{items_of, view};
-ghost use Rattle.chain_json.specs.Settings.{chaincode_json, chaincodes_json, module_json, policy_json, setting_json};
+ghost use Rattle.chain_json.specs.Members.{members_in};
+ghost use Rattle.chain_json.specs.Settings.{chaincode_json, chaincodes_json, module_json, policy_json, setting_json, with_book, with_limits};
 ghost use Rattle.endorsement_policy.specs.Endorsed.{listed_policy};
 
-use crate::texts::{hex_of, name_of};
-use crate::to_json::{ToJson, list};
+use crate::object::Object;
+use crate::texts::name_of;
+use crate::to_json::ToJson;
 use endorsement_policy::{ModuleId, Rules};
 use fab_types::Name;
 use ledger_setting::Genesis;
 use policy_text::policy_text;
-use serde_json::{Value, json};
+use serde_json::Value;
 use simulator::Chaincode;
 use std::alloc::{AllocError, Global};
 
@@ -21,30 +23,53 @@ use std::alloc::{AllocError, Global};
 pub(crate) fn setting_of(alloc: Global, genesis: &Genesis) -> Result<Value, AllocError>
     ensures { IfOk result (λ v. view v ≡ setting_json genesis.now) }
 {
+    let mut object = Object::new(alloc);
+    put_limits(&mut object, genesis)?;
+    put_book(alloc, &mut object, genesis)?;
+    Ok(object.into_value())
+}
+
+/// Puts in what batches are cut and ordered by, and the number of this form of a setting.
+fn put_limits(object: &mut Object, genesis: &Genesis) -> Result<(), AllocError>
+    ensures { OnOk result
+        (members_in object.new ≡ with_limits genesis.now (members_in object.old)) }
+{
+    object.put("absolute", Value::from(genesis.absolute))?;
+    object.put("count", Value::from(genesis.count))?;
+    object.put("ledger", Value::from(1u8))?;
+    object.put("preferred", Value::from(genesis.preferred))?;
+    object.put("reorder", Value::from(genesis.reorder))
+}
+
+/// Puts in what is installed, who takes part, and the policies.
+fn put_book(alloc: Global, object: &mut Object, genesis: &Genesis) -> Result<(), AllocError>
+    ensures { OnOk result
+        (members_in object.new ≡ with_book genesis.now (members_in object.old)) }
+{
     let installed = genesis.book.installed();
     let chaincodes = genesis.book.chaincodes();
-    json!(in alloc; {
-        "absolute": genesis.absolute,
-        "chaincodes": chaincodes_of(alloc, &genesis.rules, chaincodes, installed.modules())?,
-        "count": genesis.count,
-        "ledger": 1u8,
-        "modules": list(alloc, installed.modules())?,
-        "orgs": list(alloc, installed.orgs())?,
-        "peers": list(alloc, &genesis.peers)?,
-        "preferred": genesis.preferred,
-        "reorder": genesis.reorder,
-        "upgrade": policy_text(alloc, genesis.rules.upgrade())?
-    })
+    let ids = installed.modules();
+    object.put(
+        "chaincodes",
+        chaincodes_of(alloc, &genesis.rules, chaincodes, ids)?,
+    )?;
+    object.put_list("modules", ids)?;
+    object.put_list("orgs", installed.orgs())?;
+    object.put_list("peers", &genesis.peers)?;
+    object.put(
+        "upgrade",
+        Value::String(policy_text(alloc, genesis.rules.upgrade())?),
+    )
 }
 
 impl ToJson for ModuleId {
     ghost json = { module_json };
 
     fn to_json(&self, alloc: Global) -> Result<Value, AllocError> {
-        json!(in alloc; {
-            "module": hex_of(alloc, &self.digest)?,
-            "profile": self.profile.number()
-        })
+        let mut object = Object::new(alloc);
+        object.put_hex("module", &self.digest)?;
+        object.put("profile", Value::from(self.profile.number()))?;
+        Ok(object.into_value())
     }
 }
 
@@ -77,13 +102,13 @@ fn chaincode_of(
     ensures { IfOk result
         (λ v. view v ≡ chaincode_json rules.now.policies chaincode.now id.now) }
 {
-    json!(in alloc; {
-        "fuel": chaincode.fuel,
-        "module": hex_of(alloc, &id.digest)?,
-        "name": name_of(&chaincode.name),
-        "policy": policy_of(alloc, rules, &chaincode.name)?,
-        "profile": id.profile.number()
-    })
+    let mut object = Object::new(alloc);
+    object.put("fuel", Value::from(chaincode.fuel))?;
+    object.put_hex("module", &id.digest)?;
+    object.put_text("name", name_of(&chaincode.name))?;
+    object.put("policy", policy_of(alloc, rules, &chaincode.name)?)?;
+    object.put("profile", Value::from(id.profile.number()))?;
+    Ok(object.into_value())
 }
 
 /// The policy of a chaincode by the genesis; null where it has none.

@@ -1,19 +1,20 @@
 //! Transactions as JSON.
 
-ghost use Rattle.std.specs.Prelude.{◌≡◌, IfOk};
+ghost use Rattle.std.specs.Prelude.{◌≡◌, IfOk, OnOk};
 ghost use Rattle.std.specs.List.{find};
 ghost use Rattle.endorsement_policy.specs.Endorsed.{is_org, is_tag_of};
 ghost use Rattle.serde_json.specs.View.{view};
-ghost use Rattle.wire.specs.Ids.{id_of};
-ghost use Rattle.chain_json.specs.Texts.{hex_json, list_json};
-ghost use Rattle.chain_json.specs.Transactions.{of_parts, call_json, definition_json, endorsement_json, endorsements_json, transaction_json, upgrade_json};
+ghost use Rattle.chain_json.specs.Members.{members_in};
+ghost use Rattle.chain_json.specs.Texts.{list_json};
+ghost use Rattle.chain_json.specs.Transactions.{of_parts, call_json, definition_json, endorsement_json, endorsements_json, transaction_json, upgrade_json, with_call, with_payload, with_rest, with_upgrade};
 
+use crate::object::Object;
 use crate::sets;
-use crate::texts::{hex_of, name_of, policy_of};
-use crate::to_json::{ToJson, list};
+use crate::texts::{name_of, policy_of};
+use crate::to_json::ToJson;
 use endorsement_policy::Rules;
-use fab_types::{Call, Definition, Endorsement, Envelope, Flag, Proposal, Upgrade};
-use serde_json::{Value, json};
+use fab_types::{Call, Definition, Endorsement, Envelope, Flag, Payload, Proposal, Upgrade};
+use serde_json::Value;
 use std::alloc::{AllocError, Global};
 use wire::{encode_payload, tx_id};
 
@@ -33,8 +34,7 @@ pub(crate) fn transaction_of(
     }
 }
 
-/// A transaction of this call. Each member is made where it is put in, so that no other is at hand
-/// where one fails.
+/// A transaction of this call.
 fn call_of(
     alloc: Global,
     rules: &Rules,
@@ -45,19 +45,19 @@ fn call_of(
     ensures { IfOk result
         (λ v. view v ≡ of_parts (call_json call.now flag) rules.now.orgs envelope.now) }
 {
-    let payload = &envelope.payload;
-    json!(in alloc; {
-        "arg": hex_of(alloc, call.argument.as_slice())?,
-        "chaincode": name_of(&call.chaincode),
-        "endorsements": endorsements_of(alloc, rules, envelope)?,
-        "flag": flag.number(),
-        "id": id_of(alloc, &payload.proposal)?,
-        "nonce": hex_of(alloc, &call.nonce)?,
-        "ranges": list(alloc, payload.ranges.as_slice())?,
-        "reads": list(alloc, payload.reads.as_slice())?,
-        "result": hex_of(alloc, payload.result.as_slice())?,
-        "writes": list(alloc, payload.writes.as_slice())?
-    })
+    let mut object = Object::new(alloc);
+    put_call(&mut object, call)?;
+    put_rest(alloc, &mut object, rules, envelope, flag)?;
+    Ok(object.into_value())
+}
+
+/// Puts in what a call has alone.
+fn put_call(object: &mut Object, call: &Call) -> Result<(), AllocError>
+    ensures { OnOk result (members_in object.new ≡ with_call call.now (members_in object.old)) }
+{
+    object.put_hex("arg", call.argument.as_slice())?;
+    object.put_text("chaincode", name_of(&call.chaincode))?;
+    object.put_hex("nonce", &call.nonce)
 }
 
 /// A transaction of this upgrade.
@@ -71,38 +71,62 @@ fn upgrade_of(
     ensures { IfOk result
         (λ v. view v ≡ of_parts (upgrade_json upgrade.now flag) rules.now.orgs envelope.now) }
 {
-    let payload = &envelope.payload;
-    json!(in alloc; {
-        "chaincode": name_of(&upgrade.chaincode),
-        "endorsements": endorsements_of(alloc, rules, envelope)?,
-        "flag": flag.number(),
-        "id": id_of(alloc, &payload.proposal)?,
-        "nonce": hex_of(alloc, &upgrade.nonce)?,
-        "ranges": list(alloc, payload.ranges.as_slice())?,
-        "reads": list(alloc, payload.reads.as_slice())?,
-        "result": hex_of(alloc, payload.result.as_slice())?,
-        "upgrade": upgrade.definition.to_json(alloc)?,
-        "writes": list(alloc, payload.writes.as_slice())?
-    })
+    let mut object = Object::new(alloc);
+    put_upgrade(&mut object, upgrade)?;
+    put_rest(alloc, &mut object, rules, envelope, flag)?;
+    Ok(object.into_value())
 }
 
-/// The id of a transaction with this proposal.
-fn id_of(alloc: Global, proposal: &Proposal) -> Result<Value, AllocError>
-    ensures { IfOk result (λ v. view v ≡ hex_json (id_of proposal.now)) }
+/// Puts in what an upgrade has alone.
+fn put_upgrade(object: &mut Object, upgrade: &Upgrade) -> Result<(), AllocError>
+    ensures { OnOk result
+        (members_in object.new ≡ with_upgrade upgrade.now (members_in object.old)) }
 {
-    hex_of(alloc, &tx_id(alloc, proposal)?)
+    object.put_text("chaincode", name_of(&upgrade.chaincode))?;
+    object.put_hex("nonce", &upgrade.nonce)?;
+    object.put_json("upgrade", &upgrade.definition)
+}
+
+/// Puts in what a call and an upgrade have in common.
+fn put_rest(
+    alloc: Global,
+    object: &mut Object,
+    rules: &Rules,
+    envelope: &Envelope,
+    flag: Flag,
+) -> Result<(), AllocError>
+    ensures { OnOk result
+        (members_in object.new
+        ≡ with_rest rules.now.orgs envelope.now flag (members_in object.old)) }
+{
+    let payload = &envelope.payload;
+    object.put("endorsements", endorsements_of(alloc, rules, envelope)?)?;
+    object.put("flag", Value::from(flag.number()))?;
+    object.put_hex("id", &tx_id(alloc, &payload.proposal)?)?;
+    put_payload(object, payload)
+}
+
+/// Puts in what a payload read, gave and wrote.
+fn put_payload(object: &mut Object, payload: &Payload) -> Result<(), AllocError>
+    ensures { OnOk result
+        (members_in object.new ≡ with_payload payload.now (members_in object.old)) }
+{
+    object.put_list("ranges", payload.ranges.as_slice())?;
+    object.put_list("reads", payload.reads.as_slice())?;
+    object.put_hex("result", payload.result.as_slice())?;
+    object.put_list("writes", payload.writes.as_slice())
 }
 
 impl ToJson for Definition {
     ghost json = { definition_json };
 
     fn to_json(&self, alloc: Global) -> Result<Value, AllocError> {
-        json!(in alloc; {
-            "fuel": self.fuel.get(),
-            "module": hex_of(alloc, &self.digest)?,
-            "policy": policy_of(&self.policy),
-            "profile": self.profile.number()
-        })
+        let mut object = Object::new(alloc);
+        object.put("fuel", Value::from(self.fuel.get()))?;
+        object.put_hex("module", &self.digest)?;
+        object.put_text("policy", policy_of(&self.policy))?;
+        object.put("profile", Value::from(self.profile.number()))?;
+        Ok(object.into_value())
     }
 }
 
@@ -140,11 +164,11 @@ fn endorsement_of(
     ensures { IfOk result
         (λ v. view v ≡ endorsement_json rules.now.orgs bytes.now endorsement.now) }
 {
-    json!(in alloc; {
-        "org": endorsement.org.to_json(alloc)?,
-        "right": is_right(rules, endorsement, bytes),
-        "tag": hex_of(alloc, &endorsement.tag)?
-    })
+    let mut object = Object::new(alloc);
+    object.put_json("org", &endorsement.org)?;
+    object.put("right", Value::from(is_right(rules, endorsement, bytes)))?;
+    object.put_hex("tag", &endorsement.tag)?;
+    Ok(object.into_value())
 }
 
 /// Whether the organisation that an endorsement names is known, and the tag is its tag on these
