@@ -12,7 +12,7 @@ use Rattle.genesis.specs.declared.refusal.GenesisRefusal.{GenesisRefusal}
 use Rattle.genesis.specs.Lists.{IsNumber, IsWithin}
 use Rattle.endorsement_policy.specs.Limits.{IsText}
 use Rattle.genesis.specs.Refused.{NoneIs}
-use Rattle.genesis.specs.Spelling.{IsDefinition, IsHex, IsHexModule, IsInstalled, IsModuleOf, IsProfile, chaincode_object, module_object}
+use Rattle.genesis.specs.Spelling.{HasParts, IsDefinition, IsHex, IsHexModule, IsInstalled, IsModuleOf, IsProfile, chaincode_object, module_object}
 use Rattle.json_fields.proofs.Rests.{members_in, rest, rest_of_three, first, text_in}
 
 pub same_ok : (r : Result (List ℕ) FromHexError) (a b : List ℕ) → r ≡ Ok a → r ≡ Ok b → a ≡ b
@@ -45,27 +45,20 @@ NoneIs-fuel orgs d fuel hex name policy profile r is none = (
       none.1 real c.chaincode.fuel (subst (λ x. IsNumber 1 10000000 x c.chaincode.fuel) same spelled.5),
 )
 
-pub NoneIs-module : (orgs : List (List ℕ)) (d fuel : Data) (hex name policy : List ℕ) (profile : Data) (r : GenesisRefusal)
-    → d ≡ chaincode_object fuel hex name policy profile → NoneIs (IsModuleOf hex profile) r → NoneIs (IsDefinition orgs d) r
-NoneIs-module orgs d fuel hex name policy profile r is none = (
+pub NoneIs-parts : (orgs : List (List ℕ)) (d fuel : Data) (hex name policy : List ℕ) (profile : Data) (r : GenesisRefusal)
+    → d ≡ chaincode_object fuel hex name policy profile → NoneIs (HasParts orgs hex profile policy) r → NoneIs (IsDefinition orgs d) r
+NoneIs-parts orgs d fuel hex name policy profile r is none = (
   none.0,
   λ real c spelled.
       let e = sym spelled.4 ∙ is in
       let text = ap (λ d. text_in (first (rest (members_in d)))) e in
       let number = ap (λ d. first (rest (rest_of_three (members_in d)))) e in
-      none.1 real (record { «module» = c.chaincode.«module»; id = c.id }) (
+      let over = ap (λ d. text_in (first (rest_of_three (members_in d)))) e in
+      none.1 real c (
         subst (λ n. IsProfile n c.id.profile) number spelled.6,
         subst (λ x. IsHexModule x c.chaincode.«module» c.id) text spelled.7,
+        subst (λ x. IsText orgs c.policy.policy x) over spelled.9,
       ),
-)
-
-pub NoneIs-policy : (orgs : List (List ℕ)) (d fuel : Data) (hex name policy : List ℕ) (profile : Data) (r : GenesisRefusal)
-    → d ≡ chaincode_object fuel hex name policy profile → NoneIs (λ p. IsText orgs p policy) r → NoneIs (IsDefinition orgs d) r
-NoneIs-policy orgs d fuel hex name policy profile r is none = (
-  none.0,
-  λ real c spelled.
-      let same = ap (λ d. text_in (first (rest_of_three (members_in d)))) (sym spelled.4 ∙ is) in
-      none.1 real c.policy.policy (subst (λ x. IsText orgs c.policy.policy x) same spelled.9),
 )
 
 -- ---- modules

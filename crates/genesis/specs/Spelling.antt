@@ -88,6 +88,11 @@ IsDefinition orgs d c =
     × IsNumber 1 10000000 fuel c.chaincode.fuel × IsProfile profile c.id.profile × IsHexModule hex c.chaincode.«module» c.id
     × IsName c.chaincode.name × IsText orgs c.policy.policy policy × (c.policy.chaincode ≡ c.chaincode.name)
 
+-- its module and its policy are those of these fields
+abbrev pub HasParts : List (List ℕ) → (hex : List ℕ) → (profile : Data) → (policy : List ℕ) → Definition → Type 0
+HasParts orgs hex profile policy c =
+    IsProfile profile c.id.profile × IsHexModule hex c.chaincode.«module» c.id × IsText orgs c.policy.policy policy
+
 abbrev pub chaincodes_of : List Definition → List Chaincode
 chaincodes_of cs = map (λ (c : Definition). c.chaincode) cs
 

@@ -7,7 +7,7 @@ ghost use Rattle.simulator.specs.Books.{Book};
 ghost use Rattle.genesis.specs.Refused.{NoneIs};
 ghost use Rattle.genesis.specs.Spelling.{IsBookOf};
 
-use crate::chaincodes::{DefinitionReader, parted};
+use crate::chaincodes::{Apart, DefinitionReader, parted};
 use crate::lists::read_list;
 use crate::modules::{ModuleReader, modules_apart};
 use crate::refusal::GenesisRefusal;
@@ -35,7 +35,11 @@ pub(crate) fn book(
     let reader = DefinitionReader { orgs: &orgs };
     let definitions = read_list(alloc, &reader, chaincodes, 1, MOST_CHAINCODES)?;
     let installed = read_list(alloc, &ModuleReader, modules, 0, MOST_MODULES)?;
-    let (chaincodes, ids, policies) = parted(alloc, definitions)?;
+    let Apart {
+        chaincodes,
+        ids,
+        policies,
+    } = parted(alloc, definitions)?;
     let (modules, ids) = modules_apart(alloc, installed, ids)?;
     match Book::new(chaincodes, modules, Installed::new(ids, orgs)) {
         Some(book) => Ok((book, policies)),

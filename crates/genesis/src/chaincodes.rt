@@ -1,15 +1,15 @@
 //! The chaincodes and policies.
 
-ghost use Rattle.std.specs.Prelude.{◌≡◌, ◌≢◌, IfOk, IfErr};
+ghost use Rattle.std.specs.Prelude.{◌≡◌, ◌≢◌, [], ◌∷◌, ◌++◌, IfOk, IfErr, OnOk};
 ghost use Rattle.endorsement_policy.specs.Faults.{Fails};
 ghost use Rattle.endorsement_policy.specs.Limits.{IsText};
 ghost use Rattle.serde_json.specs.View.{view};
 ghost use Rattle.genesis.specs.declared.refusal.GenesisRefusal.TheVariants.{Memory, Json};
 ghost use Rattle.genesis.specs.Refused.{NoneIs};
-ghost use Rattle.genesis.specs.Spelling.{IsPolicy, chaincodes_of, ids_of, policies_of};
+ghost use Rattle.genesis.specs.Spelling.{HasParts, IsPolicy, chaincodes_of, ids_of, policies_of};
 
 use crate::each::ReadItem;
-use crate::fields::chaincode_fields;
+use crate::fields::{ChaincodeFields, chaincode_fields};
 use crate::genesis::{Definition, InstalledModule};
 use crate::modules::module;
 use crate::numbers::within;
@@ -42,15 +42,37 @@ impl ReadItem for DefinitionReader<'_> {
         let Some(name) = Name::new(fields.name.as_bytes().to_vec(alloc)?) else {
             return Err(GenesisRefusal::Range);
         };
-        let InstalledModule { module, id } = module(alloc, fields.hex, fields.profile)?;
-        let policy = policy(alloc, fields.policy, self.orgs)?;
-        let chaincode = name.clone()?;
-        Ok(Definition {
-            chaincode: Chaincode { name, module, fuel },
-            id,
-            policy: ChaincodePolicy { chaincode, policy },
-        })
+        let definition = definition(alloc, &fields, name, fuel, self.orgs)?;
+        Ok(definition)
     }
+}
+
+/// A chaincode of this name and fuel, with the module and the policy over these organisations that
+/// its fields spell.
+fn definition(
+    alloc: Global,
+    fields: &ChaincodeFields<'_>,
+    name: Name,
+    fuel: u64,
+    orgs: &[OrgName],
+) -> Result<Definition, GenesisRefusal>
+    ensures ok { IfOk result (λ c. (c.chaincode.name ≡ name) × (c.chaincode.fuel ≡ fuel)
+        × (c.policy.chaincode ≡ name)
+        × HasParts orgs.now fields.now.hex.now (view fields.now.profile.now) fields.now.policy.now
+        c) }
+    ensures refused { IfErr result
+        (λ r. NoneIs
+        (HasParts orgs.now fields.now.hex.now (view fields.now.profile.now)
+        fields.now.policy.now) r) }
+{
+    let chaincode = name.clone()?;
+    let InstalledModule { module, id } = module(alloc, fields.hex, fields.profile)?;
+    let policy = policy(alloc, fields.policy, orgs)?;
+    Ok(Definition {
+        chaincode: Chaincode { name, module, fuel },
+        id,
+        policy: ChaincodePolicy { chaincode, policy },
+    })
 }
 
 /// The policy of upgrades over these organisations.
@@ -93,27 +115,47 @@ fn refusal_of_policy(fault: PolicyFault) -> GenesisRefusal
     }
 }
 
-/// The chaincodes, the ids of their modules and their policies, each apart.
-pub(crate) fn parted(
-    alloc: Global,
-    definitions: Vec<Definition>,
-) -> Result<(Vec<Chaincode>, Vec<ModuleId>, Vec<ChaincodePolicy>), AllocError>
-    ensures { IfOk result (λ p. (p.0.items ≡ chaincodes_of definitions.items)
-        × (p.1.items ≡ ids_of definitions.items)
-        × (p.2.items ≡ policies_of definitions.items)) }
-{
-    let mut chaincodes = Vec::with_capacity(alloc, definitions.len())?;
-    let mut ids = Vec::with_capacity(alloc, definitions.len())?;
-    let mut policies = Vec::with_capacity(alloc, definitions.len())?;
-    'definitions: for definition in definitions {
+/// Chaincodes, the ids of their modules and their policies, each apart.
+#[derive(Drop)]
+pub(crate) struct Apart {
+    pub chaincodes: Vec<Chaincode>,
+    pub ids: Vec<ModuleId>,
+    pub policies: Vec<ChaincodePolicy>,
+}
+
+impl Apart {
+    /// One chaincode more.
+    fn push(&mut self, definition: Definition) -> Result<(), AllocError>
+        ensures { OnOk result
+            ((self.new.chaincodes.items ≡ self.old.chaincodes.items ++ definition.chaincode ∷ [])
+            × (self.new.ids.items ≡ self.old.ids.items ++ definition.id ∷ [])
+            × (self.new.policies.items ≡ self.old.policies.items ++ definition.policy ∷ [])) }
+    {
         let Definition {
             chaincode,
             id,
             policy,
         } = definition;
-        chaincodes.push(chaincode)?;
-        ids.push(id)?;
-        policies.push(policy)?;
+        self.chaincodes.push(chaincode)?;
+        self.ids.push(id)?;
+        self.policies.push(policy)?;
+        Ok(())
     }
-    Ok((chaincodes, ids, policies))
+}
+
+/// The parts of chaincodes.
+pub(crate) fn parted(alloc: Global, definitions: Vec<Definition>) -> Result<Apart, AllocError>
+    ensures { IfOk result (λ p. (p.chaincodes.items ≡ chaincodes_of definitions.items)
+        × (p.ids.items ≡ ids_of definitions.items)
+        × (p.policies.items ≡ policies_of definitions.items)) }
+{
+    let mut parted = Apart {
+        chaincodes: Vec::new(alloc),
+        ids: Vec::new(alloc),
+        policies: Vec::new(alloc),
+    };
+    'definitions: for definition in definitions {
+        parted.push(definition)?;
+    }
+    Ok(parted)
 }

@@ -7,6 +7,42 @@ use Rattle.genesis.proofs.Opens.{all_needed, policy_needed}
 use Rattle.genesis.proofs.Whole.{NoneIs-part}
 use Rattle.genesis.proofs.read.genesis_from.Goals as goal
 
+pub returns-in_err-seats-clause-refused : goal.returns-in_err-seats-clause-refused
+returns-in_err-seats-clause-refused c =
+    let p = err_from_is_err_and c.from_residual.result c.from_residual.ensures.1 in
+    let none = c.in_err-seats.ensures.refused in
+    rw (p.1, p.2) (none.0, λ real g spelled. none.1 real g.seats spelled.seats)
+
+pub returns-in_err-queue-clause-refused : goal.returns-in_err-queue-clause-refused
+returns-in_err-queue-clause-refused c =
+    let p = err_from_is_err_and c.from_residual-in_err-queue.result c.from_residual-in_err-queue.ensures.1 in
+    let none = c.in_err-queue.ensures.refused in
+    rw (p.1, p.2) (none.0, λ real g spelled. none.1 real g.queue spelled.queue)
+
+pub returns-in_err-count-clause-refused : goal.returns-in_err-count-clause-refused
+returns-in_err-count-clause-refused c =
+    let p = err_from_is_err_and c.from_residual-in_err-count.result c.from_residual-in_err-count.ensures.1 in
+    let none = c.in_err-count.ensures.refused in
+    rw (p.1, p.2) (none.0, λ real g spelled. none.1 real g.count spelled.count)
+
+pub returns-in_err-preferred-clause-refused : goal.returns-in_err-preferred-clause-refused
+returns-in_err-preferred-clause-refused c =
+    let p = err_from_is_err_and c.from_residual-in_err-preferred.result c.from_residual-in_err-preferred.ensures.1 in
+    let none = c.in_err-preferred.ensures.refused in
+    rw (p.1, p.2) (none.0, λ real g spelled. none.1 real g.preferred spelled.preferred)
+
+pub returns-in_err-absolute-clause-refused : goal.returns-in_err-absolute-clause-refused
+returns-in_err-absolute-clause-refused c =
+    let p = err_from_is_err_and c.from_residual-in_err-absolute.result c.from_residual-in_err-absolute.ensures.1 in
+    let none = c.in_err-absolute.ensures.refused in
+    rw (p.1, p.2) (none.0, λ real g spelled. none.1 real g.absolute spelled.absolute)
+
+pub returns-in_err-reorder-clause-refused : goal.returns-in_err-reorder-clause-refused
+returns-in_err-reorder-clause-refused c =
+    let p = err_from_is_err_and c.from_residual-in_err-reorder.result c.from_residual-in_err-reorder.ensures.1 in
+    let none = c.in_err-reorder.ensures.refused in
+    rw (p.1, p.2) (none.0, λ real g spelled. none.1 real g.reorder spelled.reorder)
+
 pub returns-in_err-organisations-clause-refused : goal.returns-in_err-organisations-clause-refused
 returns-in_err-organisations-clause-refused c =
     let p = err_from_is_err_and c.from_residual-in_err-organisations.result c.from_residual-in_err-organisations.ensures.1 in
