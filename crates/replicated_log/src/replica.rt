@@ -1,6 +1,7 @@
 //! The replica.
 
-ghost use Rattle.std.specs.Prelude.{◌≡◌, ℕ, List, [], IfOk, OnErr};
+ghost use Rattle.std.specs.Prelude.{◌≡◌, ◌≤◌, ◌+◌, ℕ, List, [], IfOk, OnErr, OnOk, length};
+ghost use Rattle.std.specs.Vec.{vec_capacity};
 ghost use Rattle.batch_cutter.specs.Division.{message, timeout};
 ghost use Rattle.orderer.specs.Blocks.{from_number};
 ghost use Rattle.orderer.specs.Ordering.{AreLimits};
@@ -11,11 +12,12 @@ ghost use Rattle.replicated_log.specs.Lines.{IsMark};
 ghost use Rattle.replicated_log.specs.Log.{Reads};
 ghost use Rattle.replicated_log.specs.Reported.{answer_of, IsTrueOf};
 ghost use Rattle.replicated_log.specs.Told.{TellsIds};
+ghost use Rattle.wire.specs.Ids.{id_of};
 
 use crate::asked::{Asked, Unread, asked_by};
 use crate::batch::{LogBatch, Room, cut, cut_each};
 use crate::skip::Skip;
-use fab_types::{Block, Envelope};
+use fab_types::{Block, Envelope, Proposal};
 use orderer::{OrderCause, Orderer};
 use seq::Seq;
 use std::alloc::{AllocError, Global};
@@ -124,10 +126,7 @@ impl Replica {
             TellsIds report self.old line) }
         ensures unchanged { OnErr result (self.new ≡ self.old) }
     {
-        // All memory is taken before the orderer is asked: what it did cannot be undone.
-        let id = tx_id(self.alloc, &envelope.payload.proposal)?;
-        self.waiting.reserve(1)?;
-        let room = Room::new(self.alloc, self.waiting.len() + 1)?;
+        let (id, room) = prepared(self.alloc, &mut self.waiting, &envelope.payload.proposal)?;
         match self.orderer.accept(envelope) {
             Ok(reports) => {
                 self.waiting.push(id).unwrap();
@@ -176,6 +175,27 @@ impl Replica {
     {
         self.orderer.blocks_from(number)
     }
+}
+
+/// The id of a transaction, with a place for it among those that wait, and room for what its
+/// envelope ends. All memory is taken before the orderer is asked: what it did cannot be undone.
+fn prepared(
+    alloc: Global,
+    waiting: &mut Vec<[u8; 32]>,
+    proposal: &Proposal,
+) -> Result<([u8; 32], Room), AllocError>
+    ensures same { waiting.new.items ≡ waiting.old.items }
+    ensures place { OnOk result (length waiting.new.items + 1 ≤ vec_capacity waiting.new) }
+    ensures id { IfOk result (λ r. r.0 ≡ id_of proposal.now) }
+    ensures batches { IfOk result (λ r. (r.1.batches.items ≡ []) ×
+        (2 ≤ vec_capacity r.1.batches)) }
+    ensures ids { IfOk result (λ r. (r.1.ids.items ≡ []) ×
+        (length waiting.old.items + 1 ≤ vec_capacity r.1.ids)) }
+{
+    let id = tx_id(alloc, proposal)?;
+    waiting.reserve(1)?;
+    let room = Room::new(alloc, waiting.len() + 1)?;
+    Ok((id, room))
 }
 
 /// What a refusal of the orderer makes of a line: a skip, but for want of memory.
