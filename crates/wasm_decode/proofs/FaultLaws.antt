@@ -18,11 +18,11 @@ use Rattle.wasm_decode.specs.Faults.{HasByte, PartEnds, IsReserved, Stands, Says
 use Rattle.grammar.specs.Table.{row_at}
 use Rattle.wasm_ast.specs.declared.operators.LoadOp.{LoadOp}
 use Rattle.wasm_ast.specs.declared.operators.StoreOp.{StoreOp}
-use Rattle.wasm_decode.specs.Operators.{operator_rows, comparison_rows, arithmetic_32_rows, arithmetic_64_rows, conversion_rows, sign_extension_rows, load_rows}
-use Rattle.wasm_decode.specs.Operators.{store_rows}
+use Rattle.wasm_operators.specs.Operators.{operator_rows, comparison_rows, arithmetic_32_rows, arithmetic_64_rows, conversion_rows, sign_extension_rows, load_rows}
+use Rattle.wasm_operators.specs.Operators.{store_rows}
 use Rattle.wasm_decode.specs.Opcodes.{Form, bare, access, load_of, store_of, with_form, other_rows, opcodes}
-use Rattle.wasm_decode.specs.OpReading.{alone}
-use Rattle.wasm_decode.proofs.Rows.{first_of, row_at-append, row_at-map}
+use Rattle.wasm_operators.specs.Operators.{alone}
+use Rattle.wasm_operators.proofs.Rows.{first_of, row_at-append, row_at-map}
 
 pub has_byte : (P : ℕ → Type 0) (bytes : List ℕ) (offset b : ℕ) → slice_get bytes offset ≡ Some b → P b → HasByte P bytes offset
 has_byte P bytes offset b e h = subst (λ o. MatchOption o ⊥ P) (sym e) h

@@ -1,5 +1,3 @@
-pub mod Rows
-pub mod OperatorRows
 pub mod Loop
 pub mod Made
 pub mod Groups

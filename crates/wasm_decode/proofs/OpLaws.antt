@@ -19,15 +19,16 @@ use Rattle.wasm_ast.specs.declared.operators.StoreOp.{StoreOp}
 use Rattle.wasm_ast.specs.declared.body.MemoryArgument.{MemoryArgument}
 use Rattle.wasm_ast.specs.Op.{Op, CallIndirect}
 use Rattle.wasm_ast.specs.Code.{Code, Do, End}
-use Rattle.wasm_decode.specs.Operators.{load_rows, store_rows, comparison_rows, arithmetic_32_rows, arithmetic_64_rows, conversion_rows, sign_extension_rows}
-use Rattle.wasm_decode.specs.Operators.{operator_rows}
+use Rattle.wasm_operators.specs.Operators.{load_rows, store_rows, comparison_rows, arithmetic_32_rows, arithmetic_64_rows, conversion_rows, sign_extension_rows}
+use Rattle.wasm_operators.specs.Operators.{operator_rows}
 use Rattle.wasm_decode.specs.Opcodes.{Form, bare, indexed, labelled, indirect, reserved, access, constant_32, constant_64, other_rows, with_form, opcodes}
 use Rattle.wasm_decode.specs.Opcodes.{load_of, store_of, constant_32_of, constant_64_of, branch_table_of, IsBranchTable, IsMemoryArgument, IsReservedIndex}
 use Rattle.wasm_decode.specs.Opcodes.{IsAfter, IsOp}
-use Rattle.wasm_decode.specs.OpReading.{alone, reserved_at, branch_table_at, argument_at, reserved_index_at, op_after, other_at, or_else, plain_at}
+use Rattle.wasm_operators.specs.Operators.{alone}
+use Rattle.wasm_decode.specs.OpReading.{reserved_at, branch_table_at, argument_at, reserved_index_at, op_after, other_at, or_else, plain_at}
 use Rattle.wasm_decode.specs.CodeReading.{is_last}
 use Rattle.wasm_decode.proofs.TypeLaws.{u32_reads, list_reads}
-use Rattle.wasm_decode.proofs.Rows.{first_of, row_at-append, row_at-map}
+use Rattle.wasm_operators.proofs.Rows.{first_of, row_at-append, row_at-map}
 
 branch_table_reads : Reads IsBranchTable branch_table_at
 unfolding branch_table_at

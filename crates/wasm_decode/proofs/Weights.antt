@@ -19,8 +19,8 @@ use Rattle.wasm_ast.specs.declared.body.MemoryArgument.{MemoryArgument}
 use Rattle.wasm_ast.specs.Op.{Op}
 use Rattle.wasm_ast.specs.Code.{Code, End, Do, Block, Loop, If, code_size}
 use Rattle.wasm_ast.specs.Sizes.{labels_of, code_labels, func_weight, IsSmall, AreSmall}
-use Rattle.wasm_decode.specs.Operators.{load_rows, store_rows, comparison_rows, arithmetic_32_rows, arithmetic_64_rows, conversion_rows, sign_extension_rows}
-use Rattle.wasm_decode.specs.Operators.{operator_rows}
+use Rattle.wasm_operators.specs.Operators.{load_rows, store_rows, comparison_rows, arithmetic_32_rows, arithmetic_64_rows, conversion_rows, sign_extension_rows}
+use Rattle.wasm_operators.specs.Operators.{operator_rows}
 use Rattle.wasm_decode.specs.Opcodes.{Form, bare, indexed, labelled, indirect, reserved, access, constant_32, constant_64}
 use Rattle.wasm_decode.specs.Opcodes.{other_rows, with_form, opcodes, load_of, store_of, IsAfter, IsOp}
 use Rattle.wasm_decode.specs.TypeSpelling.{IsValueType}

@@ -5,7 +5,6 @@ pub mod TypeSpelling
 pub mod TypeReading
 pub mod ExternalSpelling
 pub mod ExternalReading
-pub mod Operators
 pub mod Opcodes
 pub mod OpReading
 pub mod CodeSpelling

@@ -6,14 +6,10 @@ use Rattle.grammar.specs.Table.{row_at}
 use Rattle.wasm_bytes.specs.Reading.{u32_at, s32_at, s64_at, list_at}
 use Rattle.wasm_ast.specs.declared.body.MemoryArgument.{MemoryArgument}
 use Rattle.wasm_ast.specs.Op.{Op, CallIndirect}
-use Rattle.wasm_ast.specs.Code.{Code, Do, End}
-use Rattle.wasm_decode.specs.Operators.{load_rows, store_rows, operator_rows}
+use Rattle.wasm_ast.specs.Code.{Code}
+use Rattle.wasm_operators.specs.Operators.{alone, load_rows, store_rows, operator_rows}
 use Rattle.wasm_decode.specs.Opcodes.{Form, bare, indexed, labelled, indirect, reserved, access, constant_32, constant_64, other_rows, load_of, store_of}
 use Rattle.wasm_decode.specs.Opcodes.{constant_32_of, constant_64_of, branch_table_of}
-
--- an instruction and nothing else
-abbrev pub alone : Op → Code
-alone o = Do o End
 
 -- the byte 0
 unfoldable pub reserved_at : List ℕ → Option (Unit {0} × List ℕ)

@@ -11,7 +11,7 @@ use Rattle.wasm_ast.specs.declared.operators.LoadOp.{LoadOp}
 use Rattle.wasm_ast.specs.declared.operators.StoreOp.{StoreOp}
 use Rattle.wasm_ast.specs.Op.{Op, Unreachable, Nop, Drop, Select, Return, Br, BrIf, Call, CallIndirect, LocalGet, LocalSet, LocalTee, GlobalGet, GlobalSet}
 use Rattle.wasm_ast.specs.Op.{BrTable, MemorySize, MemoryGrow, Load, Store, Const}
-use Rattle.wasm_decode.specs.Operators.{load_rows, store_rows, operator_rows}
+use Rattle.wasm_operators.specs.Operators.{load_rows, store_rows, operator_rows}
 
 -- what comes after an opcode
 pub data Form : Type 0 where

@@ -7,7 +7,7 @@ ghost use Rattle.wasm_ast.specs.View.{code_of};
 ghost use Rattle.wasm_decode.specs.Parses.{Parses};
 ghost use Rattle.wasm_decode.specs.Faults.{HasByte, IsFaultOf, IsReserved, Tells, TellsBy};
 ghost use Rattle.wasm_decode.specs.Opcodes.{opcodes};
-ghost use Rattle.wasm_decode.specs.Operators.{load_rows, store_rows, operator_rows};
+ghost use Rattle.wasm_operators.specs.Operators.{load_rows, store_rows, operator_rows};
 ghost use Rattle.wasm_bytes.specs.Place.{offset_of};
 ghost use Rattle.wasm_decode.specs.OpReading.{reserved_at, reserved_index_at, argument_at, branch_table_at, other_at, plain_at};
 ghost use Rattle.wasm_decode.specs.CodeReading.{block_at, conditional_at, step_at, body_at, below, closed_at, expression_at};
@@ -15,11 +15,11 @@ ghost use Rattle.wasm_decode.specs.CodeReading.{block_at, conditional_at, step_a
 use crate::fault::{DecodeFault, FaultKind, refuse};
 use crate::item::{list, unsigned};
 use crate::limits::{MOST_INSTRUCTIONS, MOST_LABELS, MOST_NESTING};
-use crate::operators::{load, operator, store};
 use crate::types::block_type;
 use std::alloc::Global;
 use wasm_ast::{Block, Body, BranchTable, Conditional, Instr, MemoryArgument};
 use wasm_bytes::Cursor;
+use wasm_operators::{load, operator, store};
 use wasm_profile::Profile;
 
 /// What ends a body: `end`, or `else` after the first body of an `if`.

@@ -8,8 +8,8 @@
 //! Reading goes once from left to right. No byte is copied but into the module, no list is copied,
 //! and the recursion is as deep as blocks may nest.
 //!
-//! Each opcode and type byte is a row of a table (`specs/Tables.antt`, `specs/Opcodes.antt`,
-//! `specs/Operators.antt`), so that a further one is a row there and an arm of a `match` here. The
+//! Each opcode and type byte is a row of a table (`specs/Tables.antt`, `specs/Opcodes.antt` and
+//! `Operators` of `wasm_operators`), so that a further one is a row there and an arm of a `match` here. The
 //! profiles differ by the rows of the sign extensions, which profile 2 has and profile 1 has not.
 #![tactic(auto)]
 
@@ -19,7 +19,6 @@ mod fault;
 mod functions;
 mod item;
 mod limits;
-mod operators;
 mod reader;
 mod sections;
 mod types;

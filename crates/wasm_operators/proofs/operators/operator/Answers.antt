@@ -1,7 +1,7 @@
 use Rattle.std.proofs.Common.{◌∙◌}
 use Rattle.wasm_profile.specs.declared.profile.Profile.TheVariants.{Core1, SignExtension}
-use Rattle.wasm_decode.proofs.OperatorRows.{is_comparison, is_of_32, is_of_64, is_conversion, is_added}
-use Rattle.wasm_decode.proofs.operators.operator.Goals as goal
+use Rattle.wasm_operators.proofs.OperatorRows.{is_comparison, is_of_32, is_of_64, is_conversion, is_added}
+use Rattle.wasm_operators.proofs.operators.operator.Goals as goal
 
 pub returns-in-Some : goal.returns-in-Some
 returns-in-Some c = is_comparison c.args.profile c.args.byte _ c.in-Some.ensures

@@ -4,15 +4,14 @@
 ghost use Rattle.std.specs.Prelude.{◌≡◌, [], ◌∷◌, option_map};
 ghost use Rattle.grammar.specs.Table.{row_at};
 ghost use Rattle.wasm_ast.specs.View.{code_of};
-ghost use Rattle.wasm_decode.specs.Operators.{load_rows, store_rows, comparison_rows, arithmetic_32_rows, arithmetic_64_rows, conversion_rows, sign_extension_rows, operator_rows};
-ghost use Rattle.wasm_decode.specs.OpReading.{alone};
+ghost use Rattle.wasm_operators.specs.Operators.{alone, load_rows, store_rows, comparison_rows, arithmetic_32_rows, arithmetic_64_rows, conversion_rows, sign_extension_rows, operator_rows};
 
 use wasm_ast::{BinaryOp, CompareOp, ConvertOp, Instr, LoadOp, StoreOp, UnaryOp};
 use wasm_profile::Profile;
 
 /// The load of an opcode.
 #[tactic(auto, unfolding(crate::specs::Operators::load_rows))]
-pub(crate) fn load(byte: u8) -> Option<LoadOp>
+pub fn load(byte: u8) -> Option<LoadOp>
     ensures { result ≡ row_at load_rows byte }
 {
     match byte {
@@ -34,7 +33,7 @@ pub(crate) fn load(byte: u8) -> Option<LoadOp>
 
 /// The store of an opcode.
 #[tactic(auto, unfolding(crate::specs::Operators::store_rows))]
-pub(crate) fn store(byte: u8) -> Option<StoreOp>
+pub fn store(byte: u8) -> Option<StoreOp>
     ensures { result ≡ row_at store_rows byte }
 {
     match byte {
@@ -171,7 +170,7 @@ fn sign_extension(byte: u8) -> Option<Instr>
 }
 
 /// The operator of an opcode, which the profile has.
-pub(crate) fn operator(byte: u8, profile: Profile) -> Option<Instr>
+pub fn operator(byte: u8, profile: Profile) -> Option<Instr>
     ensures { option_map (λ i. code_of (i ∷ [])) result
         ≡ option_map alone (row_at (operator_rows profile) byte) }
 {

@@ -13,6 +13,7 @@ use Rattle.wasm_ast.specs.declared.operators.CompareOp.TheVariants.{Eq, Ne, LtS,
 use Rattle.wasm_ast.specs.declared.operators.BinaryOp.TheVariants.{Add, Sub, Mul, DivS, DivU, RemS, RemU, And, Or, Xor, Shl, ShrS, ShrU, Rotl, Rotr}
 use Rattle.wasm_ast.specs.declared.operators.ConvertOp.TheVariants.{WrapI64, ExtendI32S, ExtendI32U}
 use Rattle.wasm_ast.specs.Op.{Op, Eqz, Unary, Compare, Binary, Convert}
+use Rattle.wasm_ast.specs.Code.{Code, Do, End}
 
 -- loads
 unfoldable pub load_rows : List (ℕ × LoadOp)
@@ -143,3 +144,7 @@ added_rows SignExtension = sign_extension_rows
 unfoldable pub operator_rows : Profile → List (ℕ × Op)
 operator_rows profile =
     comparison_rows ++ (arithmetic_32_rows ++ (arithmetic_64_rows ++ (conversion_rows ++ added_rows profile)))
+
+-- an instruction and nothing else
+abbrev pub alone : Op → Code
+alone o = Do o End

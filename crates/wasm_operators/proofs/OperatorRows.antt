@@ -4,9 +4,8 @@ use Rattle.std.specs.Prelude.{option_map}
 use Rattle.wasm_profile.specs.declared.profile.Profile.{Profile}
 use Rattle.grammar.specs.Table.{row_at}
 use Rattle.wasm_ast.specs.Code.{Code}
-use Rattle.wasm_decode.specs.Operators.{comparison_rows, arithmetic_32_rows, arithmetic_64_rows, conversion_rows, added_rows, operator_rows}
-use Rattle.wasm_decode.specs.OpReading.{alone}
-use Rattle.wasm_decode.proofs.Rows.{in_first, in_others}
+use Rattle.wasm_operators.specs.Operators.{alone, comparison_rows, arithmetic_32_rows, arithmetic_64_rows, conversion_rows, added_rows, operator_rows}
+use Rattle.wasm_operators.proofs.Rows.{in_first, in_others}
 
 module _ (profile : Profile) (b : ℕ) where
   pub is_comparison : (c : Code) → Some c ≡ option_map alone (row_at comparison_rows b) →
