@@ -8,12 +8,11 @@ ghost use Rattle.simulator.specs.Books.{IsBook, AreValid, chaincode_at, is_named
 use endorsement_policy::Installed;
 use fab_types::Name;
 use fab_types::limits::{MOST_CHAINCODES, MOST_FUEL, MOST_MODULES};
-use std::fmt::{self, Debug, Formatter, Write};
 use std::marker::Model;
 use wasm_validate::ValidModule;
 
 /// A chaincode as the genesis defines it.
-#[derive(Debug, Drop)]
+#[derive(Drop)]
 pub struct Chaincode {
     pub name: Name,
     pub module: ValidModule,
@@ -28,16 +27,6 @@ pub struct Book {
     chaincodes: Vec<Chaincode>,
     modules: Vec<ValidModule>,
     installed: Installed,
-}
-
-/// The ids of the modules are not printed.
-impl Debug for Book {
-    fn fmt<W: Write>(&self, f: &mut Formatter<W>) -> fmt::Result {
-        f.debug_struct("Book")
-            .field("chaincodes", &self.chaincodes)
-            .field("modules", &self.modules)
-            .finish_non_exhaustive()
-    }
 }
 
 impl Model for Book {

@@ -10,7 +10,7 @@ use std::alloc::{AllocError, Global};
 use wasm_validate::ValidModule;
 
 /// What a call executes, and what it may spend.
-#[derive(Clone, Copy, Debug)]
+#[derive(Clone, Copy)]
 pub(crate) struct Executable<'b> {
     pub module: &'b ValidModule,
     pub fuel: u64,

@@ -25,7 +25,7 @@ use wasm_ast::{HostCall, Module};
 /// A module that is valid (Core 1.0, section 3.4), with what a run looks up in it.
 ///
 /// Contracts see the module. Only `validate` makes one.
-#[derive(Debug, Drop)]
+#[derive(Drop)]
 pub struct ValidModule {
     module: Module,
     // The call of each import, in order.
