@@ -9,4 +9,5 @@ pub mod Taking
 pub mod Calling
 pub mod FuncTypes
 pub mod Executing
+pub mod Plain
 pub mod Stepped

@@ -4,3 +4,4 @@ pub mod Ending
 pub mod View
 pub mod Calls
 pub mod Standing
+pub mod Plain

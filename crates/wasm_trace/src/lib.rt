@@ -23,6 +23,7 @@ mod operands;
 mod parts;
 mod runs;
 mod stepper;
+mod values;
 mod variables;
 
 pub use laws::{ends_as_meant, ends_as_run, ends_once, never_stuck, within_labels_and_frames};

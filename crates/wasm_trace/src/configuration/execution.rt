@@ -3,21 +3,20 @@
 ghost use Rattle.std.specs.Prelude.{◌≡◌, IfOk};
 ghost use Rattle.wasm_meaning.specs.Program.{program_of};
 ghost use Rattle.wasm_trace.specs.View.{Linked, Stands, Does, Jumps, NoEnd, Reduced, Repeated, Rests, Within};
+ghost use Rattle.wasm_trace.specs.Plain.{Becomes};
 ghost use Rattle.wasm_trace.specs.declared.parts.Front.TheVariants as front;
 ghost use Rattle.wasm_trace.specs.declared.parts.Act.TheVariants as act;
 ghost use Rattle.wasm_trace.specs.declared.parts.Turn.TheVariants as turn;
 
 use super::Configuration;
 use crate::memory::{load, memory_grow, memory_size, store};
-use crate::operands::{
-    binary, branch_if, branch_table, compare, constant, convert, discard, either, eqz, select,
-    unary,
-};
-use crate::parts::{Act, Flow, Front, Turn, Value};
-use crate::variables::{get_global, get_local, set_global, set_local, tee_local};
+use crate::operands::either;
+use crate::parts::{Act, Flow, Front, Turn};
+use crate::values::on_values;
+use crate::variables::{get_global, get_local, set_global, set_local};
 use interp::Host;
 use std::alloc::AllocError;
-use wasm_ast::{Block, Instr, Trap, ValueType};
+use wasm_ast::{Block, Instr};
 use wasm_validate::ValidModule;
 
 impl<'m> Configuration<'m> {
@@ -117,100 +116,52 @@ impl<'m> Configuration<'m> {
         ensures keeps { IfOk result (λ _. H.context host.new ≡ H.context host.old) }
     {
         match instr {
-            Instr::Unreachable => Ok(Act::Become(Turn::On(Front::Trap(Trap::Unreachable)))),
-            Instr::Nop => Ok(Act::Become(Turn::On(Front::Nothing))),
             Instr::Block(block) => Ok(Act::Enter(block.result, block.body.items())),
             Instr::Loop(block) => Ok(Act::Repeat(block)),
             Instr::If(conditional) => Ok(either::<H>(&mut self.stack, conditional)),
             Instr::Br(k) => Ok(Act::Branch(*k)),
             Instr::Return => Ok(Act::Return),
-            Instr::Call(index) => Ok(Act::Become(self.call(*index, valid, host)?)),
-            Instr::CallIndirect(index) => {
-                Ok(Act::Become(self.call_indirect(*index, valid, host)?))
-            }
-            Instr::LocalGet(k) => Ok(Act::Become(get_local::<H>(
-                &mut self.stack,
-                &self.locals,
-                *k,
-            )?)),
-            Instr::LocalSet(k) => Ok(Act::Become(set_local::<H>(
-                &mut self.stack,
-                &mut self.locals,
-                *k,
-            ))),
-            Instr::GlobalGet(k) => Ok(Act::Become(get_global::<H>(
-                &mut self.stack,
-                &self.globals,
-                *k,
-            )?)),
-            Instr::GlobalSet(k) => Ok(Act::Become(set_global::<H>(
-                &mut self.stack,
-                &mut self.globals,
-                *k,
-            ))),
+            _ => Ok(Act::Become(self.operate(instr, valid, host)?)),
+        }
+    }
+
+    /// What an instruction becomes that is no block, branch or return.
+    fn operate<H: Host>(
+        &mut self,
+        instr: &Instr,
+        valid: &'m ValidModule,
+        host: &mut H,
+    ) -> Result<Turn<'m>, AllocError>
+        requires linked { Linked valid.now self.old }
+        requires becomes { Becomes instr.now }
+        ensures does { IfOk result
+            (λ t. Does (program_of valid.now (H.answers host.old)) instr.now self.old self.new
+            (H.records host.old) (H.records host.new) (act.Become t)) }
+        ensures spent { IfOk result
+            (λ t. t ≡ turn.Spent → H.records host.new ≡ H.records host.old) }
+        ensures stands { Stands self.old self.new }
+        ensures kept { Within self.old self.new }
+        ensures stays { IfOk result (λ _. H.answers host.new ≡ H.answers host.old) }
+        ensures keeps { IfOk result (λ _. H.context host.new ≡ H.context host.old) }
+    {
+        match instr {
+            Instr::Call(index) => self.call(*index, valid, host),
+            Instr::CallIndirect(index) => self.call_indirect(*index, valid, host),
+            Instr::LocalGet(k) => get_local::<H>(&mut self.stack, &self.locals, *k),
+            Instr::LocalSet(k) => Ok(set_local::<H>(&mut self.stack, &mut self.locals, *k)),
+            Instr::GlobalGet(k) => get_global::<H>(&mut self.stack, &self.globals, *k),
+            Instr::GlobalSet(k) => Ok(set_global::<H>(&mut self.stack, &mut self.globals, *k)),
             Instr::Load(operator, place) => {
-                Ok(Act::Become(load::<H>(&mut self.stack, &self.instance, *operator, *place)?))
+                load::<H>(&mut self.stack, &self.instance, *operator, *place)
             }
             Instr::Store(operator, place) => {
-                Ok(Act::Become(store::<H>(&mut self.stack, &mut self.instance, *operator, *place)))
+                Ok(store::<H>(&mut self.stack, &mut self.instance, *operator, *place))
             }
-            Instr::MemorySize => Ok(Act::Become(memory_size::<H>(
-                &mut self.stack,
-                &self.instance,
-            )?)),
+            Instr::MemorySize => memory_size::<H>(&mut self.stack, &self.instance),
             Instr::MemoryGrow => {
-                Ok(Act::Become(memory_grow::<H>(
-                    &mut self.fuel,
-                    &mut self.stack,
-                    &mut self.instance,
-                )?))
+                memory_grow::<H>(&mut self.fuel, &mut self.stack, &mut self.instance)
             }
-            Instr::BrIf(k) => Ok(Act::Become(branch_if::<H>(&mut self.stack, *k))),
-            Instr::BrTable(table) => Ok(Act::Become(branch_table::<H>(&mut self.stack, table))),
-            Instr::Drop => Ok(Act::Become(discard::<H>(&mut self.stack))),
-            Instr::Select => Ok(Act::Become(select::<H>(&mut self.stack)?)),
-            Instr::LocalTee(k) => Ok(Act::Become(tee_local::<H>(&mut self.stack, *k)?)),
-            Instr::I32Const(word) => Ok(Act::Become(constant::<H>(
-                &mut self.stack,
-                Value::I32(*word),
-            )?)),
-            Instr::I64Const(word) => Ok(Act::Become(constant::<H>(
-                &mut self.stack,
-                Value::I64(*word),
-            )?)),
-            Instr::I32Eqz => Ok(Act::Become(eqz::<H>(&mut self.stack, ValueType::I32)?)),
-            Instr::I64Eqz => Ok(Act::Become(eqz::<H>(&mut self.stack, ValueType::I64)?)),
-            Instr::I32Compare(operator) => Ok(Act::Become(compare::<H>(
-                &mut self.stack,
-                ValueType::I32,
-                *operator,
-            )?)),
-            Instr::I64Compare(operator) => Ok(Act::Become(compare::<H>(
-                &mut self.stack,
-                ValueType::I64,
-                *operator,
-            )?)),
-            Instr::I32Unary(operator) => Ok(Act::Become(unary::<H>(
-                &mut self.stack,
-                ValueType::I32,
-                *operator,
-            )?)),
-            Instr::I64Unary(operator) => Ok(Act::Become(unary::<H>(
-                &mut self.stack,
-                ValueType::I64,
-                *operator,
-            )?)),
-            Instr::I32Binary(operator) => Ok(Act::Become(binary::<H>(
-                &mut self.stack,
-                ValueType::I32,
-                *operator,
-            )?)),
-            Instr::I64Binary(operator) => Ok(Act::Become(binary::<H>(
-                &mut self.stack,
-                ValueType::I64,
-                *operator,
-            )?)),
-            Instr::Convert(operator) => Ok(Act::Become(convert::<H>(&mut self.stack, *operator)?)),
+            _ => on_values::<H>(&mut self.stack, instr),
         }
     }
 }
