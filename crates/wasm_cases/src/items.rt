@@ -24,13 +24,19 @@ pub fn read_items(alloc: Global, text: &str) -> Result<String, CaseFault> {
         if !answer.is_empty() {
             answer.push(' ')?;
         }
-        if kind == "at" {
-            write!(answer, "to {}", cursor.offset())?;
-        } else {
-            write_item(&mut answer, read_item(kind, &mut cursor)?)?;
-        }
+        answer_kind(&mut answer, kind, &mut cursor)?;
     }
     Ok(answer)
+}
+
+/// Adds the item of a kind at the place, or the offset of the place.
+fn answer_kind(answer: &mut String, kind: &str, cursor: &mut Cursor<'_>) -> Result<(), CaseFault> {
+    if kind == "at" {
+        write!(answer, "to {}", cursor.offset())?;
+    } else {
+        write_item(answer, read_item(kind, cursor)?)?;
+    }
+    Ok(())
 }
 
 fn write_item(answer: &mut String, item: Item<'_>) -> Result<(), AllocError> {

@@ -45,13 +45,17 @@ pub fn answer_question(
     question: Question,
     valid: &ValidModule,
 ) -> Result<String, CaseFault> {
-    Ok(match question {
-        Question::Parts => parts(alloc, valid)?,
-        Question::Run(fuel) => run_invoke(alloc, valid, fuel, Runner::Flat, &mut Vec::new(alloc))?,
-        Question::Trace(fuel) => trace(alloc, valid, fuel)?,
-        Question::Compare(last) => compared(alloc, valid, last)?,
-        Question::Answer(answer, fuel) => run_on_answer(alloc, valid, answer, fuel)?,
-    })
+    Ok(answer_to(alloc, question, valid)?)
+}
+
+fn answer_to(alloc: Global, question: Question, valid: &ValidModule) -> Result<String, AllocError> {
+    match question {
+        Question::Parts => parts(alloc, valid),
+        Question::Run(fuel) => run_invoke(alloc, valid, fuel, Runner::Flat, &mut Vec::new(alloc)),
+        Question::Trace(fuel) => trace(alloc, valid, fuel),
+        Question::Compare(last) => compared(alloc, valid, last),
+        Question::Answer(answer, fuel) => run_on_answer(alloc, valid, answer, fuel),
+    }
 }
 
 fn parts(alloc: Global, valid: &ValidModule) -> Result<String, AllocError> {
@@ -97,7 +101,7 @@ pub fn run_invoke(
     let state = PlainMap::empty(alloc);
     let argument = Value::new(Vec::new(alloc)).unwrap();
     let mut recorder = Recorder::new(alloc, &state, &argument);
-    let outcome = outcome_of(alloc, valid, &mut recorder, fuel, runner, shown)?;
+    let outcome = outcome_of(alloc, valid, &mut recorder, fuel, runner, shown);
     run_answer(alloc, outcome, &recorder.into_parts().writes)
 }
 
@@ -117,8 +121,12 @@ fn outcome_of<H: Host>(
 }
 
 /// How a run ended, and what it wrote.
-fn run_answer(alloc: Global, outcome: Outcome, writes: &WriteSet) -> Result<String, AllocError> {
-    let mut answer = outcome_text(alloc, outcome)?;
+fn run_answer(
+    alloc: Global,
+    outcome: Result<Outcome, AllocError>,
+    writes: &WriteSet,
+) -> Result<String, AllocError> {
+    let mut answer = outcome_text(alloc, outcome?)?;
     for item in writes.as_slice() {
         answer.push_str(write_text(alloc, item)?.as_str())?;
     }
