@@ -13,7 +13,7 @@ use fab_types::{Endorsement, Payload, Proposal};
 use fabric_core::{Event, Reply, System, audit};
 use ledger_lines::{Failure, Files, Printer, Target, id_of};
 use ledger_setting::Genesis;
-use std::alloc::Global;
+use std::alloc::{AllocError, Global};
 use std::io::{BufRead, BufReader, Write};
 use wire::{WireFault, decode_envelope};
 
@@ -182,11 +182,16 @@ impl Session {
         }
     }
 
+    /// The reply to an event, of which no clause here speaks.
+    fn reply_to(&mut self, event: Event) -> Result<Reply, AllocError> {
+        self.system.step(event)
+    }
+
     /// One step, whose reply is printed.
     fn step<W: Write>(&mut self, event: Event, out: &mut Printer<'_, W>) -> Result<(), Failure>
         ensures tells { Tells out.old out.new result }
     {
-        print_step(&self.system.step(event), out)
+        print_step(&self.reply_to(event), out)
     }
 
     /// Begins a proposal at a seat. Prints where, and on what height.
@@ -199,7 +204,7 @@ impl Session {
     ) -> Result<(), Failure>
         ensures tells { Tells out.old out.new result }
     {
-        let reply = self.system.step(Event::Begin {
+        let reply = self.reply_to(Event::Begin {
             peer,
             seat,
             proposal,
@@ -217,7 +222,7 @@ impl Session {
     ) -> Result<(), Failure>
         ensures tells { Tells out.old out.new result }
     {
-        match self.system.step(Event::Finish { peer, seat }) {
+        match self.reply_to(Event::Finish { peer, seat }) {
             Ok(Reply::Endorsed(payload, endorsement)) => self.bind(name, payload, endorsement, out),
             reply => print_step(&reply, out),
         }
