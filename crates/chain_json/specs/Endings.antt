@@ -4,7 +4,7 @@ use Rattle.block_store.specs.End.{end_text}
 use Rattle.block_store.specs.declared.end.End.{End}
 use Rattle.block_store.specs.declared.end.End.TheVariants.{Clean, Torn, Damaged, DeviceFailed}
 use Rattle.committer.specs.Numbers.{refusal_number}
-use Rattle.fabric_core.specs.declared.verdict.Audit.TheVariants.{Agrees, Differs}
+use Rattle.ledger_setting.specs.declared.verdict.Audit.TheVariants.{Agrees, Differs}
 use Rattle.serde_json.specs.Data.{Data, number, unsigned, string, object, member, no_members}
 use Rattle.chain_json.specs.declared.ending.Finding.{Finding}
 use Rattle.chain_json.specs.declared.ending.Finding.TheVariants.{FlagsDiffer, Unfit, Audited}

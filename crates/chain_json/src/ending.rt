@@ -7,7 +7,7 @@ ghost use Rattle.chain_json.specs.Endings.{end_words, ending_json, finding_words
 use crate::object::Object;
 use block_store::End;
 use committer::CommitRefusal;
-use fabric_core::Audit;
+use ledger_setting::Audit;
 use serde_json::Value;
 use std::alloc::{AllocError, Global};
 

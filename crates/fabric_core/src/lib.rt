@@ -18,11 +18,10 @@ mod laws;
 mod peer;
 mod running;
 mod system;
-mod verdict;
 
 pub use auditing::audit;
 pub use event::{Event, Reply};
 pub use laws::honest_chains_pass_the_audit;
+pub use ledger_setting::Audit;
 pub use running::{Ran, run};
 pub use system::System;
-pub use verdict::Audit;

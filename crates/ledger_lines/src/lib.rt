@@ -11,9 +11,11 @@ mod files;
 mod lines;
 mod opening;
 mod printer;
+mod verdict;
 
 pub use failure::Failure;
 pub use files::{FileFault, Files, Target, read_all, read_at_most};
 pub use lines::{hex_of, id_of, print_payload, version_of};
 pub use opening::{genesis_in, system_genesis};
 pub use printer::Printer;
+pub use verdict::print_audit;

@@ -7,17 +7,13 @@ ghost use Rattle.ledger_setting.specs.Setting.{limits_of};
 ghost use Rattle.ledger_lines.specs.Texts.{last_line};
 ghost use Rattle.ledger_lines.specs.Told.{IsMore, IsTold, Says, Tells, Told};
 
-use crate::auditing::audit;
-use crate::checking::check;
 use crate::opening::{opened, order_log};
-use crate::showing::{show, state};
-use crate::simulation::simulate;
 use crate::threading::threads;
-use crate::tracing::trace;
 use ledger_lines::{Failure, Files, Printer};
 use ledger_roles::{commit, endorse};
 use ledger_session::run;
 use ledger_setting::Genesis;
+use ledger_show::{audit, check, show, simulate, state, trace};
 use ledger_words::{Task, WordsFault, Work, parse};
 use std::alloc::Global;
 use std::io::Write;

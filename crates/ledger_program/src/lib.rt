@@ -15,19 +15,14 @@
 //!   for organisations on machines of their own.
 //!
 //! [`program`] takes the words of the command line, the files by [`Files`], and where lines are
-//! printed. It starts threads for `threads` alone.
+//! printed. It starts threads for `threads` alone, which is here; the others do their work in
+//! `ledger_session`, `ledger_show` and `ledger_roles`.
 #![tactic(auto)]
 
-mod auditing;
-mod checking;
 mod commands;
 mod disk;
 mod opening;
-mod replaying;
-mod showing;
-mod simulation;
 mod threading;
-mod tracing;
 
 pub use commands::program;
 pub use disk::Disk;

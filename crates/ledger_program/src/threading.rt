@@ -6,8 +6,7 @@ ghost use Rattle.ledger_setting.specs.Setting.{limits_of};
 ghost use Rattle.ledger_lines.specs.Told.{Tells};
 
 use fab_types::Name;
-use ledger_lines::{Failure, Printer};
-use ledger_session::print_audit;
+use ledger_lines::{Failure, Printer, print_audit};
 use ledger_setting::Genesis;
 use seat_threads::{Report, SeatsRefusal, run_seats};
 use std::alloc::Global;

@@ -10,5 +10,4 @@ mod reading;
 mod session;
 mod storing;
 
-pub use lines::print_audit;
 pub use session::run;

@@ -1,12 +1,12 @@
 //! What the program prints of a system and its blocks.
 
-ghost use Rattle.std.specs.Prelude.{◌≡◌, ◌<◌, false, IfOk, IfSome, OnOk};
+ghost use Rattle.std.specs.Prelude.{IfSome, OnOk};
 ghost use Rattle.std.specs.Io.KnownBytes.{Appends};
 ghost use Rattle.ledger_lines.specs.Told.{Tells};
 ghost use Rattle.ledger_session.specs.Replies.{refusal_line};
 
 use fab_types::{Flag, Key, Value, Version};
-use fabric_core::{Audit, Reply};
+use fabric_core::Reply;
 use ledger_lines::{Failure, Printer, hex_of, version_of};
 use orderer::BatchReport;
 use std::alloc::{AllocError, Global};
@@ -41,23 +41,6 @@ fn print_entry<W: Write>(
     let version = version_of(alloc, version)?;
     let value = hex_of(alloc, value.as_slice())?;
     writeln!(out, "state {key} {version} {value}")
-}
-
-/// Prints what an audit says, and answers whether all transactions agree with their reruns.
-pub fn print_audit<W: Write>(audit: Audit, out: &mut Printer<'_, W>) -> Result<bool, Failure>
-    ensures tells { Tells out.old out.new result }
-    ensures differs { IfOk result (λ good. good ≡ false → out.old.printed < out.new.printed) }
-{
-    match audit {
-        Audit::Agrees { .. } => {
-            writeln!(out, "audit agrees")?;
-            Ok(true)
-        }
-        Audit::Differs { block, tx } => {
-            writeln!(out, "audit differs {block}.{tx}")?;
-            Ok(false)
-        }
-    }
 }
 
 /// Prints the block of a batch, where it made one, with its count of transactions, and what was

@@ -5,13 +5,13 @@ ghost use Rattle.orderer.specs.Ordering.{AreLimits};
 ghost use Rattle.ledger_setting.specs.Setting.{limits_of};
 ghost use Rattle.ledger_lines.specs.Told.{Tells};
 
-use crate::lines::{print_audit, print_begun, print_state, print_step};
+use crate::lines::{print_begun, print_state, print_step};
 use crate::reading::{Next, next_line};
 use crate::storing::write_store;
 use events::{Action, BadLine, Bindings, read_event};
 use fab_types::{Endorsement, Payload, Proposal};
 use fabric_core::{Event, Reply, System, audit};
-use ledger_lines::{Failure, Files, Printer, Target, id_of};
+use ledger_lines::{Failure, Files, Printer, Target, id_of, print_audit};
 use ledger_setting::Genesis;
 use std::alloc::{AllocError, Global};
 use std::io::{BufRead, BufReader, Write};

@@ -5,7 +5,7 @@ use Rattle.block_store.specs.declared.end.End.TheVariants.{Clean, Torn, Damaged,
 use Rattle.simulator.specs.Execution.{exec_of}
 use Rattle.ledger_setting.specs.declared.genesis.Genesis.{Genesis}
 use Rattle.fabric_core.specs.Audit.{AuditSays}
-use Rattle.fabric_core.specs.declared.verdict.Audit.TheVariants.{Agrees, Differs}
+use Rattle.ledger_setting.specs.declared.verdict.Audit.TheVariants.{Agrees, Differs}
 use Rattle.ledger_model.specs.Chain.{Bytes}
 use Rattle.store_replay.specs.declared.replaying.Replayed.{Replayed}
 use Rattle.chain_json.specs.Endings.{ending_json}

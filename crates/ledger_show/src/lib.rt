@@ -1,19 +1,32 @@
-//! The commands `show` and `state` of the ledger's program: a store's chain, and the state after
-//! it, as lines of JSON (`chain_json`).
+//! The commands of the ledger's program that show a module ([`check`]), a call ([`simulate`], and
+//! [`trace`] step by step) or a store ([`audit`], [`show`] and [`state`]), whose chain is committed
+//! again.
 //!
+//! `show` and `state` print that chain, and the state after it, as lines of JSON (`chain_json`).
 //! [`print_chain`] prints what the genesis sets and the blocks, and [`print_ending`] what is found
 //! of them. [`print_state`] prints the entries of the state after a block, and [`print_writes`]
 //! each write to a key. Contracts say which lines the writer has then (`specs/Lines.antt`).
 #![tactic(auto)]
 
+mod auditing;
 mod chain;
+mod checking;
 mod earlier;
 mod entries;
 mod findings;
 mod lines;
+mod replaying;
+mod showing;
+mod simulation;
+mod tracing;
 mod writes;
 
+pub use auditing::audit;
 pub use chain::print_chain;
+pub use checking::check;
 pub use entries::print_state;
 pub use findings::print_ending;
+pub use showing::{show, state};
+pub use simulation::simulate;
+pub use tracing::trace;
 pub use writes::print_writes;

@@ -2,12 +2,15 @@
 
 ghost use Rattle.ledger_lines.specs.Told.{Tells};
 
+use crate::chain::print_chain;
+use crate::entries::print_state;
+use crate::findings::print_ending;
 use crate::replaying::replayed;
+use crate::writes::print_writes;
 use block_store::End;
 use fab_types::Key;
 use ledger_lines::{Failure, Files, Printer};
 use ledger_setting::Genesis;
-use ledger_show::{print_chain, print_ending, print_state, print_writes};
 use std::alloc::Global;
 use std::io::Write;
 use store_replay::Replayed;

@@ -9,8 +9,9 @@ use ledger_setting::Genesis;
 use std::alloc::Global;
 use store_replay::{Replayed, replay_store};
 
-/// The chain of a store, committed again.
-pub fn replayed<F: Files>(
+/// The chain of a store, committed again. Refused where the file cannot be opened, and for want of
+/// memory.
+pub(crate) fn replayed<F: Files>(
     alloc: Global,
     files: &mut F,
     genesis: &Genesis,

@@ -5,8 +5,7 @@ ghost use Rattle.ledger_lines.specs.Told.{Tells};
 
 use crate::replaying::replayed;
 use block_store::End;
-use ledger_lines::{Failure, Files, Printer};
-use ledger_session::print_audit;
+use ledger_lines::{Failure, Files, Printer, print_audit};
 use ledger_setting::Genesis;
 use std::alloc::Global;
 use std::io::Write;

@@ -1,6 +1,6 @@
 use Rattle.std.proofs.lemmas.Result.{err_from_is_err_and}
 use Rattle.ledger_lines.proofs.Silence.{no_less, tells_by}
-use Rattle.ledger_program.proofs.simulation.simulate.Goals as goal
+use Rattle.ledger_show.proofs.simulation.simulate.Goals as goal
 
 pub returns-in_err-replayed-in-Some : goal.returns-in_err-replayed-in-Some
 returns-in_err-replayed-in-Some g c =
