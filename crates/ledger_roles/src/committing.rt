@@ -2,12 +2,12 @@
 
 ghost use Rattle.std.specs.Prelude.{OnOk};
 ghost use Rattle.ledger_lines.specs.Told.{Tells};
-ghost use Rattle.ledger_roles.specs.Storing.{IsStored};
+ghost use Rattle.growing_store.specs.Storing.{IsStored};
 
 use crate::ending::end;
 use crate::input::InputLines;
-use crate::storing::StoredChain;
 use fab_types::{Block, Flag};
+use growing_store::StoredChain;
 use hex::FromHexError;
 use ledger_lines::{Failure, Files, Printer};
 use ledger_setting::Genesis;

@@ -2,13 +2,13 @@
 
 ghost use Rattle.std.specs.Prelude.{IfOk, OnOk};
 ghost use Rattle.ledger_lines.specs.Told.{Tells};
-ghost use Rattle.ledger_roles.specs.Following.{IsFollowed};
+ghost use Rattle.growing_store.specs.Following.{IsFollowed};
 
 use crate::ending::end;
-use crate::following::StoreFollower;
 use crate::input::InputLines;
 use events::{BadLine, read_proposal};
 use fab_types::{Endorsement, Endorsements, Envelope, OrgName, Payload, Proposal};
+use growing_store::StoreFollower;
 use ledger_lines::{Failure, Files, Printer};
 use ledger_setting::Genesis;
 use simulator::SimRefusal;

@@ -6,22 +6,17 @@
 //! on what it printed where no further line is at hand. What stands behind the last line's end is
 //! not read: it may be a part of a line.
 //!
-//! The state of each is a type with a contract: `Replica` of `replicated_log`, [`StoredChain`] over
-//! the `Committer` of `log_roles`, and [`StoreFollower`] over its `Follower`.
+//! The state of each is a type with a contract: `Replica` of `replicated_log`, `StoredChain` and
+//! `StoreFollower` of `growing_store`.
 #![tactic(auto)]
 
 mod committing;
 mod ending;
 mod endorsing;
-mod following;
 mod input;
 mod marks;
 mod ordering;
-mod storing;
 
 pub use committing::commit;
-pub use ending::StoreRefusal;
 pub use endorsing::endorse;
-pub use following::StoreFollower;
 pub use ordering::order;
-pub use storing::StoredChain;

@@ -1,6 +1,6 @@
 use Rattle.std.proofs.Common.{◌≡◌}
 use Rattle.ledger_lines.specs.Told.{IsMore}
-use Rattle.ledger_roles.specs.Storing.{IsStored}
+use Rattle.growing_store.specs.Storing.{IsStored}
 use Rattle.ledger_roles.proofs.committing.commit_lines.Given as goal
 
 abbrev pub invariant-loop : goal.invariant-loop

@@ -1,6 +1,6 @@
 use Rattle.std.proofs.Common.{◌≡◌}
 use Rattle.ledger_lines.specs.Told.{IsMore}
-use Rattle.ledger_roles.specs.Following.{IsFollowed}
+use Rattle.growing_store.specs.Following.{IsFollowed}
 use Rattle.ledger_roles.proofs.endorsing.endorse_lines.Given as goal
 
 abbrev pub invariant-loop-number : goal.invariant-loop-number

@@ -9,9 +9,9 @@ ghost use Rattle.block_store.specs.Loading.{Holds, IsBehind};
 ghost use Rattle.block_store.specs.Record.{record_bytes};
 ghost use Rattle.store_replay.specs.Lawful.{AreLawful};
 ghost use Rattle.log_roles.specs.Committing.{Receives, committed_chain};
-ghost use Rattle.ledger_roles.specs.Storing.{IsOfMachine, IsReceiveRefused, IsStored, rules_of, stored_chain};
+ghost use Rattle.growing_store.specs.Storing.{IsOfMachine, IsReceiveRefused, IsStored, rules_of, stored_chain};
 
-use crate::ending::StoreRefusal;
+use crate::refusal::StoreRefusal;
 use block_store::{End, Loaded, append, load};
 use counted::Counted;
 use endorsement_policy::Rules;

@@ -6,9 +6,9 @@ ghost use Rattle.ledger_setting.specs.Rule.{table_of};
 ghost use Rattle.simulator.specs.Answers.{Answers};
 ghost use Rattle.store_replay.specs.Lawful.{AreLawful};
 ghost use Rattle.log_roles.specs.Following.{endorsed_on, endorsing_of, followed_chain};
-ghost use Rattle.ledger_roles.specs.Following.{IsFollowed, bytes_read, endorses_by, read_chain};
+ghost use Rattle.growing_store.specs.Following.{IsFollowed, bytes_read, endorses_by, read_chain};
 
-use crate::ending::StoreRefusal;
+use crate::refusal::StoreRefusal;
 use block_store::{CountedRead, RecordReader};
 use counted::Counted;
 use endorsement_policy::Rules;

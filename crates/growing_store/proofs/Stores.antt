@@ -19,8 +19,8 @@ use Rattle.log_roles.specs.declared.refusal.ReceiveRefusal.{ReceiveRefusal}
 use Rattle.log_roles.specs.declared.refusal.ReceiveRefusal.TheVariants.{Forked, Unfit}
 use Rattle.store_replay.specs.Lawful.{AreLawful}
 use Rattle.store_replay.proofs.Lawful.{lawful_more}
-use Rattle.ledger_roles.specs.Refusals.{append_refusal}
-use Rattle.ledger_roles.specs.Storing.{IsOfMachine}
+use Rattle.growing_store.specs.Refusals.{append_refusal}
+use Rattle.growing_store.specs.Storing.{IsOfMachine}
 
 -- what is cut off behind whole records leaves them
 pub cut_behind : (moved : List ℕ) (cs : Chain) (held : ℕ) → IsBehind [] moved cs held → cut_back held moved ≡ flat_map record_bytes cs

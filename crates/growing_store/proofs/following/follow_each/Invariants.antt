@@ -3,7 +3,7 @@ use Rattle.fab_types.specs.Committed.{Committed}
 use Rattle.ledger_setting.specs.Rule.{table_of}
 use Rattle.store_replay.specs.Lawful.{AreLawful}
 use Rattle.log_roles.specs.Following.{endorsing_of, followed_chain}
-use Rattle.ledger_roles.proofs.following.follow_each.Given as goal
+use Rattle.growing_store.proofs.following.follow_each.Given as goal
 
 abbrev pub invariant-records : goal.invariant-records
 invariant-records l = record {

@@ -5,7 +5,7 @@ use Rattle.ledger_setting.specs.Rule.{table_of}
 use Rattle.block_store.specs.Progress.{Reads}
 use Rattle.store_replay.specs.Lawful.{AreLawful}
 use Rattle.log_roles.specs.Following.{Endorsing, followed_chain, endorsing_of}
-use Rattle.ledger_roles.specs.declared.following.StoreFollower.{StoreFollower}
+use Rattle.growing_store.specs.declared.following.StoreFollower.{StoreFollower}
 
 module _ {R : Type 0} where
   -- the blocks that were followed, with their flags

@@ -1,6 +1,6 @@
 use Rattle.std.proofs.Common.{◌≡◌}
-use Rattle.ledger_roles.specs.Following.{IsFollowed, endorses_by}
-use Rattle.ledger_roles.proofs.following.StoreFollower.catch_up.Given as goal
+use Rattle.growing_store.specs.Following.{IsFollowed, endorses_by}
+use Rattle.growing_store.proofs.following.StoreFollower.catch_up.Given as goal
 
 abbrev pub invariant-loop : goal.invariant-loop
 invariant-loop g l = record {

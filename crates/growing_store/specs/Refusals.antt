@@ -5,8 +5,8 @@ use Rattle.block_store.specs.declared.appending.AppendFault.{AppendFault}
 use Rattle.block_store.specs.declared.appending.AppendFault.TheVariants as append
 use Rattle.block_store.specs.declared.end.End.TheVariants as end
 use Rattle.log_roles.specs.Numbers.{receive_text}
-use Rattle.ledger_roles.specs.declared.ending.StoreRefusal.{StoreRefusal}
-use Rattle.ledger_roles.specs.declared.ending.StoreRefusal.TheVariants.{Memory, File, Damaged, Stored, Received}
+use Rattle.growing_store.specs.declared.refusal.StoreRefusal.{StoreRefusal}
+use Rattle.growing_store.specs.declared.refusal.StoreRefusal.TheVariants.{Memory, File, Damaged, Stored, Received}
 
 -- how it is written. None where a stored block is refused: those words are said by tests alone
 abbrev pub store_text : StoreRefusal → Option (List ℕ)

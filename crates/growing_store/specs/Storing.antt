@@ -7,9 +7,9 @@ use Rattle.ledger_model.specs.Chain.{Chain}
 use Rattle.ledger_setting.specs.Rule.{table_of}
 use Rattle.block_store.specs.Record.{record_bytes}
 use Rattle.log_roles.specs.Committing.{Receives, committed_chain, rules_of as committer_rules}
-use Rattle.ledger_roles.specs.declared.ending.StoreRefusal.{StoreRefusal}
-use Rattle.ledger_roles.specs.declared.ending.StoreRefusal.TheVariants.{Memory, File, Damaged, Stored, Received}
-use Rattle.ledger_roles.specs.declared.storing.StoredChain.{StoredChain}
+use Rattle.growing_store.specs.declared.refusal.StoreRefusal.{StoreRefusal}
+use Rattle.growing_store.specs.declared.refusal.StoreRefusal.TheVariants.{Memory, File, Damaged, Stored, Received}
+use Rattle.growing_store.specs.declared.storing.StoredChain.{StoredChain}
 
 -- want of memory, or a failed call, of which nothing is said but that
 abbrev pub IsOfMachine : StoreRefusal → Type 0

@@ -5,7 +5,7 @@ use Rattle.ledger_setting.specs.Rule.{table_of}
 use Rattle.store_replay.specs.Lawful.{AreLawful}
 use Rattle.store_replay.proofs.Lawful.{lawful_more}
 use Rattle.log_roles.specs.Following.{Endorsing, endorsing_of, followed_chain}
-use Rattle.ledger_roles.proofs.following.follow_each.Goals as goal
+use Rattle.growing_store.proofs.following.follow_each.Goals as goal
 
 pub records-preserved : goal.records-preserved
 records-preserved c =
