@@ -1,7 +1,5 @@
 pub mod Chaining
 pub mod Getting
-pub mod Ordered
-pub mod Parting
 pub mod Places
 pub mod Retiring
 pub mod Rounding

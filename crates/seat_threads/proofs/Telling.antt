@@ -6,6 +6,8 @@ use lib.ListN.{get_elem?}
 use Rattle.fab_types.specs.declared.envelope.Envelope.{Envelope}
 use Rattle.batch_cutter.specs.Division.{Limits}
 use Rattle.wire.specs.Links.{AreLinked}
+use Rattle.envelope_ordering.specs.Given.{WasCut}
+use Rattle.envelope_ordering.proofs.Parting.{by_same, parted_length}
 use Rattle.intake.specs.declared.rule.Parcel.{Parcel}
 use Rattle.intake.specs.declared.rule.View.{View}
 use Rattle.intake.specs.Mail.{of, NoneMissing}
@@ -18,12 +20,11 @@ use Rattle.seat_threads.specs.declared.desk.Desk.{Desk}
 use Rattle.seat_threads.specs.declared.refusal.SeatsRefusal.{SeatsRefusal}
 use Rattle.seat_threads.specs.declared.refusal.SeatsRefusal.TheVariants.{OutOfMemory, NoPlace, NoEntry}
 use Rattle.seat_threads.specs.declared.running.Report.{Report}
-use Rattle.seat_threads.specs.Desks.{WasCut, envelopes_got}
+use Rattle.seat_threads.specs.Desks.{envelopes_got}
 use Rattle.seat_threads.specs.Reports.{TellsOfSeats, IsSeatsRefused, IsWorkRefused, IsOpeningRefused, IsCountRefused, counts_told}
 use Rattle.seat_threads.specs.Rounds.{rounds_in}
 use Rattle.seat_threads.specs.Work.{Task, HasRetired}
 use Rattle.seat_threads.proofs.Getting.{all_got, as_many}
-use Rattle.seat_threads.proofs.Parting.{by_same, parted_length}
 use Rattle.seat_threads.proofs.Sums.{bounded, totalled}
 
 -- all rounds of all seats are counted

@@ -5,6 +5,7 @@ use Rattle.fab_types.specs.declared.envelope.Envelope.{Envelope}
 use Rattle.batch_cutter.specs.Division.{Limits}
 use Rattle.wire.specs.Links.{AreLinked}
 use Rattle.orderer.specs.Ordering.{Ordering}
+use Rattle.envelope_ordering.specs.Given.{AcceptsEach, AreCut}
 use Rattle.intake.specs.declared.rule.Parcel.{Parcel}
 use Rattle.intake.specs.Mail.{of}
 use Rattle.simulator.specs.Execution.{exec_of}
@@ -17,7 +18,7 @@ use Rattle.seat_threads.specs.declared.counts.Counts.{Counts}
 use Rattle.seat_threads.specs.declared.refusal.SeatsRefusal.{SeatsRefusal}
 use Rattle.seat_threads.specs.declared.refusal.SeatsRefusal.TheVariants.{OutOfMemory, NoPlace, NoEntry}
 use Rattle.seat_threads.specs.declared.running.Report.{Report}
-use Rattle.seat_threads.specs.Desks.{AcceptsEach, AreCut, envelopes_got}
+use Rattle.seat_threads.specs.Desks.{envelopes_got}
 use Rattle.seat_threads.specs.Rounds.{Outcome, envelopes_in}
 use Rattle.seat_threads.specs.Work.{Task, AllCameTo, total_of}
 

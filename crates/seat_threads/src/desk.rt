@@ -9,9 +9,10 @@ ghost use Rattle.peer_node.specs.Writers.{published_chain};
 ghost use Rattle.seat_threads.specs.Desks.{HasOrdered, HasCut, HasFirst, IsInStep, IsAtWork, IsSameDesk};
 
 use crate::committing::commit_rest;
+use envelope_ordering::{cut, give};
 use fab_types::Envelope;
 use intake::{ReceiverSeat, SenderSeat};
-use orderer::{OrderCause, Orderer, ordering_laws};
+use orderer::{Orderer, ordering_laws};
 use peer_node::PeerWriter;
 use std::sync::Wait;
 use std::sync::atomic::{AtomicU64, Ordering};
@@ -90,21 +91,9 @@ impl Desk {
         ensures ordered { (given : List Envelope) → HasOrdered given self.old →
             HasOrdered (given ++ envelope ∷ []) self.new }
     {
-        ordering_laws();
-        match self.orderer.accept(envelope) {
-            Ok(reports) => {
-                drop(reports);
-                self.commit_new(rt);
-            }
-            Err(refusal) => {
-                let cause = refusal.cause;
-                drop(refusal);
-                if matches!(cause, OrderCause::OutOfMemory) {
-                    self.starved = true;
-                } else {
-                    self.missing = self.missing.saturating_add(1);
-                }
-            }
+        match give(&mut self.orderer, &mut self.missing, envelope) {
+            Ok(()) => self.commit_new(rt),
+            Err(_) => self.starved = true,
         }
     }
 
@@ -117,19 +106,9 @@ impl Desk {
         ensures receiver { self.new.receiver ≡ self.old.receiver }
         ensures cut { (given : List Envelope) → HasOrdered given self.old → HasCut given self.new }
     {
-        ordering_laws();
-        match self.orderer.tick() {
-            Ok(report) => {
-                drop(report);
-                self.commit_new(rt);
-            }
-            Err(refusal) => {
-                let cause = refusal.cause;
-                drop(refusal);
-                if matches!(cause, OrderCause::OutOfMemory) {
-                    self.starved = true;
-                }
-            }
+        match cut(&mut self.orderer) {
+            Ok(()) => self.commit_new(rt),
+            Err(_) => self.starved = true,
         }
     }
 

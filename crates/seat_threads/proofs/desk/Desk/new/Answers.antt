@@ -1,6 +1,7 @@
 use Rattle.std.proofs.Common.{rules, List, [], refl, sym, subst}
 use Rattle.intake.specs.declared.rule.Parcel.{Parcel}
-use Rattle.seat_threads.specs.Desks.{AcceptsEach, ends, envelopes_got}
+use Rattle.envelope_ordering.specs.Given.{AcceptsEach, ends}
+use Rattle.seat_threads.specs.Desks.{envelopes_got}
 use Rattle.seat_threads.proofs.desk.Desk.new.Goals as goal
 
 pub returns-clause-work : goal.returns-clause-work

@@ -2,7 +2,7 @@
 use Rattle.std.proofs.Common.{◌≡◌, ◌+◌, ◌++◌, Bool, List, [], ◌∷◌, length, append_assoc, append-nil, refl, sym, ◌∙◌, subst, arith}
 use Rattle.fab_types.specs.declared.envelope.Envelope.{Envelope}
 use Rattle.batch_cutter.specs.Division.{Limits}
-use Rattle.seat_threads.specs.Desks.{AcceptsEach, IsRejected, ends, takes, refuses}
+use Rattle.envelope_ordering.specs.Given.{AcceptsEach, IsRejected, ends, takes, refuses}
 
 pub push_taken : {l : Limits} {r : Bool} {taken given ordered refused : List Envelope} (e : Envelope) → AcceptsEach l r taken given ordered refused →
     AcceptsEach l r taken (given ++ e ∷ []) (ordered ++ e ∷ []) refused

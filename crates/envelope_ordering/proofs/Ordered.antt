@@ -1,14 +1,17 @@
--- What the desk's orderer was given, with one envelope more and with the timeout.
-use Rattle.std.proofs.Common.{◌≡◌, ◌≢◌, ◌+◌, ◌-◌, ◌^◌, ◌++◌, ℕ, List, [], ◌∷◌, length-append, map, inl, inr, refl, sym, ◌∙◌, subst, arith}
+-- What an orderer was given, with one envelope more and with the timeout.
+use Rattle.std.proofs.Common.{◌≡◌, ◌≢◌, ◌+◌, ◌-◌, ◌^◌, ◌++◌, ℕ, List, [], ◌∷◌, length-append, append-nil, map, inl, inr, refl, sym, ◌∙◌, ap, subst, arith}
 use Rattle.std.specs.Prelude.{min}
 use Rattle.std.proofs.lemmas.List.{map-append}
+use mathlib.Core.List.{IsPrefix}
 use Rattle.fab_types.specs.declared.envelope.Envelope.{Envelope}
 use Rattle.batch_cutter.specs.Division.{Mark, message, timeout}
-use Rattle.orderer.specs.Ordering.{Ordering, IsOrdered, IsRefused}
+use Rattle.orderer.specs.Ordering.{Ordering, IsOrdered, IsRefused, Takes}
+use Rattle.orderer.specs.declared.report.BatchReport.{BatchReport}
 use Rattle.orderer.specs.declared.report.OrderCause.{OrderCause}
 use Rattle.orderer.specs.declared.report.OrderCause.TheVariants.{TooLarge, NoNumber, OutOfMemory}
-use Rattle.seat_threads.specs.Desks.{IsRejected, WasGiven, WasCut}
-use Rattle.seat_threads.proofs.Parting.{push_taken, push_refused, by_same}
+use Rattle.orderer.proofs.Refusing.{takes_begins}
+use Rattle.envelope_ordering.specs.Given.{IsRejected, WasGiven, WasCut}
+use Rattle.envelope_ordering.proofs.Parting.{push_taken, push_refused, by_same}
 
 pub one_taken : (given : List Envelope) (e : Envelope) (old new : Ordering) (missing after : ℕ)
     → ((marks : List (Mark Envelope)) → IsOrdered marks old → IsOrdered (marks ++ message e ∷ []) new) → new.limits ≡ old.limits → new.reorder ≡ old.reorder →
@@ -61,3 +64,11 @@ pub no_timeout : (given : List Envelope) (old new : Ordering) (missing after : �
 no_timeout given old new missing after cause same kept why other h =
     subst (λ (o : Ordering). WasCut given o after) (sym same)
     (subst (λ (n : ℕ). WasCut given old n) (sym kept) (without_number cause given old missing why other h))
+
+-- its chain only grows
+pub longer : (old : Ordering) (mark : Mark Envelope) (reports : List BatchReport) (new : Ordering) → Takes old mark reports new →
+    IsPrefix old.chain new.chain
+longer old mark reports new takes = let begins = takes_begins old mark reports new takes in (begins.0, sym begins.1)
+
+pub as_long : (old new : Ordering) → new ≡ old → IsPrefix old.chain new.chain
+as_long old new same = ([], append-nil old.chain ∙ sym (ap (λ (o : Ordering). o.chain) same))
