@@ -3,7 +3,7 @@ use Rattle.std.specs.Prelude.{List, Option, Some, None, codes}
 use Rattle.wasm_profile.specs.Numbers.{number_of}
 use Rattle.endorsement_policy.specs.Endorsed.{listed_policy}
 use Rattle.endorsement_policy.specs.declared.installed.ModuleId.{ModuleId}
-use Rattle.endorsement_policy.specs.declared.policy.Policy.{Policy}
+use Rattle.policy_language.specs.declared.policy.Policy.{Policy}
 use Rattle.endorsement_policy.specs.declared.rules.ChaincodePolicy.{ChaincodePolicy}
 use Rattle.policy_text.specs.Text.{policy_text}
 use Rattle.simulator.specs.declared.book.Chaincode.{Chaincode}

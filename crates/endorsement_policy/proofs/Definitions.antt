@@ -1,5 +1,5 @@
 -- What a definition that can be used comes to.
-use Rattle.std.proofs.Common.{◌≡◌, ℕ, true, cond, eqb, List, length, Option, Some, None, Result, Ok, Err, option_map, slice_get, get_or, ◌&&◌, refl, ap, subst}
+use Rattle.std.proofs.Common.{◌≡◌, ℕ, true, eqb, List, Option, Some, None, Result, Ok, Err, option_map, slice_get, get_or, ◌&&◌, refl, ap, subst}
 use Rattle.std.proofs.Common.{◌∙◌}
 use Rattle.std.specs.Prelude.{bytes_eq}
 use Rattle.std.specs.Result.{result_ok}
@@ -13,23 +13,21 @@ use Rattle.wasm_profile.specs.declared.profile.Profile.TheVariants.{Core1, SignE
 use Rattle.fab_types.specs.Limits.{IsPolicyText}
 use Rattle.fab_types.specs.declared.definition.Definition.{Definition}
 use Rattle.grammar.specs.Reading.{whole_at}
-use Rattle.grammar.specs.Laws.Steps.{bind_some, guarded}
+use Rattle.grammar.specs.Laws.Steps.{bind_some}
 use Rattle.wire.specs.Reading.{definition_at}
 use Rattle.wire.specs.Spelling.{definition_bytes}
 use Rattle.wire.specs.Within.{IsDefinition}
 use Rattle.wire.proofs.Codec.{whole_known, whole_read}
 use Rattle.wire.proofs.DefinitionLaws.{definition}
-use Rattle.endorsement_policy.specs.Endorsed.{needs_someone, defined_policy}
-use Rattle.endorsement_policy.specs.GoodSets.{Names, is_among}
-use Rattle.endorsement_policy.specs.Installed.{Installed, place_of, policy_in_text, used_at, usable_by, usable_in}
-use Rattle.endorsement_policy.specs.Limits.{IsText}
-use Rattle.endorsement_policy.specs.Reading.{policy_at, is_threshold}
+use Rattle.policy_language.specs.GoodSets.{needs_someone}
+use Rattle.endorsement_policy.specs.Endorsed.{defined_policy}
+use Rattle.endorsement_policy.specs.Installed.{Installed, place_of, used_at, usable_by, usable_in}
+use Rattle.policy_language.specs.Limits.{IsText}
+use Rattle.policy_language.specs.Reading.{policy_in_text}
 use Rattle.endorsement_policy.specs.declared.installed.ModuleId.{ModuleId}
 use Rattle.endorsement_policy.specs.declared.installed.Usable.{Usable}
-use Rattle.endorsement_policy.specs.declared.policy.Policy.{Policy}
-use Rattle.endorsement_policy.proofs.Found.{policy_found}
-use Rattle.endorsement_policy.proofs.Needed.{spelled_needs}
-use Rattle.endorsement_policy.proofs.Whole.{whole_found, strictly}
+use Rattle.policy_language.specs.declared.policy.Policy.{Policy}
+use Rattle.policy_language.proofs.Whole.{strictly, text_needs, whole_found}
 
 -- what a usable definition was made of
 pub record Used (place : Option ℕ) (fuel : ℕ) (policy : Option Policy) (u : Usable) : Type 0 where
@@ -66,14 +64,6 @@ found_at modules id place e =
     let profile = same_profile m.profile id.profile both.1 in
     let same : m ≡ id = λ i. record { digest = digest i; profile = profile i } in
     slice_get-get_or modules place id h.0 ∙ ap Some same
-
--- a text that is a policy needs somebody
-text_needs : (orgs : Names) (text : List ℕ) (p : Policy) → policy_in_text orgs text ≡ Some p → needs_someone p ≡ true
-text_needs orgs text p e =
-    let s = bind_some (policy_at (is_among orgs) is_threshold 8 text) (λ x. cond (eqb (length x.1) 0) (Some x.0) None) p e in
-    let g = guarded (eqb (length s.0.1) 0) (Some s.0.0) p s.2 in
-    let f = policy_found orgs 8 text s.0.1 s.0.0 s.1 in
-    subst (λ (q : Policy). needs_someone q ≡ true) (same_Some s.0.0 p g.1) (spelled_needs s.0.0 f.text f.spelled f.within.rules)
 
 module _ (i : Installed) (bytes : List ℕ) (u : Usable) where
   -- the definition that the bytes spell

@@ -1,14 +1,4 @@
-pub mod Evaluates
-pub mod Decimals
-pub mod Children
-pub mod Levels
-pub mod Fronts
-pub mod Tokens
-pub mod Texts
-pub mod Found
-pub mod Whole
 pub mod Shares
-pub mod Needed
 pub mod Definitions
 pub mod Sources
 pub mod Rights

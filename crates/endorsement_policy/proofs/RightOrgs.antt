@@ -7,7 +7,7 @@ use Rattle.std.proofs.lemmas.List.{append-nil, length-map, map-append, map_push,
 use Rattle.std.proofs.lemmas.List.Sums.{length-filter, count_by-le-length}
 use Rattle.fab_types.specs.declared.envelope.Endorsement.{Endorsement}
 use Rattle.fab_types.specs.declared.envelope.Envelope.{Envelope}
-use Rattle.endorsement_policy.specs.GoodSets.{Names}
+use Rattle.policy_language.specs.GoodSets.{Names}
 use Rattle.endorsement_policy.specs.Endorsed.{is_right, right_orgs}
 use Rattle.endorsement_policy.specs.declared.rules.Organisation.{Organisation}
 

@@ -13,11 +13,11 @@ use Rattle.fab_types.specs.declared.envelope.Envelope.{Envelope}
 use Rattle.ledger_model.specs.Chain.{Bytes}
 use Rattle.ledger_model.specs.Defined.{definition_by}
 use Rattle.ledger_model.specs.Views.{Plain}
-use Rattle.endorsement_policy.specs.GoodSets.{Name, Names, is_satisfied}
+use Rattle.policy_language.specs.GoodSets.{Name, Names, is_satisfied, needs_someone}
 use Rattle.endorsement_policy.specs.Installed.{usable_by}
-use Rattle.endorsement_policy.specs.declared.policy.Policy.{Policy}
+use Rattle.policy_language.specs.declared.policy.Policy.{Policy}
 use Rattle.endorsement_policy.specs.declared.rules.ChaincodePolicy.{ChaincodePolicy}
-use Rattle.endorsement_policy.specs.Endorsed.{Listed, needs_someone, do_need_someone, is_policy_of, is_right, right_orgs, is_met_by, listed_policy}
+use Rattle.endorsement_policy.specs.Endorsed.{Listed, do_need_someone, is_policy_of, is_right, right_orgs, is_met_by, listed_policy}
 use Rattle.endorsement_policy.specs.Endorsed.{defined_policy, policy_in, reads_own, names_no_other, is_upgrade_payload, is_endorsed_as, is_endorsed}
 use Rattle.endorsement_policy.specs.Endorsed.{CarriesRight}
 use Rattle.endorsement_policy.proofs.Definitions.{defined_needs}

@@ -10,10 +10,10 @@ use Rattle.ledger_model.specs.Defined.{definition_by}
 use Rattle.ledger_model.specs.State.{state, state_at}
 use Rattle.ledger_model.proofs.State.{get-state}
 use Rattle.ledger_model.proofs.Views.{get-values_of}
-use Rattle.endorsement_policy.specs.GoodSets.{Name}
+use Rattle.policy_language.specs.GoodSets.{Name}
 use Rattle.endorsement_policy.specs.Endorsed.{Listed, defined_policy, listed_policy, policy_in}
 use Rattle.endorsement_policy.specs.Judge.{Judge, AreRight, judged_policy, plain_after, policy_from}
-use Rattle.endorsement_policy.specs.declared.policy.Policy.{Policy}
+use Rattle.policy_language.specs.declared.policy.Policy.{Policy}
 use Rattle.endorsement_policy.specs.declared.source.Known.{Known}
 
 -- the value of a key after a chain

@@ -1,5 +1,5 @@
 -- Whose tags are right, and which envelopes are endorsed.
-use Rattle.std.specs.Prelude.{◌≡◌, ℕ, List, [], ◌∷◌, Option, Some, None, Bool, true, false, not, ◌&&◌, ◌||◌, map, option_map, bytes_eq, slice_get}
+use Rattle.std.specs.Prelude.{◌≡◌, ℕ, List, [], ◌∷◌, Option, Some, None, Bool, true, false, ◌&&◌, ◌||◌, map, option_map, bytes_eq, slice_get}
 use Rattle.std.specs.List.{find, filter, list_all, list_any}
 use Rattle.std.specs.Result.{is_ok}
 use Rattle.fab_types.specs.Order.{is_shown}
@@ -17,9 +17,9 @@ use Rattle.hmac_tag.specs.Tag.{tag}
 use Rattle.wire.specs.Spelling.{definition_bytes, payload_bytes}
 use Rattle.ledger_model.specs.Defined.{definition_in}
 use Rattle.ledger_model.specs.Views.{Plain}
-use Rattle.endorsement_policy.specs.GoodSets.{Name, Names, is_satisfied}
+use Rattle.policy_language.specs.GoodSets.{Name, Names, is_satisfied, needs_someone}
 use Rattle.endorsement_policy.specs.Installed.{Installed, usable_by, usable_in}
-use Rattle.endorsement_policy.specs.declared.policy.Policy.{Policy}
+use Rattle.policy_language.specs.declared.policy.Policy.{Policy}
 use Rattle.endorsement_policy.specs.declared.rules.Organisation.{Organisation}
 use Rattle.endorsement_policy.specs.declared.rules.ChaincodePolicy.{ChaincodePolicy}
 
@@ -35,10 +35,6 @@ is_org name o = bytes_eq o.name name
 
 abbrev pub is_policy_of : Name → ChaincodePolicy → Bool
 is_policy_of chaincode p = bytes_eq p.chaincode chaincode
-
--- the policy needs at least one endorsement: no name at all does not satisfy it
-abbrev pub needs_someone : Policy → Bool
-needs_someone policy = not (is_satisfied policy [])
 
 abbrev pub do_need_someone : List ChaincodePolicy → Bool
 do_need_someone ps = list_all (λ p. needs_someone p.policy) ps

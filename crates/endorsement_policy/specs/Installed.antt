@@ -7,10 +7,9 @@ use Rattle.wasm_profile.specs.declared.profile.Profile.{Profile}
 use Rattle.grammar.specs.Reading.{◌>>=◌, whole_at}
 use Rattle.fab_types.specs.declared.definition.Definition.{Definition}
 use Rattle.wire.specs.Reading.{definition_at}
-use Rattle.endorsement_policy.specs.GoodSets.{Names}
-use Rattle.endorsement_policy.specs.Leniency.{strict}
-use Rattle.endorsement_policy.specs.Reading.{policy_by}
-use Rattle.endorsement_policy.specs.declared.policy.Policy.{Policy}
+use Rattle.policy_language.specs.GoodSets.{Names}
+use Rattle.policy_language.specs.Reading.{policy_in_text}
+use Rattle.policy_language.specs.declared.policy.Policy.{Policy}
 use Rattle.endorsement_policy.specs.declared.fault.DefinitionFault.{DefinitionFault}
 use Rattle.endorsement_policy.specs.declared.fault.DefinitionFault.TheVariants.{NotInstalled, BadPolicy}
 use Rattle.endorsement_policy.specs.declared.installed.ModuleId.{ModuleId}
@@ -24,10 +23,6 @@ pub record Installed : Type 0 where
 -- where a module of this digest and this profile stands; of two modules with both the first counts
 abbrev pub place_of : List ModuleId → List ℕ → Profile → Option ℕ
 place_of modules digest profile = position (λ m. bytes_eq m.digest digest && number_of m.profile == number_of profile) modules
-
--- the policy that a text is
-abbrev pub policy_in_text : Names → List ℕ → Option Policy
-policy_in_text orgs text = whole_at (policy_by orgs strict 8) text
 
 -- what a place, a fuel and a policy come to
 abbrev pub used_at : Option ℕ → ℕ → Option Policy → Result Usable DefinitionFault

@@ -5,9 +5,9 @@ use Rattle.fab_types.specs.declared.envelope.Envelope.{Envelope}
 use Rattle.ledger_model.specs.Chain.{Chain, history}
 use Rattle.ledger_model.specs.State.{state}
 use Rattle.ledger_model.specs.Views.{Plain, values_of}
-use Rattle.endorsement_policy.specs.GoodSets.{Name}
+use Rattle.policy_language.specs.GoodSets.{Name}
 use Rattle.endorsement_policy.specs.Endorsed.{Listed, is_endorsed, policy_in}
-use Rattle.endorsement_policy.specs.declared.policy.Policy.{Policy}
+use Rattle.policy_language.specs.declared.policy.Policy.{Policy}
 use Rattle.endorsement_policy.specs.declared.source.Source.{Source}
 use Rattle.endorsement_policy.specs.declared.source.Source.TheVariants.{Genesis, Defined, Nowhere}
 use Rattle.endorsement_policy.specs.declared.source.Known.{Known}

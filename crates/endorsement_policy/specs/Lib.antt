@@ -1,15 +1,4 @@
-pub mod Tree
-pub mod View
-pub mod Laws
-pub mod GoodSets
-pub mod Evaluation
-pub mod Spelling
-pub mod Limits
-pub mod Leniency
-pub mod Reading
 pub mod Faults
-pub mod Parsing
-pub mod Operators
 pub mod TagKeys
 pub mod Installed
 pub mod Endorsed

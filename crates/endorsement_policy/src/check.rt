@@ -8,9 +8,9 @@ ghost use Rattle.endorsement_policy.specs.Endorsed.{is_endorsed, right_orgs};
 ghost use Rattle.endorsement_policy.specs.Judge.{judges};
 
 use crate::judge::Judge;
-use crate::org_set::OrgSet;
 use crate::rules::Rules;
 use fab_types::Envelope;
+use policy_language::OrgSet;
 use std::alloc::{AllocError, Global};
 use world_state::Snapshot;
 

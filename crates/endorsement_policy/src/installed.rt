@@ -5,9 +5,8 @@ ghost use Rattle.std.specs.Result.{is_ok};
 ghost use Rattle.endorsement_policy.specs.Installed.{place_of, usable_by, usable_in};
 
 use crate::fault::DefinitionFault;
-use crate::policy::Policy;
-use crate::reading::policy_in_text;
 use fab_types::{Definition, Fuel, OrgName};
+use policy_language::{Policy, policy_in_text};
 use std::alloc::{AllocError, Global};
 use std::marker::Model;
 use wasm_profile::Profile;

@@ -5,13 +5,12 @@ ghost use Rattle.endorsement_policy.specs.Endorsed.{is_call_endorsed, is_met_by,
 ghost use Rattle.endorsement_policy.specs.Judge.{judged_policy, judges, plain_after, policy_from};
 
 use crate::evaluate::satisfied;
-use crate::org_set::OrgSet;
 use crate::payloads::{is_upgrade_payload, names_no_other, reads_own};
-use crate::policy::Policy;
 use crate::rules::Rules;
 use crate::source::{Known, Source};
 use crate::tags::right_orgs;
 use fab_types::{Call, Envelope, Name, Proposal, Upgrade};
+use policy_language::{OrgSet, Policy};
 use std::alloc::{AllocError, Global};
 use std::marker::Model;
 use world_state::Snapshot;
@@ -25,7 +24,7 @@ pub(crate) struct Judge<'a> {
 }
 
 impl<'a> Model for Judge<'a> {
-    ghost use Rattle.endorsement_policy.specs.Tree.{policies_code};
+    ghost use Rattle.policy_language.specs.Tree.{policies_code};
     ghost use Rattle.endorsement_policy.specs.Judge.{AreRight, Judge};
     ghost use Rattle.std.specs.Coded.{codes};
 

@@ -1,4 +1,4 @@
-//! Laws of texts and of endorsed envelopes.
+//! Laws of definitions and of endorsed envelopes.
 
 ghost use Rattle.std.specs.Prelude.{◌≡◌, List, true, ℕ, Some, Ok, slice_get};
 ghost use Rattle.fab_types.specs.Limits.{IsPolicyText};
@@ -8,19 +8,12 @@ ghost use Rattle.ledger_model.specs.Views.{Plain};
 ghost use Rattle.wire.specs.Spelling.{definition_bytes};
 ghost use Rattle.wire.specs.Within.{IsDefinition};
 ghost use Rattle.endorsement_policy.specs.Endorsed.{CarriesRight, is_endorsed};
-ghost use Rattle.endorsement_policy.specs.GoodSets.{Names};
 ghost use Rattle.endorsement_policy.specs.Installed.{Installed, place_of, usable_by, usable_in};
-ghost use Rattle.endorsement_policy.specs.Limits.{IsText};
+ghost use Rattle.policy_language.specs.Limits.{IsText};
 ghost use Rattle.endorsement_policy.specs.declared.installed.Usable.{Usable};
-ghost use Rattle.endorsement_policy.specs.declared.policy.Policy.{Policy};
+ghost use Rattle.policy_language.specs.declared.policy.Policy.{Policy};
 
 use crate::rules::Rules;
-
-/// A text spells at most one policy.
-pub fn spelled_once()
-    ensures { (orgs : Names) (a b : Policy) (text : List ℕ) → IsText orgs a text →
-        IsText orgs b text → a ≡ b }
-{}
 
 /// Where an envelope is endorsed, in whatever state, a right tag stands on it.
 pub fn an_endorsed_envelope_carries_a_right_tag(rules: &Rules)

@@ -2,13 +2,14 @@
 
 ghost use Rattle.std.specs.Prelude.{◌≡◌, ◌↔◌, true, IsSome, IfSome, option_map};
 ghost use Rattle.std.specs.List.{find};
-ghost use Rattle.endorsement_policy.specs.Endorsed.{do_need_someone, is_org, is_policy_of, is_tag_of, key_of, needs_someone};
+ghost use Rattle.endorsement_policy.specs.Endorsed.{do_need_someone, is_org, is_policy_of, is_tag_of, key_of};
+ghost use Rattle.policy_language.specs.GoodSets.{needs_someone};
 
 use crate::evaluate::is_satisfied_by;
 use crate::installed::Installed;
-use crate::policy::Policy;
 use crate::tag_key::TagKey;
 use fab_types::{Endorsement, Name, OrgName};
+use policy_language::Policy;
 use std::marker::Model;
 
 /// An organisation and the key of its tags.
@@ -38,8 +39,9 @@ pub struct Rules {
 
 impl Model for Rules {
     ghost use Rattle.std.specs.Prelude.{◌≡◌, true};
-    ghost use Rattle.endorsement_policy.specs.Endorsed.{Listed, do_need_someone, needs_someone};
-    ghost use Rattle.endorsement_policy.specs.Tree.{policies_code};
+    ghost use Rattle.endorsement_policy.specs.Endorsed.{Listed, do_need_someone};
+    ghost use Rattle.policy_language.specs.GoodSets.{needs_someone};
+    ghost use Rattle.policy_language.specs.Tree.{policies_code};
     ghost use Rattle.std.specs.Coded.{codes};
 
     ghost Value = { Listed };
@@ -57,11 +59,18 @@ impl Model for Rules {
         (needs_someone r.upgrade ≡ true) };
 }
 
+/// Whether the policy needs at least one endorsement.
+fn needs_someone(policy: &Policy) -> bool
+    ensures { result ≡ needs_someone policy.now }
+{
+    !is_satisfied_by(policy, &[])
+}
+
 /// Whether each of these needs at least one endorsement.
 fn do_need_someone(policies: &[ChaincodePolicy]) -> bool
     ensures { result ≡ do_need_someone policies.now }
 {
-    policies.iter().all(|p| p.policy.needs_someone())
+    policies.iter().all(|p| needs_someone(&p.policy))
 }
 
 impl Rules {
@@ -85,7 +94,7 @@ impl Rules {
         if !do_need_someone(&policies) {
             return None;
         }
-        if !upgrade.needs_someone() {
+        if !needs_someone(&upgrade) {
             return None;
         }
         Some(Rules {
@@ -173,14 +182,5 @@ impl ChaincodePolicy {
         ensures { result ≡ is_policy_of chaincode.now self.now }
     {
         self.chaincode.as_slice() == chaincode.as_slice()
-    }
-}
-
-impl Policy {
-    /// Whether the policy needs at least one endorsement.
-    fn needs_someone(&self) -> bool
-        ensures { result ≡ needs_someone self.now }
-    {
-        !is_satisfied_by(self, &[])
     }
 }

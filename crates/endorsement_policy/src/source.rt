@@ -5,9 +5,9 @@ ghost use Rattle.endorsement_policy.specs.Endorsed.{defined_policy, listed_polic
 ghost use Rattle.endorsement_policy.specs.Judge.{plain_after, policy_from};
 
 use crate::installed::Installed;
-use crate::policy::Policy;
 use crate::rules::Rules;
 use fab_types::{Key, Name};
+use policy_language::Policy;
 use std::alloc::{AllocError, Global};
 use world_state::Snapshot;
 

@@ -4,9 +4,9 @@ ghost use Rattle.std.specs.Prelude.{◌≡◌, ◌≤◌, IfOk, map};
 ghost use Rattle.std.specs.Thread.{IsSync};
 ghost use Rattle.endorsement_policy.specs.Endorsed.{right_orgs};
 
-use crate::org_set::OrgSet;
 use crate::rules::Rules;
 use fab_types::Envelope;
+use policy_language::OrgSet;
 use std::alloc::{AllocError, Global};
 use std::thread::{Threads, join};
 use wire::encode_payload;

@@ -1,7 +1,7 @@
 -- What a text spells is one genesis.
 use Rattle.std.proofs.Common.{◌≡◌, ℕ, List, Some, refl, sym, ap, subst, ◌∙◌}
 use Rattle.endorsement_policy.specs.Endorsed.{Listed}
-use Rattle.endorsement_policy.specs.GoodSets.{Names}
+use Rattle.policy_language.specs.GoodSets.{Names}
 use Rattle.serde_json.specs.Data.{Data, boolean}
 use Rattle.serde_json.specs.Read.{read}
 use Rattle.genesis.specs.declared.genesis.GenesisFile.{GenesisFile}

@@ -3,13 +3,13 @@ use Rattle.std.proofs.Common.{◌≡◌, ℕ, suc, true, List, [], ◌∷◌, ma
 use Rattle.std.specs.List.{list_all}
 use Rattle.serde_json.specs.Data.{Data, Items, no_items, item}
 use Rattle.json_fields.specs.Lists.{AreItems}
-use Rattle.endorsement_policy.specs.GoodSets.{is_among}
+use Rattle.policy_language.specs.GoodSets.{is_among, needs_someone}
 use Rattle.endorsement_policy.specs.declared.rules.ChaincodePolicy.{ChaincodePolicy}
 use Rattle.simulator.specs.declared.book.Chaincode.{Chaincode}
-use Rattle.endorsement_policy.specs.Endorsed.{do_need_someone, needs_someone}
-use Rattle.endorsement_policy.specs.Limits.{IsText}
-use Rattle.endorsement_policy.specs.declared.policy.Policy.{Policy}
-use Rattle.endorsement_policy.proofs.Needed.{spelled_needs}
+use Rattle.endorsement_policy.specs.Endorsed.{do_need_someone}
+use Rattle.policy_language.specs.Limits.{IsText}
+use Rattle.policy_language.specs.declared.policy.Policy.{Policy}
+use Rattle.policy_language.proofs.Needed.{spelled_needs}
 use Rattle.genesis.specs.declared.genesis.Definition.{Definition}
 use Rattle.genesis.specs.declared.genesis.GenesisFile.{GenesisFile}
 use Rattle.genesis.specs.Lists.{IsListOf}

@@ -10,7 +10,7 @@ use Rattle.wasm_decode.specs.ModuleSpelling.{IsModule}
 use Rattle.wasm_validate.specs.ModuleRules.{IsValid}
 use Rattle.genesis.specs.declared.refusal.GenesisRefusal.{GenesisRefusal}
 use Rattle.genesis.specs.Lists.{IsNumber, IsWithin}
-use Rattle.endorsement_policy.specs.Limits.{IsText}
+use Rattle.policy_language.specs.Limits.{IsText}
 use Rattle.genesis.specs.Refused.{NoneIs}
 use Rattle.genesis.specs.Spelling.{HasParts, IsDefinition, IsHex, IsHexModule, IsInstalled, IsModuleOf, IsProfile, chaincode_object, module_object}
 use Rattle.json_fields.proofs.Rests.{members_in, rest, rest_of_three, first, text_in}

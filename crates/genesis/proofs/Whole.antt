@@ -1,10 +1,10 @@
 -- The file as a whole: what its parts spell is determined, so a part that is refused leaves no genesis.
 use Rattle.std.proofs.Common.{◌≡◌, ℕ, zero, List, true, false, sym, ap, subst, ◌∙◌}
-use Rattle.endorsement_policy.proofs.Whole.{same}
-use Rattle.endorsement_policy.specs.GoodSets.{Names}
-use Rattle.endorsement_policy.specs.Limits.{IsText}
+use Rattle.policy_language.proofs.Whole.{same}
+use Rattle.policy_language.specs.GoodSets.{Names}
+use Rattle.policy_language.specs.Limits.{IsText}
 use Rattle.endorsement_policy.specs.declared.installed.ModuleId.{ModuleId}
-use Rattle.endorsement_policy.specs.declared.policy.Policy.{Policy}
+use Rattle.policy_language.specs.declared.policy.Policy.{Policy}
 use Rattle.endorsement_policy.specs.declared.rules.ChaincodePolicy.{ChaincodePolicy}
 use Rattle.endorsement_policy.specs.declared.rules.Organisation.{Organisation}
 use Rattle.wasm_decode.proofs.ModuleTheorem.{at_most_one}

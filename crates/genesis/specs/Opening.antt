@@ -1,7 +1,7 @@
 -- What a system's opening asks of a genesis.
 use Rattle.std.specs.Prelude.{◌≡◌, true, map, length}
 use Rattle.std.specs.List.{list_all}
-use Rattle.endorsement_policy.specs.GoodSets.{is_among}
+use Rattle.policy_language.specs.GoodSets.{is_among}
 use Rattle.endorsement_policy.specs.declared.rules.ChaincodePolicy.{ChaincodePolicy}
 use Rattle.simulator.specs.declared.book.Chaincode.{Chaincode}
 use Rattle.genesis.specs.declared.genesis.GenesisFile.{GenesisFile}

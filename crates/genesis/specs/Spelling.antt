@@ -11,11 +11,11 @@ use Rattle.fab_types.specs.Limits.{IsName, IsOrgName}
 use Rattle.wasm_ast.specs.declared.module.Module.{Module}
 use Rattle.wasm_decode.specs.ModuleSpelling.{IsModule}
 use Rattle.wasm_validate.specs.ModuleRules.{IsValid}
-use Rattle.endorsement_policy.specs.GoodSets.{Names, is_among}
-use Rattle.endorsement_policy.specs.Limits.{IsText}
+use Rattle.policy_language.specs.GoodSets.{Names, is_among}
+use Rattle.policy_language.specs.Limits.{IsText}
 use Rattle.endorsement_policy.specs.TagKeys.{IsTagKey}
 use Rattle.endorsement_policy.specs.declared.installed.ModuleId.{ModuleId}
-use Rattle.endorsement_policy.specs.declared.policy.Policy.{Policy}
+use Rattle.policy_language.specs.declared.policy.Policy.{Policy}
 use Rattle.endorsement_policy.specs.declared.rules.Organisation.{Organisation}
 use Rattle.endorsement_policy.specs.declared.rules.ChaincodePolicy.{ChaincodePolicy}
 use Rattle.simulator.specs.Books.{Book, IsBook}

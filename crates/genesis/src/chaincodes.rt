@@ -1,8 +1,8 @@
 //! The chaincodes and policies.
 
 ghost use Rattle.std.specs.Prelude.{◌≡◌, ◌≢◌, [], ◌∷◌, ◌++◌, IfOk, IfErr, OnOk};
-ghost use Rattle.endorsement_policy.specs.Faults.{Fails};
-ghost use Rattle.endorsement_policy.specs.Limits.{IsText};
+ghost use Rattle.policy_language.specs.Faults.{Fails};
+ghost use Rattle.policy_language.specs.Limits.{IsText};
 ghost use Rattle.serde_json.specs.View.{view};
 ghost use Rattle.genesis.specs.declared.refusal.GenesisRefusal.TheVariants.{Memory, Json};
 ghost use Rattle.genesis.specs.Refused.{NoneIs};
@@ -14,9 +14,10 @@ use crate::genesis::{Definition, InstalledModule};
 use crate::modules::module;
 use crate::numbers::within;
 use crate::refusal::GenesisRefusal;
-use endorsement_policy::{ChaincodePolicy, ModuleId, Policy, PolicyFault, parse};
+use endorsement_policy::{ChaincodePolicy, ModuleId};
 use fab_types::limits::MOST_FUEL;
 use fab_types::{Name, OrgName};
+use policy_language::{Policy, PolicyFault, parse};
 use serde_json::Value;
 use simulator::Chaincode;
 use std::alloc::{AllocError, Global};

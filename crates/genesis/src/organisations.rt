@@ -2,7 +2,7 @@
 
 ghost use Rattle.std.specs.Prelude.{◌≡◌, IfOk, IfErr};
 ghost use Rattle.serde_json.specs.View.{view};
-ghost use Rattle.endorsement_policy.specs.GoodSets.{is_among};
+ghost use Rattle.policy_language.specs.GoodSets.{is_among};
 ghost use Rattle.genesis.specs.Refused.{NoneIs};
 ghost use Rattle.genesis.specs.Spelling.{AreOrganisations, are_different, names_of};
 

@@ -2,11 +2,10 @@
 
 use crate::failure::Failure;
 use crate::workload::{Workload, chaincode};
-use endorsement_policy::{
-    ChaincodePolicy, Installed, Organisation, Policies, Policy, Rules, TagKey,
-};
+use endorsement_policy::{ChaincodePolicy, Installed, Organisation, Rules, TagKey};
 use fab_types::{Endorsement, Endorsements, Envelope, OrgName, Payload};
 use hmac_tag::tag;
+use policy_language::{Policies, Policy};
 use std::alloc::Global;
 use wire::encode_payload;
 use world_state::Snapshot;

@@ -10,11 +10,10 @@ use crate::members::{rules, tagged_bytes, transaction};
 use crate::workload::Workload;
 use block_store::{End, Loaded};
 use counted::Counted;
-use endorsement_policy::{
-    Gate, OrgSet, Rules, check_all, check_with_right_orgs, right_orgs_of_blocks,
-};
+use endorsement_policy::{Gate, Rules, check_all, check_with_right_orgs, right_orgs_of_blocks};
 use fab_types::{Block, Envelope};
 use orderer::Orderer;
+use policy_language::OrgSet;
 use reorder::reorder;
 use std::alloc::Global;
 use std::io::Read;

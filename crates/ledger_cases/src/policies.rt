@@ -5,11 +5,11 @@ use crate::chains::judge_chain;
 use crate::fault::CaseFault;
 use crate::transactions::{chaincode_name, payload_of};
 use endorsement_policy::{
-    ChaincodePolicy, Installed, ModuleId, OrgSet, Organisation, Policy, PolicyFault, Rules, TagKey,
-    is_endorsed, parse, satisfied,
+    ChaincodePolicy, Installed, ModuleId, Organisation, Rules, TagKey, is_endorsed, satisfied,
 };
 use fab_types::{Endorsement, Endorsements, Envelope, OrgName, Payload};
 use hmac_tag::tag;
+use policy_language::{OrgSet, Policy, PolicyFault, parse};
 use std::alloc::Global;
 use wasm_profile::Profile;
 use wire::encode_payload;

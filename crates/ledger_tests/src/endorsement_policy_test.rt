@@ -3,11 +3,12 @@
 ghost use Rattle.std.specs.Prelude.{◌≤◌};
 
 use endorsement_policy::{
-    ChaincodePolicy, Gate, Installed, ModuleId, OrgSet, Organisation, Policies, Policy, Rules,
-    TagKey, check_all, check_plain, check_with_right_orgs, parse, right_orgs_of_blocks, satisfied,
+    ChaincodePolicy, Gate, Installed, ModuleId, Organisation, Rules, TagKey, check_all, check_plain,
+    check_with_right_orgs, right_orgs_of_blocks, satisfied,
 };
 use fab_types::{Envelope, Name, OrgName};
 use hmac_tag::{check, tag};
+use policy_language::{OrgSet, Policies, Policy, parse};
 use std::alloc::{AllocError, Global};
 use std::sync::atomic::{AtomicBool, AtomicUsize, Ordering};
 use std::test::Fail;

@@ -25,7 +25,7 @@ use Rattle.endorsement_policy.proofs.installed.Installed.TheSendSync as installe
 use Rattle.endorsement_policy.proofs.rules.Organisation.TheSendSync as organisation
 use Rattle.snapshot_cell.proofs.reader.Reader.TheSendSync as reader
 use Rattle.wasm_ast.proofs.body.Body.TheLaws.TheKnot as code_knot
-use Rattle.endorsement_policy.proofs.policy.Policies.TheLaws.TheKnot as policy_knot
+use Rattle.policy_language.proofs.policy.Policies.TheLaws.TheKnot as policy_knot
 use Rattle.wasm_ast.specs.contracts.body.Body as body_type
 use Rattle.wasm_ast.specs.contracts.module.Func as func_type
 use Rattle.wasm_ast.specs.contracts.module.Global as global_type
@@ -35,7 +35,7 @@ use Rattle.wasm_ast.specs.contracts.module.Module as module_tree_type
 use Rattle.wasm_validate.specs.contracts.valid.ValidModule as valid_module_type
 use Rattle.simulator.specs.contracts.book.Chaincode as chaincode_type
 use Rattle.simulator.specs.contracts.book.Book as book_type
-use Rattle.endorsement_policy.specs.contracts.policy.Policy as policy_type
+use Rattle.policy_language.specs.contracts.policy.Policy as policy_type
 use Rattle.endorsement_policy.specs.contracts.rules.ChaincodePolicy as chaincode_policy_type
 use Rattle.endorsement_policy.specs.contracts.rules.Rules as rules_type
 use Rattle.peer_node.specs.contracts.seat.Endorser as endorser_type

@@ -9,12 +9,12 @@ use Rattle.std.proofs.lemmas.Bool.Decides.{nat_tests}
 use Rattle.grammar.specs.Spelling as spelling
 use Rattle.grammar.specs.Spelling.{IsByte}
 use Rattle.fab_types.specs.Limits.{is_digit}
-use Rattle.endorsement_policy.specs.GoodSets.{Names}
-use Rattle.endorsement_policy.specs.Tree.{Rule, And, Or, OutOf, Policies, End, Org, Of}
-use Rattle.endorsement_policy.specs.View.{alone}
-use Rattle.endorsement_policy.specs.Limits.{IsText}
-use Rattle.endorsement_policy.specs.Spelling.{IsSpaces, ◌⋯◌, IsLeaf, IsOpening, IsBefore, IsEach, IsThreshold, decimal_after, leads_with_zero}
-use Rattle.endorsement_policy.specs.declared.policy.Policy.{Policy}
+use Rattle.policy_language.specs.GoodSets.{Names}
+use Rattle.policy_language.specs.Tree.{Rule, And, Or, OutOf, Policies, End, Org, Of}
+use Rattle.policy_language.specs.View.{alone}
+use Rattle.policy_language.specs.Limits.{IsText}
+use Rattle.policy_language.specs.Spelling.{IsSpaces, ◌⋯◌, IsLeaf, IsOpening, IsBefore, IsEach, IsThreshold, decimal_after, leads_with_zero}
+use Rattle.policy_language.specs.declared.policy.Policy.{Policy}
 use Rattle.policy_text.specs.Text.{name_text, opening_text, behind, each_text, policy_text}
 
 own : IsNumeralModel (λ ds. list_all is_digit ds ≡ true) (decimal_after 0)

@@ -1,9 +1,9 @@
 -- Writing policies one after another.
 use Rattle.std.proofs.Common.{◌≡◌, ℕ, ◌+◌, ◌≤◌, ◌<◌, List, [], ◌∷◌, ◌++◌, length, get_or, drop, refl, ap, ◌∙◌, append_assoc, arith}
-use Rattle.endorsement_policy.specs.Tree.{Policies, tree_size}
-use Rattle.endorsement_policy.specs.View.{alone, policies_of, then_policy}
-use Rattle.endorsement_policy.specs.declared.policy.Policy.{Policy}
-use Rattle.endorsement_policy.specs.declared.policy.Policy.TheVariants.{Org, And, Or, OutOf}
+use Rattle.policy_language.specs.Tree.{Policies, tree_size}
+use Rattle.policy_language.specs.View.{alone, policies_of, then_policy}
+use Rattle.policy_language.specs.declared.policy.Policy.{Policy}
+use Rattle.policy_language.specs.declared.policy.Policy.TheVariants.{Org, And, Or, OutOf}
 use Rattle.policy_text.specs.Text.{behind, each_text, policy_text}
 
 first_text : (p : Policy) (ps : Policies) → each_text (then_policy p ps) ≡ policy_text p ++ behind ps (each_text ps)

@@ -1,8 +1,8 @@
 -- The shortest text that spells a policy.
 use Rattle.std.specs.Prelude.{ℕ, List, [], ◌∷◌, ◌++◌, codes, decimal}
-use Rattle.endorsement_policy.specs.Tree.{Rule, And, Or, OutOf, Policies, End, Org, Of}
-use Rattle.endorsement_policy.specs.View.{alone}
-use Rattle.endorsement_policy.specs.declared.policy.Policy.{Policy}
+use Rattle.policy_language.specs.Tree.{Rule, And, Or, OutOf, Policies, End, Org, Of}
+use Rattle.policy_language.specs.View.{alone}
+use Rattle.policy_language.specs.declared.policy.Policy.{Policy}
 
 -- a name in single quotes
 abbrev pub name_text : List ℕ → List ℕ

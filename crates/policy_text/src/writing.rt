@@ -1,14 +1,14 @@
 //! Policies as texts.
 
 ghost use Rattle.std.specs.Prelude.{◌≡◌, ◌++◌, ℕ, List, IfOk, OnOk, codes, string_bytes};
-ghost use Rattle.endorsement_policy.specs.GoodSets.{Names};
-ghost use Rattle.endorsement_policy.specs.Limits.{IsText};
-ghost use Rattle.endorsement_policy.specs.View.{policies_of};
+ghost use Rattle.policy_language.specs.GoodSets.{Names};
+ghost use Rattle.policy_language.specs.Limits.{IsText};
+ghost use Rattle.policy_language.specs.View.{policies_of};
 ghost use Rattle.policy_text.specs.Text.{each_text, name_text, policy_text};
 
 use crate::ascii::ascii_text;
-use endorsement_policy::{Policies, Policy};
 use fab_types::OrgName;
+use policy_language::{Policies, Policy};
 use std::alloc::{AllocError, Global};
 
 /// The shortest text that spells a policy, without spaces. The only error is want of memory.

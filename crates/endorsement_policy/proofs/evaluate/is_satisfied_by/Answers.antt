@@ -1,4 +1,4 @@
-use Rattle.endorsement_policy.proofs.Evaluates.{satisfied_is}
+use Rattle.policy_language.proofs.Evaluates.{satisfied_is}
 use Rattle.endorsement_policy.proofs.evaluate.is_satisfied_by.Goals as goal
 
 pub returns : goal.returns

@@ -2,7 +2,7 @@ use Rattle.std.proofs.Common.{arith, ◌≡◌, ◌∙◌}
 use Rattle.std.proofs.lemmas.Option.{MatchOption-at_some}
 use Rattle.fab_types.specs.declared.envelope.Endorsement.{Endorsement}
 use Rattle.endorsement_policy.specs.Endorsed.{is_right, right_orgs}
-use Rattle.endorsement_policy.specs.GoodSets.{Names}
+use Rattle.policy_language.specs.GoodSets.{Names}
 use Rattle.endorsement_policy.proofs.RightOrgs.{all_seen, few}
 use Rattle.endorsement_policy.proofs.tags.right_orgs.Goals as goal
 

@@ -1,5 +1,5 @@
 use Rattle.std.proofs.lemmas.Result.{IfErr-weaker}
-use Rattle.endorsement_policy.specs.Limits.{IsText}
+use Rattle.policy_language.specs.Limits.{IsText}
 use Rattle.genesis.proofs.Refusals.{NoneIs-text}
 use Rattle.genesis.proofs.chaincodes.upgrade_policy.Goals as goal
 

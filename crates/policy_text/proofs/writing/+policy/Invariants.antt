@@ -1,6 +1,6 @@
 use Rattle.std.proofs.Common.{◌+◌, ◌*◌}
-use Rattle.endorsement_policy.specs.Tree.{tree_size}
-use Rattle.endorsement_policy.specs.View.{alone, policies_of}
+use Rattle.policy_language.specs.Tree.{tree_size}
+use Rattle.policy_language.specs.View.{alone, policies_of}
 use Rattle.policy_text.proofs.writing.+policy.Given as goal
 
 abbrev pub decreases-write_policy : goal.decreases-write_policy

@@ -3,7 +3,7 @@ use Rattle.std.specs.FinMap.{get}
 use Rattle.fab_types.specs.Proposals.{definition_key}
 use Rattle.endorsement_policy.specs.Endorsed.{defined_policy}
 use Rattle.endorsement_policy.specs.Judge.{plain_after, policy_from}
-use Rattle.endorsement_policy.specs.declared.policy.Policy.{Policy}
+use Rattle.policy_language.specs.declared.policy.Policy.{Policy}
 use Rattle.endorsement_policy.proofs.Sources.{value_after, defined_right, listed_right}
 use Rattle.endorsement_policy.proofs.source.Source.of.Goals as goal
 

@@ -1,0 +1,10 @@
+pub mod Evaluates
+pub mod Decimals
+pub mod Children
+pub mod Levels
+pub mod Fronts
+pub mod Tokens
+pub mod Texts
+pub mod Found
+pub mod Needed
+pub mod Whole

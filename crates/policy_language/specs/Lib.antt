@@ -1,0 +1,12 @@
+pub mod Tree
+pub mod View
+pub mod Laws
+pub mod GoodSets
+pub mod Evaluation
+pub mod Spelling
+pub mod Limits
+pub mod Leniency
+pub mod Reading
+pub mod Faults
+pub mod Parsing
+pub mod Operators
