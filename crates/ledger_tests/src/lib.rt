@@ -2,10 +2,10 @@
 //! them.
 //!
 //! What can be said as data (bytes, chains with their flags, batches, calls of the host and of
-//! chaincode, with their answers) is a line of `ledger_cases` or `program_cases`. What stands here
-//! is what no line can say: calls that no line makes, threads, devices that fail, and each law
-//! once. It stands above the crates that it tests, since a crate with tests is proved a second time
-//! together with them.
+//! chaincode, with their answers) is a line of `cases` or `program_cases`. What stands here is what
+//! no line can say: calls that no line makes, threads, devices that fail, and each law once. It
+//! stands above the crates that it tests, since a crate with tests is proved a second time together
+//! with them.
 #![tactic(auto)]
 
 #[cfg(test)]

@@ -1,8 +1,9 @@
 //! Calls and upgrades of a chaincode, each on the state that the earlier ones leave.
 
-use crate::bytes::{bytes_of, split_word};
+use crate::bytes::{split_fuel, split_word};
 use crate::chains::{block_of, extend, header_after};
 use crate::fault::CaseFault;
+use crate::modules::valid_module;
 use crate::texts::write_payload;
 use crate::transactions::{call_with, definition_of, name_of, unendorsed, upgrade_to};
 use endorsement_policy::{Installed, ModuleId};
@@ -10,9 +11,8 @@ use fab_types::{Block, Flag, Header, OrgName, Payload, Proposal, Value};
 use simulator::{Book, Chaincode, SimRefusal, simulate};
 use std::alloc::{AllocError, Global};
 use std::fmt::Write;
-use wasm_decode::decode_as;
 use wasm_profile::Profile;
-use wasm_validate::{ValidModule, validate};
+use wasm_validate::ValidModule;
 use world_state::Snapshot;
 
 /// The payload or the refusal of each call of a module of a profile.
@@ -32,8 +32,7 @@ fn book_of(alloc: Global, head: &str, profile: Profile) -> Result<Book, CaseFaul
 /// The one chaincode of the book.
 fn chaincodes_of(alloc: Global, head: &str, profile: Profile) -> Result<Vec<Chaincode>, CaseFault> {
     let (name, rest) = split_word(head);
-    let (fuel, pieces) = split_word(rest);
-    let fuel = fuel_of(fuel)?;
+    let (fuel, pieces) = split_fuel(rest)?;
     let name = name_of(alloc, name)?;
     let module = module_of(alloc, pieces, profile)?;
     Ok(vec![in alloc; Chaincode { name, module, fuel }]?)
@@ -47,21 +46,11 @@ fn installed(alloc: Global, profile: Profile) -> Result<Installed, CaseFault> {
     Ok(Installed::new(modules, vec![in alloc; org]?))
 }
 
-fn fuel_of(text: &str) -> Result<u64, CaseFault> {
-    match text.parse::<u64>() {
-        Ok(fuel) => Ok(fuel),
-        Err(_) => Err(CaseFault::BadLine),
-    }
-}
-
-/// The valid module of a profile that the bytes spell.
+/// The valid module of a profile that the bytes spell. A bad line where they spell none.
 fn module_of(alloc: Global, pieces: &str, profile: Profile) -> Result<ValidModule, CaseFault> {
-    let bytes = bytes_of(alloc, pieces)?;
-    let Ok(module) = decode_as(alloc, &bytes, profile) else {
-        return Err(CaseFault::BadLine);
-    };
-    match validate(alloc, module) {
-        Ok(valid) => Ok(valid),
+    match valid_module(alloc, profile, pieces) {
+        Ok(module) => Ok(module),
+        Err(CaseFault::Memory) => Err(CaseFault::Memory),
         Err(_) => Err(CaseFault::BadLine),
     }
 }

@@ -58,7 +58,12 @@ pub fn ask_module(
     answer_question(alloc, question, &valid)
 }
 
-fn valid_module(alloc: Global, profile: Profile, pieces: &str) -> Result<ValidModule, CaseFault> {
+/// The valid module of a profile that the bytes spell.
+pub fn valid_module(
+    alloc: Global,
+    profile: Profile,
+    pieces: &str,
+) -> Result<ValidModule, CaseFault> {
     Ok(validate(alloc, decoded(alloc, profile, pieces)?)?)
 }
 

@@ -1,13 +1,14 @@
 //! Why a line has no answer but a fault.
 
 ghost use Rattle.std.specs.Prelude.{◌≡◌};
-ghost use Rattle.wasm_cases.specs.declared.fault.CaseFault.TheVariants.{Memory};
+ghost use Rattle.cases.specs.declared.fault.CaseFault.TheVariants.{Memory};
 
 use std::alloc::{AllocError, AllocFailed};
 use std::fmt::{self, Display, Formatter, Write};
 use wasm_bytes::ByteFault;
 use wasm_decode::DecodeFault;
 use wasm_validate::ValidateFault;
+use wire::WireFault;
 
 /// Why a line has no answer but a fault.
 #[derive(Clone, Copy, Debug, Drop, PartialEq, Eq)]
@@ -16,10 +17,12 @@ pub enum CaseFault {
     Memory,
     /// The line is no case.
     BadLine,
-    /// The bytes are not what they are read as: the number of the fault and its offset.
+    /// The bytes are no module, or no items of one: the number of the fault and its offset.
     Malformed(u16, usize),
     /// The module is not valid.
     Invalid(ValidateFault),
+    /// The bytes spell no value of the ledger: the number of the fault.
+    Refused(u16),
 }
 
 impl Display for CaseFault {
@@ -29,6 +32,7 @@ impl Display for CaseFault {
             CaseFault::BadLine => write!(f, "bad line"),
             CaseFault::Malformed(number, offset) => write!(f, "fault {number} at {offset}"),
             CaseFault::Invalid(fault) => write!(f, "invalid {fault}"),
+            CaseFault::Refused(number) => write!(f, "refused {number}"),
         }
     }
 }
@@ -71,6 +75,15 @@ impl From<ValidateFault> for CaseFault {
         match fault {
             ValidateFault::Memory => CaseFault::Memory,
             fault => CaseFault::Invalid(fault),
+        }
+    }
+}
+
+impl From<WireFault> for CaseFault {
+    fn from(fault: WireFault) -> CaseFault {
+        match fault {
+            WireFault::Memory => CaseFault::Memory,
+            fault => CaseFault::Refused(fault.number()),
         }
     }
 }

@@ -1,6 +1,6 @@
 //! Lines, and the verb that each begins with.
 
-use crate::bytes::split_word;
+use crate::bytes::{split_fuel, split_word};
 use crate::calls::call_host;
 use crate::chains::{show_flags, show_key, show_range, show_state};
 use crate::decoding::{
@@ -9,7 +9,12 @@ use crate::decoding::{
 use crate::event_lines::event_line;
 use crate::fault::CaseFault;
 use crate::genesis_files::genesis_file;
+use crate::hosts::answer_of;
+use crate::items::{read_items, show_position};
+use crate::modules::{Look, ask_module, show_module};
+use crate::operators::apply_operator;
 use crate::policies::{show_endorsed, show_policy, show_satisfied};
+use crate::runs::Question;
 use crate::simulations::simulate_calls;
 use std::alloc::{AllocError, Global};
 use wasm_profile::Profile;
@@ -49,11 +54,12 @@ fn answer_case(alloc: Global, line: &str) -> Result<String, CaseFault> {
         "call" => call_host(alloc, rest),
         "simulate" => simulate_calls(alloc, rest, Profile::Core1),
         "simulate2" => simulate_calls(alloc, rest, Profile::SignExtension),
+        "by" => answer_by(alloc, rest),
         _ => answer_bytes(alloc, verb, rest),
     }
 }
 
-/// What a case of bytes gives, by its verb.
+/// What a case of the ledger's bytes gives, by its verb, and else one of modules by profile 1.
 fn answer_bytes(alloc: Global, verb: &str, pieces: &str) -> Result<String, CaseFault> {
     match verb {
         "payload" => show_payload(alloc, pieces),
@@ -63,6 +69,60 @@ fn answer_bytes(alloc: Global, verb: &str, pieces: &str) -> Result<String, CaseF
         "tx_id" => show_id(alloc, pieces),
         "hashes" => show_hashes(alloc, pieces),
         "tag" => show_tag(alloc, pieces),
+        _ => answer_module(alloc, Profile::Core1, verb, pieces),
+    }
+}
+
+/// What a case of modules gives behind the number of a profile.
+fn answer_by(alloc: Global, text: &str) -> Result<String, CaseFault> {
+    let (number, case) = split_word(text);
+    let (verb, rest) = split_word(case);
+    answer_module(alloc, profile_of(number)?, verb, rest)
+}
+
+fn profile_of(number: &str) -> Result<Profile, CaseFault> {
+    match number {
+        "1" => Ok(Profile::Core1),
+        "2" => Ok(Profile::SignExtension),
         _ => Err(CaseFault::BadLine),
     }
+}
+
+/// What a case of modules gives, by its verb.
+fn answer_module(
+    alloc: Global,
+    profile: Profile,
+    verb: &str,
+    rest: &str,
+) -> Result<String, CaseFault> {
+    match verb {
+        "items" => read_items(alloc, rest),
+        "position" => show_position(alloc, rest),
+        "decode" => show_module(alloc, Look::Counts, profile, rest),
+        "show" => show_module(alloc, Look::Whole, profile, rest),
+        "validate" | "run" | "trace" | "compare" | "answer" => {
+            let (question, pieces) = question_of(verb, rest)?;
+            ask_module(alloc, question, profile, pieces)
+        }
+        _ => apply_operator(alloc, verb, rest),
+    }
+}
+
+/// What a verb asks about a valid module, and the bytes behind its words.
+fn question_of<'a>(verb: &str, rest: &'a str) -> Result<(Question, &'a str), CaseFault> {
+    if verb == "validate" {
+        return Ok((Question::Parts, rest));
+    }
+    if verb == "answer" {
+        let (word, rest) = split_word(rest);
+        let (fuel, pieces) = split_fuel(rest)?;
+        return Ok((Question::Answer(answer_of(word)?, fuel), pieces));
+    }
+    let (fuel, pieces) = split_fuel(rest)?;
+    let question = match verb {
+        "run" => Question::Run(fuel),
+        "trace" => Question::Trace(fuel),
+        _ => Question::Compare(fuel),
+    };
+    Ok((question, pieces))
 }

@@ -2,7 +2,7 @@
 
 use crate::bytes::{bytes_of, split_word};
 use crate::fault::CaseFault;
-use crate::texts::{write_definition, write_endorsements, write_payload};
+use crate::texts::{write_definition, write_endorsements, write_hex, write_payload};
 use fab_types::{Block, Definition, Envelope, Payload, Proposal};
 use hmac_tag::tag;
 use std::alloc::{AllocError, Global};
@@ -92,9 +92,11 @@ pub fn show_hashes(alloc: Global, pieces: &str) -> Result<String, CaseFault> {
 }
 
 fn hashes_text(alloc: Global, block: &Block) -> Result<String, CaseFault> {
-    let header = hex::encode(alloc, &header_hash(&block.header))?;
-    let data = hex::encode(alloc, &data_hash(alloc, &block.envelopes)?)?;
-    Ok(format!(in alloc; "{header} {data}")?)
+    let data = data_hash(alloc, &block.envelopes)?;
+    let mut answer = hex::encode(alloc, &header_hash(&block.header))?;
+    answer.push(' ')?;
+    write_hex(&mut answer, &data)?;
+    Ok(answer)
 }
 
 /// The tag of the bytes under the key, which is the first piece.

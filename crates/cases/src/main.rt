@@ -1,10 +1,27 @@
-//! Cases of the ledger's crates as data: a line of the input is a case, and the line of the output
-//! with the same number is its answer.
+//! Cases of the WebAssembly crates and of the ledger's as data: a line of the input is a case, and
+//! the line of the output with the same number is its answer.
 //!
 //! A line is a verb and its words, and may have a note behind ` #`. Lines that are empty or begin
-//! with `#` are printed as they are, and `bad line` stands for what is no case.
+//! with `#` are printed as they are, and `bad line` stands for what is no case. In HEX bytes are
+//! pieces with blanks between them; a piece with `*N` behind it stands N times.
 //!
-//! In HEX bytes are pieces with blanks between them; a piece with `*N` behind it stands N times:
+//! Of modules. One is read by profile 1, and by profile N where `by N` stands in front of the verb;
+//! one that is refused is answered by `fault NUMBER at OFFSET` or `invalid NUMBER`:
+//!
+//! - `items KINDS HEX`: the items at the front of the bytes, in order, by their kinds, as
+//!   `byte,u32,i32,i64,name`; the kind `at` is the offset of the place;
+//! - `decode HEX`: how many parts of each kind the module has; `show HEX`: the module as `Debug`
+//!   prints it; `validate HEX`: its entry and its host calls;
+//! - `run FUEL HEX`: how its `invoke` ends with this fuel, without an argument, on a state without
+//!   keys, and what it wrote; `trace FUEL HEX`: before that what each step of a stepper shows;
+//!   `compare LAST HEX`: whether `run`, `run_by_reduction` and a stepper answer the same with every
+//!   fuel from 0 to this; `answer ANSWER FUEL HEX`: how it ends on a host that answers each call
+//!   so, with a number, or by a trap past the end of the memory where that is `past`;
+//! - `position FUNCTION INSTRUCTION`: the place of an instruction, as it is printed;
+//! - `binary32 OP A B`, `compare32 OP A B`, `unary32 OP A`, `eqz32 A`, the same with 64, and
+//!   `convert OP A`: what an operator gives for words in hex.
+//!
+//! Of the ledger's bytes:
 //!
 //! - `payload HEX`, `envelope HEX`, `block HEX`, `definition HEX`: the value that the bytes spell,
 //!   and whether its own bytes are the same, or `refused NUMBER`;
@@ -19,8 +36,8 @@
 //! - `endorsed NAMES TAGS TEXT`: whether an envelope with these tags is endorsed, each `NAME/KEY`:
 //!   by name, under the key of another, which is its name. The text is the policy of calls and of
 //!   upgrades, and of modules one is installed, of profile 1, whose digest has the byte 7. The
-//!   envelope's transaction calls `kv` and reads its definition as absent; ` | WORDS` behind the text
-//!   is another one, and ` / CHAIN` behind these a chain by whose state it is judged.
+//!   envelope's transaction calls `kv` and reads its definition as absent; ` | WORDS` behind the
+//!   text is another one, and ` / CHAIN` behind these a chain by whose state it is judged.
 //!
 //! `event TEXT` tells what a line of an events file asks for, with bytes in hex and `-` for none,
 //! and `genesis TEXT` what the genesis has that the text spells, or why it spells none.
@@ -54,8 +71,14 @@ mod decoding;
 mod event_lines;
 mod fault;
 mod genesis_files;
+mod hosts;
+mod items;
+mod modules;
+mod operators;
 mod policies;
+mod runs;
 mod simulations;
+mod steps;
 mod texts;
 mod transactions;
 

@@ -15,6 +15,15 @@ pub fn split_word(text: &str) -> (&str, &str) {
     }
 }
 
+/// The fuel that the first word is, and what follows it.
+pub fn split_fuel(text: &str) -> Result<(u64, &str), CaseFault> {
+    let (fuel, pieces) = split_word(text);
+    match fuel.parse::<u64>() {
+        Ok(fuel) => Ok((fuel, pieces)),
+        Err(_) => Err(CaseFault::BadLine),
+    }
+}
+
 /// The bytes of all pieces, in order.
 pub fn bytes_of(alloc: Global, text: &str) -> Result<Vec<u8>, CaseFault> {
     let mut bytes = Vec::new(alloc);
@@ -41,7 +50,7 @@ fn add_piece(alloc: Global, bytes: &mut Vec<u8>, piece: &str) -> Result<(), Case
 }
 
 /// The bytes that pairs of hex digits stand for.
-fn from_digits(alloc: Global, digits: &str) -> Result<Vec<u8>, CaseFault>
+pub fn from_digits(alloc: Global, digits: &str) -> Result<Vec<u8>, CaseFault>
     ensures { IfOk result (λ bytes. decode_of digits.now ≡ Ok bytes.items) }
 {
     match hex::decode(alloc, digits) {

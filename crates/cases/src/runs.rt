@@ -1,9 +1,9 @@
 //! Runs of modules on a state without keys, and on hosts that only answer.
 
-use crate::bytes::split_word;
 use crate::fault::CaseFault;
 use crate::hosts::run_on_answer;
 use crate::steps::{step_through, trace};
+use crate::texts::write_hex;
 use fab_types::{Value, WriteItem, WriteSet};
 use host_api::{PlainMap, Recorder};
 use interp::{Host, Outcome, run};
@@ -63,15 +63,6 @@ fn parts(alloc: Global, valid: &ValidModule) -> Result<String, AllocError> {
     format!(in alloc; "valid invoke={invoke} calls={calls:?}")
 }
 
-/// The fuel that the first word is, and what follows it.
-pub fn split_fuel(text: &str) -> Result<(u64, &str), CaseFault> {
-    let (fuel, pieces) = split_word(text);
-    match fuel.parse::<u64>() {
-        Ok(fuel) => Ok((fuel, pieces)),
-        Err(_) => Err(CaseFault::BadLine),
-    }
-}
-
 fn compared(alloc: Global, valid: &ValidModule, last: u64) -> Result<String, AllocError> {
     for fuel in 0..=last {
         if !is_same(alloc, valid, fuel)? {
@@ -128,7 +119,7 @@ fn run_answer(
 ) -> Result<String, AllocError> {
     let mut answer = outcome_text(alloc, outcome?)?;
     for item in writes.as_slice() {
-        answer.push_str(write_text(alloc, item)?.as_str())?;
+        write_written(&mut answer, item)?;
     }
     Ok(answer)
 }
@@ -142,14 +133,15 @@ pub fn outcome_text(alloc: Global, outcome: Outcome) -> Result<String, AllocErro
     }
 }
 
-/// A key that was written and its value, behind a blank.
-fn write_text(alloc: Global, item: &WriteItem) -> Result<String, AllocError> {
-    let key = hex::encode(alloc, item.key.as_slice())?;
+/// A key that was written and its value in hex, behind a blank.
+fn write_written(answer: &mut String, item: &WriteItem) -> Result<(), AllocError> {
+    answer.push(' ')?;
+    write_hex(answer, item.key.as_slice())?;
     match &item.value {
         Some(value) => {
-            let value = hex::encode(alloc, value.as_slice())?;
-            format!(in alloc; " {key}={value}")
+            answer.push('=')?;
+            write_hex(answer, value.as_slice())
         }
-        None => format!(in alloc; " {key} deleted"),
+        None => answer.push_str(" deleted"),
     }
 }
