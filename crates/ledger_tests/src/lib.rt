@@ -1,11 +1,10 @@
-//! Tests of the ledger's crates below chaincode, a file for each crate. There is no code beside
-//! them.
+//! Tests of the ledger's crates, a file for each crate. There is no code beside them.
 //!
-//! What can be said as data (bytes, chains with their flags, batches, calls of the host and of
-//! chaincode, with their answers) is a line of `cases` or `program_cases`. What stands here is what
-//! no line can say: calls that no line makes, threads, devices that fail, and each law once. It
-//! stands above the crates that it tests, since a crate with tests is proved a second time together
-//! with them.
+//! What can be said as data (bytes, batches, their order, chains with their flags, chains that do
+//! not fit, calls of the host and of chaincode, with their answers) is a line of `cases` or
+//! `program_cases`. What stands here is what no line can say: calls that no line makes, threads,
+//! devices that fail, and each law once. It stands above the crates that it tests, since a crate
+//! with tests is proved a second time together with them.
 #![tactic(auto)]
 
 #[cfg(test)]
@@ -13,16 +12,34 @@ mod batch_cutter_test;
 #[cfg(test)]
 mod block_store_test;
 #[cfg(test)]
+mod concurrent_reads_test;
+#[cfg(test)]
 mod endorsement_policy_test;
 #[cfg(test)]
 mod fab_types_test;
 #[cfg(test)]
+mod fabric_core_test;
+#[cfg(test)]
+mod intake_test;
+#[cfg(test)]
 mod ledger_model_test;
+#[cfg(test)]
+mod orderer_test;
+#[cfg(test)]
+mod peer_node_test;
 #[cfg(test)]
 mod persist_map_test;
 #[cfg(test)]
+mod refusals_test;
+#[cfg(test)]
+mod reopen_test;
+#[cfg(test)]
 mod samples;
 #[cfg(test)]
+mod seat_threads_test;
+#[cfg(test)]
 mod seq_test;
+#[cfg(test)]
+mod snapshot_cell_test;
 #[cfg(test)]
 mod wire_test;

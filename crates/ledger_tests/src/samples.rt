@@ -1,6 +1,14 @@
-//! The transaction that several tests look at.
+//! Transactions, a genesis and chains that several tests look at or are made of.
+
+ghost use Rattle.std.specs.Prelude.{◌<◌, ◌^◌, IfOk, length};
+ghost use Rattle.orderer.specs.Ordering.{AreLimits};
+ghost use Rattle.ledger_setting.specs.Setting.{limits_of};
 
 use fab_types::Envelope;
+use hmac_tag::tag;
+use ledger_lines::system_genesis;
+use ledger_setting::Genesis;
+use orderer::Orderer;
 use std::alloc::Global;
 use std::test::Fail;
 use wire::decode_envelope;
@@ -16,8 +24,104 @@ pub const PROPOSAL: usize = 22;
 
 /// The transaction of these bytes.
 pub fn envelope(alloc: Global) -> Result<Envelope, Fail> {
-    match decode_envelope(alloc, &ENVELOPE) {
+    decoded(alloc, &ENVELOPE)
+}
+
+fn decoded(alloc: Global, bytes: &[u8]) -> Result<Envelope, Fail> {
+    match decode_envelope(alloc, bytes) {
         Ok(envelope) => Ok(envelope),
-        Err(_) => Err("an envelope".into()),
+        Err(_) => Err("a transaction".into()),
     }
+}
+
+/// One peer and organisation A, which has to endorse the transactions of `kv`. That reads `a`, and
+/// then puts the value `1` there: the module of examples/get_put_a.wat.
+pub const GET_PUT_A: &str =
+    "{\"orgs\":[{\"name\":\"A\",\"key\":\"4a656665\"}],\"peers\":[\"A\"],\"seats\":4,\"queue\":4,\"count\":1,\"preferred\":1000,\"absolute\":1000,\"reorder\":false,\"chaincodes\":[{\"name\":\"kv\",\"module\":\"0061736d01000000010d0260047f7f7f7f017f6000017f02270206666162726963096765745f7374617465000006666162726963097075745f73746174650000030201010503010001070a0106696e766f6b6500020a1c011a00410041014102410010001a410041014101410110011a41000b0b08010041000b026131\",\"policy\":\"'A'\",\"fuel\":141,\"profile\":1}],\"modules\":[],\"upgrade\":\"'A'\"}";
+
+/// The same, where `kv` is `(loop (result i32) br 0)`: it goes round until it has spent 10,000,000.
+pub const LOOP: &str =
+    "{\"orgs\":[{\"name\":\"A\",\"key\":\"4a656665\"}],\"peers\":[\"A\"],\"seats\":4,\"queue\":4,\"count\":1,\"preferred\":1000,\"absolute\":1000,\"reorder\":false,\"chaincodes\":[{\"name\":\"kv\",\"module\":\"0061736d010000000105016000017f03020100070a0106696e766f6b6500000a09010700037f0c000b0b\",\"policy\":\"'A'\",\"fuel\":10000000,\"profile\":1}],\"modules\":[],\"upgrade\":\"'A'\"}";
+
+/// The bytes of a call of `kv` that read its definition as absent and nothing else, and puts `1` at
+/// `a`, with a tag of A of zeros.
+const PUT: [u8; 75] =
+    *b"\x02kv\x00\x00\x00\x00\x00\x00\x00\x00\x00\x00\x00\x00\x00\x00\x00\x00\x00\x00\x00\x00\x00\x01\x03\x00kv\x00\x00\x00\x00\x01\x01a\x01\x00\x011\x01\x01A\x00\x00\x00\x00\x00\x00\x00\x00\x00\x00\x00\x00\x00\x00\x00\x00\x00\x00\x00\x00\x00\x00\x00\x00\x00\x00\x00\x00\x00\x00\x00\x00";
+
+/// Where the nonce, the key and the tag begin, and the payload ends.
+const NONCE: usize = 5;
+
+const KEY: usize = 35;
+
+const TAG: usize = 43;
+
+const PAYLOAD: usize = 40;
+
+/// What a text spells.
+pub fn genesis(alloc: Global, text: &str) -> Result<Genesis, Fail>
+    ensures limits { IfOk result (λ g. AreLimits (limits_of g)) }
+    ensures peers { IfOk result (λ g. 0 < length g.peers.items) }
+    ensures seats { IfOk result (λ g. (0 < g.seats) × (g.seats < 2 ^ 32)) }
+    ensures queue { IfOk result (λ g. 0 < g.queue) }
+{
+    match system_genesis(alloc, text) {
+        Ok(genesis) => Ok(genesis),
+        Err(_) => Err("a genesis".into()),
+    }
+}
+
+/// A transaction of `kv` that reads its definition alone and puts `1` at a key, with A's tag. The
+/// nonce tells it from others.
+pub fn transaction(alloc: Global, nonce: u8, key: u8) -> Result<Envelope, Fail> {
+    let mut bytes = PUT;
+    bytes[NONCE] = nonce;
+    bytes[KEY] = key;
+    let tag = tag(b"Jefe", &bytes[..PAYLOAD]);
+    bytes[TAG..].copy_from_slice(&tag);
+    decoded(alloc, &bytes)
+}
+
+/// What tests of peers begin with.
+#[derive(Drop)]
+pub struct Setup {
+    pub genesis: Genesis,
+    pub chain: Orderer,
+    /// Puts `1` at `k`, and is of no block.
+    pub call: Envelope,
+}
+
+/// A setup with what a text spells and a chain of so many blocks.
+pub fn opening(alloc: Global, text: &str, count: u8) -> Result<Setup, Fail>
+    ensures { IfOk result (λ s. AreLimits (limits_of s.genesis)) }
+{
+    let call = transaction(alloc, 50, b'k')?;
+    let chain = chain(alloc, count)?;
+    let genesis = genesis(alloc, text)?;
+    Ok(Setup {
+        genesis,
+        chain,
+        call,
+    })
+}
+
+/// A chain of so many blocks: block 4 puts `a`, those of other even numbers `b`, and the rest `k`.
+pub fn chain(alloc: Global, count: u8) -> Result<Orderer, Fail> {
+    let mut orderer = Orderer::new(alloc, 1, 1000, 1000, false);
+    order(alloc, &mut orderer, count)?;
+    Ok(orderer)
+}
+
+/// Orders the transactions of such a chain.
+fn order(alloc: Global, orderer: &mut Orderer, count: u8) -> Result<(), Fail> {
+    for step in 0..count {
+        let key = match step {
+            3 => b'a',
+            _ if step % 2 == 1 => b'b',
+            _ => b'k',
+        };
+        if orderer.accept(transaction(alloc, step, key)?).is_err() {
+            return Err("a block".into());
+        }
+    }
+    Ok(())
 }
