@@ -1,9 +1,9 @@
 -- What holds of every plan.
-use Rattle.std.proofs.Common.{◌≡◌, ◌≢◌, ℕ, ◌+◌, ◌<◌, ◌≤◌, Bool, true, false, cond, List, [], ◌∷◌, ◌++◌, take, suc, zero, refl, sym, ap, ◌∙◌, subst, inl, inr}
+use Rattle.std.proofs.Common.{◌≡◌, ◌≢◌, ℕ, ◌+◌, ◌<◌, Bool, true, false, cond, List, [], ◌∷◌, ◌++◌, take, suc, zero, refl, sym, ap, ◌∙◌, subst, inl, inr}
 use Rattle.std.proofs.Common.{◌⊎◌, arith, set, get_or, length, eqb, zero-add, replicate}
 use Rattle.std.specs.List.{count_by}
 use Rattle.std.proofs.lemmas.List.Sums.{sum_by-cons, sum_by-append}
-use Rattle.std.proofs.lemmas.List.{take_more, get_or-replicate, get_or_past, length-replicate, length-set}
+use Rattle.std.proofs.lemmas.List.{take_more, get_or_past, length-replicate, length-set}
 use Rattle.std.proofs.lemmas.Bool.{cases_lt, eqb-true, eq-eqb}
 use Rattle.std.proofs.Common.{get_or-set_other}
 use Rattle.reorder.specs.declared.pick.Pick.{Pick}
@@ -138,17 +138,6 @@ plan_one n edge left (a ∷ as_) (b ∷ bs) p q =
     let rest = plan_one n edge (set left (index a) false) as_ bs p.1 (subst (λ (x : Pick). IsPlan n edge (set left (index x) false) bs) (sym first) q.1) in
     ap (λ (x : Pick). x ∷ as_) first ∙ ap (λ (xs : List Pick). b ∷ xs) rest
 
-pub past : (n k : ℕ) → n ≤ k → waits (replicate n true) k ≡ false
-past n k h = let len = length-replicate n true in get_or_past (replicate n true) k false (omega arith)
-
--- in a whole batch each index below its size waits
-pub whole_waits : (n k : ℕ) → k < n → waits (replicate n true) k ≡ true
-whole_waits n k h = get_or-replicate n k true false h
-
-pub whole_waits_only : (n k : ℕ) → waits (replicate n true) k ≡ true → k < n
-whole_waits_only n k w =
-    elim (cases_lt k n) as (λ _. k < n) [ inl lt ↦ lt | inr ge ↦ absurd (true≢false (waits (replicate n true) k) w (past n k ge)) ]
-
 placed-append : (xs ys : List Pick) → order_of (xs ++ ys) ≡ order_of xs ++ order_of ys
 placed-append [] ys = refl
 placed-append (Place i ∷ xs) ys = ap (λ (a : List ℕ). i ∷ a) (placed-append xs ys)
@@ -216,19 +205,17 @@ pub length-without : (gone : List ℕ) (left : List Bool) → length (without go
 length-without [] left = refl
 length-without (j ∷ gone) left = length-without gone (set left j false) ∙ length-set left j false
 
--- who takes part is one of the batch
-pub part_within : (gone : List ℕ) (n k : ℕ) → waits (all_but gone n) k ≡ true → k < n
-part_within gone n k w =
+-- one that waits is one of the batch
+pub waits_within : (n : ℕ) (left : List Bool) (k : ℕ) → length left ≡ n → waits left k ≡ true → k < n
+waits_within n left k long w =
     elim (cases_lt k n) as (λ _. k < n) [
       | inl lt ↦ lt
-      | inr ge ↦
-          let long : length (all_but gone n) ≡ n = length-without gone (replicate n true) ∙ length-replicate n true in
-          let past = get_or_past (all_but gone n) k false (omega arith) in
-          absurd (true≢false (waits (all_but gone n) k) w past)
+      | inr ge ↦ let past = get_or_past left k false (omega arith) in absurd (true≢false (waits left k) w past)
     ]
 
--- who waits no more stays so
-pub set_gone : (left : List Bool) (i : ℕ) → waits left i ≡ false → set left i false ≡ left
-set_gone [] i h = refl
-set_gone (x ∷ xs) zero h = ap (λ (b : Bool). b ∷ xs) (sym h)
-set_gone (x ∷ xs) (suc i) h = ap (λ (bs : List Bool). x ∷ bs) (set_gone xs i h)
+pub length-all_but : (gone : List ℕ) (n : ℕ) → length (all_but gone n) ≡ n
+length-all_but gone n = length-without gone (replicate n true) ∙ length-replicate n true
+
+-- who takes part is one of the batch
+pub part_within : (gone : List ℕ) (n k : ℕ) → waits (all_but gone n) k ≡ true → k < n
+part_within gone n k w = waits_within n (all_but gone n) k (length-all_but gone n) w

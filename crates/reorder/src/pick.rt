@@ -1,8 +1,5 @@
 //! A step of a plan.
 
-ghost use Rattle.std.specs.Prelude.{◌≡◌};
-ghost use Rattle.reorder.specs.Plan.{index};
-
 /// The transaction that a plan picks next, by its index in the batch.
 #[derive(Clone, Copy, Debug, PartialEq, Eq)]
 pub enum Pick {
@@ -10,16 +7,4 @@ pub enum Pick {
     Place(usize),
     /// It is aborted.
     Abort(usize),
-}
-
-impl Pick {
-    /// The index of the transaction.
-    pub(crate) fn index(self) -> usize
-        ensures { result ≡ index self }
-    {
-        match self {
-            Pick::Place(i) => i,
-            Pick::Abort(i) => i,
-        }
-    }
 }

@@ -1,9 +1,9 @@
 //! The plan, pick by pick.
 
-ghost use Rattle.std.specs.Prelude.{◌≡◌, ℕ, ◌+◌, ◌^◌, ◌<◌, ◌≤◌, true, false, length, slice_index, slice_set, MatchOption, IfOk};
-ghost use Rattle.std.specs.List.{AllByRecursion};
-ghost use Rattle.reorder.specs.Plan.{waits, all_but, IsDone, IsBusiest, IsPlan};
-ghost use Rattle.reorder.specs.Counts.{IsNoneZero, IsFirstZero, IsCountedPick, IsCounted};
+ghost use Rattle.std.specs.Prelude.{◌≡◌, ℕ, ◌+◌, ◌^◌, ◌<◌, ◌≤◌, Bool, true, false, if◌then◌else◌, length, slice_index, MatchOption, IfOk};
+ghost use Rattle.std.specs.List.{All, AllByRecursion};
+ghost use Rattle.reorder.specs.Plan.{waits, all_but, IsPlan};
+ghost use Rattle.reorder.specs.Counts.{IsAscending, IsListed, IsNext};
 ghost use Rattle.reorder.specs.Cells.{edge_at};
 
 use crate::counting::{counts_into, counts_out, lower, lower_out};
@@ -11,76 +11,102 @@ use crate::matrix::Matrix;
 use crate::pick::Pick;
 use std::alloc::{AllocError, Global};
 
-/// The smallest index that waits and has no edge into it.
-fn first_free(left: &[bool], into: &[u32]) -> Option<usize>
-    requires { length into.now ≡ length left.now }
-    ensures { MatchOption result (IsNoneZero left.now into.now)
-        (λ i. IsFirstZero left.now into.now i) }
+/// Which transactions of a batch of this size take part: all but `gone`.
+fn taking_part(alloc: Global, size: usize, gone: &[usize]) -> Result<Vec<bool>, AllocError>
+    requires { AllByRecursion (λ i. i < size) gone.now }
+    ensures { IfOk result (λ v. v.items ≡ all_but gone.now size) }
 {
+    let mut left = vec![in alloc; true; size]?;
+    for i in gone {
+        left[*i] = false;
+    }
+    Ok(left)
+}
+
+/// The indices of those that wait, ascending.
+fn indices_of(alloc: Global, left: &[bool]) -> Result<Vec<usize>, AllocError>
+    ensures { IfOk result (λ v. IsListed left.now v.items) }
+{
+    let mut waiting = Vec::with_capacity(alloc, left.len())?;
     for (i, waits) in left.iter().enumerate() {
-        if into[i] == 0 && *waits {
-            return Some(i);
+        if *waits {
+            waiting.push(i)?;
         }
     }
-    None
+    Ok(waiting)
 }
 
-/// One more than the edges in and out of one that waits, and 0 for one that is gone.
+/// A pick, and its place among those that wait.
+#[derive(Clone, Copy)]
+struct Next {
+    at: usize,
+    pick: Pick,
+}
+
+/// The edges in and out of one.
 #[inline(always)]
-fn weight_of(is_left: bool, into: u32, out: u32) -> usize
-    ensures left { is_left ≡ true → result ≡ into + out + 1 }
-    ensures gone { is_left ≡ false → result ≡ 0 }
+fn weight_of(into: u32, out: u32) -> usize
+    ensures { result ≡ into + out }
 {
-    let edges = into as usize + out as usize;
-    if is_left { edges + 1 } else { 0 }
+    into as usize + out as usize
 }
 
-/// The one that waits with the most edges, of these the last.
-fn busiest(left: &[bool], into: &[u32], out: &[u32]) -> Option<usize>
-    requires into_long { length into.now ≡ length left.now }
-    requires out_long { length out.now ≡ length left.now }
-    ensures { MatchOption result (IsDone left.now)
-        (λ i. IsBusiest (λ k. slice_index into.now k + slice_index out.now k) left.now i) }
+/// The next pick: the first of those that wait that has no edge into it. Where there is none, the
+/// one with the most edges, of these the last.
+fn next_pick(waiting: &[usize], into: &[u32], out: &[u32]) -> Option<Next>
+    requires inside { All (λ i. i < length into.now) waiting.now }
+    requires out_long { length out.now ≡ length into.now }
+    ensures { MatchOption result (length waiting.now ≡ 0)
+        (λ next. IsNext waiting.now into.now out.now next.at next.pick) }
 {
     let mut best = 0;
     let mut most = 0;
-    for i in 0..left.len() {
-        let weight = weight_of(left[i], into[i], out[i]);
+    for (at, i) in waiting.iter().enumerate() {
+        let i = *i;
+        if into[i] == 0 {
+            let pick = Pick::Place(i);
+            return Some(Next { at, pick });
+        }
+        let weight = weight_of(into[i], out[i]);
         if weight >= most {
-            best = i;
+            best = at;
             most = weight;
         }
     }
-    if most > 0 { Some(best) } else { None }
-}
-
-/// The next pick.
-fn next_pick(left: &[bool], into: &[u32], out: &[u32]) -> Option<Pick>
-    requires into_long { length into.now ≡ length left.now }
-    requires out_long { length out.now ≡ length left.now }
-    ensures { MatchOption result (IsDone left.now)
-        (λ pick. IsCountedPick left.now into.now out.now pick) }
-{
-    if let Some(i) = first_free(left, into) {
-        return Some(Pick::Place(i));
+    if most == 0 {
+        return None;
     }
-    busiest(left, into, out).map(Pick::Abort)
+    let pick = Pick::Abort(waiting[best]);
+    Some(Next { at: best, pick })
 }
 
-/// Takes out one that waits, with its edges. Where none of those that still wait has an edge into
-/// it, as where it is free, no count of edges out changes.
-fn take_out(edges: &Matrix, left: &mut Vec<bool>, into: &mut Vec<u32>, out: &mut Vec<u32>, i: usize)
-    requires counted { IsCounted edges.now.size (edge_at edges.now) left.old.items into.old.items
-        out.old.items }
-    requires waits { waits left.old.items i ≡ true }
-    ensures left { left.new.items ≡ slice_set left.old.items i false }
-    ensures counted { IsCounted edges.now.size (edge_at edges.now) left.new.items into.new.items
-        out.new.items }
+/// Takes the edges of one that is gone off the counts of those that wait. Where it has none to
+/// them, or none from them, there is nothing to take off.
+fn take_out(edges: &Matrix, waiting: &[usize], into: &mut [u32], out: &mut [u32], i: usize)
+    requires into_long { length into.old ≡ edges.now.size }
+    requires out_long { length out.old ≡ edges.now.size }
+    requires ascending { IsAscending waiting.now }
+    requires inside { All (λ k. k < edges.now.size) waiting.now }
+    requires gone { i < edges.now.size }
+    requires into_counted { (k : ℕ) → edge_at edges.now i k ≡ true → 0 < slice_index into.old k }
+    requires out_counted { (p : ℕ) → p < length waiting.now →
+        edge_at edges.now (slice_index waiting.now p) i ≡ true →
+        0 < slice_index out.old (slice_index waiting.now p) }
+    ensures into { 0 < slice_index out.old i → (k : ℕ) → k < length into.old →
+        slice_index into.new k + (if edge_at edges.now i k then 1 else 0)
+        ≡ slice_index into.old k }
+    ensures into_stays { slice_index out.old i ≡ 0 → into.new ≡ into.old }
+    ensures out { 0 < slice_index into.new i → (p : ℕ) → p < length waiting.now →
+        slice_index out.new (slice_index waiting.now p)
+        + (if edge_at edges.now (slice_index waiting.now p) i then 1 else 0)
+        ≡ slice_index out.old (slice_index waiting.now p) }
+    ensures out_stays { slice_index into.new i ≡ 0 → out.new ≡ out.old }
 {
-    left[i] = false;
-    lower(into, edges.row(i));
+    if out[i] > 0 {
+        lower(into, edges.row(i));
+    }
     if into[i] > 0 {
-        lower_out(out, edges, left, i);
+        lower_out(out, edges, waiting, i);
     }
 }
 
@@ -91,19 +117,15 @@ pub fn picks(alloc: Global, edges: &Matrix, gone: &[usize]) -> Result<Vec<Pick>,
     ensures { IfOk result
         (λ v. IsPlan edges.now.size (edge_at edges.now) (all_but gone.now edges.now.size) v.items) }
 {
-    let mut left = vec![in alloc; true; edges.size]?;
-    let mut into = counts_into(alloc, edges)?;
-    let mut out = counts_out(alloc, edges)?;
-    for i in gone {
-        let i = *i;
-        if left[i] {
-            take_out(edges, &mut left, &mut into, &mut out, i);
-        }
-    }
-    let mut picks = Vec::with_capacity(alloc, edges.size)?;
-    while let Some(pick) = next_pick(&left, &into, &out) {
-        take_out(edges, &mut left, &mut into, &mut out, pick.index());
-        picks.push(pick)?;
+    let left = taking_part(alloc, edges.size, gone)?;
+    let mut waiting = indices_of(alloc, &left)?;
+    let mut into = counts_into(alloc, edges, &left)?;
+    let mut out = counts_out(alloc, edges, &left)?;
+    let mut picks = Vec::with_capacity(alloc, waiting.len())?;
+    while let Some(next) = next_pick(&waiting, &into, &out) {
+        let i = waiting.remove(next.at);
+        take_out(edges, &waiting, &mut into, &mut out, i);
+        picks.push(next.pick)?;
     }
     Ok(picks)
 }

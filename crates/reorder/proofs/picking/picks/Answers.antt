@@ -1,102 +1,176 @@
-use Rattle.std.proofs.Common.{◌≡◌, ℕ, ◌+◌, Bool, true, false, List, [], get_or, set, take, replicate, sym, ap, ◌∙◌, subst, arith, rules}
-use Rattle.std.proofs.lemmas.List.{append-nil, take_more, take_all}
-use Rattle.reorder.specs.Plan.{IsDone, IsPlan, waits, all_but}
-use Rattle.reorder.specs.Counts.{IsCounted, IsCountedPick}
+use Rattle.std.proofs.Common.{◌≡◌, ℕ, ◌<◌, ◌&&◌, Bool, true, false, List, [], length, get_or, set, drop, sym, ap, ◌∙◌, subst, arith}
+use Rattle.std.proofs.lemmas.List.{append-nil, length-set}
+use Rattle.std.specs.List.{remove}
+use Rattle.reorder.specs.Plan.{IsDone, IsPlan, waits, tally, all_but}
+use Rattle.reorder.specs.Counts.{IsAscending, IsListed, IsNext}
 use Rattle.reorder.specs.Cells.{edge_at}
-use Rattle.reorder.proofs.Plans.{without_more, set_gone}
-use Rattle.reorder.proofs.Counted.{counted_whole, counted_waits, same_pick, fewer_wait, plan_more}
+use Rattle.reorder.proofs.Plans.{length-all_but, waits_within}
+use Rattle.reorder.proofs.Listing.{ascending_removed, taken_is, taken_waits, listed_taken, listed_within}
+use Rattle.reorder.proofs.Counted.{AreLowered, counted_first, counted_unpick, into_counted, out_counted, same_counts, same_next, same_lowered}
+use Rattle.reorder.proofs.Counted.{plan_more, none_waits, put_back}
 use Rattle.reorder.proofs.picking.picks.Goals as goal
-use Rattle.reorder.proofs.picking.picks.Goals.{then-index, else-index}
 
-pub loop-i-init : goal.loop-i-init
-loop-i-init c =
+pub counts_into-requires-clause-long : goal.counts_into-requires-clause-long
+counts_into-requires-clause-long c =
+    ap length c.deref-2.ensures.value ∙ ap length c.in_ok-left.ensures ∙ length-all_but c.args.gone.now c.args.edges.now.size
+
+pub counts_out-requires-clause-long : goal.counts_out-requires-clause-long
+counts_out-requires-clause-long c =
+    ap length c.deref-3.ensures.value ∙ ap length c.in_ok-left.ensures ∙ length-all_but c.args.gone.now c.args.edges.now.size
+
+pub loop-next-init : goal.loop-next-init
+loop-next-init c =
     let n = c.args.edges.now.size in
     let edge = edge_at c.args.edges.now in
-    let whole : IsCounted n edge (replicate n true) c.in_ok-into.into.items c.in_ok-out.out.items =
-    counted_whole n edge c.in_ok-into.into.items c.in_ok-out.out.items c.in_ok-into.ensures.long c.in_ok-out.ensures.long c.in_ok-into.ensures.each
-    c.in_ok-out.ensures.each in
-    let left_is : c.in_ok-left.left.items ≡ replicate n true = search rules in
-    record {
-      counted = subst (λ (x : List Bool). IsCounted n edge x c.in_ok-into.into.items c.in_ok-out.out.items) (sym left_is) whole;
-      left = left_is;
-    }
-
-pub loop-i-preserved : goal.loop-i-preserved
-loop-i-preserved c =
-    let n = c.args.edges.now.size in
     let gone = c.args.gone.now in
-    let at = c.loop-i.i-index in
-    let i = get_or gone at 0 in
-    let next : all_but (take (at + 1) gone) n ≡ set (all_but (take at gone) n) i false =
-    ap (λ (is : List ℕ). all_but is n) (take_more gone at 0 c.loop-i-test.true) ∙ without_more (take at gone) (replicate n true) i
+    let left = c.in_ok-left.left.items in
+    let into = c.in_ok-into.into.items in
+    let out = c.in_ok-out.out.items in
+    let left_is : left ≡ all_but gone n = c.in_ok-left.ensures in
+    let long : length left ≡ n = ap length left_is ∙ length-all_but gone n in
+    let into_is : (i : ℕ) → i < n → get_or into i 0 ≡ tally n (λ k. waits left k && edge k i) =
+    subst (λ (x : List Bool). (i : ℕ) → i < n → get_or into i 0 ≡ tally n (λ k. waits x k && edge k i)) c.deref-2.ensures.value c.in_ok-into.ensures.each
     in
-    let was : set c.loop-i.left.items i false ≡ all_but (take (at + 1) gone) n = ap (λ (l : List Bool). set l i false) c.loop-i.invariant.left ∙ sym next in
-    elim c.if-index.branch [
-      | then-index w ↦ rw (w.left-is, w.into-is, w.out-is) (record { counted = w.take_out.ensures.counted; left = w.take_out.ensures.left ∙ was })
-      | else-index w ↦
-          let gone_before : waits c.loop-i.left.items i ≡ false = search rules in
-          rw (w.left-is, w.into-is, w.out-is) (record { counted = c.loop-i.invariant.counted; left = sym (set_gone c.loop-i.left.items i gone_before) ∙ was })
-    ]
-
-pub loop-pick-init : goal.loop-pick-init
-loop-pick-init c =
-    let n = c.args.edges.now.size in
-    let edge = edge_at c.args.edges.now in
-    let gone = c.args.gone.now in
-    let all : take c.loop-i.i-index gone ≡ gone = take_all c.loop-i.i-index gone (omega arith) in
-    let left_is : c.loop-i.left.items ≡ all_but gone n = c.loop-i.invariant.left ∙ ap (λ (is : List ℕ). all_but is n) all in
+    let out_is : (i : ℕ) → i < n → get_or out i 0 ≡ tally n (λ k. waits left k && edge i k) =
+    subst (λ (x : List Bool). (i : ℕ) → i < n → get_or out i 0 ≡ tally n (λ k. waits x k && edge i k)) c.deref-3.ensures.value c.in_ok-out.ensures.each
+    in
     record {
-      counted = c.loop-i.invariant.counted;
+      wait = left;
+      listed = subst (λ (x : List Bool). IsListed x c.in_ok-waiting.waiting.items) c.deref.ensures.value c.in_ok-waiting.ensures;
+      counted = counted_first n edge left into out long c.in_ok-into.ensures.long c.in_ok-out.ensures.long into_is out_is;
       goes_on = λ rest p. rw c.in_ok-picks.ensures.items (subst (λ (x : List Bool). IsPlan n edge x rest) left_is p);
     }
 
-pub take_out-requires-in-Some-clause-waits : goal.take_out-requires-in-Some-clause-waits
-take_out-requires-in-Some-clause-waits c =
-    let left = c.loop-pick.left.items in
-    let into = c.loop-pick.into.items in
-    let out = c.loop-pick.out.items in
-    let pick : IsCountedPick left into out c.in-Some.pick =
-    same_pick left _ into _ out _ c.in-Some.pick c.deref.ensures.value c.deref-in-loop-pick.ensures.value c.deref-in-loop-pick-2.ensures.value
-    c.in-Some.ensures in
-    counted_waits left into out c.in-Some.pick c.index-in-Some.result c.index-in-Some.ensures pick
+pub next_pick-requires-clause-inside : goal.next_pick-requires-clause-inside
+next_pick-requires-clause-inside c = λ k d lt.
+    let n = c.args.edges.now.size in
+    let v = c.loop-next.invariant in
+    let long : length c.deref-in-loop-next-2.result.now ≡ n = ap length c.deref-in-loop-next-2.ensures.value ∙ v.counted.into_long in
+    let within : (p e : ℕ) → p < length c.deref-in-loop-next.result.now → get_or c.deref-in-loop-next.result.now p e < n =
+    subst (λ (x : List ℕ). (p e : ℕ) → p < length x → get_or x p e < n) (sym c.deref-in-loop-next.ensures.value)
+    (listed_within n v.wait c.loop-next.waiting.items v.counted.left_long v.listed)
+    in
+    let here = within k d lt in
+    omega arith
 
-pub loop-pick-smaller : goal.loop-pick-smaller
-loop-pick-smaller c =
-    let left = c.loop-pick.left.items in
-    let into = c.loop-pick.into.items in
-    let out = c.loop-pick.out.items in
-    let i = c.index-in-Some.result in
-    let pick : IsCountedPick left into out c.in-Some.pick =
-    same_pick left _ into _ out _ c.in-Some.pick c.deref.ensures.value c.deref-in-loop-pick.ensures.value c.deref-in-loop-pick-2.ensures.value
-    c.in-Some.ensures in
-    let w : waits left i ≡ true = counted_waits left into out c.in-Some.pick i c.index-in-Some.ensures pick in
-    rw c.take_out-in-Some.ensures.left (fewer_wait left i w)
+pub take_out-requires-clause-ascending : goal.take_out-requires-clause-ascending
+take_out-requires-clause-ascending c =
+    let waiting = c.loop-next.waiting.items in
+    let at = c.in-Some.next.at in
+    let next : IsNext waiting c.loop-next.into.items c.loop-next.out.items at c.in-Some.next.pick =
+    same_next waiting _ _ _ _ _ at c.in-Some.next.pick c.deref-in-loop-next.ensures.value c.deref-in-loop-next-2.ensures.value
+    c.deref-in-loop-next-3.ensures.value c.in-Some.ensures in
+    subst (λ (x : List ℕ). IsAscending x) (sym (c.deref-in-Some.ensures.value ∙ c.remove-i.ensures.items))
+    (ascending_removed waiting at next.within c.loop-next.invariant.listed.ascending)
 
-pub loop-pick-preserved : goal.loop-pick-preserved
-loop-pick-preserved c =
+pub take_out-requires-clause-inside : goal.take_out-requires-clause-inside
+take_out-requires-clause-inside c =
+    let n = c.args.edges.now.size in
+    let v = c.loop-next.invariant in
+    let waiting = c.loop-next.waiting.items in
+    let at = c.in-Some.next.at in
+    let i = c.remove-i.result in
+    let next : IsNext waiting c.loop-next.into.items c.loop-next.out.items at c.in-Some.next.pick =
+    same_next waiting _ _ _ _ _ at c.in-Some.next.pick c.deref-in-loop-next.ensures.value c.deref-in-loop-next-2.ensures.value
+    c.deref-in-loop-next-3.ensures.value c.in-Some.ensures in
+    let listed = listed_taken v.wait waiting at i next.within c.remove-i.ensures.value v.listed in
+    let long : length (set v.wait i false) ≡ n = length-set v.wait i false ∙ v.counted.left_long in
+    subst (λ (x : List ℕ). (k d : ℕ) → k < length x → get_or x k d < n) (sym (c.deref-in-Some.ensures.value ∙ c.remove-i.ensures.items))
+    (listed_within n (set v.wait i false) (remove waiting at) long listed)
+
+pub take_out-requires-clause-into_counted : goal.take_out-requires-clause-into_counted
+take_out-requires-clause-into_counted c =
+    let edges = c.args.edges.now in
+    let n = edges.size in
+    let edge = edge_at edges in
+    let v = c.loop-next.invariant in
+    let waiting = c.loop-next.waiting.items in
+    let at = c.in-Some.next.at in
+    let i = c.remove-i.result in
+    let next : IsNext waiting c.loop-next.into.items c.loop-next.out.items at c.in-Some.next.pick =
+    same_next waiting _ _ _ _ _ at c.in-Some.next.pick c.deref-in-loop-next.ensures.value c.deref-in-loop-next-2.ensures.value
+    c.deref-in-loop-next-3.ensures.value c.in-Some.ensures in
+    let w = taken_waits v.wait waiting at i next.within c.remove-i.ensures.value v.listed in
+    let inside = waits_within n v.wait i v.counted.left_long w in
+    let within : (k : ℕ) → edge i k ≡ true → k < n = λ k e. waits_within n (get_or edges.rows.items i []) k (edges.square.1 i inside) e in
+    let counted : (k : ℕ) → edge i k ≡ true → 0 < get_or c.loop-next.into.items k 0 =
+    into_counted n edge v.wait c.loop-next.into.items c.loop-next.out.items i v.counted w within
+    in
+    subst (λ (x : List ℕ). (k : ℕ) → edge i k ≡ true → 0 < get_or x k 0) (sym c.deref_mut.ensures.value) counted
+
+pub take_out-requires-clause-out_counted : goal.take_out-requires-clause-out_counted
+take_out-requires-clause-out_counted c =
+    let n = c.args.edges.now.size in
+    let edge = edge_at c.args.edges.now in
+    let v = c.loop-next.invariant in
+    let waiting = c.loop-next.waiting.items in
+    let out = c.loop-next.out.items in
+    let at = c.in-Some.next.at in
+    let i = c.remove-i.result in
+    let next : IsNext waiting c.loop-next.into.items out at c.in-Some.next.pick =
+    same_next waiting _ _ _ _ _ at c.in-Some.next.pick c.deref-in-loop-next.ensures.value c.deref-in-loop-next-2.ensures.value
+    c.deref-in-loop-next-3.ensures.value c.in-Some.ensures in
+    let w = taken_waits v.wait waiting at i next.within c.remove-i.ensures.value v.listed in
+    let listed = listed_taken v.wait waiting at i next.within c.remove-i.ensures.value v.listed in
+    let rest = remove waiting at in
+    let counted : (p : ℕ) → p < length rest → edge (get_or rest p 0) i ≡ true → 0 < get_or out (get_or rest p 0) 0 =
+    out_counted n edge v.wait rest c.loop-next.into.items out i v.counted w listed
+    in
+    subst (λ (y : List ℕ). (p : ℕ) → p < length c.deref-in-Some.result.now → edge (get_or c.deref-in-Some.result.now p 0) i ≡ true →
+    0 < get_or y (get_or c.deref-in-Some.result.now p 0) 0) (sym c.deref_mut-in-Some.ensures.value)
+    (subst (λ (x : List ℕ). (p : ℕ) → p < length x → edge (get_or x p 0) i ≡ true → 0 < get_or out (get_or x p 0) 0)
+    (sym (c.deref-in-Some.ensures.value ∙ c.remove-i.ensures.items)) counted)
+
+pub loop-next-preserved : goal.loop-next-preserved
+loop-next-preserved c =
     let n = c.args.edges.now.size in
     let edge = edge_at c.args.edges.now in
     let start = all_but c.args.gone.now n in
-    let left = c.loop-pick.left.items in
-    let into = c.loop-pick.into.items in
-    let out = c.loop-pick.out.items in
-    let i = c.index-in-Some.result in
-    let counted : IsCounted n edge left into out = c.loop-pick.invariant.counted in
-    let pick : IsCountedPick left into out c.in-Some.pick =
-    same_pick left _ into _ out _ c.in-Some.pick c.deref.ensures.value c.deref-in-loop-pick.ensures.value c.deref-in-loop-pick-2.ensures.value
-    c.in-Some.ensures in
+    let v = c.loop-next.invariant in
+    let waiting = c.loop-next.waiting.items in
+    let into = c.loop-next.into.items in
+    let out = c.loop-next.out.items in
+    let at = c.in-Some.next.at in
+    let pick = c.in-Some.next.pick in
+    let i = c.remove-i.result in
+    let next : IsNext waiting into out at pick =
+    same_next waiting _ into _ out _ at pick c.deref-in-loop-next.ensures.value c.deref-in-loop-next-2.ensures.value
+    c.deref-in-loop-next-3.ensures.value c.in-Some.ensures in
+    let w = taken_waits v.wait waiting at i next.within c.remove-i.ensures.value v.listed in
+    let rest = remove waiting at in
+    let listed : IsListed (set v.wait i false) rest = listed_taken v.wait waiting at i next.within c.remove-i.ensures.value v.listed in
+    let new_into = c.take_out.new.into in
+    let new_out = c.take_out.new.out in
+    let raw : AreLowered edge c.deref-in-Some.result.now c.deref_mut.result.now c.deref_mut-in-Some.result.now new_into new_out i = record {
+      into_long = c.take_out.auto.into;
+      out_long = c.take_out.auto.out;
+      into_less = c.take_out.ensures.into;
+      into_stays = c.take_out.ensures.into_stays;
+      out_less = c.take_out.ensures.out;
+      out_stays = c.take_out.ensures.out_stays;
+    } in
+    let lowered : AreLowered edge rest into out new_into new_out i =
+    same_lowered edge rest _ into _ out _ new_into new_out i (c.deref-in-Some.ensures.value ∙ c.remove-i.ensures.items) c.deref_mut.ensures.value
+    c.deref_mut-in-Some.ensures.value raw in
+    let into_long = lowered.into_long in
+    let out_long = lowered.out_long in
+    let into_put = put_back c.loop-next.into.len new_into (drop (length new_into) into) (omega arith) in
+    let out_put = put_back c.loop-next.out.len new_out (drop (length new_out) out) (omega arith) in
+    let counted = counted_unpick n edge v.wait rest into out new_into new_out i v.counted w listed lowered in
     record {
-      counted = c.take_out-in-Some.ensures.counted;
-      goes_on = λ rest p.
-          let q : IsPlan n edge (set left i false) rest = subst (λ (x : List Bool). IsPlan n edge x rest) c.take_out-in-Some.ensures.left p in
+      wait = set v.wait i false;
+      listed = subst (λ (x : List ℕ). IsListed (set v.wait i false) x) (sym c.remove-i.ensures.items) listed;
+      counted = same_counts n edge (set v.wait i false) _ new_into _ new_out into_put out_put counted;
+      goes_on = λ picks p.
           rw c.in_ok-push.ensures.items
-          (plan_more n edge start left into out c.in-Some.pick i c.loop-pick.picks.items rest c.index-in-Some.ensures counted pick
-          c.loop-pick.invariant.goes_on q);
+          (plan_more n edge start v.wait waiting into out at pick i c.loop-next.picks.items picks
+          (taken_is waiting at i next.within c.remove-i.ensures.value ∙ next.is) v.counted v.listed next v.goes_on p);
     }
 
 pub returns : goal.returns
 returns c =
-    let left = c.loop-pick.left.items in
-    let none : IsDone c.deref.result.now = c.in_default.ensures in
-    let done : IsDone left = subst (λ (x : List Bool). IsDone x) c.deref.ensures.value none in
-    rw append-nil at (c.loop-pick.invariant.goes_on [] done)
+    let v = c.loop-next.invariant in
+    let waiting = c.loop-next.waiting.items in
+    let none : length waiting ≡ 0 = sym (ap length c.deref-in-loop-next.ensures.value) ∙ c.in_default.ensures in
+    let done : IsDone v.wait = none_waits v.wait waiting none v.listed in
+    rw append-nil at (v.goes_on [] done)
