@@ -3,8 +3,8 @@
 ghost use Rattle.std.specs.Prelude.{◌≤◌};
 
 use endorsement_policy::{
-    ChaincodePolicy, Gate, Installed, ModuleId, Organisation, Rules, TagKey, check_all, check_plain,
-    check_with_right_orgs, right_orgs_of_blocks, satisfied,
+    ChaincodePolicy, Gate, Installed, ModuleId, Organisation, Rules, TagKey, check_all,
+    check_plain, check_with_right_orgs, right_orgs_of_blocks, satisfied,
 };
 use fab_types::{Envelope, Name, OrgName};
 use hmac_tag::{check, tag};
