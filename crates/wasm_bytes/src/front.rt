@@ -1,6 +1,6 @@
 //! Items at the front of a slice.
 
-ghost use Rattle.std.specs.Prelude.{◌≡◌, ◌^◌, ◌<◌, ◌≤◌, ℕ, pos, neg_ℤ, ◌≤ℤ◌, ◌<ℤ◌, IfOk, length, MatchOption, true, false};
+ghost use Rattle.std.specs.Prelude.{◌≡◌, ◌^◌, ◌<◌, ◌≤◌, ℕ, pos, neg_ℤ, ◌≤ℤ◌, ◌<ℤ◌, ◌∷◌, IfOk, length, MatchOption, true, false};
 ghost use Rattle.std.specs.Result.{IfErr};
 ghost use Rattle.std.specs.Str.{is_utf8};
 ghost use Rattle.wasm_bytes.specs.Reading.{Gives, unsigned_at, signed_at, name_at};
@@ -9,6 +9,8 @@ ghost use Rattle.wasm_bytes.specs.Faults.{unsigned_fault, signed_fault, name_fau
 use crate::fault::FaultKind;
 
 /// A number below `bound` at the front, and the bytes after it.
+#[cycle(unsigned)]
+#[inline(always)]
 #[tactic(auto, unfolding(crate::specs::Reading::unsigned_at, crate::specs::Faults::unsigned_fault))]
 pub(crate) fn unsigned(bytes: &[u8], bound: u64) -> Result<(u64, &[u8]), FaultKind>
     ensures read { Gives (λ x. (x.0, x.1.now)) result (unsigned_at bound bytes.now) }
@@ -26,6 +28,20 @@ pub(crate) fn unsigned(bytes: &[u8], bound: u64) -> Result<(u64, &[u8]), FaultKi
         }
         return Err(FaultKind::BadNumber);
     }
+    unsigned_on(first, rest, bound)
+}
+
+// The same behind a first byte that is not the last. What is called is short, and inlined here.
+#[cycle(unsigned)]
+#[tactic(auto, unfolding(crate::specs::Reading::unsigned_at, crate::specs::Faults::unsigned_fault))]
+fn unsigned_on(first: u64, rest: &[u8], bound: u64) -> Result<(u64, &[u8]), FaultKind>
+    requires low { 128 ≤ first }
+    requires high { first < 256 }
+    ensures read { Gives (λ x. (x.0, x.1.now)) result (unsigned_at bound (first ∷ rest.now)) }
+    ensures fault { IfErr result (λ kind. kind ≡ unsigned_fault bound (first ∷ rest.now)) }
+    ensures shorter { IfOk result (λ x. length x.1.now < length rest.now) }
+    ensures within { IfOk result (λ x. x.0 < bound) }
+{
     if bound <= 128 {
         return Err(FaultKind::BadNumber);
     }
@@ -34,6 +50,8 @@ pub(crate) fn unsigned(bytes: &[u8], bound: u64) -> Result<(u64, &[u8]), FaultKi
 }
 
 /// A number from `-half` to `half - 1` at the front, and the bytes after it.
+#[cycle(signed)]
+#[inline(always)]
 #[tactic(auto, unfolding(crate::specs::Reading::signed_at, crate::specs::Faults::signed_fault))]
 pub(crate) fn signed(bytes: &[u8], half: u64) -> Result<(i64, &[u8]), FaultKind>
     requires { half ≤ 2 ^ 63 }
@@ -59,6 +77,22 @@ pub(crate) fn signed(bytes: &[u8], half: u64) -> Result<(i64, &[u8]), FaultKind>
         }
         return Err(FaultKind::BadNumber);
     }
+    signed_on(first, rest, half)
+}
+
+// The same behind a first byte that is not the last. What is called is short, and inlined here.
+#[cycle(signed)]
+#[tactic(auto, unfolding(crate::specs::Reading::signed_at, crate::specs::Faults::signed_fault))]
+fn signed_on(first: u64, rest: &[u8], half: u64) -> Result<(i64, &[u8]), FaultKind>
+    requires low { 128 ≤ first }
+    requires high { first < 256 }
+    requires half { half ≤ 2 ^ 63 }
+    ensures read { Gives (λ x. (x.0, x.1.now)) result (signed_at half (first ∷ rest.now)) }
+    ensures fault { IfErr result (λ kind. kind ≡ signed_fault half (first ∷ rest.now)) }
+    ensures shorter { IfOk result (λ x. length x.1.now < length rest.now) }
+    ensures low { IfOk result (λ x. neg_ℤ (pos half) ≤ℤ x.0) }
+    ensures high { IfOk result (λ x. x.0 <ℤ pos half) }
+{
     if half <= 64 {
         return Err(FaultKind::BadNumber);
     }
