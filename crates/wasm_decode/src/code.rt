@@ -260,17 +260,15 @@ fn instruction(
     ensures tells { TellsBy profile result cursor.old cursor.new }
     ensures fewer { OnOk result (left.new ≤ left.old) }
 {
-    if opcode.byte == 0x02 {
-        return Ok(Instr::Block(block(alloc, cursor, profile, opcode, nesting, left)?));
-    }
-    if opcode.byte == 0x03 {
-        return Ok(Instr::Loop(block(alloc, cursor, profile, opcode, nesting, left)?));
-    }
-    if opcode.byte == 0x04 {
-        let conditional = conditional(alloc, cursor, profile, opcode, nesting, left)?;
-        return Ok(Instr::If(Box::new(alloc, conditional)?));
-    }
-    plain(alloc, cursor, profile, opcode)
+    Ok(match opcode.byte {
+        0x02 => Instr::Block(block(alloc, cursor, profile, opcode, nesting, left)?),
+        0x03 => Instr::Loop(block(alloc, cursor, profile, opcode, nesting, left)?),
+        0x04 => {
+            let conditional = conditional(alloc, cursor, profile, opcode, nesting, left)?;
+            Instr::If(Box::new(alloc, conditional)?)
+        }
+        _ => plain(alloc, cursor, profile, opcode)?,
+    })
 }
 
 /// Instructions, and the opcode that ends them. Each takes one off what is left.
