@@ -28,9 +28,11 @@ pub mod Imports
 pub mod Callees
 pub mod Settle
 pub mod Turning
+pub mod Stepping
 pub mod Ending
 pub mod Start
 pub mod Dispatch
+pub mod Grouping
 pub mod Entering
 pub mod Departures
 pub mod Calling
