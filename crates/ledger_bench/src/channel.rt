@@ -23,21 +23,19 @@ pub struct Channel {
 }
 
 impl Channel {
-    /// A channel after so many blocks of transactions over so many keys. Each was made on the state
-    /// after the block before.
-    pub fn after(alloc: Global, blocks: u32, keys: u32, reorder: bool) -> Result<Channel, Failure> {
-        let mut channel = Channel {
+    /// A channel without blocks, for transactions over so many keys.
+    pub fn new(alloc: Global, keys: u32, reorder: bool) -> Result<Channel, Failure> {
+        Ok(Channel {
             rules: rules(alloc)?,
             workload: Workload::new(keys, 0),
             orderer: Orderer::new(alloc, BATCH, 524_288, 524_288, reorder),
             snapshot: Snapshot::empty(alloc),
-        };
-        channel.advance(alloc, blocks)?;
-        Ok(channel)
+        })
     }
 
-    /// Orders and commits so many blocks.
-    fn advance(&mut self, alloc: Global, blocks: u32) -> Result<(), Failure> {
+    /// Orders and commits so many blocks of transactions. Each is made on the state after the block
+    /// before.
+    pub fn advance(&mut self, alloc: Global, blocks: u32) -> Result<(), Failure> {
         for _ in 0..blocks {
             self.submit_batch(alloc)?;
             self.commit_last(alloc)?;
@@ -56,18 +54,17 @@ impl Channel {
 
     /// Commits the newest block.
     fn commit_last(&mut self, alloc: Global) -> Result<(), Failure> {
-        let Some(block) = self.orderer.blocks().last() else {
-            return Err(Failure::Invalid);
-        };
-        self.snapshot = committed(alloc, &self.rules, &self.snapshot, block)?;
-        Ok(())
+        match self.orderer.blocks().last() {
+            Some(block) => commit_next(alloc, &self.rules, &mut self.snapshot, block),
+            None => Err(Failure::Invalid),
+        }
     }
 
     /// Checks and commits all blocks again, from the empty state on.
     pub fn commit_again(&self, alloc: Global) -> Result<(), Failure> {
         let mut snapshot = Snapshot::empty(alloc);
         for block in self.orderer.blocks() {
-            snapshot = committed(alloc, &self.rules, &snapshot, block)?;
+            commit_next(alloc, &self.rules, &mut snapshot, block)?;
         }
         Ok(())
     }
@@ -77,13 +74,14 @@ impl Channel {
         self.orderer.blocks()
     }
 
-    /// How many transactions are VALID.
-    pub fn valid(&self) -> u64 {
+    /// Orders and commits so many blocks. How many transactions are VALID then.
+    pub fn valid_after(&mut self, alloc: Global, blocks: u32) -> Result<u64, Failure> {
+        self.advance(alloc, blocks)?;
         let mut valid = 0u64;
         for committed in self.snapshot.blocks() {
             valid = valid.saturating_add(valid_in(committed.flags()));
         }
-        valid
+        Ok(valid)
     }
 }
 
@@ -100,13 +98,14 @@ pub fn submit(orderer: &mut Orderer, envelope: Envelope) -> Result<(), Failure> 
     }
 }
 
-/// The state after one block more.
-fn committed(
+/// Checks and commits one block more.
+fn commit_next(
     alloc: Global,
     rules: &Rules,
-    snapshot: &Snapshot,
+    snapshot: &mut Snapshot,
     block: &Block,
-) -> Result<Snapshot, Failure> {
+) -> Result<(), Failure> {
     let endorsed = check_plain(alloc, rules, snapshot, block.envelopes.as_slice())?;
-    Ok(commit_on(alloc, snapshot, block.clone()?, &endorsed)?)
+    *snapshot = commit_on(alloc, snapshot, block.clone()?, &endorsed)?;
+    Ok(())
 }

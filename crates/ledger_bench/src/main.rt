@@ -36,8 +36,9 @@ mod workload;
 
 use crate::done::Done;
 use crate::failure::Failure;
-use crate::register::{flag_transfers, simulate_transfers};
+use crate::register::{book_of, flag_transfers, simulate_transfers};
 use crate::task::Task;
+use simulator::Book;
 use std::alloc::Global;
 use std::io::{self, Read, Write};
 use std::process::ExitCode;
@@ -55,10 +56,7 @@ const USAGE: &str = "usage: ledger_bench simulate|flags MODULE COUNT
        ledger_bench load STORE";
 
 fn main(rt: HostRuntime) -> io::Result<ExitCode> {
-    let mut words = Vec::new(rt.alloc());
-    for word in env::args(&rt)?.skip(1) {
-        words.push(word)?;
-    }
+    let words: Vec<String> = env::args(&rt)?.skip(1).collect(rt.alloc())?;
     let Some(task) = task::parse(&words) else {
         println!(rt; "{USAGE}")?;
         return Ok(ExitCode::from(2));
@@ -84,9 +82,11 @@ fn carry_out<R: Files + Threads + Wait + Clock + Sync>(
     match task {
         Task::Simulate { module, count } => simulate(rt, alloc, module, count),
         Task::Flags { module, count } => flag(rt, alloc, module, count),
-        Task::Check { workers, count } => parts::check(rt, alloc, workers as usize, count),
+        Task::Check { workers, count } => {
+            parts::check(rt, alloc, workers as usize, count, false)
+        }
         Task::Blocks { workers, count } => {
-            parts::check_blocks(rt, alloc, workers as usize, count)
+            parts::check(rt, alloc, workers as usize, count, true)
         }
         Task::Order { count } => parts::order(alloc, count),
         Task::Commit { count } => parts::commit(alloc, count),
@@ -99,11 +99,16 @@ fn carry_out<R: Files + Threads + Wait + Clock + Sync>(
 }
 
 fn simulate<R: Files>(rt: &R, alloc: Global, module: &str, count: u32) -> Result<Done, Failure> {
-    simulate_transfers(alloc, &bytes_of(rt, alloc, module)?, count)
+    simulate_transfers(alloc, &read_book(rt, alloc, module)?, count)
 }
 
 fn flag<R: Files>(rt: &R, alloc: Global, module: &str, count: u32) -> Result<Done, Failure> {
-    flag_transfers(alloc, &bytes_of(rt, alloc, module)?, count)
+    flag_transfers(alloc, &read_book(rt, alloc, module)?, count)
+}
+
+/// The book of the register whose module this file has.
+fn read_book<R: Files>(rt: &R, alloc: Global, module: &str) -> Result<Book, Failure> {
+    book_of(alloc, &bytes_of(rt, alloc, module)?)
 }
 
 fn load<R: Files>(rt: &R, alloc: Global, store: &str) -> Result<Done, Failure> {

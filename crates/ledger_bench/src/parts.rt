@@ -39,33 +39,23 @@ impl Gate for Open {
     fn after(&self, _index: usize) {}
 }
 
-/// Checks so many batches by 1 to 16 workers, one batch after another.
+/// Checks so many batches by 1 to 16 workers: one after another, or as blocks, at once.
 pub fn check<R: Threads + Sync>(
     rt: &R,
     alloc: Global,
     workers: usize,
     count: u32,
+    at_once: bool,
 ) -> Result<Done, Failure> {
     if workers == 0 || workers > 16 {
         return Err(Failure::Limit);
     }
     let checked = Checked::new(alloc)?;
-    checked.one_by_one(rt, alloc, workers, count)
-}
-
-/// Checks so many blocks of a batch at once: the tags of all of them by 1 to 16 workers, and then
-/// each block by what is known of its tags.
-pub fn check_blocks<R: Threads + Sync>(
-    rt: &R,
-    alloc: Global,
-    workers: usize,
-    count: u32,
-) -> Result<Done, Failure> {
-    if workers == 0 || workers > 16 {
-        return Err(Failure::Limit);
+    if at_once {
+        checked.at_once(rt, alloc, workers, count)
+    } else {
+        checked.one_by_one(rt, alloc, workers, count)
     }
-    let checked = Checked::new(alloc)?;
-    checked.at_once(rt, alloc, workers, count)
 }
 
 /// A batch of transactions that is checked, and what it is checked by.
@@ -112,7 +102,8 @@ impl Checked {
         Ok(Done::hashed(count, BATCH as u64, tags_of(&self.batch)))
     }
 
-    /// Checks so many blocks of the batch.
+    /// Checks so many blocks of the batch: the tags of all of them by the workers, and then each
+    /// block by what is known of its tags.
     fn at_once<R: Threads + Sync>(
         &self,
         rt: &R,
@@ -161,10 +152,15 @@ fn expect_all(answers: &[bool]) -> Result<(), Failure> {
 
 /// Orders so many envelopes, in blocks of 64 and as they come.
 pub fn order(alloc: Global, count: u32) -> Result<Done, Failure> {
-    let mut workload = Workload::new(KEYS, ARGUMENT);
-    let envelope = transaction(alloc, &mut workload, &Snapshot::empty(alloc))?;
+    let envelope = long_envelope(alloc)?;
     let mut orderer = Orderer::new(alloc, 64, 524_288, 524_288, false);
     order_copies(&mut orderer, &envelope, count)
+}
+
+/// An envelope of 1,024 bytes.
+fn long_envelope(alloc: Global) -> Result<Envelope, Failure> {
+    let snapshot = Snapshot::empty(alloc);
+    transaction(alloc, &mut Workload::new(KEYS, ARGUMENT), &snapshot)
 }
 
 /// Orders so many copies of an envelope.
@@ -177,12 +173,13 @@ fn order_copies(orderer: &mut Orderer, envelope: &Envelope, count: u32) -> Resul
 
 /// Checks and commits so many blocks, the same few again and again.
 pub fn commit(alloc: Global, count: u32) -> Result<Done, Failure> {
-    let channel = Channel::after(alloc, CHAIN, KEYS, false)?;
-    commit_rounds(alloc, &channel, count / CHAIN)
+    let mut channel = Channel::new(alloc, KEYS, false)?;
+    commit_rounds(alloc, &mut channel, count / CHAIN)
 }
 
-/// Checks and commits the blocks of a channel so many times.
-fn commit_rounds(alloc: Global, channel: &Channel, rounds: u32) -> Result<Done, Failure> {
+/// Commits blocks of a channel, and checks and commits them again so many times.
+fn commit_rounds(alloc: Global, channel: &mut Channel, rounds: u32) -> Result<Done, Failure> {
+    channel.advance(alloc, CHAIN)?;
     for _ in 0..rounds {
         channel.commit_again(alloc)?;
     }
@@ -219,8 +216,8 @@ pub fn valid(alloc: Global, keys: u32, count: u32) -> Result<Done, Failure> {
 
 /// How many transactions of so many batches are VALID.
 fn valid_after(alloc: Global, blocks: u32, keys: u32, ordered: bool) -> Result<u64, Failure> {
-    let channel = Channel::after(alloc, blocks, keys, ordered)?;
-    Ok(channel.valid())
+    let mut channel = Channel::new(alloc, keys, ordered)?;
+    channel.valid_after(alloc, blocks)
 }
 
 /// Reads a store, which has to end with a record.

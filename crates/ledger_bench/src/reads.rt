@@ -27,7 +27,19 @@ pub fn read<R: Threads + Wait + Clock + Sync>(
     blocks: u32,
     count: u32,
 ) -> Result<Done, Failure> {
-    let channel = Channel::after(alloc, blocks, KEYS, false)?;
+    let mut channel = Channel::new(alloc, KEYS, false)?;
+    read_beside(rt, alloc, &mut channel, blocks, count)
+}
+
+/// The same beside commits of so many blocks of a channel.
+fn read_beside<R: Threads + Wait + Clock + Sync>(
+    rt: &R,
+    alloc: Global,
+    channel: &mut Channel,
+    blocks: u32,
+    count: u32,
+) -> Result<Done, Failure> {
+    channel.advance(alloc, blocks)?;
     let genesis = genesis(alloc)?;
     read_by(rt, alloc, &genesis, channel.blocks(), count)
 }

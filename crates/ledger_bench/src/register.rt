@@ -19,49 +19,55 @@ const ASSETS: u32 = 1000;
 /// How many transactions a block has.
 const BATCH: u32 = 500;
 
-/// Simulates so many transfers by the chaincode of these bytes, one after another.
-pub fn simulate_transfers(alloc: Global, bytes: &[u8], count: u32) -> Result<Done, Failure> {
-    let book = book_of(alloc, bytes)?;
-    simulate_by(alloc, &book, count)
+/// Simulates so many transfers by the chaincode of a book, one after another.
+pub fn simulate_transfers(alloc: Global, book: &Book, count: u32) -> Result<Done, Failure> {
+    simulate_on(alloc, book, &mut Snapshot::empty(alloc), count)
 }
 
-fn simulate_by(alloc: Global, book: &Book, count: u32) -> Result<Done, Failure> {
-    let snapshot = created(alloc, book)?;
-    simulate_each(alloc, book, &snapshot, count)
-}
-
-fn simulate_each(
+/// The same on a state that has no assets yet.
+fn simulate_on(
     alloc: Global,
     book: &Book,
-    snapshot: &Snapshot,
+    snapshot: &mut Snapshot,
     count: u32,
 ) -> Result<Done, Failure> {
+    create_assets(alloc, book, snapshot)?;
     for asset in 0..count {
         let _payload = called(alloc, book, snapshot, "transfer", asset % ASSETS)?;
     }
     Ok(Done::Count(u64::from(count)))
 }
 
-/// Flags so many transfers by the chaincode of these bytes, the same block of them again and again.
-pub fn flag_transfers(alloc: Global, bytes: &[u8], count: u32) -> Result<Done, Failure> {
-    let book = book_of(alloc, bytes)?;
-    flag_by(alloc, &book, count)
+/// Flags so many transfers by the chaincode of a book, the same block of them again and again.
+pub fn flag_transfers(alloc: Global, book: &Book, count: u32) -> Result<Done, Failure> {
+    flag_on(alloc, book, &mut Snapshot::empty(alloc), count)
 }
 
-fn flag_by(alloc: Global, book: &Book, count: u32) -> Result<Done, Failure> {
-    let snapshot = created(alloc, book)?;
-    let block = block_of(alloc, book, &snapshot, "transfer", 0)?;
-    flag_again(alloc, &snapshot, &block, count)
+/// The same on a state that has no assets yet.
+fn flag_on(
+    alloc: Global,
+    book: &Book,
+    snapshot: &mut Snapshot,
+    count: u32,
+) -> Result<Done, Failure> {
+    create_assets(alloc, book, snapshot)?;
+    let block = block_of(alloc, book, snapshot, "transfer", 0)?;
+    flag_again(alloc, snapshot, &block, count)
 }
 
-/// The state on which each asset is there.
-fn created(alloc: Global, book: &Book) -> Result<Snapshot, Failure> {
-    let mut snapshot = Snapshot::empty(alloc);
+/// Creates each asset.
+fn create_assets(alloc: Global, book: &Book, snapshot: &mut Snapshot) -> Result<(), Failure> {
     for first in 0..ASSETS / BATCH {
-        let block = block_of(alloc, book, &snapshot, "create", first * BATCH)?;
-        snapshot = extended(alloc, &snapshot, block)?;
+        create(alloc, book, snapshot, first * BATCH)?;
     }
-    Ok(snapshot)
+    Ok(())
+}
+
+/// Puts a block behind a state that creates 500 assets, from this one on.
+fn create(alloc: Global, book: &Book, snapshot: &mut Snapshot, first: u32) -> Result<(), Failure> {
+    let block = block_of(alloc, book, snapshot, "create", first)?;
+    *snapshot = extended(alloc, snapshot, block)?;
+    Ok(())
 }
 
 /// Flags so many transactions, a block of them again and again.
@@ -88,7 +94,7 @@ fn expect_valid(flags: &[Flag]) -> Result<(), Failure> {
 }
 
 /// The book whose only chaincode is the module of these bytes. No upgrade names its digest.
-fn book_of(alloc: Global, bytes: &[u8]) -> Result<Book, Failure> {
+pub fn book_of(alloc: Global, bytes: &[u8]) -> Result<Book, Failure> {
     let id = ModuleId {
         digest: [0; 32],
         profile: Profile::Core1,

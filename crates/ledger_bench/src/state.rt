@@ -22,11 +22,23 @@ const KEYS: u64 = 64;
 pub fn commit<R: Clock>(rt: &R, alloc: Global, keys: u32, count: u32) -> Result<Done, Failure> {
     let mut workload = Workload::new(keys, 0);
     let first = filled(alloc, &mut workload, u64::from(keys))?;
-    let batches = batches(alloc, &mut workload, count)?;
+    let mut snapshots = vec![in alloc; first]?;
+    commit_batches(rt, alloc, &mut workload, &mut snapshots, count)
+}
+
+/// Makes so many blocks, and times how they are committed behind the newest snapshot.
+fn commit_batches<R: Clock>(
+    rt: &R,
+    alloc: Global,
+    workload: &mut Workload,
+    snapshots: &mut Vec<Snapshot>,
+    count: u32,
+) -> Result<Done, Failure> {
+    let batches = batches(alloc, workload, count)?;
     let Ok(start) = Instant::now(rt) else {
         return Err(Failure::Clock);
     };
-    let _snapshots = committed(alloc, first, batches)?;
+    commit_each(alloc, snapshots, batches)?;
     done_since(rt, &start, count)
 }
 
@@ -46,10 +58,22 @@ fn filled(alloc: Global, workload: &mut Workload, keys: u64) -> Result<Snapshot,
     let mut snapshot = Snapshot::empty(alloc);
     for block in 0..keys.div_ceil(FILLING * KEYS) {
         let first = block.saturating_mul(FILLING * KEYS);
-        let envelopes = filling(alloc, workload, first, keys)?;
-        snapshot = next(alloc, &snapshot, envelopes)?;
+        fill(alloc, workload, &mut snapshot, first, keys)?;
     }
     Ok(snapshot)
+}
+
+/// Puts a block behind a state that writes the keys from a number on.
+fn fill(
+    alloc: Global,
+    workload: &mut Workload,
+    snapshot: &mut Snapshot,
+    first: u64,
+    keys: u64,
+) -> Result<(), Failure> {
+    let envelopes = filling(alloc, workload, first, keys)?;
+    *snapshot = next(alloc, snapshot, envelopes)?;
+    Ok(())
 }
 
 /// Transactions that write the keys from a number on, as many as a block holds.
@@ -100,17 +124,16 @@ fn batch(alloc: Global, workload: &mut Workload) -> Result<BlockData, Failure> {
     BlockData::new(envelopes).ok_or(Failure::Limit)
 }
 
-/// A snapshot, and those after each block.
-fn committed(
+/// Puts the snapshots after each block behind the others.
+fn commit_each(
     alloc: Global,
-    first: Snapshot,
+    snapshots: &mut Vec<Snapshot>,
     batches: Vec<BlockData>,
-) -> Result<Vec<Snapshot>, Failure> {
-    let mut snapshots = vec![in alloc; first]?;
+) -> Result<(), Failure> {
     for envelopes in batches {
-        add_next(alloc, &mut snapshots, envelopes)?;
+        add_next(alloc, snapshots, envelopes)?;
     }
-    Ok(snapshots)
+    Ok(())
 }
 
 /// Puts the snapshot after one block more behind the others.
