@@ -35,16 +35,25 @@ pub fn bytes_of(alloc: Global, text: &str) -> Result<Vec<u8>, CaseFault> {
 
 /// Adds the bytes of a piece, as many times as it says.
 fn add_piece(alloc: Global, bytes: &mut Vec<u8>, piece: &str) -> Result<(), CaseFault> {
-    let (digits, times) = match piece.split_once('*') {
-        None => (piece, 1),
+    let (digits, times) = split_times(piece)?;
+    add_times(bytes, &from_digits(alloc, digits)?, times)
+}
+
+/// The digits of a piece, and how many times they stand.
+fn split_times(piece: &str) -> Result<(&str, u32), CaseFault> {
+    match piece.split_once('*') {
+        None => Ok((piece, 1)),
         Some((digits, count)) => match count.parse::<u32>() {
-            Ok(times) => (digits, times),
-            Err(_) => return Err(CaseFault::BadLine),
+            Ok(times) => Ok((digits, times)),
+            Err(_) => Err(CaseFault::BadLine),
         },
-    };
-    let unit = from_digits(alloc, digits)?;
+    }
+}
+
+/// Adds bytes so many times.
+fn add_times(bytes: &mut Vec<u8>, unit: &[u8], times: u32) -> Result<(), CaseFault> {
     for _ in 0..times {
-        bytes.extend_from_slice(&unit)?;
+        bytes.extend_from_slice(unit)?;
     }
     Ok(())
 }

@@ -5,7 +5,7 @@ ghost use Rattle.wasm_validate.specs.HostCalls.{arity};
 
 use crate::bytes::{bytes_of, split_word};
 use crate::fault::CaseFault;
-use crate::texts::{write_hex, write_result, write_words};
+use crate::texts::{write_hex, write_ranges, write_reads, write_result, write_writes};
 use crate::transactions::write_item;
 use fab_types::Value;
 use host_api::{Parts, PlainMap, Recorder};
@@ -120,7 +120,9 @@ fn with_parts(answers: Result<String, CaseFault>, parts: &Parts) -> Result<Strin
     let mut answer = answers?;
     answer.push_str(", recorded")?;
     write_result(&mut answer, &parts.result)?;
-    write_words(&mut answer, &parts.reads, &parts.ranges, &parts.writes)?;
+    write_reads(&mut answer, parts.reads.as_slice())?;
+    write_ranges(&mut answer, parts.ranges.as_slice())?;
+    write_writes(&mut answer, parts.writes.as_slice())?;
     Ok(answer)
 }
 

@@ -16,22 +16,11 @@ use crate::operators::apply_operator;
 use crate::policies::{show_endorsed, show_policy, show_satisfied};
 use crate::runs::Question;
 use crate::simulations::simulate_calls;
-use std::alloc::{AllocError, Global};
+use std::alloc::Global;
 use wasm_profile::Profile;
 
-/// The answer to a line: a comment itself, what a case gives, or its fault.
-pub fn answer(alloc: Global, line: &str) -> Result<String, AllocError> {
-    if line.is_empty() || line.starts_with('#') {
-        return String::from_str(alloc, line);
-    }
-    match answer_case(alloc, without_note(line)) {
-        Ok(answer) => Ok(answer),
-        Err(fault) => format!(in alloc; "{fault}"),
-    }
-}
-
 /// The case of a line, without the note behind it.
-fn without_note(line: &str) -> &str {
+pub fn without_note(line: &str) -> &str {
     match line.split_once(" #") {
         Some((case, _)) => case,
         None => line,
@@ -39,7 +28,7 @@ fn without_note(line: &str) -> &str {
 }
 
 /// What a case gives, by its verb.
-fn answer_case(alloc: Global, line: &str) -> Result<String, CaseFault> {
+pub fn answer_case(alloc: Global, line: &str) -> Result<String, CaseFault> {
     let (verb, rest) = split_word(line);
     match verb {
         "policy" => show_policy(alloc, rest),

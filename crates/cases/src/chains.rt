@@ -5,87 +5,61 @@ ghost use Rattle.std.specs.Prelude.{◌≡◌, ◌↔◌, ◌+◌, IsTrue, lengt
 use crate::bytes::split_word;
 use crate::fault::CaseFault;
 use crate::texts::{write_pair, write_version};
-use crate::transactions::{Asked, asked_range, is_endorsed, key_of, payload_of, unendorsed};
+use crate::transactions::{asked_range, is_endorsed, key_of, payload_of, unendorsed};
 use fab_types::{Block, BlockData, BlockNumber, Envelope, Flag, Header, Key, Value, Version};
 use mvcc_validate::flags;
 use std::alloc::{AllocError, Global};
 use std::fmt::Write;
 use world_state::Snapshot;
 
-/// What is shown of a chain.
-#[derive(Clone, Copy)]
-enum Look<'a> {
-    /// The flags of each block.
-    Flags,
-    /// Each key of the state after it, with its value and version.
-    State,
-    /// What that state has at a key.
-    Key(&'a Key),
-    /// The first entries of a range in that state.
-    Range(&'a Asked),
-}
-
 /// The flags of each block of a chain.
 pub fn show_flags(alloc: Global, chain: &str) -> Result<String, CaseFault> {
-    show_chain(alloc, Look::Flags, chain)
+    judge_chain(alloc, &mut Snapshot::empty(alloc), chain)
 }
 
 /// Each key of the state after a chain, with its value and version.
 pub fn show_state(alloc: Global, chain: &str) -> Result<String, CaseFault> {
-    show_chain(alloc, Look::State, chain)
+    let mut snapshot = Snapshot::empty(alloc);
+    judge_chain(alloc, &mut snapshot, chain)?;
+    state_text(alloc, &snapshot)
 }
 
 /// What the state after a chain has at the key that the first word is.
 pub fn show_key(alloc: Global, text: &str) -> Result<String, CaseFault> {
     let (key, chain) = split_word(text);
-    let key = key_of(alloc, key)?;
-    show_chain(alloc, Look::Key(&key), chain)
+    let mut snapshot = Snapshot::empty(alloc);
+    judge_chain(alloc, &mut snapshot, chain)?;
+    key_text(alloc, &snapshot, key)
 }
 
 /// The first entries of the range that the first word is, in the state after a chain.
 pub fn show_range(alloc: Global, text: &str) -> Result<String, CaseFault> {
     let (asked, chain) = split_word(text);
-    let asked = asked_range(alloc, asked)?;
-    show_chain(alloc, Look::Range(&asked), chain)
+    let mut snapshot = Snapshot::empty(alloc);
+    judge_chain(alloc, &mut snapshot, chain)?;
+    range_text(alloc, &snapshot, asked)
 }
 
-fn show_chain(alloc: Global, look: Look<'_>, chain: &str) -> Result<String, CaseFault> {
-    show_on(alloc, &mut Snapshot::empty(alloc), look, chain)
-}
-
-fn show_on(
-    alloc: Global,
-    snapshot: &mut Snapshot,
-    look: Look<'_>,
-    chain: &str,
-) -> Result<String, CaseFault> {
-    let flags = judge_chain(alloc, snapshot, chain)?;
-    Ok(match look {
-        Look::Flags => flags,
-        Look::State => state_text(alloc, snapshot)?,
-        Look::Key(key) => key_text(alloc, snapshot, key)?,
-        Look::Range(asked) => range_text(alloc, snapshot, asked)?,
-    })
-}
-
-fn state_text(alloc: Global, snapshot: &Snapshot) -> Result<String, AllocError> {
+fn state_text(alloc: Global, snapshot: &Snapshot) -> Result<String, CaseFault> {
     let entries = snapshot.entries(alloc)?;
-    entries_text(alloc, &entries)
+    Ok(entries_text(alloc, &entries)?)
 }
 
-fn key_text(alloc: Global, snapshot: &Snapshot, key: &Key) -> Result<String, AllocError> {
+fn key_text(alloc: Global, snapshot: &Snapshot, key: &str) -> Result<String, CaseFault> {
+    let key = key_of(alloc, key)?;
     let mut answer = String::new(alloc);
-    match snapshot.get(key) {
-        Some((value, version)) => write_entry(&mut answer, key, value, version)?,
+    match snapshot.get(&key) {
+        Some((value, version)) => write_entry(&mut answer, &key, value, version)?,
         None => answer.push_str("absent")?,
     }
     Ok(answer)
 }
 
-fn range_text(alloc: Global, snapshot: &Snapshot, asked: &Asked) -> Result<String, AllocError> {
+fn range_text(alloc: Global, snapshot: &Snapshot, asked: &str) -> Result<String, CaseFault> {
+    let asked = asked_range(alloc, asked)?;
     let limit = usize::from(asked.limit);
     let entries = snapshot.range(alloc, &asked.start, &asked.end, limit)?;
-    entries_text(alloc, &entries)
+    Ok(entries_text(alloc, &entries)?)
 }
 
 /// How many entries there are, and each.
@@ -131,8 +105,10 @@ fn judge_block(
     snapshot: &mut Snapshot,
     text: &str,
 ) -> Result<(), CaseFault> {
-    let mut endorsed = Vec::new(alloc);
-    let block = next_block(alloc, snapshot.height(), &mut endorsed, text)?;
+    let height = snapshot.height();
+    let (mut envelopes, mut endorsed) = (Vec::new(alloc), Vec::new(alloc));
+    add_envelopes(alloc, height, &mut envelopes, &mut endorsed, text)?;
+    let block = block_after(height, envelopes)?;
     let flags = judged(alloc, answer, snapshot, &block, &endorsed)?;
     extend(alloc, snapshot, block, flags)
 }
@@ -167,19 +143,6 @@ fn write_flags(answer: &mut String, flags: &[Flag]) -> Result<(), AllocError> {
     Ok(())
 }
 
-/// The block that comes next after so many. Which of its transactions are endorsed is added.
-fn next_block(
-    alloc: Global,
-    height: usize,
-    endorsed: &mut Vec<bool>,
-    text: &str,
-) -> Result<Block, CaseFault> {
-    let header = header_after(height)?;
-    let mut envelopes = Vec::new(alloc);
-    add_envelopes(alloc, height, &mut envelopes, endorsed, text)?;
-    block_of(header, envelopes)
-}
-
 /// Adds the transactions of a block, each with a nonce of its own, and which of them are endorsed.
 fn add_envelopes(
     alloc: Global,
@@ -205,8 +168,16 @@ fn nonce_at(height: usize, place: usize) -> [u8; 16] {
     nonce
 }
 
-/// The header of the block that comes next after so many.
-pub fn header_after(height: usize) -> Result<Header, CaseFault> {
+/// The block of these envelopes that comes next after so many.
+pub fn block_after(height: usize, envelopes: Vec<Envelope>) -> Result<Block, CaseFault> {
+    let header = header_after(height)?;
+    match BlockData::new(envelopes) {
+        Some(envelopes) => Ok(Block { header, envelopes }),
+        None => Err(CaseFault::BadLine),
+    }
+}
+
+fn header_after(height: usize) -> Result<Header, CaseFault> {
     let number = u32::try_from(height).unwrap_or(u32::MAX).saturating_add(1);
     let number = BlockNumber::new(number).ok_or(CaseFault::BadLine)?;
     Ok(Header {
@@ -214,14 +185,6 @@ pub fn header_after(height: usize) -> Result<Header, CaseFault> {
         previous_hash: [0; 32],
         data_hash: [0; 32],
     })
-}
-
-/// The block of a header and these envelopes.
-pub fn block_of(header: Header, envelopes: Vec<Envelope>) -> Result<Block, CaseFault> {
-    match BlockData::new(envelopes) {
-        Some(envelopes) => Ok(Block { header, envelopes }),
-        None => Err(CaseFault::BadLine),
-    }
 }
 
 /// Adds a block to the snapshot. A bad line where the block is not the next, or has other flags.

@@ -18,13 +18,17 @@ enum Item<'a> {
 pub fn read_items(alloc: Global, text: &str) -> Result<String, CaseFault> {
     let (kinds, pieces) = split_word(text);
     let bytes = bytes_of(alloc, pieces)?;
-    let mut cursor = Cursor::new(&bytes);
+    items_text(alloc, kinds, &mut Cursor::new(&bytes))
+}
+
+/// The items of these kinds at the place, with blanks between them.
+fn items_text(alloc: Global, kinds: &str, cursor: &mut Cursor<'_>) -> Result<String, CaseFault> {
     let mut answer = String::new(alloc);
     for kind in kinds.split(',') {
         if !answer.is_empty() {
             answer.push(' ')?;
         }
-        answer_kind(&mut answer, kind, &mut cursor)?;
+        answer_kind(&mut answer, kind, cursor)?;
     }
     Ok(answer)
 }

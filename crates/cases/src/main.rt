@@ -82,16 +82,22 @@ mod steps;
 mod texts;
 mod transactions;
 
-use crate::cases::answer;
+use crate::cases::{answer_case, without_note};
 use std::io::{self, BufRead, BufReader};
 
-/// Answers each line of the input.
+/// Answers each line of the input: a comment by itself, a case by what it gives or by its fault.
 fn main(rt: HostRuntime) -> io::Result<()> {
     let alloc = rt.alloc();
     for line in BufReader::new(alloc, rt.reader())?.lines(alloc) {
         let line = line?;
-        let answer = answer(alloc, line.as_str())?;
-        println!(rt; "{answer}")?;
+        if line.is_empty() || line.starts_with('#') {
+            println!(rt; "{line}")?;
+            continue;
+        }
+        match answer_case(alloc, without_note(&line)) {
+            Ok(answer) => println!(rt; "{answer}")?,
+            Err(fault) => println!(rt; "{fault}")?,
+        }
     }
     Ok(())
 }

@@ -49,40 +49,56 @@ fn satisfied_by(alloc: Global, policy: &Policy, present: &str) -> Result<String,
 /// What a call that does nothing reads: its definition, which is absent.
 const NOTHING: &str = "r:0x006b76@-";
 
-/// Whether an envelope with the tags of the second word is endorsed under the policy.
-pub fn show_endorsed(alloc: Global, rest: &str) -> Result<String, CaseFault> {
+/// The parts of a case of endorsement.
+#[derive(Clone, Copy)]
+struct Case<'a> {
+    known: &'a str,
+    tags: &'a str,
+    text: &'a str,
+    words: &'a str,
+    chain: &'a str,
+}
+
+fn case_of(rest: &str) -> Case<'_> {
     let (known, rest) = split_word(rest);
     let (tags, rest) = split_word(rest);
     let (text, rest) = rest.split_once(" | ").unwrap_or((rest, NOTHING));
     let (words, chain) = rest.split_once(" / ").unwrap_or((rest, ""));
-    let rules = rules_of(alloc, known, text)?;
-    endorsed_after(alloc, &rules, chain, tags, words)
-}
-
-/// The same by rules, on the state after a chain.
-fn endorsed_after(
-    alloc: Global,
-    rules: &Rules,
-    chain: &str,
-    tags: &str,
-    words: &str,
-) -> Result<String, CaseFault> {
-    let envelope = envelope_of(alloc, tags, words)?;
-    endorsed_on(alloc, rules, &mut Snapshot::empty(alloc), chain, &envelope)
-}
-
-/// The same on a snapshot, to which the chain, which may be empty, is added.
-fn endorsed_on(
-    alloc: Global,
-    rules: &Rules,
-    snapshot: &mut Snapshot,
-    chain: &str,
-    envelope: &Envelope,
-) -> Result<String, CaseFault> {
-    if !chain.is_empty() {
-        judge_chain(alloc, snapshot, chain)?;
+    Case {
+        known,
+        tags,
+        text,
+        words,
+        chain,
     }
-    let endorsed = is_endorsed(alloc, rules, snapshot, envelope)?;
+}
+
+/// Whether an envelope with these tags is endorsed under the policy, on the state after the chain,
+/// which may be empty.
+pub fn show_endorsed(alloc: Global, rest: &str) -> Result<String, CaseFault> {
+    let case = case_of(rest);
+    let mut snapshot = Snapshot::empty(alloc);
+    if !case.chain.is_empty() {
+        judge_chain(alloc, &mut snapshot, case.chain)?;
+    }
+    endorsed_on(alloc, &snapshot, case)
+}
+
+/// The same on a state.
+fn endorsed_on(alloc: Global, snapshot: &Snapshot, case: Case<'_>) -> Result<String, CaseFault> {
+    let rules = rules_of(alloc, case.known, case.text)?;
+    endorsed_by(alloc, &rules, snapshot, case)
+}
+
+/// The same by rules.
+fn endorsed_by(
+    alloc: Global,
+    rules: &Rules,
+    snapshot: &Snapshot,
+    case: Case<'_>,
+) -> Result<String, CaseFault> {
+    let envelope = envelope_of(alloc, case.tags, case.words)?;
+    let endorsed = is_endorsed(alloc, rules, snapshot, &envelope)?;
     Ok(format!(in alloc; "{endorsed}")?)
 }
 

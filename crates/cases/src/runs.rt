@@ -2,14 +2,14 @@
 
 use crate::fault::CaseFault;
 use crate::hosts::run_on_answer;
-use crate::steps::{step_through, trace};
+use crate::steps::{step_to_end, trace};
 use crate::texts::write_hex;
 use fab_types::{Value, WriteItem, WriteSet};
 use host_api::{PlainMap, Recorder};
 use interp::{Host, Outcome, run};
 use std::alloc::{AllocError, Global};
 use wasm_ast::HostAnswer;
-use wasm_trace::run_by_reduction;
+use wasm_trace::{Stepper, run_by_reduction};
 use wasm_validate::ValidModule;
 
 /// What is asked about a valid module.
@@ -45,17 +45,13 @@ pub fn answer_question(
     question: Question,
     valid: &ValidModule,
 ) -> Result<String, CaseFault> {
-    Ok(answer_to(alloc, question, valid)?)
-}
-
-fn answer_to(alloc: Global, question: Question, valid: &ValidModule) -> Result<String, AllocError> {
-    match question {
+    Ok(match question {
         Question::Parts => parts(alloc, valid),
         Question::Run(fuel) => run_invoke(alloc, valid, fuel, Runner::Flat, &mut Vec::new(alloc)),
         Question::Trace(fuel) => trace(alloc, valid, fuel),
         Question::Compare(last) => compared(alloc, valid, last),
         Question::Answer(answer, fuel) => run_on_answer(alloc, valid, answer, fuel),
-    }
+    }?)
 }
 
 fn parts(alloc: Global, valid: &ValidModule) -> Result<String, AllocError> {
@@ -107,7 +103,7 @@ fn outcome_of<H: Host>(
     match runner {
         Runner::Flat => run(alloc, valid, host, fuel),
         Runner::Reduction => run_by_reduction(alloc, valid, host, fuel),
-        Runner::Stepper => step_through(alloc, valid, host, fuel, shown),
+        Runner::Stepper => step_to_end(&mut Stepper::new(alloc, valid, fuel)?, host, shown),
     }
 }
 

@@ -1,13 +1,13 @@
 //! Calls and upgrades of a chaincode, each on the state that the earlier ones leave.
 
 use crate::bytes::{split_fuel, split_word};
-use crate::chains::{block_of, extend, header_after};
+use crate::chains::{block_after, extend};
 use crate::fault::CaseFault;
 use crate::modules::valid_module;
 use crate::texts::write_payload;
 use crate::transactions::{call_with, definition_of, name_of, unendorsed, upgrade_to};
 use endorsement_policy::{Installed, ModuleId};
-use fab_types::{Block, Flag, Header, OrgName, Payload, Proposal, Value};
+use fab_types::{Block, Flag, OrgName, Payload, Proposal, Value};
 use simulator::{Book, Chaincode, SimRefusal, simulate};
 use std::alloc::{AllocError, Global};
 use std::fmt::Write;
@@ -92,12 +92,11 @@ fn propose(
     snapshot: &mut Snapshot,
     proposal: &Proposal,
 ) -> Result<(), CaseFault> {
-    let header = header_after(snapshot.height())?;
     let flags = vec![in alloc; Flag::Valid]?;
     match simulate(alloc, book, snapshot, proposal) {
         Ok(payload) => {
             write_payload(answer, &payload)?;
-            let block = block_with(alloc, header, payload)?;
+            let block = block_with(alloc, snapshot.height(), payload)?;
             extend(alloc, snapshot, block, flags)
         }
         Err(refusal) => Ok(write_refusal(answer, refusal)?),
@@ -126,8 +125,8 @@ fn write_refusal(answer: &mut String, refusal: SimRefusal) -> Result<(), AllocEr
     }
 }
 
-/// The block of a header and a payload alone.
-fn block_with(alloc: Global, header: Header, payload: Payload) -> Result<Block, CaseFault> {
+/// The block of a payload alone that comes next after so many.
+fn block_with(alloc: Global, height: usize, payload: Payload) -> Result<Block, CaseFault> {
     let envelopes = vec![in alloc; unendorsed(alloc, payload)]?;
-    block_of(header, envelopes)
+    block_after(height, envelopes)
 }

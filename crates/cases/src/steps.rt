@@ -21,18 +21,7 @@ pub fn trace(alloc: Global, valid: &ValidModule, fuel: u64) -> Result<String, Al
 }
 
 /// How a stepper ends. What its steps show is added.
-pub fn step_through<H: Host>(
-    alloc: Global,
-    valid: &ValidModule,
-    host: &mut H,
-    fuel: u64,
-    shown: &mut Vec<String>,
-) -> Result<Outcome, AllocError> {
-    let mut stepper = Stepper::new(alloc, valid, fuel)?;
-    step_to_end(&mut stepper, host, shown)
-}
-
-fn step_to_end<H: Host>(
+pub fn step_to_end<H: Host>(
     stepper: &mut Stepper<'_>,
     host: &mut H,
     shown: &mut Vec<String>,
@@ -41,9 +30,15 @@ fn step_to_end<H: Host>(
         if let Some(outcome) = stepper.step(host)? {
             return Ok(outcome);
         }
-        if let Some(step) = stepper.render()? {
-            shown.push(step)?;
-        }
+        show_step(stepper, shown)?;
     }
     Ok(Outcome::Spent)
+}
+
+/// Adds what the last step shows.
+fn show_step(stepper: &Stepper<'_>, shown: &mut Vec<String>) -> Result<(), AllocError> {
+    if let Some(step) = stepper.render()? {
+        shown.push(step)?;
+    }
+    Ok(())
 }

@@ -1,8 +1,8 @@
 //! Values as the words of a line.
 
 use fab_types::{
-    Definition, Endorsement, Endorsements, Key, Payload, Proposal, RangeEntry, RangeItem, Ranges,
-    ReadItem, ReadSet, Value, Version, WriteItem, WriteSet,
+    Definition, Endorsement, Endorsements, Key, Payload, Proposal, RangeEntry, RangeItem, ReadItem,
+    Value, Version, WriteItem,
 };
 use std::alloc::AllocError;
 use std::fmt::Write;
@@ -37,7 +37,9 @@ pub fn write_hex(answer: &mut String, bytes: &[u8]) -> Result<(), AllocError> {
 pub fn write_payload(answer: &mut String, payload: &Payload) -> Result<(), AllocError> {
     write_proposal(answer, &payload.proposal)?;
     write_result(answer, &payload.result)?;
-    write_words(answer, &payload.reads, &payload.ranges, &payload.writes)
+    write_reads(answer, payload.reads.as_slice())?;
+    write_ranges(answer, payload.ranges.as_slice())?;
+    write_writes(answer, payload.writes.as_slice())
 }
 
 /// A call as `CHAINCODE(ARGUMENT)`, an upgrade as `CHAINCODE := DEFINITION`, and the nonce where
@@ -80,27 +82,18 @@ pub fn write_result(answer: &mut String, value: &Value) -> Result<(), AllocError
     write_bytes(answer, value.as_slice())
 }
 
-/// What was read and written, each word behind a blank.
-pub fn write_words(
-    answer: &mut String,
-    reads: &ReadSet,
-    ranges: &Ranges,
-    writes: &WriteSet,
-) -> Result<(), AllocError> {
-    write_reads(answer, reads.as_slice())?;
-    write_ranges(answer, ranges.as_slice())?;
-    write_writes(answer, writes.as_slice())
-}
-
-fn write_reads(answer: &mut String, reads: &[ReadItem]) -> Result<(), AllocError> {
+/// The keys that were read, each behind a blank.
+pub fn write_reads(answer: &mut String, reads: &[ReadItem]) -> Result<(), AllocError> {
     for read in reads {
         answer.push_str(" r:")?;
-        write_seen(answer, &read.key, read.version)?;
+        write_bytes(answer, read.key.as_slice())?;
+        write_version(answer, read.version)?;
     }
     Ok(())
 }
 
-fn write_ranges(answer: &mut String, ranges: &[RangeItem]) -> Result<(), AllocError> {
+/// The ranges that were read, each behind a blank.
+pub fn write_ranges(answer: &mut String, ranges: &[RangeItem]) -> Result<(), AllocError> {
     for range in ranges {
         write_range(answer, range)?;
     }
@@ -119,15 +112,10 @@ fn write_range(answer: &mut String, range: &RangeItem) -> Result<(), AllocError>
 fn write_entries(answer: &mut String, entries: &[RangeEntry]) -> Result<(), AllocError> {
     for (place, entry) in entries.iter().enumerate() {
         answer.push(if place == 0 { '=' } else { ',' })?;
-        write_seen(answer, &entry.key, Some(entry.version))?;
+        write_bytes(answer, entry.key.as_slice())?;
+        write_version(answer, Some(entry.version))?;
     }
     Ok(())
-}
-
-/// A key and the version seen.
-fn write_seen(answer: &mut String, key: &Key, version: Option<Version>) -> Result<(), AllocError> {
-    write_bytes(answer, key.as_slice())?;
-    write_version(answer, version)
 }
 
 /// A version as `@BLOCK.PLACE`, or `@-` for none.
@@ -138,7 +126,8 @@ pub fn write_version(answer: &mut String, version: Option<Version>) -> Result<()
     }
 }
 
-fn write_writes(answer: &mut String, writes: &[WriteItem]) -> Result<(), AllocError> {
+/// What was written, each word behind a blank.
+pub fn write_writes(answer: &mut String, writes: &[WriteItem]) -> Result<(), AllocError> {
     for write in writes {
         write_write(answer, write)?;
     }

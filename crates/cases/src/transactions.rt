@@ -288,14 +288,10 @@ fn range_item(alloc: Global, text: &str) -> Result<RangeItem, CaseFault> {
 fn range_entries(alloc: Global, text: &str) -> Result<Vec<RangeEntry>, CaseFault> {
     let mut entries = Vec::new(alloc);
     for word in text.split(',') {
-        entries.push(range_entry(alloc, word)?)?;
+        let (key, version) = word.split_once('@').ok_or(CaseFault::BadLine)?;
+        let version = version_of(version)?;
+        let key = key_of(alloc, key)?;
+        entries.push(RangeEntry { key, version })?;
     }
     Ok(entries)
-}
-
-fn range_entry(alloc: Global, text: &str) -> Result<RangeEntry, CaseFault> {
-    let (key, version) = text.split_once('@').ok_or(CaseFault::BadLine)?;
-    let version = version_of(version)?;
-    let key = key_of(alloc, key)?;
-    Ok(RangeEntry { key, version })
 }
