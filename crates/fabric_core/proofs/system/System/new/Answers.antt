@@ -1,4 +1,5 @@
 use Rattle.std.proofs.Common.{◌∙◌, ◌++◌, ◌∷◌, [], ap, sym, subst, refl, map, arith}
+use Rattle.std.proofs.lemmas.Grind.{common_steps}
 use Rattle.std.proofs.lemmas.List.{map-append}
 use Rattle.std.specs.List.{AllByRecursion}
 use Rattle.ledger_setting.specs.Rule.{table_of}
@@ -33,3 +34,6 @@ invariant_of-result c =
     let peers = c.loop-org.peers.items in
     subst (λ (o : Ordering). IsRight rules peers o.chain) (sym c.new-3.ensures)
     (subst (λ (l : Listed). IsRight l peers []) (sym same) c.loop-org.invariant.right)
+
+pub returns : goal.returns
+returns c = grind (arith, common_steps)
