@@ -10,12 +10,12 @@ ghost use Rattle.endorsement_policy.specs.Endorsed.{listed_policy};
 use crate::object::Object;
 use crate::texts::name_of;
 use crate::to_json::ToJson;
+use chaincode_book::Chaincode;
 use endorsement_policy::{ModuleId, Rules};
 use fab_types::Name;
 use ledger_setting::Genesis;
 use policy_text::policy_text;
 use serde_json::Value;
-use simulator::Chaincode;
 use std::alloc::{AllocError, Global};
 
 /// What a ledger begins with, but for the keys of the organisations. The only error is want of

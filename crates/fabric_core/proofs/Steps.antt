@@ -22,7 +22,7 @@ use Rattle.simulator.specs.Answers.{payload_or_refusal}
 use Rattle.fabric_core.specs.System.{PeerState, World, Reply, Begun as IsBegun, Nothing, IsCommitted, fresh, chain_of_first, begin_seat, begin, finish_reply}
 use Rattle.fabric_core.specs.System.{finish_seat, finish, commit_next, commit, at_peer}
 use Rattle.fabric_core.specs.Inside.{State, noted, seats_of, peer_of, world_of, IsFirst, IsSeatRight, IsPeerRight, IsRight}
-use Rattle.simulator.specs.Books.{Book}
+use Rattle.chaincode_book.specs.Books.{Book}
 use Rattle.fabric_core.specs.declared.peer.Begun.{Begun}
 use Rattle.fabric_core.specs.declared.peer.Peer.{Peer}
 use Rattle.fabric_core.proofs.Lists.{slice_get_map, slice_set_map, slice_set_same, all_set, all_get, all_map, at_place, last_of, take_next, get_here}

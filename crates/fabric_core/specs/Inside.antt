@@ -5,7 +5,7 @@ use Rattle.fab_types.specs.declared.block.Block.{Block}
 use Rattle.orderer.specs.Ordering.{Ordering}
 use Rattle.ledger_model.specs.Chain.{Envelope, Chain}
 use Rattle.ledger_model.specs.Execution.{Exec}
-use Rattle.simulator.specs.Books.{Book}
+use Rattle.chaincode_book.specs.Books.{Book}
 use Rattle.endorsement_policy.specs.Endorsed.{Listed}
 use Rattle.ledger_setting.specs.Rule.{table_of, seal_of}
 use Rattle.simulator.specs.Execution.{exec_of}

@@ -12,13 +12,14 @@ ghost use Rattle.fabric_core.specs.System.{IsCommitted, fresh, begin, finish_rep
 ghost use Rattle.fabric_core.specs.Inside.{peer_of, IsPeerRight};
 
 use crate::event::Reply;
+use chaincode_book::Book;
 use committer::CommitRefusal;
 use endorsement_policy::Rules;
 use endorser::{recheck, seal};
 use fab_types::{Block, Flag, OrgName, Payload, Proposal};
 use ledger_setting::commit_checked;
 use seq::Seq;
-use simulator::{Book, SimRefusal, simulate};
+use simulator::{SimRefusal, simulate};
 use std::alloc::{AllocError, Global};
 use std::sync::Arc;
 use world_state::Snapshot;

@@ -12,13 +12,13 @@ ghost use Rattle.fabric_core.specs.Inside.{rules_of, TakesStep, KeepsSetting};
 
 use crate::event::{Event, Reply};
 use crate::peer::Peer;
+use chaincode_book::Book;
 use endorsement_policy::Rules;
 use fab_types::limits::LAST_BLOCK;
 use fab_types::{Block, Envelope, Proposal};
 use ledger_setting::Genesis;
 use orderer::{BatchReport, OrderCause, Orderer};
 use seq::Seq;
-use simulator::Book;
 use std::alloc::{AllocError, Global};
 use std::collections::VecDeque;
 use std::fmt::{self, Debug, Formatter, Write};
@@ -53,7 +53,7 @@ impl Debug for System {
 
 impl Model for System {
     ghost use Rattle.fabric_core.specs.Inside.{State, world_of, IsRight};
-    ghost use Rattle.simulator.specs.contracts.book.Book as book_type;
+    ghost use Rattle.chaincode_book.specs.contracts.book.Book as book_type;
     ghost use Rattle.std.specs.Coded.{codes};
     ghost use Rattle.endorsement_policy.specs.contracts.rules.Rules as listed;
 

@@ -5,7 +5,7 @@ use Rattle.serde_json.specs.Data.{Data, Items, no_items, item}
 use Rattle.json_fields.specs.Lists.{AreItems}
 use Rattle.policy_language.specs.GoodSets.{is_among, needs_someone}
 use Rattle.endorsement_policy.specs.declared.rules.ChaincodePolicy.{ChaincodePolicy}
-use Rattle.simulator.specs.declared.book.Chaincode.{Chaincode}
+use Rattle.chaincode_book.specs.declared.book.Chaincode.{Chaincode}
 use Rattle.endorsement_policy.specs.Endorsed.{do_need_someone}
 use Rattle.policy_language.specs.Limits.{IsText}
 use Rattle.policy_language.specs.declared.policy.Policy.{Policy}

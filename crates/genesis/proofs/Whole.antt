@@ -11,8 +11,8 @@ use Rattle.wasm_decode.proofs.ModuleTheorem.{at_most_one}
 use Rattle.wasm_ast.specs.declared.module.Module.{Module}
 use Rattle.wasm_decode.specs.ModuleSpelling.{IsModule}
 use Rattle.sha2.specs.Sha256.{sha256}
-use Rattle.simulator.specs.Books.{Book, IsBook}
-use Rattle.simulator.specs.declared.book.Chaincode.{Chaincode}
+use Rattle.chaincode_book.specs.Books.{Book, IsBook}
+use Rattle.chaincode_book.specs.declared.book.Chaincode.{Chaincode}
 use Rattle.serde_json.specs.Data.{Data, Num, unsigned, number}
 use Rattle.genesis.specs.declared.genesis.Definition.{Definition}
 use Rattle.genesis.specs.declared.genesis.GenesisFile.{GenesisFile}

@@ -3,7 +3,7 @@ use Rattle.std.specs.Prelude.{◌≡◌, true, map, length}
 use Rattle.std.specs.List.{list_all}
 use Rattle.policy_language.specs.GoodSets.{is_among}
 use Rattle.endorsement_policy.specs.declared.rules.ChaincodePolicy.{ChaincodePolicy}
-use Rattle.simulator.specs.declared.book.Chaincode.{Chaincode}
+use Rattle.chaincode_book.specs.declared.book.Chaincode.{Chaincode}
 use Rattle.genesis.specs.declared.genesis.GenesisFile.{GenesisFile}
 use Rattle.genesis.specs.Lists.{IsWithin}
 use Rattle.genesis.specs.Spelling.{are_different, names_of}

@@ -18,8 +18,8 @@ use Rattle.endorsement_policy.specs.declared.installed.ModuleId.{ModuleId}
 use Rattle.policy_language.specs.declared.policy.Policy.{Policy}
 use Rattle.endorsement_policy.specs.declared.rules.Organisation.{Organisation}
 use Rattle.endorsement_policy.specs.declared.rules.ChaincodePolicy.{ChaincodePolicy}
-use Rattle.simulator.specs.Books.{Book, IsBook}
-use Rattle.simulator.specs.declared.book.Chaincode.{Chaincode}
+use Rattle.chaincode_book.specs.Books.{Book, IsBook}
+use Rattle.chaincode_book.specs.declared.book.Chaincode.{Chaincode}
 use Rattle.genesis.specs.declared.genesis.Definition.{Definition}
 use Rattle.genesis.specs.declared.genesis.InstalledModule.{InstalledModule}
 use Rattle.genesis.specs.declared.genesis.GenesisFile.{GenesisFile}

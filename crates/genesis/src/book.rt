@@ -3,7 +3,7 @@
 ghost use Rattle.std.specs.Prelude.{IfOk, IfErr, List};
 ghost use Rattle.serde_json.specs.View.{view};
 ghost use Rattle.endorsement_policy.specs.declared.rules.ChaincodePolicy.{ChaincodePolicy};
-ghost use Rattle.simulator.specs.Books.{Book};
+ghost use Rattle.chaincode_book.specs.Books.{Book};
 ghost use Rattle.genesis.specs.Refused.{NoneIs};
 ghost use Rattle.genesis.specs.Spelling.{IsBookOf};
 
@@ -11,11 +11,11 @@ use crate::chaincodes::{Apart, DefinitionReader, parted};
 use crate::lists::read_list;
 use crate::modules::{ModuleReader, modules_apart};
 use crate::refusal::GenesisRefusal;
+use chaincode_book::Book;
 use endorsement_policy::{ChaincodePolicy, Installed};
 use fab_types::OrgName;
 use fab_types::limits::{MOST_CHAINCODES, MOST_MODULES};
 use serde_json::Value;
-use simulator::Book;
 use std::alloc::Global;
 
 /// The book of the chaincodes and modules that are listed, and the policies of its chaincodes.

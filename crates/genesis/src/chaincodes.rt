@@ -14,12 +14,12 @@ use crate::genesis::{Definition, InstalledModule};
 use crate::modules::module;
 use crate::numbers::within;
 use crate::refusal::GenesisRefusal;
+use chaincode_book::Chaincode;
 use endorsement_policy::{ChaincodePolicy, ModuleId};
 use fab_types::limits::MOST_FUEL;
 use fab_types::{Name, OrgName};
 use policy_language::{Policy, PolicyFault, parse};
 use serde_json::Value;
-use simulator::Chaincode;
 use std::alloc::{AllocError, Global};
 
 /// Reads a chaincode with its policy over these organisations.

@@ -1,8 +1,8 @@
 //! What a ledger begins with.
 
+use chaincode_book::{Book, Chaincode};
 use endorsement_policy::{ChaincodePolicy, ModuleId, Rules};
 use fab_types::OrgName;
-use simulator::{Book, Chaincode};
 use wasm_validate::ValidModule;
 
 /// What a ledger begins with, as a genesis file says it.

@@ -1,8 +1,8 @@
 //! What a system begins with.
 
+use chaincode_book::Book;
 use endorsement_policy::Rules;
 use fab_types::OrgName;
-use simulator::Book;
 use std::fmt::{self, Debug, Formatter, Write};
 use std::sync::Arc;
 

@@ -6,7 +6,7 @@ use Rattle.fab_types.specs.declared.payload.Payload.{Payload}
 use Rattle.fab_types.specs.declared.envelope.Endorsement.{Endorsement}
 use Rattle.ledger_model.specs.Chain.{Bytes, Chain}
 use Rattle.endorsement_policy.specs.Endorsed.{Listed}
-use Rattle.simulator.specs.Books.{Book}
+use Rattle.chaincode_book.specs.Books.{Book}
 use Rattle.simulator.specs.Execution.{exec_of}
 use Rattle.simulator.specs.Answers.{payload_or_refusal}
 use Rattle.simulator.specs.declared.refusal.SimRefusal.{SimRefusal}

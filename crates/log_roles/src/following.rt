@@ -7,10 +7,11 @@ ghost use Rattle.simulator.specs.Answers.{Answers};
 ghost use Rattle.store_replay.specs.Lawful.{AreLawful, IsNextRefused};
 ghost use Rattle.log_roles.specs.Following.{followed_chain, endorsing_of, endorsed_on};
 
+use chaincode_book::Book;
 use endorsement_policy::Rules;
 use endorser::seal;
 use fab_types::{CommittedBlock, Endorsement, OrgName, Payload, Proposal};
-use simulator::{Book, SimRefusal, simulate};
+use simulator::{SimRefusal, simulate};
 use std::alloc::Global;
 use std::sync::Arc;
 use store_replay::{RecommitRefusal, recommit_next};

@@ -11,7 +11,7 @@ use Rattle.orderer.specs.declared.report.BatchReport.{BatchReport}
 use Rattle.ledger_model.specs.Chain.{Bytes, Committed, Chain}
 use Rattle.endorsement_policy.specs.Endorsed.{Listed}
 use Rattle.ledger_setting.specs.Rule.{table_of}
-use Rattle.simulator.specs.Books.{Book}
+use Rattle.chaincode_book.specs.Books.{Book}
 use Rattle.simulator.specs.declared.refusal.SimRefusal.{SimRefusal}
 use Rattle.replicated_log.specs.Log.{ReadsEach}
 use Rattle.log_roles.specs.Committing.{Commits}

@@ -29,10 +29,11 @@ ghost use Rattle.log_system.specs.Machines.{AreMachines, Does, IsRead, Machine, 
 ghost use Rattle.log_system.specs.Machines.{Endorses, Joins};
 ghost use Rattle.log_system.specs.OneSystem.{IsOneSystem, replies_of_machines};
 
+use chaincode_book::Book;
 use endorsement_policy::{Rules, an_endorsed_envelope_carries_a_right_tag};
 use orderer::ordering_laws;
 use replicated_log::log_laws;
-use simulator::{Book, reads_alone};
+use simulator::reads_alone;
 
 /// Machines that go by one genesis, and of which each has read a beginning of one list of lines,
 /// are one system, with any number of seats and any queue: a run of it has what the log and the

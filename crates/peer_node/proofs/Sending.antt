@@ -33,8 +33,8 @@ use Rattle.wasm_ast.specs.contracts.module.ElementSegment as element_type
 use Rattle.wasm_ast.specs.contracts.module.DataSegment as segment_type
 use Rattle.wasm_ast.specs.contracts.module.Module as module_tree_type
 use Rattle.wasm_validate.specs.contracts.valid.ValidModule as valid_module_type
-use Rattle.simulator.specs.contracts.book.Chaincode as chaincode_type
-use Rattle.simulator.specs.contracts.book.Book as book_type
+use Rattle.chaincode_book.specs.contracts.book.Chaincode as chaincode_type
+use Rattle.chaincode_book.specs.contracts.book.Book as book_type
 use Rattle.policy_language.specs.contracts.policy.Policy as policy_type
 use Rattle.endorsement_policy.specs.contracts.rules.ChaincodePolicy as chaincode_policy_type
 use Rattle.endorsement_policy.specs.contracts.rules.Rules as rules_type

@@ -10,7 +10,7 @@ use Rattle.ledger_model.specs.Chain.{Bytes, Chain, history}
 use Rattle.ledger_model.specs.State.{state, state_at}
 use Rattle.mvcc_validate.specs.Current.{is_current}
 use Rattle.endorser.specs.Rechecks.{IsRecheckRefused}
-use Rattle.simulator.specs.Books.{Book}
+use Rattle.chaincode_book.specs.Books.{Book}
 use Rattle.simulator.specs.declared.refusal.SimRefusal.{SimRefusal}
 use Rattle.simulator.specs.declared.refusal.SimRefusal.TheVariants.{UnknownChaincode, NotInstalled, BadPolicy, Trapped, Spent, Status, Stale, Memory}
 use Rattle.simulator.specs.Execution.{exec_of}

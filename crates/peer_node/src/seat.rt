@@ -5,10 +5,11 @@ ghost use Rattle.ledger_model.specs.Chain.{history};
 ghost use Rattle.ledger_model.specs.State.{state_at};
 
 use crate::refusal::FinishRefusal;
+use chaincode_book::Book;
 use endorsement_policy::Rules;
 use endorser::{recheck, seal};
 use fab_types::{Endorsement, Key, OrgName, Payload, Proposal, Value, Version};
-use simulator::{Book, simulate};
+use simulator::simulate;
 use snapshot_cell::{Reader, TakeRefusal, Told};
 use std::alloc::{AllocError, Global};
 use std::sync::Arc;

@@ -14,11 +14,11 @@ ghost use Rattle.peer_node.specs.Writers.{published_chain, peer_of_writer, rules
 use crate::refusal::ReopenRefusal;
 use crate::seat::{Endorser, Seat};
 use block_store::Loaded;
+use chaincode_book::Book;
 use committer::{CommitRefusal, check_next, commit_on};
 use endorsement_policy::{Gate, Rules, check_all};
 use fab_types::{Block, OrgName};
 use ledger_setting::Genesis;
-use simulator::Book;
 use snapshot_cell::{OpenRefusal, Reader, Told, Writer, open};
 use std::alloc::{AllocError, Global};
 use std::sync::{Arc, Wait};

@@ -15,8 +15,8 @@ use Rattle.wasm_validate.specs.ModuleRules.{IsValid}
 use Rattle.endorsement_policy.specs.Installed.{usable_by, usable_in}
 use Rattle.endorsement_policy.specs.declared.installed.Usable.{Usable}
 use Rattle.host_api.specs.Executing as host
-use Rattle.simulator.specs.declared.book.Chaincode.{Chaincode}
-use Rattle.simulator.specs.Books.{Book, AreValid, modules_of, chaincode_at}
+use Rattle.chaincode_book.specs.declared.book.Chaincode.{Chaincode}
+use Rattle.chaincode_book.specs.Books.{Book, AreValid, modules_of, chaincode_at}
 use Rattle.simulator.specs.Execution.{Executable, execute, executable_by, genesis_executable, installed_executable, upgrade_ending, exec_of}
 
 all_found : {X : Type 0} (P : X → Type 0) (test : X → Bool) (xs : List X) → AllByRecursion P xs → IfSome (find test xs) P

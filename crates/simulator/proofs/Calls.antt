@@ -10,7 +10,7 @@ use Rattle.ledger_model.specs.Flags.{version_at}
 use Rattle.ledger_model.specs.Defined.{definition_key}
 use Rattle.host_api.specs.Parts.{parts_of}
 use Rattle.host_api.specs.declared.recorder.Parts.{Parts}
-use Rattle.simulator.specs.Books.{Book}
+use Rattle.chaincode_book.specs.Books.{Book}
 use Rattle.simulator.specs.Execution.{Executable, execute, executable_by, exec_of}
 use Rattle.simulator.specs.Answers.{SimRefusal, Answers, done_or_refusal}
 use Rattle.simulator.proofs.Endings.{map_ok, answers_made}

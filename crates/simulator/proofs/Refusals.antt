@@ -24,7 +24,7 @@ use Rattle.host_api.specs.HostStep.{host_step}
 use Rattle.host_api.specs.Executing.{outcome_of, execution}
 use Rattle.host_api.specs.Parts.{parts_of}
 use Rattle.host_api.specs.declared.recorder.Parts.{Parts}
-use Rattle.simulator.specs.Books.{Book, AreValid}
+use Rattle.chaincode_book.specs.Books.{Book, AreValid}
 use Rattle.simulator.specs.Execution.{Executable, IsUnknown, IsUnusable, execute, executable_in, exec_of, upgrade_ending}
 use Rattle.simulator.specs.Answers.{SimRefusal, Answers, IsToldWhere, done_or_refusal}
 use Rattle.simulator.specs.declared.refusal.SimRefusal.TheVariants as refusal

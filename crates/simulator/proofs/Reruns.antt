@@ -19,7 +19,7 @@ use Rattle.host_api.specs.Recorded.{Asked, Recorded, nothing_recorded, key_seen,
 use Rattle.host_api.specs.Executing.{outcome_of, execution}
 use Rattle.host_api.specs.Parts.{parts_of}
 use Rattle.host_api.specs.declared.recorder.Parts.{Parts}
-use Rattle.simulator.specs.Books.{Book}
+use Rattle.chaincode_book.specs.Books.{Book}
 use Rattle.simulator.specs.Execution.{Executable, executable_by, execute, exec_of}
 use Rattle.simulator.proofs.Endings.{map_ok, answers_made}
 use Rattle.simulator.specs.Answers.{SimRefusal, Answers, done_or_refusal, Rerun, rerun_of, rerun_or_refusal, told_by, told_in}

@@ -16,7 +16,7 @@ use Rattle.endorsement_policy.specs.declared.fault.DefinitionFault.{DefinitionFa
 use Rattle.endorsement_policy.specs.declared.fault.DefinitionFault.TheVariants as fault
 use Rattle.host_api.specs.Recorded.{nothing_recorded, seen_on}
 use Rattle.host_api.specs.Executing.{outcome}
-use Rattle.simulator.specs.Books.{Book, modules_of, chaincode_at}
+use Rattle.chaincode_book.specs.Books.{Book, modules_of, chaincode_at}
 use Rattle.simulator.specs.declared.executable.Executable as found
 
 -- what a call executes, and what it may spend

@@ -1,4 +1,3 @@
-pub mod Books
 pub mod RefusalNumber
 pub mod Execution
 pub mod Answers

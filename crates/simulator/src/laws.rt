@@ -3,7 +3,7 @@
 ghost use Rattle.ledger_model.specs.Execution.{ReadsAlone};
 ghost use Rattle.simulator.specs.Execution.{exec_of};
 
-use crate::book::Book;
+use chaincode_book::Book;
 
 /// An execution by a book depends only on what it read: the state has what it read, and on each
 /// state that has the same it comes to the same.

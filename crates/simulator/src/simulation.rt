@@ -20,9 +20,9 @@ ghost use Rattle.simulator.specs.Answers.{Answers, IsToldWhere, done_or_refusal,
 ghost use Rattle.simulator.specs.Success.{success_of};
 ghost use Rattle.simulator.specs.declared.refusal.SimRefusal.TheVariants.{UnknownChaincode, NotInstalled, BadPolicy};
 
-use crate::book::Book;
-use crate::executable::Executable;
+use crate::executable::{Executable, find_executable};
 use crate::refusal::SimRefusal;
+use chaincode_book::Book;
 use fab_types::{
     Call, Key, Payload, Proposal, Ranges, ReadItem, ReadSet, Upgrade, Value, Version, WriteItem,
     WriteSet,
@@ -120,7 +120,7 @@ fn execute_call<V: View>(
 {
     let key = Key::of_definition(alloc, &call.chaincode)?;
     let (value, version) = look_up(view, &key);
-    let Some(executable) = book.executable(alloc, &call.chaincode, value)? else {
+    let Some(executable) = find_executable(alloc, book, &call.chaincode, value)? else {
         return Err(SimRefusal::UnknownChaincode);
     };
     let parts = run_executable(alloc, &executable, view, &call.argument)?;

@@ -4,7 +4,7 @@ use Rattle.atomic_table.specs.Seated.{TableId}
 use Rattle.fab_types.specs.declared.envelope.Envelope.{Envelope}
 use Rattle.intake.specs.declared.rule.View.{View}
 use Rattle.intake.specs.Seats.{knows}
-use Rattle.simulator.specs.Books.{Book}
+use Rattle.chaincode_book.specs.Books.{Book}
 use Rattle.simulator.specs.Execution.{exec_of}
 use Rattle.endorsement_policy.specs.Endorsed.{Listed}
 use Rattle.ledger_model.specs.Judged.{judged_chain}

@@ -1,5 +1,5 @@
 use Rattle.std.proofs.Common.{length}
-use Rattle.simulator.proofs.book.+have_own_names.Given as goal
+use Rattle.chaincode_book.proofs.book.+have_own_names.Given as goal
 
 abbrev pub decreases-have_own_names : goal.decreases-have_own_names
 decreases-have_own_names l = length l.chaincodes.now

@@ -3,7 +3,7 @@
 ghost use Rattle.std.specs.Prelude.{◌≡◌, ◌↔◌, IsSome, IfSome, true, map, option_map, slice_get};
 ghost use Rattle.std.specs.List.{list_all, list_any, AllByRecursion};
 ghost use Rattle.wasm_validate.specs.ModuleRules.{IsValid};
-ghost use Rattle.simulator.specs.Books.{IsBook, AreValid, chaincode_at, is_named, has_fuel, have_own_names, modules_of};
+ghost use Rattle.chaincode_book.specs.Books.{IsBook, AreValid, chaincode_at, is_named, has_fuel, have_own_names, modules_of};
 
 use endorsement_policy::Installed;
 use fab_types::Name;
@@ -31,9 +31,9 @@ pub struct Book {
 
 impl Model for Book {
     ghost use Rattle.std.specs.Coded.{codes};
-    ghost use Rattle.simulator.specs.contracts.book.Chaincode as chaincode;
+    ghost use Rattle.chaincode_book.specs.contracts.book.Chaincode as chaincode;
     ghost use Rattle.wasm_ast.specs.contracts.module.Module as wasm;
-    ghost use Rattle.simulator.specs.Books.{Book, IsBook, AreValid};
+    ghost use Rattle.chaincode_book.specs.Books.{Book, IsBook, AreValid};
 
     ghost Value = { Book };
 
@@ -127,8 +127,8 @@ impl Book {
         self.chaincodes.iter().find(|c| c.is_named(name))
     }
 
-    /// The installed module at a place.
-    pub(crate) fn module_at(&self, place: usize) -> Option<&ValidModule>
+    /// The installed module at a place, where those of the chaincodes come first.
+    pub fn module_at(&self, place: usize) -> Option<&ValidModule>
         ensures { option_map (λ m. m.now) result ≡ slice_get (modules_of self.now) place }
     {
         match self.chaincodes.get(place) {

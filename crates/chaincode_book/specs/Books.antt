@@ -5,7 +5,7 @@ use Rattle.std.specs.Cmp.Lexicographic.{pointwise}
 use Rattle.wasm_ast.specs.declared.module.Module.{Module}
 use Rattle.wasm_validate.specs.ModuleRules.{IsValid}
 use Rattle.endorsement_policy.specs.Installed.{Installed}
-use Rattle.simulator.specs.declared.book.Chaincode.{Chaincode}
+use Rattle.chaincode_book.specs.declared.book.Chaincode.{Chaincode}
 
 -- the chaincodes of the genesis, more modules, and what a definition can be used with: the ids of the chaincodes' modules, then those of the
 -- modules
