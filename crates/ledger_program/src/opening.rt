@@ -35,7 +35,7 @@ pub fn order_log<F: Files, W: Write>(
     ensures tells { Tells out.old out.new result }
 {
     let bytes = read_all(alloc, files, name)?;
-    let genesis = genesis_in(alloc, &bytes)?;
     let digest = hex::encode(alloc, &Sha256::digest(bytes.as_slice()))?;
+    let genesis = genesis_in(alloc, &bytes)?;
     order(alloc, files, &genesis, &digest, out)
 }
