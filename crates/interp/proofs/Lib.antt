@@ -35,4 +35,5 @@ pub mod Dispatch
 pub mod Grouping
 pub mod Entering
 pub mod Departures
+pub mod Targets
 pub mod Calling
