@@ -191,7 +191,10 @@ impl Session {
     fn step<W: Write>(&mut self, event: Event, out: &mut Printer<'_, W>) -> Result<(), Failure>
         ensures tells { Tells out.old out.new result }
     {
-        print_step(&self.reply_to(event), out)
+        let reply = self.reply_to(event);
+        let told = print_step(&reply, out);
+        drop(reply);
+        told
     }
 
     /// Begins a proposal at a seat. Prints where, and on what height.
@@ -209,7 +212,9 @@ impl Session {
             seat,
             proposal,
         });
-        print_begun(peer, seat, &reply, out)
+        let told = print_begun(peer, seat, &reply, out);
+        drop(reply);
+        told
     }
 
     /// Finishes what a seat has begun. What is endorsed gets the name.
@@ -224,7 +229,11 @@ impl Session {
     {
         match self.reply_to(Event::Finish { peer, seat }) {
             Ok(Reply::Endorsed(payload, endorsement)) => self.bind(name, payload, endorsement, out),
-            reply => print_step(&reply, out),
+            reply => {
+                let told = print_step(&reply, out);
+                drop(reply);
+                told
+            }
         }
     }
 
