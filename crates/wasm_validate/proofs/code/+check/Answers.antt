@@ -1,4 +1,4 @@
-use Rattle.std.proofs.Common.{◌≡◌, List, ◌∷◌, ap, ◌∙◌, subst, drop, Some, arith}
+use Rattle.std.proofs.Common.{◌≡◌, List, ◌∷◌, ap, ◌∙◌, subst, drop, Some, arith, rules}
 use Rattle.std.proofs.lemmas.Result.{err_from_is_err_and}
 use Rattle.wasm_ast.specs.Code.{BlockType, code_size, End}
 use Rattle.wasm_validate.specs.Typing.{Context}
@@ -77,3 +77,6 @@ check_body-loop-instr-preserved t c =
 pub check_instr-check_plain-requires : goal.check_instr-check_plain-requires
 check_instr-check_plain-requires t c =
     plain_unless c.args.instr.now c.in_default.not-Block c.in_default.not-Loop c.in_default.not-If
+
+pub check_if-returns-clause-ok : goal.check_if-returns-clause-ok
+check_if-returns-clause-ok t c = search rules
