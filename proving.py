@@ -1,0 +1,146 @@
+"""Proves crates side by side: each as soon as the libraries that it stands on are proved, the longest chain first.
+
+Two runs of `rt` don't work over the same crates at once. `rt all`, which works on several, reads all sources on one core
+before it begins, and takes crates in another order. So each worker has a copy of the sources, beside the repository, in
+which it proves one crate after another. What it proves is linked into the repository, and from there into the copy of
+who needs it.
+"""
+import concurrent.futures
+import os
+import pathlib
+import shutil
+import subprocess
+import tempfile
+import threading
+
+# The folders of a crate's sources.
+PARTS = ["src", "specs", "proofs"]
+# What `rt` keeps of a crate: the library, and the work that a later check begins with.
+KEPT = ["rlib", "incremental"]
+
+
+def libraries_of(root):
+    """The crates of the repository that crates.txt names for each crate."""
+    lines = [it.split(":") for it in (root / "crates.txt").read_text().splitlines() if ":" in it and it[0] != "#"]
+    named = {head.split()[0]: tail.split() for head, tail in lines}
+    return {crate: [it for it in libraries if it in named] for crate, libraries in named.items()}
+
+
+def below(libraries, crate):
+    """All that a crate stands on."""
+    found, left = set(), list(libraries[crate])
+    while left:
+        name = left.pop()
+        if name not in found:
+            found.add(name)
+            left += libraries[name]
+    return found
+
+
+def link_file(source, target):
+    """Gives a file a second name, or copies it where that can't be. `rt` replaces such a file, and changes none."""
+    try:
+        os.link(source, target)
+    except OSError:
+        shutil.copy2(source, target)
+
+
+def link(source, target, crate):
+    """Puts what one tree keeps of a crate into another one, each part in one step."""
+    for part in KEPT:
+        kept = pathlib.Path("crates", crate, "out", part)
+        if (source / kept).is_dir():
+            new = (target / kept).with_suffix(".new")
+            shutil.rmtree(new, ignore_errors=True)
+            shutil.copytree(source / kept, new, copy_function=link_file)
+            shutil.rmtree(target / kept, ignore_errors=True)
+            new.rename(target / kept)
+
+
+class Proving:
+    """The crates that one crate stands on: which are left, and which are proved. Workers share it."""
+
+    def __init__(self, root, top, log, tell):
+        self.root, self.log, self.tell = root, log, tell
+        self.libraries = libraries_of(root)
+        self.left = below(self.libraries, top)
+        self.count, self.proved, self.failed = len(self.left), set(), False
+        self.turn = threading.Condition()
+        self.behind = self.chains(self.left)
+
+    def chains(self, crates):
+        """For each crate, the lines of it and of the longest chain of crates that wait for it."""
+        behind = {}
+        for crate in sorted(crates, key=lambda it: -len(below(self.libraries, it))):
+            above = [behind[it] for it in behind if crate in self.libraries[it]]
+            files = [it for part in PARTS for it in (self.root / "crates" / crate / part).rglob("*") if it.is_file()]
+            behind[crate] = sum(it.read_bytes().count(b"\n") for it in files) + max(above, default=0)
+        return behind
+
+    def next_crate(self):
+        """Takes the crate with the longest chain behind it of those whose libraries are proved. None at the end."""
+        with self.turn:
+            while self.left and not self.failed:
+                ready = [it for it in self.left if self.proved.issuperset(self.libraries[it])]
+                if ready:
+                    crate = max(ready, key=self.behind.get)
+                    self.left.remove(crate)
+                    return crate
+                self.turn.wait()
+        return None
+
+    def take(self, crate, is_proved, said):
+        """Notes how the check of a crate ended, and what it said."""
+        with self.turn:
+            self.log.write(f"== {crate}\n{said}")
+            self.log.flush()
+            self.failed = self.failed or not is_proved
+            self.proved.update([crate] if is_proved else [])
+            self.tell(crate, is_proved, len(self.proved), self.count)
+            self.turn.notify_all()
+
+    def work(self, room):
+        """Proves crates in a room until all are taken or one is not proved."""
+        while crate := self.next_crate():
+            is_proved, said = False, ""
+            try:
+                is_proved, said = self.prove_in(room, crate)
+            finally:
+                self.take(crate, is_proved, said)
+
+    def prove_in(self, room, crate):
+        """Proves a crate in a room. Whether it is proved, and what was said."""
+        for name in below(self.libraries, crate):
+            if not (room / "crates" / name / "out").exists():
+                link(self.root, room, name)
+        link(self.root, room, crate)
+        how = {"stdin": subprocess.DEVNULL, "stdout": subprocess.PIPE, "stderr": subprocess.STDOUT, "check": False}
+        words = ["rt", "lib", "--jobs", "1"]
+        ran = subprocess.run(words, cwd=room / "crates" / crate, text=True, errors="replace", **how)
+        link(room, self.root, crate)
+        return ran.returncode == 0, ran.stdout
+
+
+def copy_sources(root, room):
+    """Copies what `rt` reads of the repository."""
+    room.mkdir()
+    shutil.copy2(root / "crates.txt", room)
+    for crate in (root / "crates").iterdir():
+        for part in PARTS:
+            if (crate / part).is_dir():
+                shutil.copytree(crate / part, room / "crates" / crate.name / part)
+
+
+def prove(root, top, workers, log, tell):
+    """Proves all that a crate stands on, by so many workers. Whether all is proved."""
+    proving = Proving(root, top, log, tell)
+    # Beside the repository files can be linked.
+    beside = root.parent if os.access(root.parent, os.W_OK) else None
+    with tempfile.TemporaryDirectory(prefix="regtuma-prove-", dir=beside) as folder:
+        rooms = [pathlib.Path(folder) / str(number) for number in range(workers)]
+        for room in rooms:
+            copy_sources(root, room)
+        with concurrent.futures.ThreadPoolExecutor(workers) as pool:
+            for done in [pool.submit(proving.work, room) for room in rooms]:
+                done.result()
+    return not proving.failed
