@@ -64,7 +64,7 @@ class Proving:
         self.root, self.log, self.tell = root, log, tell
         self.libraries = libraries_of(root)
         self.left = below(self.libraries, top)
-        self.count, self.proved, self.failed = len(self.left), set(), False
+        self.count, self.proved, self.failed, self.idle = len(self.left), set(), False, 0
         self.turn = threading.Condition()
         self.behind = self.chains(self.left)
 
@@ -78,15 +78,20 @@ class Proving:
         return behind
 
     def next_crate(self):
-        """Takes the crate with the longest chain behind it of those whose libraries are proved. None at the end."""
+        """Takes the crate with the longest chain behind it of those whose libraries are proved. None at the end.
+
+        Beside it, by how many jobs it is proved: one more for each worker that has nothing to do.
+        """
         with self.turn:
             while self.left and not self.failed:
                 ready = [it for it in self.left if self.proved.issuperset(self.libraries[it])]
                 if ready:
                     crate = max(ready, key=self.behind.get)
                     self.left.remove(crate)
-                    return crate
+                    return crate, 1 + max(0, self.idle - len(ready) + 1)
+                self.idle += 1
                 self.turn.wait()
+                self.idle -= 1
         return None
 
     def take(self, crate, is_proved, said):
@@ -101,21 +106,22 @@ class Proving:
 
     def work(self, room):
         """Proves crates in a room until all are taken or one is not proved."""
-        while crate := self.next_crate():
+        while taken := self.next_crate():
+            crate, jobs = taken
             is_proved, said = False, ""
             try:
-                is_proved, said = self.prove_in(room, crate)
+                is_proved, said = self.prove_in(room, crate, jobs)
             finally:
                 self.take(crate, is_proved, said)
 
-    def prove_in(self, room, crate):
-        """Proves a crate in a room. Whether it is proved, and what was said."""
+    def prove_in(self, room, crate, jobs):
+        """Proves a crate in a room by so many jobs. Whether it is proved, and what was said."""
         for name in below(self.libraries, crate):
             if not (room / "crates" / name / "out").exists():
                 link(self.root, room, name)
         link(self.root, room, crate)
         how = {"stdin": subprocess.DEVNULL, "stdout": subprocess.PIPE, "stderr": subprocess.STDOUT, "check": False}
-        words = ["rt", "lib", "--jobs", "1"]
+        words = ["rt", "lib", "--jobs", str(jobs)]
         ran = subprocess.run(words, cwd=room / "crates" / crate, text=True, errors="replace", **how)
         link(room, self.root, crate)
         return ran.returncode == 0, ran.stdout
