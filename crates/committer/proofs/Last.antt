@@ -1,9 +1,6 @@
--- The last block's header, and that a block that fits is not refused.
-use Rattle.std.proofs.Common.{◌≡◌, ℕ, zero, suc, Bool, List, [], ◌∷◌, ◌++◌, map, length, refl, ap, arith, slice_get, option_map}
+-- The last block's header, and that want of memory alone refuses a block that fits.
+use Rattle.std.proofs.Common.{◌≡◌, ℕ, zero, suc, List, [], ◌∷◌, map, length, refl, ap, arith, slice_get, option_map}
 use Rattle.fab_types.specs.declared.block.Block.{Block}
-use Rattle.fab_types.specs.declared.proposal.Proposal.{Proposal}
-use Rattle.ledger_model.specs.Chain.{Bytes, Envelope, Flag, Placed}
-use Rattle.ledger_model.specs.Flags.{flag_at, flags_told}
 use Rattle.committer.specs.declared.refusal.CommitRefusal.{CommitRefusal}
 use Rattle.committer.specs.declared.refusal.CommitRefusal.TheVariants.{Number, PreviousHash, DataHash, AtEnd, OutOfMemory}
 use Rattle.committer.specs.Fits.{Fits, IsRefused}
@@ -24,13 +21,3 @@ only_memory Number blocks block fits why = absurd (why.1 fits.number)
 only_memory PreviousHash blocks block fits why = absurd (why.2 fits.previous_hash)
 only_memory DataHash blocks block fits why = absurd (why.3 fits.data_hash)
 only_memory OutOfMemory blocks block fits why = refl
-
--- one flag for each
-pub length-told : (id : Proposal → Bytes) (earlier : List Placed) (block place : ℕ) (es : List Envelope) (endorsed : List Bool) → length endorsed ≡ length es →
-    length (flags_told id earlier block place es endorsed) ≡ length es
-length-told id earlier block place [] endorsed same = refl
-length-told id earlier block place (e ∷ es) [] same = absurd omega (arith, same)
-length-told id earlier block place (e ∷ es) (b ∷ bs) same =
-    let flag : Flag = flag_at id earlier b e.payload in
-    let here : Placed = record { version = record { block = block; place = place }; envelope = e; flag = flag } in
-    ap suc (length-told id (earlier ++ here ∷ []) block (suc place) es bs (omega (arith, same)))

@@ -6,7 +6,7 @@ ghost use Rattle.ledger_model.specs.Flags.{flags_told};
 ghost use Rattle.wire.specs.Ids.{id_of};
 ghost use Rattle.committer.specs.Fits.{blocks_of, Fits, IsRefused};
 
-use crate::commit::commit_onto;
+use crate::commit::judge_told;
 use crate::refusal::CommitRefusal;
 use fab_types::{Block, Flag};
 use std::alloc::Global;
@@ -66,7 +66,8 @@ impl Replay {
         ensures fits { OnOk result (Fits (blocks_of self.old) block) }
         ensures refused { IfErr result (λ refusal. IsRefused refusal (blocks_of self.old) block) }
     {
-        commit_onto(alloc, &mut self.snapshot, block, endorsed)?;
+        let judged = judge_told(alloc, &self.snapshot, &block, endorsed)?;
+        self.snapshot.extend(alloc, block, judged)?;
         Ok(last_flags(&self.snapshot))
     }
 }
@@ -76,7 +77,7 @@ fn last_flags(snapshot: &Snapshot) -> &[Flag]
     ensures { (before : Chain) (last : Committed) → snapshot.now ≡ before ++ last ∷ [] →
         result.now ≡ last.flags }
 {
-    match snapshot.blocks().last() {
+    match snapshot.last() {
         None => &[],
         Some(committed) => committed.flags(),
     }

@@ -1,1 +1,2 @@
+pub mod Endorsing
 pub mod Rechecks

@@ -2,8 +2,10 @@
 //! whether all that was read is as it was, and puts its organisation's tag on it.
 #![tactic(auto)]
 
+mod endorsing;
 mod rechecking;
 mod sealing;
 
+pub use endorsing::{Endorser, endorse_payload};
 pub use rechecking::recheck;
 pub use sealing::seal;

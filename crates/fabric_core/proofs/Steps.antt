@@ -16,6 +16,9 @@ use Rattle.batch_cutter.specs.Division.{Mark, timeout}
 use Rattle.orderer.specs.Ordering.{Ordering, Takes}
 use Rattle.orderer.specs.declared.report.BatchReport.{BatchReport}
 use Rattle.orderer.proofs.Refusing.{takes_begins}
+use Rattle.world_state.specs.Judging.{marked}
+use Rattle.world_state.specs.declared.judged.Judged.{Judged}
+use Rattle.ledger_setting.specs.Judging.{IsJudged, next_by}
 use Rattle.ledger_setting.specs.Rule.{table_of}
 use Rattle.simulator.specs.declared.refusal.SimRefusal.{SimRefusal}
 use Rattle.simulator.specs.Answers.{payload_or_refusal}
@@ -131,22 +134,20 @@ pub timed_right : (listed : Listed) (peers : List Peer) (old : Ordering) (report
     Takes old timeout (option_to_list report) new → IsRight listed peers new.chain
 timed_right listed peers old report new right takes = mark_right listed peers old timeout (option_to_list report) new right takes
 
--- a chain with the next block, behind the snapshot that shows it
-abbrev with_block : BlockRule → Chain → Block → Chain
-with_block rule chain b = chain ++ record { block = b; flags = judge (rule (history chain)) (history chain) (length chain + 1) 0 b.envelopes } ∷ []
-
-pub put_on : (rule : BlockRule) (chain shown made : Chain) (b : Block) → shown ≡ chain → made ≡ with_block rule shown b → made ≡ with_block rule chain b
-put_on rule chain shown made b same is = is ∙ ap (λ (c : Chain). with_block rule c b) same
+-- a block that was judged, put behind the snapshot that shows a chain
+pub put_on : (rule : BlockRule) (chain shown made : Chain) (b : Block) (judged : Judged) → shown ≡ chain → IsJudged rule shown b judged →
+    made ≡ shown ++ marked b judged ∷ [] → made ≡ chain ++ next_by rule chain b ∷ []
+put_on rule chain shown made b judged same is on =
+    on ∙ ap (λ (fs : List Flag). shown ++ record { block = b; flags = fs } ∷ []) is.flags ∙ ap (λ (c : Chain). c ++ next_by rule c b ∷ []) same
 
 -- and what is replied of it
-pub put_reply : (rule : BlockRule) (chain shown made : Chain) (b : Block) (n : ℕ) (flags : List Flag) → shown ≡ chain → made ≡ with_block rule shown b →
-    n ≡ length made → ((before : Chain) (last : Committed) → made ≡ before ++ last ∷ [] → flags ≡ last.flags) →
-    IsCommitted n flags ≡ IsCommitted (length chain + 1) (judge (rule (history chain)) (history chain) (length chain + 1) 0 b.envelopes)
-put_reply rule chain shown made b n flags same is tall told =
-    let next : Committed = record { block = b; flags = judge (rule (history chain)) (history chain) (length chain + 1) 0 b.envelopes } in
-    let whole = put_on rule chain shown made b same is in
-    let number : n ≡ length chain + 1 = tall ∙ ap (λ (c : Chain). length c) whole ∙ length-append chain (next ∷ []) in
-    let marked : flags ≡ next.flags = told chain next whole in
+pub put_reply : (rule : BlockRule) (chain shown made : Chain) (b : Block) (judged : Judged) (n : ℕ) (flags : List Flag) → shown ≡ chain →
+    IsJudged rule shown b judged → made ≡ shown ++ marked b judged ∷ [] → n ≡ length made → flags ≡ judged.flags.items →
+    IsCommitted n flags ≡ IsCommitted (length chain + 1) (next_by rule chain b).flags
+put_reply rule chain shown made b judged n flags same is on tall told =
+    let whole = put_on rule chain shown made b judged same is on in
+    let number : n ≡ length chain + 1 = tall ∙ ap (λ (c : Chain). length c) whole ∙ length-append chain (next_by rule chain b ∷ []) in
+    let marked : flags ≡ (next_by rule chain b).flags = told ∙ is.flags ∙ ap (λ (c : Chain). (next_by rule c b).flags) same in
     λ i. IsCommitted (number i) (marked i)
 
 -- a peer with the next block

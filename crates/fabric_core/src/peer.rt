@@ -1,10 +1,11 @@
 //! One peer: its snapshot and its seats.
 
 ghost use Rattle.std.specs.Prelude.{◌≡◌, ℕ, List, [], ◌∷◌, ◌++◌, ◌+◌, ◌<◌, length, Ok, IfOk, OnErr, None, replicate};
-ghost use Rattle.ledger_model.specs.Chain.{Chain, Committed, history};
+ghost use Rattle.ledger_model.specs.Chain.{Chain, history};
 ghost use Rattle.ledger_model.specs.State.{state};
 ghost use Rattle.committer.specs.Fits.{Fits, blocks_of};
 ghost use Rattle.ledger_model.specs.Judged.{judge};
+ghost use Rattle.ledger_setting.specs.Judging.{IsJudged};
 ghost use Rattle.ledger_setting.specs.Rule.{table_of, seal_of};
 ghost use Rattle.simulator.specs.Answers.{payload_or_refusal};
 ghost use Rattle.simulator.specs.Execution.{exec_of};
@@ -13,16 +14,15 @@ ghost use Rattle.fabric_core.specs.Inside.{peer_of, IsPeerRight};
 
 use crate::event::Reply;
 use chaincode_book::Book;
-use committer::CommitRefusal;
-use endorsement_policy::Rules;
-use endorser::{recheck, seal};
+use endorsement_policy::{Rules, check_plain};
+use endorser::endorse_payload;
 use fab_types::{Block, Flag, OrgName, Payload, Proposal};
-use ledger_setting::commit_checked;
+use ledger_setting::judge_checked;
 use seq::Seq;
 use simulator::{SimRefusal, simulate};
 use std::alloc::{AllocError, Global};
 use std::sync::Arc;
-use world_state::Snapshot;
+use world_state::{Judged, Snapshot};
 
 /// A proposal that was begun, and the snapshot that it reads.
 #[derive(Drop)]
@@ -39,43 +39,22 @@ pub struct Peer {
     pub seats: Vec<Option<Begun>>,
 }
 
-/// The chain with the next block. Want of memory alone refuses it.
-fn extended(
+/// What the next block is judged to be, and its flags once more. The error is of memory.
+fn judged(
     alloc: Global,
     rules: &Rules,
     snapshot: &Snapshot,
-    block: Block,
-) -> Result<Snapshot, AllocError>
-    requires fits { Fits (blocks_of snapshot.now) block }
-    ensures { IfOk result
-        (λ s. s
-        ≡ snapshot.now ++
-        record {
-          block = block;
-          flags = judge (table_of rules.now (history snapshot.now)) (history snapshot.now)
-              (length snapshot.now + 1) 0 block.envelopes;
-        } ∷
-        []) }
+    block: &Block,
+) -> Result<(Judged, Vec<Flag>), AllocError>
+    requires fits { Fits (blocks_of snapshot.now) block.now }
+    ensures judged { IfOk result
+        (λ t. IsJudged (table_of rules.now) snapshot.now block.now t.0) }
+    ensures flags { IfOk result (λ t. t.1.items ≡ t.0.flags.items) }
 {
-    match commit_checked(alloc, rules, snapshot, block) {
-        Ok(snapshot) => Ok(snapshot),
-        Err(refusal) => {
-            prove!(matches!(refusal, CommitRefusal::OutOfMemory));
-            Err(AllocError)
-        }
-    }
-}
-
-/// The flags of the last block.
-fn last_flags(alloc: Global, snapshot: &Snapshot) -> Result<Vec<Flag>, AllocError>
-    ensures { IfOk result
-        (λ v. (before : Chain) (last : Committed) → snapshot.now ≡ before ++ last ∷ [] →
-        v.items ≡ last.flags) }
-{
-    match snapshot.blocks().last() {
-        None => Ok(Vec::new(alloc)),
-        Some(committed) => committed.flags().to_vec(alloc),
-    }
+    let endorsed = check_plain(alloc, rules, snapshot, block.envelopes.as_slice())?;
+    let judged = judge_checked(alloc, rules, snapshot, block, &endorsed)?;
+    let flags = judged.flags.to_vec(alloc)?;
+    Ok((judged, flags))
 }
 
 /// A simulation, where want of memory is no refusal of the chaincode's.
@@ -106,14 +85,12 @@ fn endorsed(
         (λ reply. reply
         ≡ finish_reply (state (history newest.now)) (seal_of rules.now org.now) (Ok payload)) }
 {
-    match recheck(alloc, &payload, newest) {
-        Ok(()) => {}
-        Err(SimRefusal::Stale) => return Ok(Reply::Refused(SimRefusal::Stale)),
-        // Of memory: a recheck has no other refusal.
-        Err(_) => return Err(AllocError),
+    match endorse_payload(alloc, rules, org, newest, &payload) {
+        Ok(endorsement) => Ok(Reply::Endorsed(payload, endorsement)),
+        Err(SimRefusal::Stale) => Ok(Reply::Refused(SimRefusal::Stale)),
+        // Of memory: there is no other refusal.
+        Err(_) => Err(AllocError),
     }
-    let endorsement = seal(alloc, org, rules.key(org), &payload)?;
-    Ok(Reply::Endorsed(payload, endorsement))
 }
 
 impl Peer {
@@ -215,8 +192,10 @@ impl Peer {
         ensures org { self.new.org ≡ self.old.org }
         ensures unchanged { OnErr result (self.new ≡ self.old) }
     {
-        let snapshot = extended(alloc, rules, &self.snapshot, block)?;
-        let flags = Seq::new(last_flags(alloc, &snapshot)?);
+        let newest: &Snapshot = &self.snapshot;
+        let (judged, flags) = judged(alloc, rules, newest, &block)?;
+        let snapshot = newest.followed_by(alloc, block, judged)?;
+        let flags = Seq::new(flags);
         let height = snapshot.height();
         self.snapshot = Arc::new(alloc, snapshot)?;
         Ok(Reply::Committed(height, flags))

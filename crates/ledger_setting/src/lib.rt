@@ -2,10 +2,10 @@
 //! the commit of a block under it. And what an audit of a chain says.
 #![tactic(auto)]
 
-mod committing;
 mod genesis;
+mod judging;
 mod verdict;
 
-pub use committing::{commit_checked, commit_checked_onto};
 pub use genesis::Genesis;
+pub use judging::{commit, judge, judge_checked};
 pub use verdict::Audit;

@@ -3,16 +3,13 @@ use Rattle.std.proofs.Common.{◌≡◌, ℕ, suc, ◌+◌, List, [], ◌∷◌,
 use Rattle.std.proofs.Common.{slice_get}
 use Rattle.std.proofs.lemmas.List.{map-append}
 use Rattle.fab_types.specs.declared.block.Block.{Block}
-use Rattle.ledger_model.specs.Chain.{Chain, Committed, history}
-use Rattle.ledger_model.specs.Judged.{BlockRule, judge, judge_onto}
+use Rattle.ledger_model.specs.Chain.{Chain, Committed}
+use Rattle.ledger_model.specs.Judged.{BlockRule, judge_onto}
 use Rattle.ledger_model.specs.Serial.{IsPrefix}
 use Rattle.ledger_model.proofs.Judged.{judged_onto-append, judged_grows, length-judged_onto}
 use Rattle.committer.specs.Fits.{Fits, blocks_of}
+use Rattle.ledger_setting.specs.Judging.{next_by}
 use Rattle.log_roles.specs.Committing.{FitEach, Commits, IsKnown, header_hash, own_hash}
-
--- the next block of a chain
-abbrev pub next_by : BlockRule → Chain → Block → Committed
-next_by rule chain b = record { block = b; flags = judge (rule (history chain)) (history chain) (length chain + 1) 0 b.envelopes }
 
 -- a chain with a block more has that block
 pub blocks_more : (chain : Chain) (c : Committed) → blocks_of (chain ++ c ∷ []) ≡ blocks_of chain ++ c.block ∷ []

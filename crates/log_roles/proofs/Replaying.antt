@@ -11,7 +11,8 @@ use Rattle.block_store.specs.declared.end.End.TheVariants.{Clean}
 use Rattle.store_replay.specs.Lawful.{AreLawful}
 use Rattle.store_replay.proofs.Lawful.{lawful_more, is_judged}
 use Rattle.log_roles.specs.Committing.{FitEach, Commits}
-use Rattle.log_roles.proofs.Agreeing.{next_by, blocks_more}
+use Rattle.ledger_setting.specs.Judging.{next_by}
+use Rattle.log_roles.proofs.Agreeing.{blocks_more}
 
 lawful_onto : (rule : BlockRule) (chain : Chain) (blocks : List Block) → FitEach (blocks_of chain) blocks → AreLawful rule [] chain →
     AreLawful rule [] (judge_onto rule chain blocks)

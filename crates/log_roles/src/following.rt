@@ -9,9 +9,9 @@ ghost use Rattle.log_roles.specs.Following.{followed_chain, endorsing_of, endors
 
 use chaincode_book::Book;
 use endorsement_policy::Rules;
-use endorser::seal;
+use endorser::Endorser;
 use fab_types::{CommittedBlock, Endorsement, OrgName, Payload, Proposal};
-use simulator::{SimRefusal, simulate};
+use simulator::SimRefusal;
 use std::alloc::Global;
 use std::sync::Arc;
 use store_replay::{RecommitRefusal, recommit_next};
@@ -24,9 +24,7 @@ use world_state::Snapshot;
 /// `follow` alone changes, and what it endorses by (`endorsing_of`).
 #[derive(Drop)]
 pub struct Follower {
-    book: Arc<Book>,
-    rules: Arc<Rules>,
-    org: OrgName,
+    endorser: Endorser,
     snapshot: Snapshot,
     alloc: Global,
 }
@@ -40,9 +38,7 @@ impl Follower {
             ≡ record { book = arc_value book; listed = arc_value rules; org = org } }
     {
         Follower {
-            book,
-            rules,
-            org,
+            endorser: Endorser::new(alloc, book, rules, org),
             snapshot: Snapshot::empty(alloc),
             alloc,
         }
@@ -66,8 +62,12 @@ impl Follower {
         ensures unchanged { OnErr result (followed_chain self.new ≡ followed_chain self.old) }
         ensures same { endorsing_of self.new ≡ endorsing_of self.old }
     {
-        self.snapshot = recommit_next(self.alloc, &self.rules, &self.snapshot, stored)?;
-        Ok(())
+        recommit_next(
+            self.alloc,
+            self.endorser.rules(),
+            &mut self.snapshot,
+            stored,
+        )
     }
 
     /// Simulates a proposal on the state after its chain, and endorses the payload.
@@ -77,10 +77,7 @@ impl Follower {
         ensures { Answers
             (endorsed_on (endorsing_of self.now) proposal.now (followed_chain self.now)) result }
     {
-        let payload = simulate(self.alloc, &self.book, &self.snapshot, proposal)?;
-        let key = self.rules.key(&self.org);
-        let endorsement = seal(self.alloc, &self.org, key, &payload)?;
-        Ok((payload, endorsement))
+        self.endorser.endorse(&self.snapshot, proposal)
     }
 
     /// How many blocks it has followed, at most 65,535.

@@ -8,7 +8,7 @@ ghost use Rattle.log_roles.specs.Committing.{committed_chain, rules_of, Receives
 use crate::refusal::ReceiveRefusal;
 use endorsement_policy::Rules;
 use fab_types::{Block, CommittedBlock, Header};
-use ledger_setting::commit_checked;
+use ledger_setting::commit;
 use std::alloc::Global;
 use std::sync::Arc;
 use wire::header_hash;
@@ -52,7 +52,7 @@ impl Committer {
     ///
     /// A block whose number is not above the height is compared with the chain's block of that
     /// number: it is known where their headers have the same hash, and else refused (602). Any
-    /// other block is committed, or refused as `commit_checked` refuses: where the chain is full
+    /// other block is committed, or refused as `commit` refuses: where the chain is full
     /// (604), where the block has not the next number (601), names another hash than that of the
     /// last header (602) or says another hash of its data (603), and for want of memory (9), behind
     /// the first three tests alone. Only a block that is committed changes the chain.
@@ -75,7 +75,7 @@ impl Committer {
             result (committed_chain self.new) }
         ensures same { rules_of self.new ≡ rules_of self.old }
     {
-        self.snapshot = commit_checked(self.alloc, &self.rules, &self.snapshot, block)?;
+        commit(self.alloc, &self.rules, &mut self.snapshot, block)?;
         Ok(Received::Committed)
     }
 
@@ -91,10 +91,7 @@ impl Committer {
         ensures { option_map (λ c. c.now) result
             ≡ slice_get (committed_chain self.now) (length (committed_chain self.now) - 1) }
     {
-        match self.snapshot.blocks().last() {
-            None => None,
-            Some(committed) => Some(committed),
-        }
+        self.snapshot.last()
     }
 }
 

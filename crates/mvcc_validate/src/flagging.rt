@@ -6,6 +6,7 @@ ghost use Rattle.ledger_model.specs.State.{state};
 ghost use Rattle.ledger_model.specs.Flags.{stands_in, flag_at, flags_told};
 ghost use Rattle.wire.specs.Ids.{id_of};
 ghost use Rattle.world_state.specs.Ids.{ids_of};
+ghost use Rattle.world_state.specs.Judging.{IsOf};
 ghost use Rattle.mvcc_validate.specs.Overlay.{AreNewIds, IsOver};
 
 use crate::overlay::{Written, put_writes};
@@ -14,7 +15,7 @@ use crate::reads::are_reads_current;
 use fab_types::{Block, Flag, Payload, Version};
 use std::alloc::{AllocError, Global};
 use std::collections::{BTreeMap, BTreeSet};
-use world_state::{Snapshot, TxIds, add_id, tx_ids};
+use world_state::{Judged, Snapshot, TxIds, add_id, tx_ids};
 
 fn is_valid(flag: Flag) -> bool
     ensures { result ≡ is_valid flag }
@@ -69,10 +70,10 @@ fn flag_of(
     Ok(Flag::Valid)
 }
 
-/// The flags of a block that is put on a snapshot, one for each transaction. `endorsed` says of
-/// each whether its chaincode is known and its policy satisfied. A flag is the first of these that
-/// applies on the state to which all earlier VALID transactions were applied, those of this block
-/// included:
+/// What a block that is put on a snapshot is judged to be: a flag for each transaction, and the ids.
+/// `endorsed` says of each whether its chaincode is known and its policy satisfied. A flag is the
+/// first of these that applies on the state to which all earlier VALID transactions were applied,
+/// those of this block included:
 ///
 /// - `DuplicateTxid`: its id stands earlier in the chain or in this block, whatever flag is there.
 /// - `EndorsementPolicyFailure`: it is not endorsed.
@@ -81,6 +82,27 @@ fn flag_of(
 /// - `PhantomReadConflict`: a range that it read has other first keys, up to its limit, or other
 ///   versions.
 /// - `Valid`.
+///
+/// The error is of memory.
+pub fn mark(
+    alloc: Global,
+    snapshot: &Snapshot,
+    block: &Block,
+    endorsed: &[bool],
+) -> Result<Judged, AllocError>
+    requires one_each { length endorsed.now ≡ length block.now.envelopes }
+    ensures flags { IfOk result
+        (λ judged. judged.flags.items
+        ≡ flags_told id_of (history snapshot.now) block.now.header.number 0 block.now.envelopes
+        endorsed.now) }
+    ensures of { IfOk result (λ judged. IsOf block.now judged) }
+{
+    let ids = tx_ids(alloc, block)?;
+    let flags = flags_with_ids(alloc, snapshot, block, endorsed, &ids)?;
+    Ok(Judged { flags, ids })
+}
+
+/// The flags of `mark`, where nothing is put on the snapshot.
 pub fn flags(
     alloc: Global,
     snapshot: &Snapshot,
@@ -93,13 +115,12 @@ pub fn flags(
         ≡ flags_told id_of (history snapshot.now) block.now.header.number 0 block.now.envelopes
         endorsed.now) }
 {
-    let ids = tx_ids(alloc, block)?;
-    flags_with_ids(alloc, snapshot, block, endorsed, &ids)
+    let Judged { flags, ids: _ } = mark(alloc, snapshot, block, endorsed)?;
+    Ok(flags)
 }
 
-/// The flags that `flags` gives, where the ids of the block's transactions are at hand. The error
-/// is of memory.
-pub fn flags_with_ids(
+/// The flags of a block's transactions, whose ids are at hand.
+fn flags_with_ids(
     alloc: Global,
     snapshot: &Snapshot,
     block: &Block,

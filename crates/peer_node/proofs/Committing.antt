@@ -1,29 +1,16 @@
--- A block that was committed by checked envelopes is the next one by the rules.
-use Rattle.std.proofs.Common.{◌≡◌, ◌∙◌, ◌+◌, ◌++◌, ◌∷◌, [], List, ℕ, Bool, ap, length, map, arith}
-use Rattle.wire.specs.Ids.{id_of}
+-- A block that was judged and put on the published chain is the next one by the rules.
+use Rattle.std.proofs.Common.{◌≡◌, ◌∙◌, ◌++◌, ◌∷◌, [], List, ap}
 use Rattle.fab_types.specs.declared.block.Block.{Block}
 use Rattle.fab_types.specs.declared.flag.Flag.{Flag}
-use Rattle.endorsement_policy.specs.Endorsed.{Listed, is_endorsed}
-use Rattle.ledger_model.specs.Chain.{Chain, history}
-use Rattle.ledger_model.specs.Flags.{flags_told}
-use Rattle.ledger_model.specs.State.{state}
-use Rattle.ledger_model.specs.Views.{values_of}
-use Rattle.ledger_model.specs.Judged.{judge}
-use Rattle.ledger_model.proofs.Judged.{told_judged}
-use Rattle.committer.specs.Fits.{Fits, blocks_of}
-use Rattle.committer.proofs.Last.{length_map}
+use Rattle.endorsement_policy.specs.Endorsed.{Listed}
+use Rattle.ledger_model.specs.Chain.{Chain}
+use Rattle.world_state.specs.Judging.{marked}
+use Rattle.world_state.specs.declared.judged.Judged.{Judged}
+use Rattle.ledger_setting.specs.Judging.{IsJudged}
 use Rattle.ledger_setting.specs.Rule.{table_of}
 use Rattle.peer_node.specs.Writers.{next_by}
 
-pub committed : (listed : Listed) (chain shown : Chain) (b : Block) (endorsed : List Bool) → shown ≡ chain →
-    endorsed ≡ map (is_endorsed listed (values_of (state (history shown)))) b.envelopes → Fits (blocks_of shown) b
-    → shown ++ record { block = b; flags = flags_told id_of (history shown) b.header.number 0 b.envelopes endorsed } ∷ [] ≡ chain ++ next_by listed chain b ∷ []
-committed listed chain shown b endorsed same all fits =
-    let es = b.envelopes in
-    let ts = history shown in
-    let number : b.header.number ≡ length shown + 1 = omega (arith, fits.number, length_map (λ x. x.block) shown) in
-    let flags : flags_told id_of ts b.header.number 0 es endorsed ≡ judge (table_of listed ts) ts (length shown + 1) 0 es =
-    ap (flags_told id_of ts b.header.number 0 es) all ∙ told_judged id_of (is_endorsed listed (values_of (state ts))) ts b.header.number 0 es ∙
-    ap (λ (n : ℕ). judge (table_of listed ts) ts n 0 es) number
-    in
-    ap (λ (fs : List Flag). shown ++ record { block = b; flags = fs } ∷ []) flags ∙ ap (λ (c : Chain). c ++ next_by listed c b ∷ []) same
+pub committed : (listed : Listed) (chain shown : Chain) (b : Block) (judged : Judged) → shown ≡ chain → IsJudged (table_of listed) shown b judged
+    → shown ++ marked b judged ∷ [] ≡ chain ++ next_by listed chain b ∷ []
+committed listed chain shown b judged same is =
+    ap (λ (fs : List Flag). shown ++ record { block = b; flags = fs } ∷ []) is.flags ∙ ap (λ (c : Chain). c ++ next_by listed c b ∷ []) same

@@ -38,7 +38,7 @@ use Rattle.chaincode_book.specs.contracts.book.Book as book_type
 use Rattle.policy_language.specs.contracts.policy.Policy as policy_type
 use Rattle.endorsement_policy.specs.contracts.rules.ChaincodePolicy as chaincode_policy_type
 use Rattle.endorsement_policy.specs.contracts.rules.Rules as rules_type
-use Rattle.peer_node.specs.contracts.seat.Endorser as endorser_type
+use Rattle.endorser.specs.contracts.endorsing.Endorser as endorser_type
 use Rattle.peer_node.specs.contracts.seat.Seat as seat_type
 
 ruleset operators_send = (

@@ -1,12 +1,11 @@
 -- What a clause sees of a peer's writer, and what it commits.
-use Rattle.std.specs.Prelude.{◌+◌, length}
 use Rattle.std.specs.declared.alloc.Global.{Global}
 use Rattle.std.specs.declared.sync.Arc.{Arc}
 use Rattle.logbook.specs.Pages.{Book}
 use Rattle.fab_types.specs.declared.block.Block.{Block}
-use Rattle.ledger_model.specs.Chain.{Chain, Committed, history}
-use Rattle.ledger_model.specs.Judged.{judge}
+use Rattle.ledger_model.specs.Chain.{Chain, Committed}
 use Rattle.endorsement_policy.specs.Endorsed.{Listed}
+use Rattle.ledger_setting.specs.Judging as judging
 use Rattle.ledger_setting.specs.Rule.{table_of}
 use Rattle.snapshot_cell.specs.Seats as cell
 use Rattle.peer_node.specs.declared.writer.PeerWriter.{PeerWriter}
@@ -25,4 +24,4 @@ rules_of w = w.rules
 
 -- the block that comes next in a chain, its transactions marked by the table
 abbrev pub next_by : Listed → Chain → Block → Committed
-next_by listed chain b = record { block = b; flags = judge (table_of listed (history chain)) (history chain) (length chain + 1) 0 b.envelopes }
+next_by listed = judging.next_by (table_of listed)

@@ -10,6 +10,6 @@ mod seat;
 mod writer;
 
 pub use refusal::{FinishRefusal, ReopenRefusal};
-pub use seat::{Begun, Endorser, Seat};
+pub use seat::{Begun, Seat};
 pub use snapshot_cell::{OpenRefusal, TakeRefusal, Told};
 pub use writer::{Peer, PeerWriter};

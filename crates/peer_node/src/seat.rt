@@ -3,30 +3,19 @@
 ghost use Rattle.std.specs.Prelude.{◌≡◌, IfOk, IfErr, OnErr, IsSome};
 ghost use Rattle.ledger_model.specs.Chain.{history};
 ghost use Rattle.ledger_model.specs.State.{state_at};
+ghost use Rattle.endorser.specs.Endorsing.{IsEndorsed, endorsing_of as endorsing_by};
+ghost use Rattle.peer_node.specs.Seats.{IsNotEndorsed};
 
 use crate::refusal::FinishRefusal;
-use chaincode_book::Book;
-use endorsement_policy::Rules;
-use endorser::{recheck, seal};
-use fab_types::{Endorsement, Key, OrgName, Payload, Proposal, Value, Version};
-use simulator::simulate;
+use endorser::Endorser;
+use fab_types::{Endorsement, Key, Payload, Proposal, Value, Version};
 use snapshot_cell::{Reader, TakeRefusal, Told};
 use std::alloc::{AllocError, Global};
 use std::sync::Arc;
 use world_state::Snapshot;
 
-/// What a seat endorses by: the chaincodes, the organisations with their keys, and its own
-/// organisation. It is made with its seat, and stays as it is.
-#[derive(Drop)]
-pub struct Endorser {
-    pub(crate) book: Arc<Book>,
-    pub(crate) rules: Arc<Rules>,
-    pub(crate) org: OrgName,
-    pub(crate) alloc: Global,
-}
-
 /// A seat. Contracts see the list of whole blocks that it has seen or was told of (`seen_chain`),
-/// and what it endorses by (`endorser_of`); its methods alone change the list.
+/// and what it endorses by (`endorsing_of`); its methods alone change the list.
 #[derive(Drop)]
 pub struct Seat {
     pub(crate) reader: Reader,
@@ -40,20 +29,6 @@ pub struct Begun {
     pub snapshot: Arc<Snapshot>,
 }
 
-impl Endorser {
-    ghost use Rattle.peer_node.specs.Seats.{IsEndorsedOn, IsNotEndorsed};
-
-    /// Endorses a payload of which all that was read is as it is in a snapshot's state.
-    fn endorse_on(&self, newest: &Snapshot, payload: &Payload) -> Result<Endorsement, FinishRefusal>
-        ensures endorsed { IfOk result (λ tag. IsEndorsedOn self.now newest.now payload.now tag) }
-        ensures refused { IfErr result (λ r. IsNotEndorsed newest.now payload.now r) }
-    {
-        recheck(self.alloc, payload, newest)?;
-        let key = self.rules.key(&self.org);
-        Ok(seal(self.alloc, &self.org, key, payload)?)
-    }
-}
-
 impl Seat {
     ghost use Rattle.std.specs.Prelude.{◌⊎◌, Ok, Err};
     ghost use Rattle.std.specs.Arc.{arc_value};
@@ -61,8 +36,8 @@ impl Seat {
     ghost use Rattle.fab_types.specs.declared.proposal.Proposal.{Proposal};
     ghost use Rattle.ledger_model.specs.Chain.{Chain};
     ghost use Rattle.snapshot_cell.specs.Seats.{cell_of_told, told_list};
-    ghost use Rattle.peer_node.specs.declared.seat.Endorser.{Endorser};
-    ghost use Rattle.peer_node.specs.Seats.{seen_chain, peer_of, endorser_of, simulate_on, FinishesBy, IsEndorsedOn, Endorses, IsReadRefused};
+    ghost use Rattle.endorser.specs.Endorsing.{Endorsing};
+    ghost use Rattle.peer_node.specs.Seats.{seen_chain, peer_of, endorsing_of, simulated_on, FinishesBy, Endorses, IsReadRefused};
 
     /// Takes the snapshot on which a proposal is simulated: its blocks begin with all that this
     /// seat has seen or was told of, and are what it has seen afterwards.
@@ -75,7 +50,7 @@ impl Seat {
             IsPrefix (seen_chain self.old) (arc_value b.snapshot) ×
             (seen_chain self.new ≡ arc_value b.snapshot)) }
         ensures refused { IfErr result (λ _. seen_chain self.new ≡ seen_chain self.old) }
-        ensures same { (endorser_of self.new ≡ endorser_of self.old) ×
+        ensures same { (endorsing_of self.new ≡ endorsing_of self.old) ×
             (peer_of self.new ≡ peer_of self.old) }
     {
         let proposal = proposal.clone()?;
@@ -91,9 +66,9 @@ impl Seat {
     /// cell no entry (432), with nothing new seen; where something that was read has changed (405);
     /// and for want of memory (9), which leaves what was seen as it was or comes behind a payload.
     pub fn finish(&mut self, begun: Begun) -> Result<(Payload, Endorsement), FinishRefusal>
-        ensures finished { FinishesBy (endorser_of self.old) begun.proposal
+        ensures finished { FinishesBy (endorsing_of self.old) begun.proposal
             (arc_value begun.snapshot) (seen_chain self.old) (seen_chain self.new) result }
-        ensures same { (endorser_of self.new ≡ endorser_of self.old) ×
+        ensures same { (endorsing_of self.new ≡ endorsing_of self.old) ×
             (peer_of self.new ≡ peer_of self.old) }
     {
         self.finish_begun(&begun)
@@ -101,13 +76,12 @@ impl Seat {
 
     /// Finishes what was begun as `finish` does.
     fn finish_begun(&mut self, begun: &Begun) -> Result<(Payload, Endorsement), FinishRefusal>
-        ensures finished { FinishesBy (endorser_of self.old) begun.now.proposal
+        ensures finished { FinishesBy (endorsing_of self.old) begun.now.proposal
             (arc_value begun.now.snapshot) (seen_chain self.old) (seen_chain self.new) result }
-        ensures same { (endorser_of self.new ≡ endorser_of self.old) ×
+        ensures same { (endorsing_of self.new ≡ endorsing_of self.old) ×
             (peer_of self.new ≡ peer_of self.old) }
     {
-        let Endorser { book, alloc, .. } = &self.endorser;
-        let payload = simulate(*alloc, book, &begun.snapshot, &begun.proposal)?;
+        let payload = self.endorser.simulate(&begun.snapshot, &begun.proposal)?;
         let endorsement = self.endorse_newest(&payload)?;
         Ok((payload, endorsement))
     }
@@ -117,24 +91,24 @@ impl Seat {
     fn endorse_newest(&mut self, payload: &Payload) -> Result<Endorsement, FinishRefusal>
         ensures endorsed { IfOk result
             (λ tag. IsPrefix (seen_chain self.old) (seen_chain self.new) ×
-            IsEndorsedOn (endorser_of self.old) (seen_chain self.new) payload.now tag) }
+            IsEndorsed (endorsing_of self.old) (seen_chain self.new) payload.now tag) }
         ensures refused { IfErr result
-            (λ r. (e : Endorser) (p : Proposal) (first : Chain) →
-            simulate_on e p first ≡ Ok payload.now →
+            (λ r. (e : Endorsing) (p : Proposal) (first : Chain) →
+            simulated_on e p first ≡ Ok payload.now →
             FinishesBy e p first (seen_chain self.old) (seen_chain self.new) (Err r)) }
-        ensures same { (endorser_of self.new ≡ endorser_of self.old) ×
+        ensures same { (endorsing_of self.new ≡ endorsing_of self.old) ×
             (peer_of self.new ≡ peer_of self.old) }
     {
         let newest = self.reader.take()?;
-        self.endorser.endorse_on(&newest, payload)
+        endorse_on(&self.endorser, &newest, payload)
     }
 
     /// Begins and finishes a proposal. Refused as these are: with nothing new seen where it was not
     /// begun (432 and 9).
     pub fn endorse(&mut self, proposal: &Proposal) -> Result<(Payload, Endorsement), FinishRefusal>
-        ensures endorsed { Endorses (endorser_of self.old) proposal.now (seen_chain self.old)
+        ensures endorsed { Endorses (endorsing_of self.old) proposal.now (seen_chain self.old)
             (seen_chain self.new) result }
-        ensures same { (endorser_of self.new ≡ endorser_of self.old) ×
+        ensures same { (endorsing_of self.new ≡ endorsing_of self.old) ×
             (peer_of self.new ≡ peer_of self.old) }
     {
         let begun = self.begin(proposal)?;
@@ -152,7 +126,7 @@ impl Seat {
             (entry ≡ state_at (history (seen_chain self.new)) key.now)) }
         ensures refused { IfErr result
             (λ r. IsReadRefused key.now (seen_chain self.old) (seen_chain self.new) r) }
-        ensures same { (endorser_of self.new ≡ endorser_of self.old) ×
+        ensures same { (endorsing_of self.new ≡ endorsing_of self.old) ×
             (peer_of self.new ≡ peer_of self.old) }
     {
         let snapshot = self.reader.take()?;
@@ -167,11 +141,24 @@ impl Seat {
             (seen_chain self.new ≡ told_list told.now)) ⊎
             (IsPrefix (told_list told.now) (seen_chain self.old) ×
             (seen_chain self.new ≡ seen_chain self.old)) }
-        ensures same { (endorser_of self.new ≡ endorser_of self.old) ×
+        ensures same { (endorsing_of self.new ≡ endorsing_of self.old) ×
             (peer_of self.new ≡ peer_of self.old) }
     {
         self.reader.learn(told);
     }
+}
+
+/// Endorses a payload of which all that was read is as it is in a snapshot's state.
+fn endorse_on(
+    endorser: &Endorser,
+    newest: &Snapshot,
+    payload: &Payload,
+) -> Result<Endorsement, FinishRefusal>
+    ensures endorsed { IfOk result
+        (λ tag. IsEndorsed (endorsing_by endorser.now) newest.now payload.now tag) }
+    ensures refused { IfErr result (λ r. IsNotEndorsed newest.now payload.now r) }
+{
+    Ok(endorser.endorse_payload(newest, payload)?)
 }
 
 /// A key's value and version after the blocks of a snapshot. The error is of memory, and comes

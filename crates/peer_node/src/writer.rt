@@ -4,27 +4,30 @@ ghost use Rattle.std.specs.Prelude.{◌≡◌, ◌<◌, ◌^◌, [], length, All
 ghost use Rattle.std.specs.Arc.{arc_value};
 ghost use Rattle.logbook.specs.Pages.{Book as PeerId};
 ghost use Rattle.ledger_model.specs.Chain.{Chain};
+ghost use Rattle.committer.specs.Fits.{IsRefused, blocks_of};
+ghost use Rattle.ledger_setting.specs.Judging.{IsJudged};
 ghost use Rattle.ledger_setting.specs.Rule.{table_of};
 ghost use Rattle.store_replay.specs.Lawful.{AreLawful};
 ghost use Rattle.snapshot_cell.specs.Seats.{EachBegins};
 ghost use Rattle.peer_node.specs.Refusals.{IsReopenRefused};
+ghost use Rattle.endorser.specs.Endorsing.{endorsing_of};
 ghost use Rattle.peer_node.specs.Seats.{IsSeat, IsSeatBehind, Serves};
 ghost use Rattle.peer_node.specs.Writers.{published_chain, peer_of_writer, rules_of};
 
 use crate::refusal::ReopenRefusal;
-use crate::seat::{Endorser, Seat};
+use crate::seat::Seat;
 use block_store::Loaded;
-use chaincode_book::Book;
-use committer::{CommitRefusal, check_next, commit_on};
+use committer::{CommitRefusal, check_fits};
 use endorsement_policy::{Gate, Rules, check_all};
+use endorser::Endorser;
 use fab_types::{Block, OrgName};
-use ledger_setting::Genesis;
+use ledger_setting::{Genesis, judge_checked};
 use snapshot_cell::{OpenRefusal, Reader, Told, Writer, open};
 use std::alloc::{AllocError, Global};
 use std::sync::{Arc, Wait};
 use std::thread::Threads;
 use store_replay::recommit;
-use world_state::Snapshot;
+use world_state::{Judged, Snapshot};
 
 /// How many workers check the envelopes of a block.
 const WORKERS: usize = 4;
@@ -148,9 +151,29 @@ fn open_with<R: Wait>(
     }
 }
 
+/// What `judge` says of a block behind a snapshot, where workers check the envelopes. It refuses as
+/// `judge` does.
+fn judge_by_workers<R: Threads + Sync>(
+    rt: &R,
+    alloc: Global,
+    rules: &Rules,
+    newest: &Snapshot,
+    block: &Block,
+) -> Result<Judged, CommitRefusal>
+    ensures judged { IfOk result
+        (λ judged. IsJudged (table_of rules.now) newest.now block.now judged) }
+    ensures refused { IfErr result
+        (λ refusal. IsRefused refusal (blocks_of newest.now) block.now) }
+{
+    check_fits(alloc, newest, block)?;
+    let envelopes = block.envelopes.as_slice();
+    let endorsed = check_all(rt, alloc, rules, newest, envelopes, WORKERS, &NoGate)?;
+    Ok(judge_checked(alloc, rules, newest, block, &endorsed)?)
+}
+
 impl PeerWriter {
     ghost use Rattle.std.specs.Prelude.{◌++◌, ◌∷◌, OnOk, OnErr};
-    ghost use Rattle.committer.specs.Fits.{Fits, IsRefused, blocks_of};
+    ghost use Rattle.committer.specs.Fits.{Fits};
     ghost use Rattle.snapshot_cell.specs.Seats.{cell_of_told, told_list};
     ghost use Rattle.peer_node.specs.Writers.{next_by};
 
@@ -188,18 +211,8 @@ impl PeerWriter {
             (rules_of self.new ≡ rules_of self.old) }
     {
         let newest = self.cell.newest();
-        check_next(newest, &block)?;
-        let envelopes = block.envelopes.as_slice();
-        let endorsed = check_all(
-            rt,
-            self.alloc,
-            &self.rules,
-            newest,
-            envelopes,
-            WORKERS,
-            &NoGate,
-        )?;
-        let next = commit_on(self.alloc, newest, block, &endorsed)?;
+        let judged = judge_by_workers(rt, self.alloc, &self.rules, newest, &block)?;
+        let next = newest.followed_by(self.alloc, block, judged)?;
         Ok(self.cell.publish(rt, next)?)
     }
 
@@ -217,17 +230,13 @@ impl PeerWriter {
 /// What a seat of an organisation endorses by.
 fn endorser(alloc: Global, genesis: &Genesis, org: &OrgName) -> Result<Endorser, AllocError>
     ensures { IfOk result
-        (λ e. Serves (arc_value genesis.now.book) (arc_value genesis.now.rules) org.now e) }
+        (λ e. Serves (arc_value genesis.now.book) (arc_value genesis.now.rules) org.now
+        (endorsing_of e)) }
 {
     let org = org.clone()?;
     let rules = Arc::try_clone(&genesis.rules)?;
     let book = Arc::try_clone(&genesis.book)?;
-    Ok(Endorser {
-        book,
-        rules,
-        org,
-        alloc,
-    })
+    Ok(Endorser::new(alloc, book, rules, org))
 }
 
 /// A seat on each reader.

@@ -3,8 +3,8 @@ use Rattle.std.proofs.Common.{◌≡◌, ℕ, ◌+◌, ◌++◌, List, [], ◌�
 use Rattle.std.proofs.lemmas.List.Sums.{fold-append}
 use Rattle.ledger_model.specs.Chain.{Bytes, Chain}
 use Rattle.intake.specs.Seats.{intake_of_sender, number, put}
-use Rattle.peer_node.specs.declared.seat.Endorser.{Endorser}
-use Rattle.peer_node.specs.Seats.{endorser_of}
+use Rattle.endorser.specs.Endorsing.{Endorsing}
+use Rattle.peer_node.specs.Seats.{endorsing_of}
 use Rattle.seat_threads.specs.declared.counts.Counts.{Counts}
 use Rattle.seat_threads.specs.declared.worker.Worker.{Worker}
 use Rattle.seat_threads.specs.Rounds.{Outcome, ComesTo, CameTo, proposal_of, envelopes_in, counts_of, no_rounds, with_outcome}
@@ -12,27 +12,27 @@ use Rattle.seat_threads.proofs.Places.{pushed}
 use Rattle.seat_threads.proofs.Sums.{envelopes-append}
 
 pub record HasWorked (first : Worker) (round : ℕ) (w : Worker) : Type 0 where
-  pub endorser : endorser_of w.seat ≡ endorser_of first.seat
+  pub endorser : endorsing_of w.seat ≡ endorsing_of first.seat
   pub chaincode : w.chaincode ≡ first.chaincode
   pub seat : w.number ≡ first.number
   pub intake_is : intake_of_sender w.sender ≡ intake_of_sender first.sender
   pub sender : number w.sender ≡ number first.sender
   pub outcomes : List Outcome
-  pub came : CameTo (endorser_of first.seat) first.chaincode first.number round outcomes
+  pub came : CameTo (endorsing_of first.seat) first.chaincode first.number round outcomes
   pub sent : put w.sender ≡ put first.sender ++ envelopes_in outcomes
   pub counted : w.counts ≡ counts_of outcomes
 
 -- what a round of a seat comes to
-abbrev pub Comes : Endorser → Bytes → (seat round : ℕ) → Outcome → Type 0
+abbrev pub Comes : Endorsing → Bytes → (seat round : ℕ) → Outcome → Type 0
 Comes e chaincode seat round outcome = (before after : Chain) × ComesTo e (proposal_of chaincode seat round) before after outcome
 
 pub next_round : (first now next : Worker) (round : ℕ) (outcome : Outcome) → HasWorked first round now
-    → Comes (endorser_of now.seat) now.chaincode now.number round outcome → endorser_of next.seat ≡ endorser_of now.seat → next.chaincode ≡ now.chaincode →
+    → Comes (endorsing_of now.seat) now.chaincode now.number round outcome → endorsing_of next.seat ≡ endorsing_of now.seat → next.chaincode ≡ now.chaincode →
     next.number ≡ now.number → intake_of_sender next.sender ≡ intake_of_sender now.sender → number next.sender ≡ number now.sender →
     put next.sender ≡ put now.sender ++ envelopes_in (outcome ∷ []) → next.counts ≡ with_outcome now.counts outcome → HasWorked first (round + 1) next
 next_round first now next round outcome h comes endorser chaincode seat intake_is sender sent counted =
-    let e = endorser_of first.seat in
-    let one = subst (λ (w : Endorser). Comes w now.chaincode now.number round outcome) h.endorser comes in
+    let e = endorsing_of first.seat in
+    let one = subst (λ (w : Endorsing). Comes w now.chaincode now.number round outcome) h.endorser comes in
     let two = subst (λ (c : Bytes). Comes e c now.number round outcome) h.chaincode one in
     let here = subst (λ (n : ℕ). Comes e first.chaincode n round outcome) h.seat two in
     let last = subst (λ (n : ℕ). Comes e first.chaincode first.number n outcome) (sym h.came.0) here in

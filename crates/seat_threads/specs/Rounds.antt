@@ -9,7 +9,7 @@ use Rattle.simulator.specs.declared.refusal.SimRefusal.{SimRefusal}
 use Rattle.simulator.specs.declared.refusal.SimRefusal.TheVariants.{Memory}
 use Rattle.peer_node.specs.declared.refusal.FinishRefusal.{FinishRefusal}
 use Rattle.peer_node.specs.declared.refusal.FinishRefusal.TheVariants.{Simulation, NoEntry}
-use Rattle.peer_node.specs.declared.seat.Endorser.{Endorser}
+use Rattle.endorser.specs.Endorsing.{Endorsing}
 use Rattle.peer_node.specs.Refusals.{no_memory}
 use Rattle.peer_node.specs.Seats.{Endorses}
 use Rattle.ledger_model.specs.Chain.{Bytes, Chain}
@@ -26,12 +26,12 @@ abbrev pub Outcome : Type 0
 Outcome = Result Envelope FinishRefusal
 
 -- What a proposal comes to: an envelope with this endorser's endorsement alone, or the refusal to endorse, or want of memory for the envelope
-abbrev pub ComesTo : Endorser → Proposal → (before after : Chain) → Outcome → Type 0
+abbrev pub ComesTo : Endorsing → Proposal → (before after : Chain) → Outcome → Type 0
 ComesTo e p before after (Ok x) = (tag : Endorsement) × Endorses e p before after (Ok (x.payload, tag)) × (x.endorsements ≡ tag ∷ [])
 ComesTo e p before after (Err r) = Endorses e p before after (Err r) ⊎ (r ≡ no_memory)
 
 -- each round of a seat came to the outcome at its place
-abbrev pub CameTo : Endorser → Bytes → (seat rounds : ℕ) → List Outcome → Type 0
+abbrev pub CameTo : Endorsing → Bytes → (seat rounds : ℕ) → List Outcome → Type 0
 CameTo e chaincode seat rounds outcomes =
     (length outcomes ≡ rounds)
     × ((round : ℕ) (outcome : Outcome) → slice_get outcomes round ≡ Some outcome →

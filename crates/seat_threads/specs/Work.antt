@@ -8,8 +8,8 @@ use Rattle.chaincode_book.specs.Books.{Book}
 use Rattle.endorsement_policy.specs.Endorsed.{Listed}
 use Rattle.intake.specs.declared.sender.SenderSeat.{SenderSeat}
 use Rattle.intake.specs.Seats.{intake_of_sender, number, put}
-use Rattle.peer_node.specs.declared.seat.Endorser.{Endorser}
-use Rattle.peer_node.specs.Seats.{endorser_of, Serves}
+use Rattle.endorser.specs.Endorsing.{Endorsing}
+use Rattle.peer_node.specs.Seats.{endorsing_of, Serves}
 use Rattle.seat_threads.specs.declared.counts.Counts.{Counts}
 use Rattle.seat_threads.specs.declared.worker.Worker.{Worker}
 use Rattle.seat_threads.specs.declared.crew.Rounds.{Rounds}
@@ -27,7 +27,7 @@ pub record Task : Type 0 where
 abbrev pub AllCameTo : Task → ℕ → List (List Outcome) → Type 0
 AllCameTo task seat [] = Unit {0}
 AllCameTo task seat (outcomes ∷ others) =
-    ((e : Endorser) × Serves task.book task.listed task.org e × CameTo e task.chaincode seat task.rounds outcomes) × AllCameTo task (seat + 1) others
+    ((e : Endorsing) × Serves task.book task.listed task.org e × CameTo e task.chaincode seat task.rounds outcomes) × AllCameTo task (seat + 1) others
 
 abbrev pub total_of : List (List Outcome) → Counts
 total_of [] = no_rounds
@@ -42,7 +42,7 @@ puts_of seat (outcomes ∷ others) = puts_of (seat + 1) others ++ (seat, envelop
 abbrev pub Works : ℕ → Worker → Worker → Type 0
 Works rounds old new =
     (intake_of_sender new.sender ≡ intake_of_sender old.sender) × (number new.sender ≡ number old.sender)
-    × ((outcomes : List Outcome) × CameTo (endorser_of old.seat) old.chaincode old.number rounds outcomes
+    × ((outcomes : List Outcome) × CameTo (endorsing_of old.seat) old.chaincode old.number rounds outcomes
     × (put new.sender ≡ put old.sender ++ envelopes_in outcomes) × (new.counts ≡ counts_of outcomes))
 
 -- the worker of this seat, before its first round
@@ -52,7 +52,7 @@ pub record IsWorkerOf (task : Task) (intake : TableId) (seat : ℕ) (w : Worker)
   pub fresh : put w.sender ≡ []
   pub seat_is : w.number ≡ seat
   pub chaincode : w.chaincode ≡ task.chaincode
-  pub endorser : Serves task.book task.listed task.org (endorser_of w.seat)
+  pub endorser : Serves task.book task.listed task.org (endorsing_of w.seat)
 
 -- the fresh senders of an intake, each at the place of its number
 abbrev pub AreSenders : TableId → List SenderSeat → Type 0

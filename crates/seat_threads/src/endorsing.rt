@@ -2,7 +2,7 @@
 
 ghost use Rattle.std.specs.Prelude.{◌≡◌, ◌++◌, ◌∷◌, [], IfOk};
 ghost use Rattle.std.specs.Int.{w64, to_be_bytes};
-ghost use Rattle.peer_node.specs.Seats.{seen_chain, peer_of, endorser_of};
+ghost use Rattle.peer_node.specs.Seats.{seen_chain, peer_of, endorsing_of};
 ghost use Rattle.seat_threads.specs.Rounds.{proposal_of, ComesTo};
 
 use fab_types::{Call, Endorsement, Endorsements, Envelope, Name, Proposal, Value};
@@ -43,9 +43,9 @@ pub fn envelope(
     seat: &mut Seat,
     proposal: &Proposal,
 ) -> Result<Envelope, FinishRefusal>
-    ensures comes { ComesTo (endorser_of seat.old) proposal.now (seen_chain seat.old)
+    ensures comes { ComesTo (endorsing_of seat.old) proposal.now (seen_chain seat.old)
         (seen_chain seat.new) result }
-    ensures same { (endorser_of seat.new ≡ endorser_of seat.old) ×
+    ensures same { (endorsing_of seat.new ≡ endorsing_of seat.old) ×
         (peer_of seat.new ≡ peer_of seat.old) }
 {
     let (payload, endorsement) = seat.endorse(proposal)?;

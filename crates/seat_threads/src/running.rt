@@ -11,7 +11,7 @@ ghost use Rattle.intake.specs.Mail.{receiver};
 ghost use Rattle.intake.specs.Seats.{intake_of_receiver, knows};
 ghost use Rattle.ledger_setting.specs.Rule.{table_of};
 ghost use Rattle.ledger_setting.specs.Setting.{limits_of};
-ghost use Rattle.peer_node.specs.Seats.{endorser_of, Serves};
+ghost use Rattle.peer_node.specs.Seats.{endorsing_of, Serves};
 ghost use Rattle.peer_node.specs.Writers.{rules_of};
 ghost use Rattle.fabric_core.specs.Audit.{AuditSays};
 ghost use Rattle.seat_threads.specs.Desks.{IsInStep, IsAtWork};
@@ -156,7 +156,7 @@ fn workers(
     ensures length { IfOk result (λ v. length v.items ≡ length senders.items) }
     ensures each { IfOk result
         (λ v. (task : Task) (intake : TableId) → task.chaincode ≡ chaincode.now →
-        All (λ s. Serves task.book task.listed task.org (endorser_of s)) seats.items →
+        All (λ s. Serves task.book task.listed task.org (endorsing_of s)) seats.items →
         AreSenders intake senders.items →
         AreWorkersOf task intake (length senders.items) v.items) }
 {

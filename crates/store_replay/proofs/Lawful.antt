@@ -5,7 +5,8 @@ use Rattle.fab_types.specs.declared.flag.Flag.{Flag}
 use Rattle.ledger_model.specs.Chain.{Chain}
 use Rattle.ledger_model.specs.Judged.{BlockRule}
 use Rattle.committer.specs.Fits.{Fits, blocks_of}
-use Rattle.store_replay.specs.Replay.{judged_behind, HasTheFlags}
+use Rattle.ledger_setting.specs.Judging.{next_by}
+use Rattle.store_replay.specs.Replay.{HasTheFlags}
 use Rattle.store_replay.specs.Lawful.{AreLawful, IsNextRefused, IsRecommitRefused}
 use Rattle.store_replay.specs.declared.refusal.RecommitRefusal.{RecommitRefusal}
 use Rattle.store_replay.specs.declared.refusal.RecommitRefusal.TheVariants.{Memory, Unfit, Flags}
@@ -34,5 +35,5 @@ refused_at rule all before after c (Flags number) split lawful why =
     record { before = before; first = c; after = after; all = split; lawful = lawful; place = why.0; wrong = (why.1, why.2) }
 
 -- a record with the rule's flags is the block as the rule commits it
-pub is_judged : (rule : BlockRule) (chain : Chain) (c : Committed) → HasTheFlags rule chain c true → c ≡ judged_behind rule chain c
+pub is_judged : (rule : BlockRule) (chain : Chain) (c : Committed) → HasTheFlags rule chain c true → c ≡ next_by rule chain c.block
 is_judged rule chain c flags = ap (λ (fs : List Flag). record { block = c.block; flags = fs }) flags

@@ -1,18 +1,14 @@
 -- What replaying a store gives: its blocks committed one after another, as far as they fit.
 use Rattle.std.specs.Prelude.{◌≡◌, ◌≢◌, ℕ, Bool, true, false, ◌⊎◌, Option, Some, None, List, [], ◌∷◌, ◌++◌, ◌+◌, length}
 use Rattle.fab_types.specs.Committed.{Committed}
-use Rattle.ledger_model.specs.Chain.{Chain, history}
-use Rattle.ledger_model.specs.Judged.{BlockRule, judge}
+use Rattle.ledger_model.specs.Chain.{Chain}
+use Rattle.ledger_model.specs.Judged.{BlockRule}
 use Rattle.committer.specs.Fits.{Fits, IsRefused, blocks_of}
 use Rattle.committer.specs.declared.refusal.CommitRefusal.{CommitRefusal}
 use Rattle.committer.specs.declared.refusal.CommitRefusal.TheVariants.{OutOfMemory}
+use Rattle.ledger_setting.specs.Judging.{next_by}
 use Rattle.block_store.specs.Loading.{Gives}
 use Rattle.store_replay.specs.declared.replaying.Replayed.{Replayed}
-
--- the block of a record behind a chain, with the flags of the rule
-abbrev pub judged_behind : BlockRule → Chain → Committed → Committed
-judged_behind rule chain c =
-    record { block = c.block; flags = judge (rule (history chain)) (history chain) (length chain + 1) 0 c.block.envelopes }
 
 -- a block does not fit, for this cause
 abbrev pub IsUnfit : Chain → Committed → CommitRefusal → Type 0
@@ -20,8 +16,8 @@ IsUnfit chain c cause = (cause ≢ OutOfMemory) × IsRefused cause (blocks_of ch
 
 -- whether the record has the rule's flags
 abbrev pub HasTheFlags : BlockRule → Chain → Committed → Bool → Type 0
-HasTheFlags rule chain c true = c.flags ≡ (judged_behind rule chain c).flags
-HasTheFlags rule chain c false = c.flags ≢ (judged_behind rule chain c).flags
+HasTheFlags rule chain c true = c.flags ≡ (next_by rule chain c.block).flags
+HasTheFlags rule chain c false = c.flags ≢ (next_by rule chain c.block).flags
 
 -- the first number of two places that may be none
 abbrev pub first_of : Bool → ℕ → Option ℕ → Option ℕ
@@ -40,14 +36,14 @@ Replays rule chain [] last differs refused = (last ≡ chain) × (differs ≡ No
 Replays rule chain (c ∷ cs) last differs refused =
     (Fits (blocks_of chain) c.block × ((is_same : Bool) × (later : Option ℕ) × HasTheFlags rule chain c is_same
     × (differs ≡ first_of is_same (length chain + 1) later)
-    × Replays rule (chain ++ judged_behind rule chain c ∷ []) cs last later refused))
+    × Replays rule (chain ++ next_by rule chain c.block ∷ []) cs last later refused))
     ⊎ ((cause : CommitRefusal) × IsUnfit chain c cause × (refused ≡ Some cause) × (last ≡ chain) × (differs ≡ None))
 
 -- the block of a record stands behind a chain, which is `last` then, with the flags of the rule; whether these are the record's
 pub record IsPushed (rule : BlockRule) (chain : Chain) (c : Committed) (is_same : Bool) (last : Chain) : Type 0 where
   pub fits : Fits (blocks_of chain) c.block
   pub flags : HasTheFlags rule chain c is_same
-  pub grown : last ≡ chain ++ judged_behind rule chain c ∷ []
+  pub grown : last ≡ chain ++ next_by rule chain c.block ∷ []
 
 -- behind what was read before, some bytes were read: the whole blocks that they are, committed, and their end
 pub record IsReplayed (rule : BlockRule) (before now : List ℕ) (r : Replayed) : Type 0 where

@@ -1,42 +1,43 @@
 //! The block of one record behind a chain.
 
-ghost use Rattle.std.specs.Prelude.{◌≡◌, ◌≢◌, [], ◌∷◌, ◌++◌, IfOk, OnErr, IfErr, MatchBool};
-ghost use Rattle.fab_types.specs.Committed.{Committed};
-ghost use Rattle.ledger_model.specs.Chain.{Chain};
+ghost use Rattle.std.specs.Prelude.{◌≡◌, IfOk, OnErr, IfErr};
 ghost use Rattle.committer.specs.Fits.{IsRefused, blocks_of};
+ghost use Rattle.ledger_setting.specs.Judging.{IsJudged};
 ghost use Rattle.ledger_setting.specs.Rule.{table_of};
-ghost use Rattle.store_replay.specs.Replay.{IsPushed};
+ghost use Rattle.store_replay.specs.Replay.{HasTheFlags, IsPushed};
 
 use committer::CommitRefusal;
 use endorsement_policy::Rules;
 use fab_types::{CommittedBlock, Flag};
-use ledger_setting::commit_checked_onto;
+use ledger_setting::judge;
 use std::alloc::Global;
-use world_state::Snapshot;
+use world_state::{Judged, Snapshot};
 
-/// The flags of the last block of a chain; none where there is no block.
-fn last_flags(snapshot: &Snapshot) -> &[Flag]
-    ensures { (before : Chain) (last : Committed) → snapshot.now ≡ before ++ last ∷ [] →
-        result.now ≡ last.flags }
+/// What the block of a record is judged to be behind a chain, and whether the record has these
+/// flags. It refuses as `judge` does.
+pub fn judge_record(
+    alloc: Global,
+    rules: &Rules,
+    snapshot: &Snapshot,
+    stored: &CommittedBlock,
+) -> Result<(Judged, bool), CommitRefusal>
+    ensures judged { IfOk result
+        (λ t. IsJudged (table_of rules.now) snapshot.now stored.now.block t.0) }
+    ensures flags { IfOk result
+        (λ t. HasTheFlags (table_of rules.now) snapshot.now stored.now t.1) }
+    ensures refused { IfErr result
+        (λ cause. IsRefused cause (blocks_of snapshot.now) stored.now.block) }
 {
-    match snapshot.blocks().last() {
-        None => &[],
-        Some(committed) => committed.flags(),
-    }
+    let judged = judge(alloc, rules, snapshot, stored.block())?;
+    let flags: &[Flag] = &judged.flags;
+    let is_same = stored.flags() == flags;
+    Ok((judged, is_same))
 }
 
-/// Whether the last block of a chain has these flags.
-pub fn has_flags(snapshot: &Snapshot, flags: &[Flag]) -> bool
-    ensures { (before : Chain) (last : Committed) → snapshot.now ≡ before ++ last ∷ [] →
-        MatchBool result (flags.now ≡ last.flags) (flags.now ≢ last.flags) }
-{
-    flags == last_flags(snapshot)
-}
-
-/// Commits the block of a record behind a chain, in place, and tells whether the record has the
-/// table's flags.
+/// Commits the block of a record behind a chain, and tells whether the record has the table's
+/// flags.
 ///
-/// It refuses as `commit_checked_onto` does, and a refusal changes nothing.
+/// It refuses as `judge` does, and a refusal changes nothing.
 pub fn push(
     alloc: Global,
     rules: &Rules,
@@ -49,7 +50,8 @@ pub fn push(
     ensures refused { IfErr result
         (λ cause. IsRefused cause (blocks_of snapshot.old) stored.block) }
 {
-    let (block, flags) = stored.into_parts();
-    commit_checked_onto(alloc, rules, snapshot, block)?;
-    Ok(has_flags(snapshot, &flags))
+    let (judged, is_same) = judge_record(alloc, rules, snapshot, &stored)?;
+    let (block, _flags) = stored.into_parts();
+    snapshot.extend(alloc, block, judged)?;
+    Ok(is_same)
 }

@@ -1,20 +1,21 @@
 //! Stored blocks as a chain again.
 
-ghost use Rattle.std.specs.Prelude.{◌≡◌, [], ◌∷◌, ◌++◌, IfOk, OnOk, IfErr};
+ghost use Rattle.std.specs.Prelude.{◌≡◌, true, [], ◌∷◌, ◌++◌, IfOk, OnOk, OnErr, IfErr};
 ghost use Rattle.fab_types.specs.Committed.{Committed};
 ghost use Rattle.ledger_model.specs.Judged.{BlockRule};
 ghost use Rattle.committer.specs.Fits.{IsRefused, blocks_of};
+ghost use Rattle.ledger_setting.specs.Judging.{IsJudged};
 ghost use Rattle.ledger_setting.specs.Rule.{table_of};
 ghost use Rattle.store_replay.specs.Lawful.{AreLawful, IsNextRefused, IsRecommitRefused};
+ghost use Rattle.store_replay.specs.Replay.{HasTheFlags};
 
-use crate::pushing::{has_flags, push};
+use crate::pushing::judge_record;
 use crate::refusal::RecommitRefusal;
 use committer::CommitRefusal;
 use endorsement_policy::Rules;
 use fab_types::CommittedBlock;
-use ledger_setting::commit_checked;
 use std::alloc::Global;
-use world_state::Snapshot;
+use world_state::{Judged, Snapshot};
 
 /// The refusal of a record whose block is not committed behind a chain.
 fn refused(snapshot: &Snapshot, cause: CommitRefusal) -> RecommitRefusal
@@ -28,37 +29,37 @@ fn refused(snapshot: &Snapshot, cause: CommitRefusal) -> RecommitRefusal
     }
 }
 
-/// The chain with the block of one record more, which is committed again and has to have the flags
-/// with which it is stored. `snapshot` stays as it is.
-///
-/// Refused where the block does not fit (601 to 604) or has other flags than the table's (711), and
-/// for want of memory (9), at a block that is the next by its number and the hash that it names.
-pub fn recommit_next(
+/// What the block of a record is judged to be, where the record has the flags of the table.
+fn judge_as_stored(
     alloc: Global,
     rules: &Rules,
     snapshot: &Snapshot,
-    stored: CommittedBlock,
-) -> Result<Snapshot, RecommitRefusal>
-    ensures chain { IfOk result (λ s. s ≡ snapshot.now ++ stored ∷ []) }
-    ensures lawful { OnOk result (AreLawful (table_of rules.now) snapshot.now (stored ∷ [])) }
+    stored: &CommittedBlock,
+) -> Result<Judged, RecommitRefusal>
+    ensures judged { IfOk result
+        (λ judged. IsJudged (table_of rules.now) snapshot.now stored.now.block judged) }
+    ensures flags { OnOk result (HasTheFlags (table_of rules.now) snapshot.now stored.now true) }
     ensures refused { IfErr result
-        (λ r. IsNextRefused (table_of rules.now) snapshot.now stored r) }
+        (λ r. IsNextRefused (table_of rules.now) snapshot.now stored.now r) }
 {
-    let (block, flags) = stored.into_parts();
-    match commit_checked(alloc, rules, snapshot, block) {
-        Ok(next) => {
-            if !has_flags(&next, &flags) {
-                return Err(RecommitRefusal::Flags(next.height()));
+    match judge_record(alloc, rules, snapshot, stored) {
+        Ok((judged, is_same)) => {
+            if !is_same {
+                return Err(RecommitRefusal::Flags(snapshot.height() + 1));
             }
-            Ok(next)
+            Ok(judged)
         }
         Err(cause) => Err(refused(snapshot, cause)),
     }
 }
 
-/// Puts the block of one record behind a chain, in place, and refuses as `recommit_next` does. A
-/// block that is refused for its flags is on the chain then.
-fn recommit_onto(
+/// Puts the block of one record behind a chain. It is committed again, and has to have the flags
+/// with which it is stored.
+///
+/// Refused where the block does not fit (601 to 604) or has other flags than the table's (711), and
+/// for want of memory (9), at a block that is the next by its number and the hash that it names. A
+/// refusal changes nothing.
+pub fn recommit_next(
     alloc: Global,
     rules: &Rules,
     snapshot: &mut Snapshot,
@@ -66,18 +67,13 @@ fn recommit_onto(
 ) -> Result<(), RecommitRefusal>
     ensures chain { OnOk result (snapshot.new ≡ snapshot.old ++ stored ∷ []) }
     ensures lawful { OnOk result (AreLawful (table_of rules.now) snapshot.old (stored ∷ [])) }
+    ensures unchanged { OnErr result (snapshot.new ≡ snapshot.old) }
     ensures refused { IfErr result
         (λ r. IsNextRefused (table_of rules.now) snapshot.old stored r) }
 {
-    match push(alloc, rules, snapshot, stored) {
-        Ok(is_same) => {
-            if !is_same {
-                return Err(RecommitRefusal::Flags(snapshot.height()));
-            }
-            Ok(())
-        }
-        Err(cause) => Err(refused(snapshot, cause)),
-    }
+    let judged = judge_as_stored(alloc, rules, snapshot, &stored)?;
+    let (block, _flags) = stored.into_parts();
+    Ok(snapshot.extend(alloc, block, judged)?)
 }
 
 /// The chain of these blocks: each is committed again behind those before it, and has to have the
@@ -97,7 +93,7 @@ pub fn recommit(
 {
     let mut snapshot = Snapshot::empty(alloc);
     'records: for stored in records {
-        recommit_onto(alloc, rules, &mut snapshot, stored)?;
+        recommit_next(alloc, rules, &mut snapshot, stored)?;
     }
     Ok(snapshot)
 }

@@ -9,11 +9,13 @@
 
 mod ids;
 mod index;
+mod judged;
 mod ranges;
 mod snapshot;
 mod writes;
 
 pub use ids::{TxIds, add_id, tx_ids};
+pub use judged::Judged;
 pub use ranges::{first_entries, range_of};
 pub use snapshot::Snapshot;
 pub use writes::StateMap;

@@ -1,6 +1,6 @@
 //! Snapshots.
 
-ghost use Rattle.std.specs.Prelude.{◌≡◌, ◌≤◌, ◌+◌, [], ◌∷◌, ◌++◌, length, map, ◌||◌, IfOk, OnOk, OnErr, option_map};
+ghost use Rattle.std.specs.Prelude.{◌≡◌, ◌≤◌, ◌+◌, ◌-◌, [], ◌∷◌, ◌++◌, length, map, ◌||◌, IfOk, OnOk, OnErr, IfNone, option_map, slice_get};
 ghost use Rattle.std.specs.FinMap.{entries};
 ghost use Rattle.std.specs.List.Sorted.{IsStrictlySortedBy};
 ghost use Rattle.std.specs.Map.{keys_of};
@@ -10,12 +10,14 @@ ghost use Rattle.ledger_model.specs.Views.{key_cmp, first, entries_within};
 ghost use Rattle.ledger_model.specs.State.{state, state_at};
 ghost use Rattle.wire.specs.Ids.{id_of};
 ghost use Rattle.ledger_model.specs.Flags.{stands_in};
-ghost use Rattle.world_state.specs.Ids.{is_known, is_one_of, ids_of};
+ghost use Rattle.world_state.specs.Ids.{is_known, is_one_of};
+ghost use Rattle.world_state.specs.Judging.{IsOf, marked};
 ghost use Rattle.world_state.specs.Shared.{blocks_in};
 ghost use Rattle.world_state.specs.Writing.{as_state, put_block};
 
 use crate::ids::tx_ids;
 use crate::index::{IdIndex, index_all, is_indexed};
+use crate::judged::Judged;
 use crate::ranges::{first_entries, range_in};
 use crate::writes::{StateMap, apply_block};
 use fab_types::limits::LAST_BLOCK;
@@ -197,51 +199,53 @@ impl Snapshot {
             (λ s. s ≡ self.now ++ record { block = block; flags = flags.items } ∷ []) }
     {
         let ids = tx_ids(alloc, &block)?;
-        self.extended_with_ids(alloc, block, flags, &ids)
+        self.followed_by(alloc, block, Judged { flags, ids })
     }
 
-    /// The snapshot after one block more, as `extended` makes it, where the ids of the block's
-    /// transactions are at hand. The error is of memory.
-    pub fn extended_with_ids(
+    /// The snapshot after one block more, as `extended` makes it, by what the block was judged to
+    /// be. The error is of memory.
+    pub fn followed_by(
         &self,
         alloc: Global,
         block: Block,
-        flags: Vec<Flag>,
-        ids: &[[u8; 32]],
+        judged: Judged,
     ) -> Result<Snapshot, AllocError>
         requires next { block.header.number ≡ length self.now + 1 }
-        requires one_each { length flags.items ≡ length block.envelopes }
-        requires ids { ids.now ≡ ids_of block.envelopes }
-        ensures { IfOk result
-            (λ s. s ≡ self.now ++ record { block = block; flags = flags.items } ∷ []) }
+        requires judged { IsOf block judged }
+        ensures { IfOk result (λ s. s ≡ self.now ++ marked block judged ∷ []) }
     {
-        let (map, ids) = after_block(&self.map, &self.ids, &block, &flags, ids)?;
+        let Judged { flags, ids } = judged;
+        let (map, ids) = after_block(&self.map, &self.ids, &block, &flags, &ids)?;
         let blocks = with_block(alloc, &self.blocks, CommittedBlock::new(block, flags))?;
         Ok(Snapshot { blocks, map, ids })
     }
 
-    /// Becomes the snapshot after one block more, which is the next in number. `ids` are those of
-    /// its transactions. Unlike `extended` it copies no list of blocks. The error is of memory, and
-    /// then nothing is changed.
-    pub fn extend(
-        &mut self,
-        alloc: Global,
-        block: Block,
-        flags: Vec<Flag>,
-        ids: &[[u8; 32]],
-    ) -> Result<(), AllocError>
+    /// Becomes the snapshot after one block more, which is the next in number, by what the block
+    /// was judged to be. Unlike `followed_by` it copies no list of blocks. The error is of memory,
+    /// and then nothing is changed.
+    pub fn extend(&mut self, alloc: Global, block: Block, judged: Judged) -> Result<(), AllocError>
         requires next { block.header.number ≡ length self.old + 1 }
-        requires one_each { length flags.items ≡ length block.envelopes }
-        requires ids { ids.now ≡ ids_of block.envelopes }
-        ensures extended { OnOk result
-            (self.new ≡ self.old ++ record { block = block; flags = flags.items } ∷ []) }
+        requires judged { IsOf block judged }
+        ensures extended { OnOk result (self.new ≡ self.old ++ marked block judged ∷ []) }
         ensures unchanged { OnErr result (self.new ≡ self.old) }
     {
-        let (map, ids) = after_block(&self.map, &self.ids, &block, &flags, ids)?;
+        let Judged { flags, ids } = judged;
+        let (map, ids) = after_block(&self.map, &self.ids, &block, &flags, &ids)?;
         let block = Arc::new(alloc, CommittedBlock::new(block, flags))?;
         self.blocks.push(block)?;
         self.map = map;
         self.ids = ids;
         Ok(())
+    }
+
+    /// The last block with its flags. None where there is no block. It takes no memory.
+    pub fn last(&self) -> Option<&CommittedBlock>
+        ensures last { option_map (λ c. c.now) result ≡ slice_get self.now (length self.now - 1) }
+        ensures none { IfNone result (self.now ≡ []) }
+    {
+        match self.blocks.last() {
+            None => None,
+            Some(committed) => Some(committed),
+        }
     }
 }

@@ -13,8 +13,8 @@ records-preserved c =
     let stored = c.in-Some.stored in
     let left = c.next.new.self.rest.items in
     let steps : c.records.stored-iterator.rest.items ≡ stored ∷ left = search rules in
-    let grown = c.in_ok-recommit_onto.ensures.chain in
-    let next = c.in_ok-recommit_onto.ensures.lawful in
+    let grown = c.in_ok-recommit_next.ensures.chain in
+    let next = c.in_ok-recommit_next.ensures.lawful in
     record {
       all =
           c.records.invariant.all ∙ ap (λ (rest : List Committed). chain ++ rest) steps ∙ sym (append_assoc chain (stored ∷ []) left)
@@ -23,17 +23,17 @@ records-preserved c =
           subst (λ (done : Chain). AreLawful rule [] done) (sym grown) (lawful_more rule [] chain stored c.records.invariant.lawful next.0 next.1);
     }
 
-pub returns-in_err-recommit_onto-clause-refused : goal.returns-in_err-recommit_onto-clause-refused
-returns-in_err-recommit_onto-clause-refused c =
+pub returns-in_err-recommit_next-clause-refused : goal.returns-in_err-recommit_next-clause-refused
+returns-in_err-recommit_next-clause-refused c =
     let rule = table_of c.args.rules.now in
     let all = c.args.records.items in
     let chain = c.records.snapshot in
     let stored = c.in-Some.stored in
     let left = c.next.new.self.rest.items in
-    let refusal = c.in_err-recommit_onto.field-0.0 in
+    let refusal = c.in_err-recommit_next.field-0.0 in
     let steps : c.records.stored-iterator.rest.items ≡ stored ∷ left = search rules in
     let split = c.records.invariant.all ∙ ap (λ (rest : List Committed). chain ++ rest) steps in
     let told : IsRecommitRefused rule all refusal =
-    refused_at rule all chain left stored refusal split c.records.invariant.lawful c.in_err-recommit_onto.ensures.refused
+    refused_at rule all chain left stored refusal split c.records.invariant.lawful c.in_err-recommit_next.ensures.refused
     in
     search rules

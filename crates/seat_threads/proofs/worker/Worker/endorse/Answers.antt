@@ -1,7 +1,7 @@
 use Rattle.std.proofs.Common.{rules, ◌≡◌, ◌∙◌, [], Err, inr, refl, sym, ap, subst}
 use Rattle.fab_types.specs.declared.proposal.Proposal.{Proposal}
 use Rattle.peer_node.specs.Refusals.{no_memory}
-use Rattle.peer_node.specs.Seats.{seen_chain, endorser_of}
+use Rattle.peer_node.specs.Seats.{seen_chain, endorsing_of}
 use Rattle.seat_threads.specs.Rounds.{Outcome, proposal_of, ComesTo}
 use Rattle.seat_threads.proofs.worker.Worker.endorse.Goals as goal
 
@@ -11,7 +11,7 @@ returns-in_err-proposal-clause-comes c =
     let none : c.from_residual.result ≡ Err no_memory = search rules in (
       [],
       [],
-      subst (λ (o : Outcome). ComesTo (endorser_of seat) (proposal_of c.args.self.now.chaincode c.args.self.now.number c.args.round) [] [] o) (sym none)
+      subst (λ (o : Outcome). ComesTo (endorsing_of seat) (proposal_of c.args.self.now.chaincode c.args.self.now.number c.args.round) [] [] o) (sym none)
           (inr refl),
     )
 
@@ -22,6 +22,6 @@ returns-clause-comes c =
     let proposed = c.in_ok-proposal.ensures ∙ ap (proposal_of c.args.self.now.chaincode c.args.self.now.number) round in (
       seen_chain seat,
       seen_chain c.envelope.new.seat,
-      subst (λ (p : Proposal). ComesTo (endorser_of seat) p (seen_chain seat) (seen_chain c.envelope.new.seat) c.envelope.result) proposed
+      subst (λ (p : Proposal). ComesTo (endorsing_of seat) p (seen_chain seat) (seen_chain c.envelope.new.seat) c.envelope.result) proposed
           c.envelope.ensures.comes,
     )

@@ -2,7 +2,7 @@ use Rattle.std.proofs.Common.{rules, ◌≡◌, ℕ, ◌+◌, [], ◌∷◌, ◌
 use Rattle.std.proofs.lemmas.List.{append-nil}
 use Rattle.intake.specs.declared.sender.SenderSeat.{SenderSeat}
 use Rattle.intake.specs.Seats.{intake_of_sender, number, put}
-use Rattle.peer_node.specs.Seats.{endorser_of}
+use Rattle.peer_node.specs.Seats.{endorsing_of}
 use Rattle.seat_threads.specs.declared.worker.Worker.{Worker}
 use Rattle.seat_threads.specs.Rounds.{CameTo, rounds_in, with_endorsed, with_refused}
 use Rattle.seat_threads.proofs.Rounding.{HasWorked, next_round}
@@ -64,5 +64,5 @@ returns g c =
     let end : c.loop-round.round ≡ c.args.rounds = search rules in (
       h.intake_is,
       h.sender,
-      (h.outcomes, subst (λ (n : ℕ). CameTo (endorser_of first.seat) first.chaincode first.number n h.outcomes) end h.came, h.sent, h.counted),
+      (h.outcomes, subst (λ (n : ℕ). CameTo (endorsing_of first.seat) first.chaincode first.number n h.outcomes) end h.came, h.sent, h.counted),
     )

@@ -14,11 +14,11 @@ invariant_of-self-2 c =
     let s = c.self.inside in
     let chain = blocks_in s.blocks.items in
     let b = c.args.block in
-    let new : Committed = record { block = b; flags = c.args.flags.items } in
+    let new : Committed = record { block = b; flags = c.args.judged.flags.items } in
     let number : b.header.number ≡ length chain + 1 = omega (arith, ap length c.self.view_is) in
     let pushed =
     blocks_pushed s.blocks.items c.push.new.self.items c.in_ok-block.block new c.in_ok-push.ensures.items (c.in_ok-block.ensures.ok ∙ c.new.ensures) in
     subst (λ (bs : Chain). IsRight bs c.in_ok-map.map.entries (keys_of c.in_ok-map.ids.entries)) (sym pushed)
-    (right_more chain new s.map.entries _ (keys_of s.ids.entries) _ c.self.invariant number c.in_ok-map.ensures.limits c.requires.one_each
+    (right_more chain new s.map.entries _ (keys_of s.ids.entries) _ c.self.invariant number c.in_ok-map.ensures.limits c.requires.judged.one_each
     (c.in_ok-map.ensures.map ∙ (λ i. put_block (as_state s.map.entries) b.header.number 0 b.envelopes (c.deref.ensures.value i)))
-    (λ q. c.in_ok-map.ensures.ids q ∙ ap (λ ids. is_known (keys_of s.ids.entries) q || is_one_of ids q) c.requires.ids))
+    (λ q. c.in_ok-map.ensures.ids q ∙ ap (λ ids. is_known (keys_of s.ids.entries) q || is_one_of ids q) (c.deref-2.ensures.value ∙ c.requires.judged.ids)))

@@ -6,23 +6,23 @@ use Rattle.world_state.specs.Ids.{is_known, is_one_of}
 use Rattle.world_state.specs.Inside.{IsRight}
 use Rattle.world_state.specs.Shared.{blocks_in}
 use Rattle.world_state.proofs.Longer.{right_more}
-use Rattle.world_state.proofs.snapshot.Snapshot.extended_with_ids.Goals as goal
+use Rattle.world_state.proofs.snapshot.Snapshot.followed_by.Goals as goal
 
 pub invariant_of-result : goal.invariant_of-result
 invariant_of-result c =
     let chain = blocks_in c.self.inside.blocks.items in
     let b = c.args.block in
-    let new : Committed = record { block = b; flags = c.args.flags.items } in
+    let new : Committed = record { block = b; flags = c.args.judged.flags.items } in
     let number : b.header.number ≡ length chain + 1 = omega (arith, ap length c.self.view_is) in
-    let pushed = c.in_ok-blocks.ensures ∙ (λ i. blocks_in (c.deref-2.ensures.value i) ++ c.new.ensures i ∷ []) in
+    let pushed = c.in_ok-blocks.ensures ∙ (λ i. blocks_in (c.deref-3.ensures.value i) ++ c.new.ensures i ∷ []) in
     subst (λ (bs : Chain). IsRight bs c.in_ok-map.map.entries (keys_of c.in_ok-map.ids.entries)) (sym pushed)
     (right_more chain new c.self.inside.map.entries _ (keys_of c.self.inside.ids.entries) _ c.self.invariant number c.in_ok-map.ensures.limits
-    c.requires.one_each
+    c.requires.judged.one_each
     (c.in_ok-map.ensures.map ∙
     (λ i. put_block (as_state c.self.inside.map.entries) b.header.number 0 b.envelopes (c.deref.ensures.value i)))
-    (λ q. c.in_ok-map.ensures.ids q ∙ ap (λ ids. is_known (keys_of c.self.inside.ids.entries) q || is_one_of ids q) c.requires.ids))
+    (λ q. c.in_ok-map.ensures.ids q ∙ ap (λ ids. is_known (keys_of c.self.inside.ids.entries) q || is_one_of ids q) (c.deref-2.ensures.value ∙ c.requires.judged.ids)))
 
 pub returns : goal.returns
 returns c =
-    let new : Committed = record { block = c.args.block; flags = c.args.flags.items } in
-    c.in_ok-blocks.ensures ∙ (λ i. blocks_in (c.deref-2.ensures.value i) ++ c.new.ensures i ∷ []) ∙ ap (λ bs. bs ++ new ∷ []) c.self.view_is
+    let new : Committed = record { block = c.args.block; flags = c.args.judged.flags.items } in
+    c.in_ok-blocks.ensures ∙ (λ i. blocks_in (c.deref-3.ensures.value i) ++ c.new.ensures i ∷ []) ∙ ap (λ bs. bs ++ new ∷ []) c.self.view_is

@@ -1,0 +1,5 @@
+use Rattle.ledger_setting.specs.Rule.{table_of}
+use Rattle.store_replay.proofs.recommitting.judge_as_stored.Goals as goal
+
+pub returns-in-Err-clause-refused : goal.returns-in-Err-clause-refused
+returns-in-Err-clause-refused c = c.refused.ensures (table_of c.args.rules.now) c.args.stored.now c.in-Err.ensures.refused
