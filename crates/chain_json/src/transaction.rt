@@ -1,8 +1,6 @@
 //! Transactions as JSON.
 
 ghost use Rattle.std.specs.Prelude.{◌≡◌, IfOk, OnOk};
-ghost use Rattle.std.specs.List.{find};
-ghost use Rattle.endorsement_policy.specs.Endorsed.{is_org, is_tag_of};
 ghost use Rattle.serde_json.specs.View.{view};
 ghost use Rattle.chain_json.specs.Members.{members_in};
 ghost use Rattle.chain_json.specs.Texts.{list_json};
@@ -166,22 +164,7 @@ fn endorsement_of(
 {
     let mut object = Object::new(alloc);
     object.put_json("org", &endorsement.org)?;
-    object.put("right", Value::from(is_right(rules, endorsement, bytes)))?;
+    object.put("right", Value::from(rules.is_tag(endorsement, bytes)))?;
     object.put_hex("tag", &endorsement.tag)?;
     Ok(object.into_value())
-}
-
-/// Whether the organisation that an endorsement names is known, and the tag is its tag on these
-/// bytes.
-fn is_right(rules: &Rules, endorsement: &Endorsement, bytes: &[u8]) -> bool
-    ensures { result
-        ≡ is_tag_of (find (is_org endorsement.now.org) rules.now.orgs) bytes.now
-        endorsement.now.tag }
-{
-    match rules.organisation(&endorsement.org) {
-        Some(organisation) => {
-            hmac_tag::check(organisation.key.as_slice(), bytes, &endorsement.tag)
-        }
-        None => false,
-    }
 }

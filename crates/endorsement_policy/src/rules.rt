@@ -2,7 +2,7 @@
 
 ghost use Rattle.std.specs.Prelude.{◌≡◌, ◌↔◌, true, IsSome, IfSome, option_map};
 ghost use Rattle.std.specs.List.{find};
-ghost use Rattle.endorsement_policy.specs.Endorsed.{do_need_someone, is_org, is_policy_of, is_tag_of, key_of};
+ghost use Rattle.endorsement_policy.specs.Endorsed.{do_need_someone, is_org, is_policy_of, is_tag_of};
 ghost use Rattle.policy_language.specs.GoodSets.{needs_someone};
 
 use crate::evaluate::is_satisfied_by;
@@ -143,19 +143,9 @@ impl Rules {
         self.policies.iter().find(|p| p.is_of(chaincode))
     }
 
-    /// The key of an organisation. An unknown one has the empty key.
-    pub fn key(&self, org: &OrgName) -> &[u8]
-        ensures { result.now ≡ key_of self.now.orgs org.now }
-    {
-        match self.organisation(org) {
-            Some(organisation) => organisation.key.as_slice(),
-            None => &[],
-        }
-    }
-
     /// Whether the organisation that an endorsement names is known, and the tag is its tag on these
     /// bytes.
-    pub(crate) fn is_tag(&self, endorsement: &Endorsement, bytes: &[u8]) -> bool
+    pub fn is_tag(&self, endorsement: &Endorsement, bytes: &[u8]) -> bool
         ensures { result
             ≡ is_tag_of (find (is_org endorsement.now.org) self.now.orgs) bytes.now
             endorsement.now.tag }

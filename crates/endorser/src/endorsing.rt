@@ -10,7 +10,7 @@ ghost use Rattle.endorser.specs.Endorsing.{endorsing_of, simulated_on, endorsed_
 ghost use Rattle.endorser.specs.Rechecks.{IsRecheckRefused};
 
 use crate::rechecking::recheck;
-use crate::sealing::seal;
+use crate::sealing::seal_by;
 use endorsement_policy::Rules;
 use fab_types::{Endorsement, OrgName, Payload, Proposal};
 use simulator::{Book, SimRefusal, simulate};
@@ -85,8 +85,7 @@ impl Endorser {
         ensures { Answers (endorsed_on (endorsing_of self.now) proposal.now snapshot.now) result }
     {
         let payload = simulate(self.alloc, &self.book, snapshot, proposal)?;
-        let key = self.rules.key(&self.org);
-        let endorsement = seal(self.alloc, &self.org, key, &payload)?;
+        let endorsement = seal_by(self.alloc, &self.rules, &self.org, &payload)?;
         Ok((payload, endorsement))
     }
 }
@@ -105,5 +104,5 @@ pub fn endorse_payload(
         (λ r. IsRecheckRefused (state (history newest.now)) payload.now r) }
 {
     recheck(alloc, payload, newest)?;
-    Ok(seal(alloc, org, rules.key(org), payload)?)
+    Ok(seal_by(alloc, rules, org, payload)?)
 }

@@ -2,7 +2,9 @@
 
 ghost use Rattle.std.specs.Prelude.{◌≡◌, IfOk};
 ghost use Rattle.endorsement_policy.specs.Endorsed.{endorsement_by};
+ghost use Rattle.endorser.specs.Endorsing.{tag_of};
 
+use endorsement_policy::Rules;
 use fab_types::{Endorsement, OrgName, Payload};
 use std::alloc::{AllocError, Global};
 use wire::encode_payload;
@@ -22,4 +24,20 @@ pub fn seal(
         org: org.clone()?,
         tag: hmac_tag::tag(key, &bytes),
     })
+}
+
+/// An organisation's endorsement of a payload by the rules. One that they do not list has the empty
+/// key. The error is of memory.
+pub(crate) fn seal_by(
+    alloc: Global,
+    rules: &Rules,
+    org: &OrgName,
+    payload: &Payload,
+) -> Result<Endorsement, AllocError>
+    ensures { IfOk result (λ e. e ≡ tag_of rules.now org.now payload.now) }
+{
+    match rules.organisation(org) {
+        Some(organisation) => seal(alloc, org, organisation.key.as_slice(), payload),
+        None => seal(alloc, org, &[], payload),
+    }
 }

@@ -334,8 +334,7 @@ fn is_of_three(rules: &Rules, b: &OrgName, d: &OrgName, kv: &Name) -> bool {
         None => false,
     };
     known
-        && rules.key(b) == secret(b'B').as_slice()
-        && rules.key(d).is_empty()
+        && rules.organisation(d).is_none()
         && rules.policy(kv).is_some()
         && rules.policies().len() == 1
         && rules.installed().orgs().len() == 3
