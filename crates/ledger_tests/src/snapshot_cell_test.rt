@@ -5,7 +5,7 @@ ghost use Rattle.snapshot_cell.specs.Lists.{OneMore};
 ghost use Rattle.snapshot_cell.specs.Seats.{published_list, cell_of_reader, cell_of_writer, cell_of_told};
 
 use crate::samples::{GET_PUT_A, Setup, opening};
-use ledger_setting::commit_checked;
+use ledger_setting::commit;
 use snapshot_cell::{Reader, Told, Writer, open};
 use std::alloc::Global;
 use std::sync::Wait;
@@ -21,8 +21,9 @@ fn one_block(alloc: Global, setup: &Setup) -> Result<Snapshot, Fail>
         return Err("a block".into());
     };
     let block = first.clone()?;
-    match commit_checked(alloc, &setup.genesis.rules, &Snapshot::empty(alloc), block) {
-        Ok(snapshot) => Ok(snapshot),
+    let mut snapshot = Snapshot::empty(alloc);
+    match commit(alloc, &setup.genesis.rules, &mut snapshot, block) {
+        Ok(()) => Ok(snapshot),
         Err(_) => Err("a snapshot".into()),
     }
 }
