@@ -23,8 +23,11 @@ def run(genesis):
 
 
 def main(words):
-    if len(words) not in (1, 2):
+    if words in (["--help"], ["-h"]):
         print(__doc__)
+        return 0
+    if len(words) not in (1, 2):
+        print(__doc__, file=sys.stderr)
         return 2
     genesis = json.loads((HERE / "genesis.json").read_text())
     chaincode = genesis["chaincodes"][0]

@@ -9,6 +9,7 @@ import hashlib
 import json
 import pathlib
 import struct
+import sys
 
 HERE = pathlib.Path(__file__).parent
 KEYS = {"Maker": b"maker's key", "Carrier": b"carrier's key", "Shop": b"shop's key"}
@@ -83,67 +84,98 @@ def forged():
     return payload + bytes([len(tags)]) + b"".join(tags)
 
 
-# Two pallets are created, each endorsed by two of the three organisations.
-first = call("create-7", [MAKER, CARRIER], "create pallet-7 Maker")
-second = call("create-8", [MAKER, SHOP], "create pallet-8 Maker")
-finish(first)
-finish(second)
-commit(2)
+def create_pallets():
+    """Two pallets are created, each endorsed by two of the three organisations."""
+    first = call("create-7", [MAKER, CARRIER], "create pallet-7 Maker")
+    second = call("create-8", [MAKER, SHOP], "create pallet-8 Maker")
+    finish(first)
+    finish(second)
+    commit(2)
 
-# Two transfers of one pallet race: both read the same version, and the second in the block is a conflict.
-to_carrier = call("to-carrier", [MAKER, CARRIER], "transfer pallet-7 Carrier")
-to_shop = call("to-shop", [MAKER, SHOP], "transfer pallet-7 Shop")
-finish(to_carrier)
-finish(to_shop)
-commit(2)
 
-# A list is made before a new pallet comes in, and ordered behind it: its range has a phantom.
-create = call("create-9", [CARRIER, SHOP], "create pallet-9 Carrier")
-listed = call("list", [MAKER, CARRIER], "list")
-finish(create)
-finish(listed)
-commit(2)
+def race():
+    """Two transfers of one pallet race: both read the same version, and the second in the block is a conflict."""
+    to_carrier = call("to-carrier", [MAKER, CARRIER], "transfer pallet-7 Carrier")
+    to_shop = call("to-shop", [MAKER, SHOP], "transfer pallet-7 Shop")
+    finish(to_carrier)
+    finish(to_shop)
+    commit(2)
 
-# A forged transfer does not satisfy the policy, nor does one that a single organisation endorsed.
-line("submit", hex=forged().hex())
-finish(call("alone", [CARRIER], "transfer pallet-9 Carrier"))
-commit(2)
 
-# The second version of the register takes the first's place: two organisations endorse it, as the genesis asks for. A
-# transfer that was simulated by the first version, and is ordered behind the upgrade, is a conflict.
-second_version = upgrade("upgrade", [MAKER, SHOP], SECOND)
-late = call("late", [CARRIER, SHOP], "transfer pallet-9 Shop")
-finish(second_version)
-finish(late)
-commit(2)
+def list_beside_a_creation():
+    """A list is made before a new pallet comes in, and ordered behind it: its range has a phantom."""
+    create = call("create-9", [CARRIER, SHOP], "create pallet-9 Carrier")
+    listed = call("list", [MAKER, CARRIER], "list")
+    finish(create)
+    finish(listed)
+    commit(2)
 
-# The second version makes the transfer, and an inspection of a pallet that the first wrote, which the first could not do.
-again = call("again", [CARRIER, SHOP], "transfer pallet-9 Shop")
-inspect = call("inspect", [MAKER, CARRIER], "inspect pallet-7 Shop 2026-11-25")
-finish(again)
-finish(inspect)
-commit(2)
 
-genesis = {
-    "orgs": [{"name": name, "key": key.hex()} for name, key in KEYS.items()],
-    "peers": PEERS,
-    "seats": 4,
-    "queue": 64,
-    "count": 2,
-    "preferred": 65536,
-    "absolute": 524288,
-    "reorder": False,
-    "chaincodes": [
-        {
-            "name": CHAINCODE,
-            "module": FIRST.hex(),
-            "policy": TWO_OF_THREE,
-            "fuel": FUEL,
-            "profile": PROFILE,
-        }
-    ],
-    "modules": [{"module": SECOND.hex(), "profile": PROFILE}],
-    "upgrade": TWO_OF_THREE,
-}
-(HERE / "genesis.json").write_text(json.dumps(genesis, indent=1) + "\n")
-(HERE / "events.jsonl").write_text("".join(it + "\n" for it in lines))
+def fail_the_policy():
+    """A forged transfer does not satisfy the policy, nor does one that a single organisation endorsed."""
+    line("submit", hex=forged().hex())
+    finish(call("alone", [CARRIER], "transfer pallet-9 Carrier"))
+    commit(2)
+
+
+def upgrade_behind_a_race():
+    """The second version of the register takes the first's place: two organisations endorse it, as the genesis asks for. A
+    transfer that was simulated by the first version, and is ordered behind the upgrade, is a conflict."""
+    second_version = upgrade("upgrade", [MAKER, SHOP], SECOND)
+    late = call("late", [CARRIER, SHOP], "transfer pallet-9 Shop")
+    finish(second_version)
+    finish(late)
+    commit(2)
+
+
+def use_the_second_version():
+    """The second version makes the transfer, and an inspection of a pallet that the first wrote, which the first could not do."""
+    again = call("again", [CARRIER, SHOP], "transfer pallet-9 Shop")
+    inspect = call("inspect", [MAKER, CARRIER], "inspect pallet-7 Shop 2026-11-25")
+    finish(again)
+    finish(inspect)
+    commit(2)
+
+
+def genesis():
+    """Three organisations with one chaincode, the second version of which is installed."""
+    return {
+        "orgs": [{"name": name, "key": key.hex()} for name, key in KEYS.items()],
+        "peers": PEERS,
+        "seats": 4,
+        "queue": 64,
+        "count": 2,
+        "preferred": 65536,
+        "absolute": 524288,
+        "reorder": False,
+        "chaincodes": [
+            {
+                "name": CHAINCODE,
+                "module": FIRST.hex(),
+                "policy": TWO_OF_THREE,
+                "fuel": FUEL,
+                "profile": PROFILE,
+            }
+        ],
+        "modules": [{"module": SECOND.hex(), "profile": PROFILE}],
+        "upgrade": TWO_OF_THREE,
+    }
+
+
+def main(words):
+    if words in (["--help"], ["-h"]):
+        print(__doc__)
+        return 0
+    create_pallets()
+    race()
+    list_beside_a_creation()
+    fail_the_policy()
+    upgrade_behind_a_race()
+    use_the_second_version()
+    (HERE / "genesis.json").write_text(json.dumps(genesis(), indent=1) + "\n")
+    (HERE / "events.jsonl").write_text("".join(it + "\n" for it in lines))
+    return 0
+
+
+if __name__ == "__main__":
+    sys.exit(main(sys.argv[1:]))

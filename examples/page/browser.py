@@ -138,3 +138,7 @@ class Browser:
         shot = self.call("Page.captureScreenshot", format="png", captureBeyondViewport=whole)
         with open(path, "wb") as file:
             file.write(base64.b64decode(shot["data"]))
+
+
+if __name__ == "__main__":
+    print(__doc__)

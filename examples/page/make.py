@@ -226,5 +226,16 @@ def tampered(lines):
     return lines, found
 
 
+def main(words):
+    if words in (["--help"], ["-h"]):
+        print(__doc__)
+        return 0
+    if len(words) != 1 or not words[0].isdecimal():
+        print(__doc__, file=sys.stderr)
+        return 2
+    sys.stdout.write(text_of(made_up(int(words[0])).lines()))
+    return 0
+
+
 if __name__ == "__main__":
-    sys.stdout.write(text_of(made_up(int(sys.argv[1])).lines()))
+    sys.exit(main(sys.argv[1:]))

@@ -134,3 +134,7 @@ def odd_chain(room, rounds, seed):
         words = [line.split() for line in printed]
         odd.state = {bytes.fromhex(it[1]): it[2] for it in words if it[0] == "state"}
     return printed
+
+
+if __name__ == "__main__":
+    print(__doc__)

@@ -24,6 +24,9 @@ def sealed(page):
 
 
 def main(words):
+    if words in (["--help"], ["-h"]):
+        print(__doc__)
+        return 0
     page = TEMPLATE.read_text(encoding="utf-8")
     if words == ["--check"]:
         return 0 if sealed(page) == page else 1

@@ -7,13 +7,17 @@ ENDPOINTS are the URLs of etcd's nodes, with commas between. ARGUMENT is text. E
 `ledger endorse`, on this machine or on another one, as "ssh maker ledger endorse genesis.json Maker maker.store".
 """
 import json
+import os
+import pathlib
 import secrets
 import shlex
 import sys
 import threading
 import time
 
-from filters import start
+sys.dont_write_bytecode = True
+sys.path.insert(0, str(pathlib.Path(__file__).resolve().parents[2] / "python"))
+from filters import NotStarted, start
 from log import Log, LogError
 
 # How often a call is begun again where the endorsers are not at one height, and after how many seconds.
@@ -22,26 +26,36 @@ PAUSE = 0.5
 
 
 class NotEndorsed(Exception):
-    """An endorser refused the call, or the endorsers do not agree on what it does."""
+    """An endorser refused the call or has ended, or the endorsers do not agree on what it does."""
 
 
 class Endorser:
     """One `ledger endorse` filter."""
 
     def __init__(self, *command: str):
+        self.command = shlex.join(command)
         self.filter = start(*command)
+        # What it answered last.
+        self.last = ""
 
     def ask(self, proposals: list[str]) -> None:
         """Hands proposals on, and does not wait for the answers."""
         threading.Thread(target=self._write, args=(proposals,), daemon=True).start()
 
     def answers(self, count: int) -> list[str]:
-        """The lines that answer the next so many proposals, empty ones where the endorser has ended."""
-        return [self.filter.stdout.readline().decode().rstrip("\n") for _ in range(count)]
+        """The lines that answer the next so many proposals."""
+        return [self._answer() for _ in range(count)]
 
     def close(self) -> None:
         self.filter.kill()
         self.filter.wait()
+
+    def _answer(self) -> str:
+        answer = self.filter.stdout.readline().decode(errors="replace").rstrip("\n")
+        if not answer:
+            raise NotEndorsed(f"the endorser `{self.command}` has ended" + (f": {self.last}" if self.last else ""))
+        self.last = answer
+        return answer
 
     def _write(self, proposals: list[str]) -> None:
         try:
@@ -54,7 +68,7 @@ class Endorser:
 
 def proposal(chaincode: str, argument: str) -> str:
     """A call with a nonce of its own, as an endorser reads it."""
-    call = {"chaincode": chaincode, "arg": argument.encode().hex(), "nonce": secrets.token_hex(16)}
+    call = {"chaincode": chaincode, "arg": os.fsencode(argument).hex(), "nonce": secrets.token_hex(16)}
     return json.dumps(call)
 
 
@@ -62,8 +76,8 @@ def envelope(answers: list[str]) -> str:
     """The envelope, in hex, of what several endorsers answered to one proposal."""
     words = [it.split() for it in answers]
     for answer, word in zip(answers, words):
-        if word[:1] != ["endorsed"]:
-            raise NotEndorsed(answer or "an endorser has ended")
+        if len(word) != 3 or word[0] != "endorsed":
+            raise NotEndorsed(f"an endorser answers: {answer}")
     payloads = {payload for _, payload, _ in words}
     if len(payloads) > 1:
         raise NotEndorsed("the endorsers are not at one height")
@@ -82,25 +96,49 @@ def endorsed(endorsers: list[Endorser], call: str) -> str:
     return envelope(answers)
 
 
-def main(words: list[str]) -> int:
-    if len(words) < 4:
-        print(__doc__)
-        return 2
-    endpoints, chaincode, argument, *commands = words
-    endorsers = [Endorser(*shlex.split(it)) for it in commands]
+def started(command: str) -> Endorser:
+    """The endorser of a command as a shell spells it."""
     try:
+        return Endorser(*shlex.split(command))
+    except ValueError as error:
+        raise NotStarted(f"`{command}` is no command: {error}") from error
+
+
+def call(endpoints: list[str], chaincode: str, argument: str, commands: list[str]) -> str:
+    """Has a call endorsed by filters of these commands, and puts the envelope into the log. The name of its entry."""
+    log = Log(endpoints)
+    log.reach()
+    endorsers: list[Endorser] = []
+    try:
+        for command in commands:
+            endorsers.append(started(command))
         made = endorsed(endorsers, proposal(chaincode, argument))
         name = f"call-{secrets.token_hex(8)}"
-        Log(endpoints.split(",")).append(name, [made])
-        print(f"put as {name}")
-        return 0
-    except (NotEndorsed, LogError) as error:
-        print(error)
-        return 1
+        log.append(name, [made])
+        return name
     finally:
         for endorser in endorsers:
             endorser.close()
 
 
+def main(words: list[str]) -> int:
+    if words in (["--help"], ["-h"]):
+        print(__doc__)
+        return 0
+    if len(words) < 4:
+        print(__doc__, file=sys.stderr)
+        return 2
+    endpoints, chaincode, argument, *commands = words
+    try:
+        print(f"put as {call(endpoints.split(','), chaincode, argument, commands)}")
+        return 0
+    except (NotStarted, NotEndorsed, LogError) as error:
+        print(f"client.py: {error}", file=sys.stderr)
+        return 1
+
+
 if __name__ == "__main__":
-    sys.exit(main(sys.argv[1:]))
+    try:
+        sys.exit(main(sys.argv[1:]))
+    except KeyboardInterrupt:
+        sys.exit(130)

@@ -12,6 +12,7 @@ import base64
 import http.client
 import json
 import os
+import shutil
 import ssl
 import subprocess
 import threading
@@ -70,6 +71,21 @@ class Log:
         })
         return made.get("succeeded", False)
 
+    def reach(self) -> None:
+        """Asks each node once whether it is there, until one answers. It need not be able to take an entry."""
+        why: object = "there is none"
+        for self.turn in range(len(self.endpoints)):
+            try:
+                self._open()
+                self.link.request("GET", "/version")
+                self.link.getresponse().read()
+                return
+            except (OSError, http.client.HTTPException, ValueError) as error:
+                why = error
+            finally:
+                self.link = None
+        raise LogError(f"no node of etcd answers at {', '.join(self.endpoints)}: {why}")
+
     def leads(self) -> bool:
         """Whether the node that answers leads the others. No node is asked twice."""
         status = self._ask("/v3/maintenance/status", 0.0, {})
@@ -95,14 +111,18 @@ class Log:
                 raise LogError(f"no node of etcd did it in {patience:g} s: {why}")
             time.sleep(0.05)
 
-    def _connect(self) -> None:
-        """Goes to the node whose turn it is, as the user of ETCDCTL_USER, if there is one."""
+    def _open(self) -> None:
+        """Goes to the node whose turn it is."""
         node = self.endpoints[self.turn]
         at = urlsplit(node if "://" in node else f"http://{node}")
         if at.scheme == "https":
             self.link = http.client.HTTPSConnection(at.netloc, timeout=NODE_SECONDS, context=_tls())
         else:
             self.link = http.client.HTTPConnection(at.netloc, timeout=NODE_SECONDS)
+
+    def _connect(self) -> None:
+        """Goes to the node whose turn it is, as the user of ETCDCTL_USER, if there is one."""
+        self._open()
         self.headers = {"Content-Type": "application/json"}
         if "ETCDCTL_USER" in os.environ:
             name, _, password = os.environ["ETCDCTL_USER"].partition(":")
@@ -121,6 +141,8 @@ class Watch:
     """Reads the log from its beginning on, by `etcdctl watch`, which is begun again where it ends."""
 
     def __init__(self, endpoints: list[str]):
+        if shutil.which("etcdctl") is None:
+            raise LogError("etcdctl is not on the PATH (Debian's package is etcd-client)")
         self.endpoints = endpoints
         # The last revision that was read, and how many lines of it.
         self.revision, self.lines = 0, 0
@@ -167,3 +189,7 @@ class Watch:
                     lines.append(f"{self.revision}.{self.lines} {mark.decode('latin-1')}\n".encode())
                     self.lines += 1
         return lines
+
+
+if __name__ == "__main__":
+    print(__doc__)

@@ -18,7 +18,9 @@ logs, or someone lies: the member ends, or, with --past-forks, says so and goes 
 import argparse
 import collections
 import hashlib
+import pathlib
 import queue
+import re
 import signal
 import subprocess
 import sys
@@ -26,8 +28,11 @@ import threading
 import time
 from collections.abc import Callable
 
-from filters import find_program, start
+sys.dont_write_bytecode = True
+sys.path.insert(0, str(pathlib.Path(__file__).resolve().parents[2] / "python"))
+from filters import NotStarted, start
 from log import Log, LogError, Watch
+from program import NoProgram, find
 
 # A chain has no block above this one.
 LAST_BLOCK = 65535
@@ -36,6 +41,8 @@ HEADER_DIGITS = 2 * 68
 # How long etcd may take to put a tick or a hash, and after how long it is asked again where it did not, in seconds.
 SHORT_PATIENCE = 3.0
 PAUSE = 5.0
+# The lines of the log that members write beside envelopes and ticks, with their index: all skip them (300).
+MEMBERS_LINE = re.compile(rb"(\S+) (?:genesis [0-9a-f]{64}|seen [A-Za-z0-9_]{1,32} [0-9]{1,5} [0-9a-f]{64})\n")
 
 
 def say(text: str) -> None:
@@ -51,8 +58,11 @@ class Member:
         endpoints = words.endpoints.split(",")
         self.words = words
         self.log, self.watch = Log(endpoints), Watch(endpoints)
+        self.log.reach()
         self.order = start(words.program, "order", words.genesis)
         self.commit = start(words.program, "commit", words.genesis, words.store)
+        # Indices of the members' lines that the replica was given.
+        self.members_lines: set[bytes] = set()
         # How many lines the replica of the orderer was given, and how many it has read.
         self.given = self.read = 0
         # The number of the next block, and since when envelopes wait for it, if any do.
@@ -113,6 +123,7 @@ class Member:
         try:
             for lines in self.watch:
                 self.given += len(lines)
+                self.members_lines.update(it[1] for it in map(MEMBERS_LINE.fullmatch, lines) if it)
                 self.order.stdin.writelines(lines)
                 self.order.stdin.flush()
         except BrokenPipeError:
@@ -133,9 +144,9 @@ class Member:
                         number, since = self.awaited
                         self.awaited = (number, None if waiting == b"0" else since or time.monotonic())
                         self.read += 1
-                    case [b"skipped", _, b"300"]:
+                    case [b"skipped", index, b"300"] if index in self.members_lines:
                         # What members tell each other is skipped so by all.
-                        pass
+                        self.members_lines.remove(index)
                     case [b"forked", org, number] if not self.words.past_forks:
                         return f"forked: {org.decode()} has another block {number.decode()}"
                     case _:
@@ -206,9 +217,13 @@ def main() -> int:
     parser.add_argument("--past-forks", action="store_true")
     parser.add_argument("--program", metavar="FILE")
     words = parser.parse_args()
-    words.program = words.program or find_program()
     signal.signal(signal.SIGTERM, lambda *_: sys.exit(143))
-    member = Member(words)
+    try:
+        words.program = words.program or str(find())
+        member = Member(words)
+    except (NoProgram, NotStarted, LogError) as error:
+        print(f"member.py: {error}", file=sys.stderr)
+        return 1
     try:
         say(f"ended: {member.run()}")
         return 1
