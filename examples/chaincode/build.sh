@@ -2,13 +2,18 @@
 # Builds each example beside its source. Needs Debian's packages clang, lld and wabt, and for the
 # one in Rust rustc and libstd-rust-dev-wasm32. RUSTC names another rustc.
 set -eu
+case "${1:-}" in
+    --help | -h) sed -n '2,/^set/{/^#/s/^# \{0,1\}//p}' "$0"; exit 0 ;;
+esac
 cd -- "$(dirname -- "$0")"
+room=$(mktemp -d)
+trap 'rm -r "$room"' EXIT
 
-# build NAME LEVEL: the module of NAME.c, optimized at this level.
+# build NAME LEVEL: the module of NAME.c, optimized at this level. It is linked by wasm-ld itself, since clang hands what
+# it links to wasm-opt, where that is installed, which makes other bytes.
 build() {
-    clang --target=wasm32 -mcpu=mvp "$2" -Wall -Wextra -ffreestanding -fno-builtin -nostdlib \
-        -Wl,--no-entry -Wl,--strip-all -Wl,--compress-relocations -Wl,-z,stack-size=8192 \
-        -o "$1.wasm" "$1.c"
+    clang --target=wasm32 -mcpu=mvp "$2" -Wall -Wextra -ffreestanding -fno-builtin -c -o "$room/$1.o" "$1.c"
+    wasm-ld --no-entry --strip-all --compress-relocations -z stack-size=8192 -o "$1.wasm" "$room/$1.o"
 }
 
 # find_rustc TARGET: sets rustc to one that has the library of this target.
@@ -23,13 +28,11 @@ find_rustc() {
 
 # build_rust NAME MODULE: the module of the crate NAME over the crate shim.
 build_rust() {
-    room=$(mktemp -d)
     flags="--edition 2021 --target $target -C target-cpu=mvp -C opt-level=2 -C codegen-units=1"
     "$rustc" $flags --crate-type rlib --crate-name shim -o "$room/libshim.rlib" shim/src/lib.rs
     "$rustc" $flags --crate-type cdylib --crate-name "$1" --extern shim="$room/libshim.rlib" \
         -C lto -C strip=symbols -C link-arg=-zstack-size=8192 -C link-arg=--compress-relocations \
         -o "$2.wasm" "$1/src/lib.rs"
-    rm -r "$room"
 }
 
 build asset_register -Oz

@@ -39,4 +39,16 @@ FABRIC(get_arg) int get_arg(void *target, unsigned capacity);
 /* The result of the call: 0. The last one counts. */
 FABRIC(set_result) int set_result(const void *result, unsigned length);
 
+/* What clang calls where it copies a struct, or fills one: there is no C library. A module in which it calls neither has
+   neither. */
+__attribute__((weak)) void *memcpy(void *target, const void *source, unsigned long size) {
+    for (unsigned long at = 0; at < size; at++) ((char *)target)[at] = ((const char *)source)[at];
+    return target;
+}
+
+__attribute__((weak)) void *memset(void *target, int byte, unsigned long size) {
+    for (unsigned long at = 0; at < size; at++) ((char *)target)[at] = (char)byte;
+    return target;
+}
+
 #endif
