@@ -12,21 +12,27 @@ import shutil
 import subprocess
 import tempfile
 import threading
+from collections.abc import Callable
+from typing import TextIO
 
+# For each crate, the libraries that it stands on.
+Libraries = dict[str, list[str]]
+# Tells of a crate whether it is proved, how many are so far, and of how many.
+Tell = Callable[[str, bool, int, int], None]
 # The folders of a crate's sources.
 PARTS = ["src", "specs", "proofs"]
 # What `rt` keeps of a crate: the library, and the work that a later check begins with.
 KEPT = ["rlib", "incremental"]
 
 
-def libraries_of(root):
+def libraries_of(root: pathlib.Path) -> Libraries:
     """The crates of the repository that crates.txt names for each crate."""
     lines = [it.split(":") for it in (root / "crates.txt").read_text().splitlines() if ":" in it and it[0] != "#"]
     named = {head.split()[0]: tail.split() for head, tail in lines}
     return {crate: [it for it in libraries if it in named] for crate, libraries in named.items()}
 
 
-def below(libraries, crate):
+def below(libraries: Libraries, crate: str) -> set[str]:
     """All that a crate stands on."""
     found, left = set(), list(libraries[crate])
     while left:
@@ -37,7 +43,7 @@ def below(libraries, crate):
     return found
 
 
-def link_file(source, target):
+def link_file(source: str, target: str) -> None:
     """Gives a file a second name, or copies it where that can't be. `rt` replaces such a file, and changes none."""
     try:
         os.link(source, target)
@@ -45,7 +51,7 @@ def link_file(source, target):
         shutil.copy2(source, target)
 
 
-def link(source, target, crate):
+def link(source: pathlib.Path, target: pathlib.Path, crate: str) -> None:
     """Puts what one tree keeps of a crate into another one, each part in one step."""
     for part in KEPT:
         kept = pathlib.Path("crates", crate, "out", part)
@@ -60,24 +66,25 @@ def link(source, target, crate):
 class Proving:
     """The crates that one crate stands on: which are left, and which are proved. Workers share it."""
 
-    def __init__(self, root, top, log, tell):
+    def __init__(self, root: pathlib.Path, top: str, log: TextIO, tell: Tell):
         self.root, self.log, self.tell = root, log, tell
         self.libraries = libraries_of(root)
         self.left = below(self.libraries, top)
-        self.count, self.proved, self.failed, self.idle = len(self.left), set(), False, 0
+        self.count, self.failed, self.idle = len(self.left), False, 0
+        self.proved: set[str] = set()
         self.turn = threading.Condition()
         self.behind = self.chains(self.left)
 
-    def chains(self, crates):
+    def chains(self, crates: set[str]) -> dict[str, int]:
         """For each crate, the lines of it and of the longest chain of crates that wait for it."""
-        behind = {}
+        behind: dict[str, int] = {}
         for crate in sorted(crates, key=lambda it: -len(below(self.libraries, it))):
             above = [behind[it] for it in behind if crate in self.libraries[it]]
             files = [it for part in PARTS for it in (self.root / "crates" / crate / part).rglob("*") if it.is_file()]
             behind[crate] = sum(it.read_bytes().count(b"\n") for it in files) + max(above, default=0)
         return behind
 
-    def next_crate(self):
+    def next_crate(self) -> tuple[str, int] | None:
         """Takes the crate with the longest chain behind it of those whose libraries are proved. None at the end.
 
         Beside it, by how many jobs it is proved: one more for each worker that has nothing to do.
@@ -94,7 +101,7 @@ class Proving:
                 self.idle -= 1
         return None
 
-    def take(self, crate, is_proved, said):
+    def take(self, crate: str, is_proved: bool, said: str) -> None:
         """Notes how the check of a crate ended, and what it said."""
         with self.turn:
             self.log.write(f"== {crate}\n{said}")
@@ -104,7 +111,7 @@ class Proving:
             self.tell(crate, is_proved, len(self.proved), self.count)
             self.turn.notify_all()
 
-    def work(self, room):
+    def work(self, room: pathlib.Path) -> None:
         """Proves crates in a room until all are taken or one is not proved."""
         while taken := self.next_crate():
             crate, jobs = taken
@@ -114,7 +121,7 @@ class Proving:
             finally:
                 self.take(crate, is_proved, said)
 
-    def prove_in(self, room, crate, jobs):
+    def prove_in(self, room: pathlib.Path, crate: str, jobs: int) -> tuple[bool, str]:
         """Proves a crate in a room by so many jobs. Whether it is proved, and what was said."""
         for name in below(self.libraries, crate):
             if not (room / "crates" / name / "out").exists():
@@ -127,7 +134,7 @@ class Proving:
         return ran.returncode == 0, ran.stdout
 
 
-def copy_sources(root, room):
+def copy_sources(root: pathlib.Path, room: pathlib.Path) -> None:
     """Copies what `rt` reads of the repository."""
     room.mkdir()
     shutil.copy2(root / "crates.txt", room)
@@ -137,7 +144,7 @@ def copy_sources(root, room):
                 shutil.copytree(crate / part, room / "crates" / crate.name / part)
 
 
-def prove(root, top, workers, log, tell):
+def prove(root: pathlib.Path, top: str, workers: int, log: TextIO, tell: Tell) -> bool:
     """Proves all that a crate stands on, by so many workers. Whether all is proved."""
     proving = Proving(root, top, log, tell)
     # Beside the repository files can be linked.

@@ -94,7 +94,7 @@ class Browser:
             raise RuntimeError(f"{script}: {answer['exceptionDetails'].get('exception', {}).get('description')}")
         return answer["result"].get("value")
 
-    def wait(self, script, seconds=60):
+    def wait(self, script, seconds=240):
         """Waits until a script is true."""
         waited = f"""new Promise((resolve, reject) => {{
             const until = performance.now() + {1000 * seconds};

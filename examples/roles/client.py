@@ -9,6 +9,7 @@ ENDPOINTS are the URLs of etcd's nodes, with commas between. ARGUMENT is text. E
 import json
 import os
 import pathlib
+import queue
 import secrets
 import shlex
 import sys
@@ -84,12 +85,33 @@ def envelope(answers: list[str]) -> str:
     return payloads.pop() + f"{len(words):02x}" + "".join(endorsement for _, _, endorsement in words)
 
 
+def answers_of(endorsers: list[Endorser]) -> list[str]:
+    """The next answer of each endorser. One that has ended is told at once, also where another one takes its time."""
+    told: queue.SimpleQueue[tuple[int, str | NotEndorsed]] = queue.SimpleQueue()
+
+    def hear(place: int) -> None:
+        try:
+            told.put((place, endorsers[place].answers(1)[0]))
+        except NotEndorsed as error:
+            told.put((place, error))
+
+    for place in range(len(endorsers)):
+        threading.Thread(target=hear, args=(place,), daemon=True).start()
+    answers: dict[int, str] = {}
+    while len(answers) < len(endorsers):
+        place, answer = told.get()
+        if isinstance(answer, NotEndorsed):
+            raise answer
+        answers[place] = answer
+    return [answers[place] for place in range(len(endorsers))]
+
+
 def endorsed(endorsers: list[Endorser], call: str) -> str:
     """The envelope of a call. It is begun again as long as endorsers answer differently, as some of them may be behind."""
     for _ in range(TRIES):
         for endorser in endorsers:
             endorser.ask([call])
-        answers = [endorser.answers(1)[0] for endorser in endorsers]
+        answers = answers_of(endorsers)
         if len({tuple(it.split()[:2]) for it in answers}) == 1:
             break
         time.sleep(PAUSE)

@@ -1,0 +1,128 @@
+"""ROLES.md by hand, over one node of etcd: two members, a client, and what each says where something is missing."""
+import contextlib
+import dataclasses
+import os
+import pathlib
+import socket
+import subprocess
+import sys
+import time
+from collections.abc import Callable, Iterator
+
+from pages import Block, Typist
+from report import Report, end, run, start
+from tree import ENVIRONMENT
+
+# How long something may take to come about, and a complaint to be made, in seconds.
+PATIENCE, AT_ONCE = 60, 10
+GENESIS = "examples/assets/genesis.json"
+# What ./ledger says of the program that it runs.
+ABOUT_THE_PROGRAM = ("ledger: unproved", "ledger: sources are newer")
+
+
+@dataclasses.dataclass
+class Node:
+    """A node of etcd, and the environment that leads to it."""
+    endpoint: str
+    env: dict[str, str]
+
+
+def free_port() -> int:
+    with socket.create_server(("127.0.0.1", 0)) as taken:
+        return taken.getsockname()[1]
+
+
+def wait_until(is_so: Callable[[], bool]) -> bool:
+    until = time.monotonic() + PATIENCE
+    while not is_so() and time.monotonic() < until:
+        time.sleep(0.1)
+    return is_so()
+
+
+@contextlib.contextmanager
+def running(command: list, folder: pathlib.Path, out: pathlib.Path, env: dict[str, str]) -> Iterator[subprocess.Popen]:
+    """A process that works beside, its output in a file. It is ended at the end."""
+    with open(out, "w") as file:
+        process = subprocess.Popen(command, cwd=folder, env={**os.environ, **env}, start_new_session=True,
+                                   stdin=subprocess.DEVNULL, stdout=file, stderr=file, text=True)
+    try:
+        yield process
+    finally:
+        end(process)
+
+
+@contextlib.contextmanager
+def node_of_etcd(room: pathlib.Path) -> Iterator[Node]:
+    client, peer = (f"http://127.0.0.1:{free_port()}" for _ in range(2))
+    command = ["etcd", "--data-dir", room / "etcd", "--listen-client-urls", client, "--advertise-client-urls", client,
+               "--listen-peer-urls", peer, "--initial-advertise-peer-urls", peer, "--initial-cluster", f"default={peer}"]
+    with running(command, room, room / "etcd.out", ENVIRONMENT):
+        yield Node(client, {**ENVIRONMENT, "ETCDCTL_API": "3", "ETCDCTL_ENDPOINTS": client})
+
+
+def by_hand(report: Report, tree: pathlib.Path, room: pathlib.Path, typist: Typist, blocks: list[Block]) -> None:
+    """Types what ROLES.md says of a genesis, a member and a client."""
+    (tree / "genesis.json").write_bytes((tree / GENESIS).read_bytes())
+    first, member, client = (next(it for it in blocks if it.text.startswith(word))
+                             for word in ("etcdctl put log/genesis", "examples/roles/member.py", "examples/roles/client.py"))
+    typist.typed.add(member)
+    with node_of_etcd(room) as node:
+        env = {**node.env, "PATH": f"{tree}:{node.env['PATH']}"}
+        is_there = ["etcdctl", "endpoint", "health"]
+        report.case("etcd is there", wait_until(lambda: run(is_there, tree, AT_ONCE, env).status == 0))
+        typist.type(report, [first, Block(first.document, first.line, "", "OK")], env=env)
+        run(["etcdctl", "put", "log/noise", "no envelope\nseen by nobody\n00ff"], tree, AT_ONCE, env)
+        texts = [member.text, member.text.replace("Maker", "Carrier").replace("maker", "carrier")]
+        outs = [room / "maker.out", room / "carrier.out"]
+        commands = [["bash", "-c", f"exec {text} --seen 1"] for text in texts]
+        with running(commands[0], tree, outs[0], env), running(commands[1], tree, outs[1], env):
+            for out in outs:
+                report.case(f"{out.name}: a member begins", wait_until(lambda: "height 0" in out.read_text()), out.read_text())
+            typist.type(report, [client, Block(client.document, client.line, "", "put as call-..")], env=env,
+                        instead={"ssh maker ": ""})
+            follow(report, outs)
+            complain(report, tree, room, env)
+
+
+def follow(report: Report, outs: list[pathlib.Path]) -> None:
+    """Both members commit the call, tell of noise, and nothing of what they tell each other."""
+    for out in outs:
+        told = wait_until(lambda: "committed 1 flags 0" in out.read_text())
+        report.case(f"{out.name}: the call is committed", told, out.read_text())
+    time.sleep(2)
+    for out in outs:
+        skipped = [it.split()[2] for it in out.read_text().splitlines() if it.startswith("skipped")]
+        report.case(f"{out.name}: what is skipped", skipped == ["300", "300", "304"], out.read_text())
+        told = out.read_text().count("told the hash of block 1")
+        report.case(f"{out.name}: the hash is told", told == 1, out.read_text())
+
+
+def complain(report: Report, tree: pathlib.Path, room: pathlib.Path, env: dict[str, str]) -> None:
+    """What is missing is told in one sentence, at once, with status 1."""
+    endpoint, closed = env["ETCDCTL_ENDPOINTS"], f"http://127.0.0.1:{free_port()}"
+    bare = room / "bare"
+    bare.mkdir()
+    without = {**env, "PATH": str(bare)}
+    call = [sys.executable, tree / "examples/roles/client.py"]
+    member = [sys.executable, tree / "examples/roles/member.py", "Shop", GENESIS, room / "shop.store"]
+    endorser = f"{tree}/ledger endorse {GENESIS} Carrier carrier.store"
+    with socket.create_server(("127.0.0.1", 0)) as silent:
+        mute = f"http://127.0.0.1:{silent.getsockname()[1]}"
+        for name, command, room_ in [
+            ("a client without a program", [*call, endpoint, "assets", "list", "ledger-of-nobody endorse"], env),
+            ("a client with a dead endorser", [*call, endpoint, "assets", "list", endorser, "false"], env),
+            ("a client with an endorser that refuses", [*call, endpoint, "assets", "list", "ledger endorse none A none"], env),
+            ("a client with half a command", [*call, endpoint, "assets", "list", "ledger 'endorse"], env),
+            ("a client without etcd", [*call, closed, "assets", "list", endorser], env),
+            ("a client with a mute etcd", [*call, mute, "assets", "list", endorser], env),
+            ("a member without a program", [*member, endpoint, "--program", room / "none"], env),
+            ("a member without etcdctl", [*member, endpoint, "--program", tree / "ledger"], without),
+            ("a member without etcd", [*member, closed], env),
+            ("a member with a mute etcd", [*member, mute], env),
+        ]:
+            began = time.monotonic()
+            ran = run(command, tree, PATIENCE, room_)
+            took = time.monotonic() - began
+            lines = [it for it in ran.err.splitlines() if not it.startswith(ABOUT_THE_PROGRAM)]
+            is_told = ran.status == 1 and not ran.out and len(lines) == 1 and "Traceback" not in ran.err and took < AT_ONCE
+            report.case(name, is_told, f"status {ran.status} after {took:.1f} s\n{ran.out}{ran.err}")

@@ -1,0 +1,155 @@
+"""The parts of the test: each types what some documents say, or runs what they send people to."""
+import hashlib
+import os
+import pathlib
+import re
+import sys
+from collections.abc import Callable
+
+import members
+from calling import find_pieces
+from pages import Block, Typist, blocks_of
+from report import Report, run
+from tree import ENVIRONMENT, ROOT
+
+# How long a script may take to say how it is used, and how long tests may take, in seconds.
+SHORT, LONG = 30, 550
+# The folders whose scripts people run, and those of which they import modules.
+SCRIPTS = ["ledger", "docs/definitions", "docs/stands-on", "bench/hostile", "test/documents", "examples/chaincode/build.sh",
+           "examples/assets/*.py", "examples/page/*.py", "examples/page/test", "examples/roles/*.py", "examples/roles/plain",
+           "examples/roles/run"]
+# A C source of which clang copies a struct and fills one with zeros.
+STRUCTS = """
+#include "fabric.h"
+struct big { char bytes[200]; };
+static struct big one, two;
+__attribute__((export_name("invoke"))) int invoke(void) {
+    struct big zeros = {{0}};
+    if (get_arg(&one, sizeof one) > (int)sizeof one) return 1;
+    two = one;
+    if (put_state("a", 1, &two, 3)) return 2;
+    return put_state("b", 1, &zeros, 3);
+}
+"""
+
+
+class Setting:
+    """Where a part works: a folder of its own with a copy of the repository in it."""
+
+    def __init__(self, tree: pathlib.Path, room: pathlib.Path):
+        self.tree, self.room = tree, room
+        # What is left in a folder for temporary files goes away with this one.
+        self.env = {**ENVIRONMENT, "TMPDIR": str(room / "tmp")}
+        self.typist = Typist(tree, room / "typed")
+
+    def type(self, report: Report, blocks: list[Block], **more: dict) -> None:
+        self.typist.type(report, blocks, env=self.env, **more)
+
+    def run(self, report: Report, name: str, command: list, seconds: float = LONG) -> str:
+        """Runs a command, which has to end with status 0. What it prints."""
+        ran = run(command, self.tree, seconds, self.env)
+        report.case(name, ran.status == 0, f"status {ran.status}\n{ran.out[-1500:]}{ran.err[-1500:]}")
+        return ran.out
+
+
+def readme(report: Report, at: Setting) -> None:
+    blocks = [it for it in blocks_of(at.tree, "README.md") if it.text != "rt ci"]
+    at.type(report, blocks)
+    page = at.tree / "chain.html"
+    report.case("README.md: the page is whole", page.exists() and page.read_text().rstrip().endswith("</html>"))
+
+
+def tutorial(report: Report, at: Setting) -> None:
+    at.type(report, blocks_of(at.tree, "docs/TUTORIAL.md"))
+
+
+def formats(report: Report, at: Setting) -> None:
+    genesis, store = "examples/assets/genesis.json", "formats.store"
+    at.run(report, "a store to show", ["./ledger", "run", genesis, "examples/assets/events.jsonl", "--store", store])
+    at.type(report, blocks_of(at.tree, "docs/FORMATS.md"), instead={"GENESIS": genesis, "STORE": store})
+
+
+def scripts(report: Report, at: Setting) -> None:
+    """Each script says how it is used, from any folder, and does nothing else."""
+    for pattern in SCRIPTS:
+        for script in sorted(at.tree.glob(pattern)):
+            is_python = script.read_bytes().startswith((b'"""', b"#!/usr/bin/env python3"))
+            command = [sys.executable, script] if is_python else [script]
+            ran = run([*command, "--help"], pathlib.Path("/"), SHORT)
+            is_said = ran.status == 0 and ran.out.strip() != "" and "Traceback" not in ran.out + ran.err
+            report.case(f"{script.relative_to(at.tree)} --help", is_said, f"status {ran.status}\n{ran.out}{ran.err}"[-800:])
+
+
+def chaincode(report: Report, at: Setting) -> None:
+    """The builds of CHAINCODE.md, of its own two examples too, and of the modules that are kept here."""
+    blocks = blocks_of(at.tree, "docs/CHAINCODE.md")
+    example, manifest = at.tree / "register.c", at.tree / "examples/chaincode/register"
+    example.write_text(next(it.text for it in blocks if it.language == "c"))
+    (manifest / "src").mkdir(parents=True)
+    (manifest / "src/lib.rs").write_text(next(it.text for it in blocks if it.language == "rust"))
+    settings = next(it.text for it in blocks if it.language == "toml")
+    (manifest / "Cargo.toml").write_text(f'[package]\nname = "register"\nversion = "0.1.0"\nedition = "2021"\n\n{settings}\n')
+    at.type(report, blocks, folders={"RUSTFLAGS": manifest})
+    built = manifest / "target/wasm32-unknown-unknown/release/register.wasm"
+    said = at.run(report, "the module in Rust is valid", ["./ledger", "check", built])
+    report.case("the module in Rust is one", said.startswith("valid functions="), said)
+    build(report, at)
+    copy_a_struct(report, at)
+
+
+def build(report: Report, at: Setting) -> None:
+    """Builds the modules again, with a wasm-opt at hand that must not be asked: they are those that are kept."""
+    folder = at.tree / "examples/chaincode"
+    kept = {it.name: it.read_bytes() for it in folder.glob("*.wasm")}
+    for module in folder.glob("*.wasm"):
+        module.unlink()
+    optimizer = at.room / "bin" / "wasm-opt"
+    optimizer.parent.mkdir()
+    optimizer.write_text("#!/bin/sh\necho wasm-opt was run >&2\nexit 1\n")
+    optimizer.chmod(0o755)
+    path = f"{optimizer.parent}:{ENVIRONMENT['PATH']}"
+    ran = run([folder / "build.sh"], at.tree, LONG, {**at.env, "PATH": path})
+    report.case("build.sh", ran.status == 0, f"status {ran.status}\n{ran.out}{ran.err}")
+    for name, before in kept.items():
+        now = (folder / name).read_bytes() if (folder / name).exists() else b""
+        digests = [hashlib.sha256(it).hexdigest() for it in (before, now)]
+        report.case(f"the digest of {name}", before == now, f"kept {digests[0]}, built {digests[1]}")
+
+
+def copy_a_struct(report: Report, at: Setting) -> None:
+    """What fabric.h has for copies of structs works, at the levels that are used."""
+    flags = "--target=wasm32 -mcpu=mvp -ffreestanding -fno-builtin -Wall -Wextra -Werror -Iexamples/chaincode -c".split()
+    (at.room / "structs.c").write_text(STRUCTS)
+    module, genesis = at.room / "structs.wasm", at.room / "structs.json"
+    for level in ("-Oz", "-O2"):
+        built = at.room / "structs.o"
+        at.run(report, f"structs {level}: compiled", ["clang", *flags, level, "-o", built, at.room / "structs.c"])
+        at.run(report, f"structs {level}: linked", ["wasm-ld", "--no-entry", "-z", "stack-size=8192", "-o", module, built])
+        text = (at.tree / "examples/assets/genesis.json").read_text()
+        genesis.write_text(re.sub('"module": "[0-9a-f]+"', f'"module": "{module.read_bytes().hex()}"', text, count=1))
+        said = at.run(report, f"structs {level}: simulated", ["./ledger", "sim", genesis, "assets", "616263"])
+        report.case(f"structs {level}: its writes", said.endswith("write 61 put 616263\nwrite 62 put 000000\n"), said)
+
+
+def page(report: Report, at: Setting) -> None:
+    at.run(report, "examples/page/test", ["examples/page/test"])
+
+
+def roles(report: Report, at: Setting) -> None:
+    """ROLES.md with a real etcd: the demo, and one organisation after another by hand."""
+    blocks = blocks_of(at.tree, "docs/ROLES.md")
+    demo = next(place for place, it in enumerate(blocks) if it.text == "examples/roles/run")
+    # On a busy machine the unproved program may need longer than the demo's own 300 seconds.
+    at.type(report, blocks[demo:demo + 2], instead={"examples/roles/run": "examples/roles/run --seconds 500"})
+
+
+def by_hand(report: Report, at: Setting) -> None:
+    members.by_hand(report, at.tree, at.room, at.typist, blocks_of(at.tree, "docs/ROLES.md"))
+
+
+def calling(report: Report, at: Setting) -> None:
+    find_pieces(report, at.tree, blocks_of(at.tree, "docs/CALLING.md"))
+
+
+# Those that take long come first.
+PARTS: list[Callable[[Report, Setting], None]] = [roles, page, chaincode, by_hand, tutorial, readme, formats, scripts, calling]

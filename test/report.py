@@ -1,0 +1,107 @@
+"""What the parts of the test find, and how they run commands."""
+import dataclasses
+import os
+import pathlib
+import signal
+import subprocess
+import time
+
+# How long a process may take to end once it is asked to, in seconds.
+GRACE = 20
+
+
+@dataclasses.dataclass
+class Ran:
+    """How a command ended: its status, which is None where it took too long, and what it printed."""
+    status: int | None
+    out: str
+    err: str
+
+
+class Report:
+    """The cases of one part."""
+
+    def __init__(self, part: str):
+        self.part, self.passed = part, 0
+        self.failures: list[str] = []
+        self.began = time.monotonic()
+
+    def case(self, name: str, is_so: bool, why: str = "") -> bool:
+        """Counts a case."""
+        if is_so:
+            self.passed += 1
+        else:
+            self.failures.append(f"{name}\n{why}".rstrip().replace("\n", "\n    "))
+        return is_so
+
+    def summary(self) -> str:
+        took = time.monotonic() - self.began
+        lines = [f"{self.part}: FAILED: {it}" for it in self.failures]
+        return "\n".join([*lines, f"{self.part}: {self.passed} passed, {len(self.failures)} failed, {took:.1f} s"])
+
+
+def start(command: list, folder: pathlib.Path, env: dict[str, str] | None = None) -> subprocess.Popen[str]:
+    """A process in a session of its own, without an input, whose output is read."""
+    return subprocess.Popen(command, cwd=folder, env={**os.environ, **(env or {})}, start_new_session=True, text=True,
+                            errors="replace", stdin=subprocess.DEVNULL, stdout=subprocess.PIPE, stderr=subprocess.PIPE)
+
+
+def end(process: subprocess.Popen[str]) -> tuple[str, str]:
+    """Ends a process and its group. What it printed last."""
+    for number in (signal.SIGTERM, signal.SIGKILL):
+        try:
+            os.killpg(process.pid, number)
+        except ProcessLookupError:
+            pass
+        try:
+            return process.communicate(timeout=GRACE)
+        except subprocess.TimeoutExpired:
+            pass
+    return "", ""
+
+
+def run(command: list, folder: pathlib.Path, seconds: float, env: dict[str, str] | None = None) -> Ran:
+    """Runs a command, for so many seconds at most."""
+    process = start(command, folder, env)
+    try:
+        out, err = process.communicate(timeout=seconds)
+        return Ran(process.returncode, out, err)
+    except subprocess.TimeoutExpired:
+        out, err = end(process)
+        return Ran(None, out, f"{err}no end within {seconds:g} s")
+
+
+def children() -> list[int]:
+    """The processes that this one started, and that they started, as long as each has its parent."""
+    parents: dict[int, list[int]] = {}
+    for stat in pathlib.Path("/proc").glob("[0-9]*/stat"):
+        try:
+            parent = int(stat.read_text().rpartition(")")[2].split()[1])
+        except OSError:
+            continue
+        parents.setdefault(parent, []).append(int(stat.parent.name))
+    found, left = [], [os.getpid()]
+    while left:
+        more = parents.get(left.pop(), [])
+        found += more
+        left += more
+    return found
+
+
+def end_children() -> list[int]:
+    """Kills whatever is left of what was started, each by its number. Which processes these were."""
+    left = [it for it in children() if is_alive(it)]
+    for number in left:
+        try:
+            os.kill(number, signal.SIGKILL)
+        except ProcessLookupError:
+            pass
+    return left
+
+
+def is_alive(number: int) -> bool:
+    """Whether a process is there that has not ended."""
+    try:
+        return pathlib.Path(f"/proc/{number}/stat").read_text().rpartition(")")[2].split()[0] != "Z"
+    except OSError:
+        return False

@@ -1,0 +1,54 @@
+"""The commands of the documents that the test does not type, with the reason."""
+from pages import Block, blocks_of
+from report import Report
+from tree import ROOT
+
+LONG = "too long"
+MACHINES = "needs three machines and certificates; the parts roles and by_hand do it on one"
+MEASURES = "measures, and no test depends on it"
+# The first line of a block, and why it is not typed.
+REASONS = {
+    ("README.md", "rt ci"): f"{LONG}: it is the gate, behind which this test runs",
+    ("docs/ROLES.md", "ln -s"): "changes the machine; the part by_hand has the folder on the PATH",
+    ("docs/ROLES.md", "etcd --name maker"): MACHINES,
+    ("docs/ROLES.md", "export ETCDCTL_API=3"): MACHINES,
+    ("bench/README.md", "bench/run"): MEASURES,
+    ("bench/README.md", "bench/build.sh"): "makes what bench/run measures",
+    ("bench/README.md", "bench/untuned/build.sh"): "makes what bench/run measures",
+    ("bench/README.md", "bench/compare"): MEASURES,
+    ("bench/README.md", "bench/plot"): "draws figures",
+    ("bench/README.md", "bench/state"): MEASURES,
+    ("bench/README.md", "bench/threads"): MEASURES,
+    ("bench/README.md", "bench/roles"): MEASURES,
+    ("bench/README.md", "bench/gate"): LONG,
+    ("bench/README.md", "bench/plants"): LONG,
+    ("bench/README.md", "bench/hostile"): LONG,
+}
+# Commands within the text.
+WITHIN_TEXT = {"./ledger prove": LONG, "rt check, rt try, rt tidy ..": "for those who change crates; the gate does as much"}
+
+
+def documents() -> list[str]:
+    names = [*ROOT.glob("*.md"), *ROOT.glob("docs/*.md"), *ROOT.glob("bench/*.md")]
+    return sorted(str(it.relative_to(ROOT)) for it in names)
+
+
+def reason(block: Block) -> str | None:
+    found = (why for (document, word), why in REASONS.items() if block.document == document and block.text.startswith(word))
+    return next(found, None)
+
+
+def compare(report: Report, typed: set[Block]) -> None:
+    """Lists the commands that were not typed. Each has to have a reason, and each reason a command."""
+    commands = [it for name in documents() for it in blocks_of(ROOT, name) if it.is_command()]
+    places = {(it.document, it.line) for it in typed}
+    for command in commands:
+        if (command.document, command.line) not in places:
+            why = reason(command)
+            print(f"not typed: {command}: {why}")
+            report.case(f"typed, or with a reason: {command}", why is not None)
+    for words, why in WITHIN_TEXT.items():
+        print(f"not typed: {words}: {why}")
+    for document, word in REASONS:
+        is_there = any(it.document == document and it.text.startswith(word) for it in commands)
+        report.case(f"a reason for what is there: {document}: {word}", is_there)
