@@ -1,0 +1,4 @@
+mod Equations
+mod Agreeing
+mod Uniqueness
+mod SmallOrders

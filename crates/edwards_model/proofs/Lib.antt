@@ -1,0 +1,15 @@
+pub mod Ring
+pub mod Homogeneous
+pub mod Closing
+pub mod Associating
+pub mod Pigeons
+pub mod Lucas
+pub mod Primality
+pub mod Units
+pub mod Complete
+pub mod Representing
+pub mod Rooting
+pub mod Doubling
+pub mod Group
+pub mod Decoding
+pub mod Ordering

@@ -1,0 +1,10 @@
+use Rattle.edwards_model.proofs.Group as group
+use Rattle.edwards_model.proofs.points_are_group.Goals as goal
+
+pub returns : goal.returns
+returns c = record {
+  closed = group.sum_is_point;
+  associative = group.associative;
+  commutative = group.commutative;
+  with_neutral = group.with_neutral;
+}
