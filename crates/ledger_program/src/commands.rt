@@ -13,7 +13,7 @@ use ledger_lines::{Failure, Files, Printer};
 use ledger_roles::{commit, endorse};
 use ledger_session::run;
 use ledger_setting::Genesis;
-use ledger_show::{audit, check, show, simulate, state, trace};
+use ledger_show::{audit, check, digest, show, simulate, state, trace};
 use ledger_words::{Task, WordsFault, Work, parse};
 use std::alloc::Global;
 use std::io::Write;
@@ -21,6 +21,7 @@ use std::sync::Wait;
 use std::thread::Threads;
 
 const USAGE: &str = "usage: ledger check MODULE [--profile N]
+       ledger digest MODULE [--profile N]
        ledger sim GENESIS CHAINCODE ARG [--nonce HEX] [--store FILE]
        ledger run GENESIS EVENTS [--store FILE]
        ledger threads GENESIS CHAINCODE ROUNDS
@@ -33,6 +34,8 @@ const USAGE: &str = "usage: ledger check MODULE [--profile N]
        ledger endorse GENESIS ORG STORE
   check    tells whether the file MODULE is a valid module of profile N: 1, the default, or 2, which
            has the sign-extension operators too
+  digest   prints the digest of the file MODULE, by which an upgrade names it, where check finds it
+           valid
   sim      simulates a call of CHAINCODE with the argument ARG (hex, or - for none) on the empty
            state, or on that after the store FILE; the nonce is 16 bytes of hex, zeros by default
   run      runs the events of the file EVENTS, one JSON object a line, on the system that the
@@ -133,6 +136,7 @@ fn carry_out<R: Threads + Wait + Sync + Send + Copy + 'static, F: Files, W: Writ
 {
     match parse(alloc, words) {
         Ok(Task::Check { module, profile }) => check(alloc, files, module, profile, out),
+        Ok(Task::Digest { module, profile }) => digest(alloc, files, module, profile, out),
         Ok(Task::Order { genesis }) => order_log(alloc, files, genesis, out),
         Ok(Task::Work { genesis, work }) => { with_genesis(rt, alloc, files, genesis, &work, out) }
         Err(WordsFault::Memory) => Err(Failure::Memory),

@@ -1,7 +1,7 @@
 //! The program of the ledger: all of it but the machine that it runs on.
 //!
 //! - `check MODULE` tells whether the bytes of a file are a valid module of a profile, how many
-//!   functions it defines, and its digest.
+//!   functions it defines, and how many bytes it has; `digest MODULE` tells the digest of one.
 //! - `sim GENESIS CHAINCODE ARG` simulates one call, on the empty state or on that after a store.
 //! - `run GENESIS EVENTS` runs the events of a file on the system that the genesis opens, and
 //!   writes the chain of its first peer.

@@ -1,4 +1,4 @@
-//! The commands of the ledger's program that show a module ([`check`]), a call ([`simulate`], and
+//! The commands of the ledger's program that show a module ([`check`], [`digest`]), a call ([`simulate`], and
 //! [`trace`] step by step) or a store ([`audit`], [`show`] and [`state`]), whose chain is committed
 //! again.
 //!
@@ -23,7 +23,7 @@ mod writes;
 
 pub use auditing::audit;
 pub use chain::print_chain;
-pub use checking::check;
+pub use checking::{check, digest};
 pub use entries::print_state;
 pub use findings::print_ending;
 pub use showing::{show, state};

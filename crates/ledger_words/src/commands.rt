@@ -11,8 +11,9 @@ type Form = (
 );
 
 /// All commands. They stand in a table, since each place that hands a command on is dear to prove.
-const COMMANDS: [Form; 11] = [
+const COMMANDS: [Form; 12] = [
     ("check", &["MODULE"], &["profile"]),
+    ("digest", &["MODULE"], &["profile"]),
     ("sim", &["GENESIS", "CHAINCODE", "ARG"], &["nonce", "store"]),
     ("run", &["GENESIS", "EVENTS"], &["store"]),
     ("threads", &["GENESIS", "CHAINCODE", "ROUNDS"], &[]),

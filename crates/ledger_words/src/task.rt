@@ -17,6 +17,8 @@ const MOST_COUNT: u32 = 1_000;
 pub enum Task<'a> {
     /// Tell whether the bytes of a file are a valid module of a profile.
     Check { module: &'a str, profile: Profile },
+    /// Tell the digest of the bytes of a file that are a valid module of a profile.
+    Digest { module: &'a str, profile: Profile },
     /// Cut the blocks of a log that comes line by line, by the limits of a genesis.
     Order { genesis: &'a str },
     /// Do this with the chaincodes, organisations and peers of a genesis.
@@ -122,6 +124,7 @@ fn task_of<'a>(alloc: Global, matches: &ArgMatches<'a>) -> Result<Task<'a>, Word
     };
     match name {
         "check" => check(command),
+        "digest" => digest(command),
         "order" => order(command),
         name => of_genesis(alloc, name, command),
     }
@@ -129,8 +132,14 @@ fn task_of<'a>(alloc: Global, matches: &ArgMatches<'a>) -> Result<Task<'a>, Word
 
 fn check<'a>(command: &ArgMatches<'a>) -> Result<Task<'a>, WordsFault> {
     let module = text(command, "MODULE")?;
-    let profile = profile(command.get_str("profile").unwrap_or("1"))?;
+    let profile = profile_of(command)?;
     Ok(Task::Check { module, profile })
+}
+
+fn digest<'a>(command: &ArgMatches<'a>) -> Result<Task<'a>, WordsFault> {
+    let module = text(command, "MODULE")?;
+    let profile = profile_of(command)?;
+    Ok(Task::Digest { module, profile })
 }
 
 fn order<'a>(command: &ArgMatches<'a>) -> Result<Task<'a>, WordsFault> {
@@ -267,9 +276,9 @@ fn key(alloc: Global, digits: Option<&str>) -> Result<Option<Key>, WordsFault> {
     }
 }
 
-/// The profile of a number, which is `1` or `2`.
-fn profile(number: &str) -> Result<Profile, WordsFault> {
-    match number {
+/// The profile by whose number, `1` or `2`, the words ask for a module. It is 1 where they name none.
+fn profile_of(command: &ArgMatches<'_>) -> Result<Profile, WordsFault> {
+    match command.get_str("profile").unwrap_or("1") {
         "1" => Ok(Profile::Core1),
         "2" => Ok(Profile::SignExtension),
         _ => Err(WordsFault::Usage),
