@@ -24,6 +24,7 @@ failure_text (failure.Simulation refusal) = simulation_text refusal
 failure_text failure.NoPlace = Some (codes "refused 431")
 failure_text failure.NoEntry = Some (codes "refused 432")
 failure_text (failure.Commit refusal) = Some (refused (commit_number refusal))
+failure_text (failure.Flags n) = Some (codes "refused 711 block " ++ decimal n)
 failure_text (failure.Store end) = Some (codes "refused " ++ end_text end)
 failure_text (failure.BadLine n) = Some (codes "bad line " ++ decimal n)
 failure_text failure.Printed = Some []

@@ -33,6 +33,8 @@ pub enum Failure {
     NoEntry,
     /// A block of a store does not fit.
     Commit(CommitRefusal),
+    /// The block of this number is stored with other flags than the table's.
+    Flags(usize),
     /// A store does not end with its last record.
     Store(End),
     /// A line of the events, counted from 1, stands for nothing that can be done.
@@ -60,6 +62,7 @@ impl Display for Failure {
             Failure::NoPlace => write!(f, "refused 431"),
             Failure::NoEntry => write!(f, "refused 432"),
             Failure::Commit(refusal) => write!(f, "{refusal}"),
+            Failure::Flags(block) => write!(f, "refused 711 block {block}"),
             Failure::Store(end) => write!(f, "refused {end}"),
             Failure::BadLine(number) => write!(f, "bad line {number}"),
             Failure::Usage | Failure::Printed | Failure::Output => Ok(()),

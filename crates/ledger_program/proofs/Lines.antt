@@ -24,6 +24,7 @@ last_of_text (failure.Simulation refusal) P h = with_end (failure_text (failure.
 last_of_text failure.NoPlace P h = h
 last_of_text failure.NoEntry P h = h
 last_of_text (failure.Commit refusal) P h = h
+last_of_text (failure.Flags n) P h = h
 last_of_text (failure.Store end) P h = h
 last_of_text (failure.BadLine n) P h = h
 

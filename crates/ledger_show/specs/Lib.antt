@@ -1,3 +1,5 @@
 pub mod Spans
 pub mod Lines
 pub mod Findings
+pub mod Modules
+pub mod Answers

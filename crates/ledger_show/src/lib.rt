@@ -4,8 +4,8 @@
 //!
 //! `show` and `state` print that chain, and the state after it, as lines of JSON (`chain_json`).
 //! [`print_chain`] prints what the genesis sets and the blocks, and [`print_ending`] what is found
-//! of them. [`print_state`] prints the entries of the state after a block, and [`print_writes`]
-//! each write to a key. Contracts say which lines the writer has then (`specs/Lines.antt`).
+//! of them. [`print_asked`] answers `state`: [`print_state`] prints the entries of the state after a
+//! block, and [`print_writes`] each write to a key. Contracts say which lines the writer has then (`specs/Lines.antt`).
 #![tactic(auto)]
 
 mod auditing;
@@ -26,7 +26,7 @@ pub use chain::print_chain;
 pub use checking::{check, digest};
 pub use entries::print_state;
 pub use findings::print_ending;
-pub use showing::{show, state};
+pub use showing::{print_asked, show, state};
 pub use simulation::simulate;
 pub use tracing::trace;
 pub use writes::print_writes;

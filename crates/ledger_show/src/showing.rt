@@ -1,6 +1,10 @@
 //! The commands `show` and `state`.
 
+ghost use Rattle.std.specs.Prelude.{◌≡◌, IfSome, OnOk, take};
 ghost use Rattle.ledger_lines.specs.Told.{Tells};
+ghost use Rattle.ledger_model.specs.Chain.{history};
+ghost use Rattle.ledger_show.specs.Answers.{fault_of, state_json};
+ghost use Rattle.ledger_show.specs.Lines.{HasLines, writes_json};
 
 use crate::chain::print_chain;
 use crate::entries::print_state;
@@ -53,8 +57,8 @@ fn print_shown<W: Write>(
 
 /// Prints the state after the block of a number, or each write to a key up to it, as lines of JSON.
 ///
-/// Refused where a block of the store does not fit, and where the store does not end with its last
-/// record. Flags that the store has are passed over.
+/// Refused where a block is stored with other flags than the table's (711), where one does not fit
+/// (601 to 604), and where the store does not end with its last record (701 to 703).
 pub fn state<F: Files, W: Write>(
     alloc: Global,
     files: &mut F,
@@ -70,8 +74,8 @@ pub fn state<F: Files, W: Write>(
     print_asked(alloc, &replayed, at, key, out)
 }
 
-/// Prints what was asked for of the state after a whole store.
-fn print_asked<W: Write>(
+/// Prints what is asked for of the state after a store, as `state` does.
+pub fn print_asked<W: Write>(
     alloc: Global,
     replayed: &Replayed,
     at: usize,
@@ -79,13 +83,36 @@ fn print_asked<W: Write>(
     out: &mut Printer<'_, W>,
 ) -> Result<(), Failure>
     ensures tells { Tells out.old out.new result }
+    ensures refused { IfSome (fault_of replayed.now) (λ failure.
+        (result ≡ Err failure) × (out.new ≡ out.old)) }
+    ensures state { key.entry ≡ None → OnOk result
+        (HasLines (state_json at replayed.now.snapshot) out.old.bytes out.new.bytes) }
+    ensures writes { IfSome key.entry (λ k. OnOk result
+        (HasLines (writes_json k.now (history (take at replayed.now.snapshot))) out.old.bytes
+        out.new.bytes)) }
 {
-    if let Some(refusal) = replayed.refused {
-        return Err(Failure::Commit(refusal));
+    if let Some(failure) = fault_of(replayed) {
+        return Err(failure);
     }
-    match (replayed.end, key) {
-        (End::Clean, None) => print_state(alloc, &replayed.snapshot, at, out),
-        (End::Clean, Some(key)) => print_writes(alloc, &replayed.snapshot, key, at, out),
-        (end, _) => Err(Failure::Store(end)),
+    match key {
+        None => print_state(alloc, &replayed.snapshot, at, out),
+        Some(key) => print_writes(alloc, &replayed.snapshot, key, at, out),
+    }
+}
+
+/// Why the state after a store is not told: what is wrong with the store first. None where it is
+/// whole, all its blocks fit, and all have the flags of the table.
+fn fault_of(replayed: &Replayed) -> Option<Failure>
+    ensures { result ≡ fault_of replayed.now }
+{
+    if let Some(block) = replayed.differs {
+        return Some(Failure::Flags(block));
+    }
+    if let Some(refusal) = replayed.refused {
+        return Some(Failure::Commit(refusal));
+    }
+    match replayed.end {
+        End::Clean => None,
+        end => Some(Failure::Store(end)),
     }
 }

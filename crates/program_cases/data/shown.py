@@ -187,6 +187,8 @@ def shown(words, folder):
         first, last = int(options.get("--from", 1)), int(options.get("--to", 65535))
         within = [it for it in blocks if first <= it["block"] <= last]
         return [setting_of(genesis), *within, found], int((found["audit"], found["end"]) != ("agrees", "clean"))
+    if found["audit"].startswith("flags differ"):
+        return [f"refused 711 block {found['audit'].split()[-1]}"], 1
     for refusal in found["audit"], found["end"]:
         if refusal.startswith("refused"):
             return [refusal], 1
