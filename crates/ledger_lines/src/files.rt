@@ -50,6 +50,9 @@ pub trait Files {
 
     /// The standard input, from where it was read to.
     fn input(&mut self) -> Self::Input;
+
+    /// Says a line to whoever runs the program, on the standard error.
+    fn remark(&mut self, line: &str);
 }
 
 /// Where that goes which is written under a name. A link stands for what it leads to.

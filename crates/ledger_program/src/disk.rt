@@ -85,4 +85,8 @@ impl Files for Disk<'_> {
     fn input(&mut self) -> Stdin {
         self.0.stdin()
     }
+
+    fn remark(&mut self, line: &str) {
+        let _ = eprintln!(self.0; "ledger: {line}");
+    }
 }

@@ -1,6 +1,12 @@
 //! What a line of a log says beside the mark that an orderer reads in it.
 
+ghost use Rattle.std.specs.Prelude.{ℕ, List};
+ghost use Rattle.orderer.specs.Ordering.{Ordering};
+ghost use Rattle.replicated_log.specs.Skipped.{IsSkippedBy};
+ghost use Rattle.ledger_roles.specs.Marks.{IsMarkOrNone};
+
 use hex::FromHex;
+use replicated_log::Skip;
 
 /// The index of a line, and its mark: what stands before the first space, and behind it.
 pub(crate) fn index_and_mark(line: &str) -> (&str, &str) {
@@ -12,6 +18,28 @@ pub(crate) fn names_another_genesis(mark: &str, digest: &str) -> bool {
     match mark.split_once(' ') {
         Some(("genesis", named)) => named != digest,
         _ => false,
+    }
+}
+
+/// Whether a mark that is none of an orderer leaves open which genesis file counts: it names none,
+/// and tells of no block.
+pub(crate) fn leaves_genesis_open(mark: &str) -> bool {
+    !matches!(mark.split_once(' '), Some(("genesis", _))) && seen_in(mark).is_none()
+}
+
+/// Whether a skipped line is an envelope or `tick` all the same.
+pub(crate) fn is_of_mark(skip: Skip) -> bool
+    ensures { (old : Ordering) (line : List ℕ) → IsSkippedBy skip old line →
+        IsMarkOrNone line result }
+{
+    match skip {
+        Skip::TooLarge | Skip::NoNumber => true,
+        Skip::NoHex
+        | Skip::EndedEarly
+        | Skip::EnvelopeLength
+        | Skip::NotCanonical
+        | Skip::Limit
+        | Skip::BytesLeft => false,
     }
 }
 

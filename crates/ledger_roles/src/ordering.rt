@@ -1,11 +1,15 @@
 //! The command `order`.
 
+ghost use Rattle.std.specs.Prelude.{IfOk};
 ghost use Rattle.orderer.specs.Ordering.{AreLimits};
 ghost use Rattle.ledger_setting.specs.Setting.{limits_of};
 ghost use Rattle.ledger_lines.specs.Told.{Tells};
+ghost use Rattle.ledger_roles.specs.Marks.{IsMarkOrNone};
 
 use crate::input::InputLines;
-use crate::marks::{index_and_mark, names_another_genesis, seen_in};
+use crate::marks::{
+    index_and_mark, is_of_mark, leaves_genesis_open, names_another_genesis, seen_in,
+};
 use fab_types::Block;
 use ledger_lines::{Failure, Files, Printer};
 use ledger_setting::Genesis;
@@ -14,13 +18,19 @@ use std::alloc::Global;
 use std::io::{Read, Write};
 use wire::{encode_block, header_hash};
 
+/// What is said of a log whose first line leaves open which genesis file counts.
+const LEFT_OPEN: &str =
+    "the log does not say which genesis file counts: let its first mark be `genesis <SHA-256>`";
+
 /// Reads the lines of a log, each an index and a mark, and prints the blocks that the log makes.
 ///
 /// Behind each line comes `read`, its index, and how many envelopes wait; before it what came of the
 /// mark: `aborted` for each transaction that is left out of a batch, `block` with the bytes of a
 /// block, and `skipped` with the reason where the mark asks for nothing that can be done. Before a
 /// skipped mark comes `forked`, where it says that an organisation has seen another block of a number
-/// than this log's. A first line that names another genesis by its file's digest ends it.
+/// than this log's. A first line that names another genesis by its file's digest ends it. One that
+/// says nothing that an orderer or its readers know is told on the standard error: so nobody takes
+/// a log for one that names its genesis.
 pub fn order<F: Files, W: Write>(
     alloc: Global,
     files: &mut F,
@@ -37,7 +47,7 @@ pub fn order<F: Files, W: Write>(
         replica: Replica::new(alloc, count, preferred, absolute, genesis.reorder),
         alloc,
     };
-    ordering.read_lines(&mut lines, digest, out)
+    ordering.read_lines(files, &mut lines, digest, out)
 }
 
 /// A replica of the orderer, of which is printed what it does.
@@ -49,8 +59,9 @@ struct Ordering {
 
 impl Ordering {
     /// Reads each line, and prints what comes of it.
-    fn read_lines<R: Read + Drop, W: Write>(
+    fn read_lines<F: Files, R: Read + Drop, W: Write>(
         &mut self,
+        files: &mut F,
         lines: &mut InputLines<R>,
         digest: &str,
         out: &mut Printer<'_, W>,
@@ -59,7 +70,8 @@ impl Ordering {
     {
         for number in 1..u64::MAX {
             match lines.next()? {
-                Some(line) => self.take_line(line, (number == 1).then_some(digest), out)?,
+                Some(line) if number == 1 => self.take_first(files, line, digest, out)?,
+                Some(line) => self.take_line(line, out)?,
                 None => return Ok(()),
             }
             if !lines.is_at_hand() {
@@ -69,41 +81,64 @@ impl Ordering {
         Ok(())
     }
 
-    /// Reads a line. The first one may name a genesis, which has to be the one with this digest.
-    fn take_line<W: Write>(
+    /// Reads the first line. It may name a genesis, which has to be the one with this digest. Where
+    /// it leaves open which one counts, that is said.
+    fn take_first<F: Files, W: Write>(
         &mut self,
+        files: &mut F,
         line: &[u8],
-        first: Option<&str>,
+        digest: &str,
         out: &mut Printer<'_, W>,
     ) -> Result<(), Failure>
         ensures tells { Tells out.old out.new result }
     {
         let text = String::from_utf8_lossy(self.alloc, line)?;
         let (index, mark) = index_and_mark(&text);
-        if first.is_some_and(|digest| names_another_genesis(mark, digest)) {
+        if names_another_genesis(mark, digest) {
             writeln!(out, "refused 807")?;
             return Err(Failure::Printed);
         }
+        let is_mark = self.take_mark(index, mark, out)?;
+        if !is_mark && leaves_genesis_open(mark) {
+            files.remark(LEFT_OPEN);
+        }
+        writeln!(out, "read {index} {}", self.replica.waiting().len())
+    }
+
+    /// Reads a line behind the first.
+    fn take_line<W: Write>(&mut self, line: &[u8], out: &mut Printer<'_, W>) -> Result<(), Failure>
+        ensures tells { Tells out.old out.new result }
+    {
+        let text = String::from_utf8_lossy(self.alloc, line)?;
+        let (index, mark) = index_and_mark(&text);
         self.take_mark(index, mark, out)?;
         writeln!(out, "read {index} {}", self.replica.waiting().len())
     }
 
-    /// Reads the mark of a line.
+    /// Reads the mark of a line, and answers whether it is one of an orderer: an envelope or `tick`.
     fn take_mark<W: Write>(
         &mut self,
         index: &str,
         mark: &str,
         out: &mut Printer<'_, W>,
-    ) -> Result<(), Failure>
+    ) -> Result<bool, Failure>
         ensures tells { Tells out.old out.new result }
+        ensures mark { IfOk result (IsMarkOrNone mark.now) }
     {
         match self.replica.read(mark)? {
-            LineReport::Accepted { id: _, batches } => self.print_batches(batches.as_slice(), out),
-            LineReport::Ticked(None) => Ok(()),
-            LineReport::Ticked(Some(batch)) => self.print_batch(&batch, out),
+            LineReport::Accepted { id: _, batches } => {
+                self.print_batches(batches.as_slice(), out)?;
+                Ok(true)
+            }
+            LineReport::Ticked(None) => Ok(true),
+            LineReport::Ticked(Some(batch)) => {
+                self.print_batch(&batch, out)?;
+                Ok(true)
+            }
             LineReport::Skipped(skip) => {
                 self.print_fork(mark, out)?;
-                writeln!(out, "skipped {index} {skip}")
+                writeln!(out, "skipped {index} {skip}")?;
+                Ok(is_of_mark(skip))
             }
         }
     }

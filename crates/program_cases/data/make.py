@@ -406,6 +406,12 @@ write("marks.log", lines[:20])
     "".join(line + "\n" for line in lines).encode() + b"alone\n\n \xff\xfe\n9.0 \xff\n9.1 " + sized(10, 30).encode() + b"\n9.2 tick"
 )
 write("another.log", [f"1.0 genesis {'00' * 32}", "1.1 tick"])
+# First lines: the digest behind another word, cut short, and missing; no word; an envelope that is too large; and a block
+# that was seen.
+FIRST = {"upper": f"GENESIS {LIMITED}", "short": f"genesis {LIMITED[:-1]}", "bare": "genesis", "blank": ""}
+FIRST |= {"too-large": sized(3, 141), "seen": f"seen A 1 {SEEN}", "tick": "tick"}
+for name, mark in FIRST.items():
+    write(f"first-{name}.log", [f"1.0 {mark}", "1.1 GENESIS"])
 
 # The batches of orders.jsonl.
 marks = [json.loads(line) for line in orders]

@@ -85,4 +85,8 @@ impl Files for Fed<'_> {
         let empty = MemoryFile::new(Vec::new(self.machine.alloc()));
         std::mem::replace(&mut self.input, empty)
     }
+
+    fn remark(&mut self, line: &str) {
+        let _ = println!(self.machine; "! {line}");
+    }
 }
