@@ -16,6 +16,9 @@ pub trait Files {
 
     type Input: Read + Drop;
 
+    /// A file that the program has for itself alone, until this is dropped.
+    type Lock: Drop;
+
     /// The bytes of the file of a name, where they are known.
     ghost bytes: { Self → List ℕ → Option (List ℕ) } = { λ _ _. None };
 
@@ -29,8 +32,20 @@ pub trait Files {
     /// leads nowhere, and where it cannot be looked at.
     fn target(&mut self, alloc: Global, name: &str) -> Result<Target, FileFault>;
 
-    /// Makes a file for writing, in the place of a file of that name. None where that cannot be
-    /// done, and where anything but a file has the name.
+    /// Whether both names lead to one file.
+    fn is_same(&mut self, name: &str, other: &str) -> bool;
+
+    /// Takes the file of a name for the program alone. None where that cannot be done, and where
+    /// another one has the file so, by `open_store` too.
+    fn lock(&mut self, name: &str) -> Option<Self::Lock>;
+
+    /// Makes an empty file of a name that no file has, and takes it as `lock` does. None where that
+    /// cannot be done.
+    fn lock_new(&mut self, name: &str) -> Option<Self::Lock>;
+
+    /// Makes a file for writing, in the place of a file of that name, and takes it as `lock` does.
+    /// None where that cannot be done, where anything but a file has the name, and where another one
+    /// has that file.
     fn create(&mut self, name: &str) -> Option<Self::Writer>;
 
     /// Opens a device or a pipe for writing. None where that cannot be done.
@@ -44,8 +59,8 @@ pub trait Files {
     fn remove(&mut self, name: &str);
 
     /// Opens a file for reading, from its first byte on, and for writing at its end, and makes it
-    /// where there is none. None where that cannot be done, and where another one has opened the
-    /// file so.
+    /// where there is none. The program has it for itself alone. None where that cannot be done,
+    /// and where another one has the file so, by `lock` too.
     fn open_store(&mut self, name: &str) -> Option<Self::Store>;
 
     /// The standard input, from where it was read to.
@@ -58,8 +73,10 @@ pub trait Files {
 /// Where that goes which is written under a name. A link stands for what it leads to.
 #[derive(Drop)]
 pub enum Target {
-    /// A file of this name, which may not be there yet. A new one takes its place.
+    /// A file of this name, which is there. A new one takes its place.
     File(String),
+    /// A file of this name, which is not there yet.
+    NewFile(String),
     /// A device or a pipe of this name. It takes what is written, and stays what it is.
     Device(String),
 }

@@ -11,7 +11,7 @@ use crate::opening::{opened, order_log};
 use crate::threading::threads;
 use ledger_lines::{Failure, Files, Printer};
 use ledger_roles::{commit, endorse};
-use ledger_session::run;
+use ledger_session::{RunFiles, run};
 use ledger_setting::Genesis;
 use ledger_show::{audit, check, digest, show, simulate, state, trace};
 use ledger_words::{Task, WordsFault, Work, parse};
@@ -156,14 +156,15 @@ fn with_genesis<R: Threads + Wait + Sync + Send + Copy + 'static, F: Files, W: W
     ensures tells { Tells out.old out.new result }
 {
     let genesis = opened(alloc, files, name)?;
-    do_work(rt, alloc, files, &genesis, work, out)
+    do_work(rt, alloc, files, name, &genesis, work, out)
 }
 
-/// Does what is asked for of a genesis.
+/// Does what is asked for of a genesis, whose file has this name.
 fn do_work<R: Threads + Wait + Sync + Send + Copy + 'static, F: Files, W: Write>(
     rt: &R,
     alloc: Global,
     files: &mut F,
+    name: &str,
     genesis: &Genesis,
     work: &Work<'_>,
     out: &mut Printer<'_, W>,
@@ -178,7 +179,14 @@ fn do_work<R: Threads + Wait + Sync + Send + Copy + 'static, F: Files, W: Write>
         Work::Simulate { proposal, store } => {
             simulate(alloc, files, genesis, proposal, *store, out)
         }
-        Work::Run { events, store } => run(alloc, files, genesis, events, *store, out),
+        Work::Run { events, store } => {
+            let names = RunFiles {
+                genesis: name,
+                events,
+                store: *store,
+            };
+            run(alloc, files, genesis, &names, out)
+        }
         Work::Threads { chaincode, rounds } => threads(rt, alloc, genesis, chaincode, *rounds, out),
         Work::Audit { store } => audit(alloc, files, genesis, store, out),
         Work::Show { store, from, to } => {

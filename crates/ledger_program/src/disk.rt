@@ -2,8 +2,9 @@
 
 use ledger_lines::{FileFault, Files, Target};
 use std::alloc::Global;
-use std::fs::{self, File};
+use std::fs::{self, File, Metadata};
 use std::io::{ErrorKind, Stdin};
+use std::os::unix::fs::MetadataExt;
 use std::path::Path;
 
 /// The files of the machine that the program runs on.
@@ -24,8 +25,22 @@ impl<'a> Disk<'a> {
         if !has_folder || name.ends_with('/') || path.is_symlink(self.0) {
             return Err(FileFault::Device);
         }
-        Ok(Target::File(String::from_str(alloc, name)?))
+        Ok(Target::NewFile(String::from_str(alloc, name)?))
     }
+
+    /// Takes an opened file for the program alone. None where another one has it, and where the name
+    /// leads to another file by now: whoever had this one has put that in its place.
+    fn locked(&self, name: &str, file: File) -> Option<File> {
+        file.try_lock().ok()?;
+        let opened = file.metadata().ok()?;
+        let named = fs::metadata(self.0, name).ok()?;
+        is_one_file(&opened, &named).then_some(file)
+    }
+}
+
+/// Whether the numbers of the device and of the file on it are the same.
+fn is_one_file(one: &Metadata, other: &Metadata) -> bool {
+    (one.dev(), one.ino()) == (other.dev(), other.ino())
 }
 
 impl Files for Disk<'_> {
@@ -36,6 +51,8 @@ impl Files for Disk<'_> {
     type Store = File;
 
     type Input = Stdin;
+
+    type Lock = File;
 
     fn open(&mut self, name: &str) -> Option<File> {
         fs::open(self.0, name).ok()
@@ -54,12 +71,34 @@ impl Files for Disk<'_> {
         }
     }
 
+    fn is_same(&mut self, name: &str, other: &str) -> bool {
+        match (fs::metadata(self.0, name), fs::metadata(self.0, other)) {
+            (Ok(one), Ok(other)) => is_one_file(&one, &other),
+            _ => false,
+        }
+    }
+
+    fn lock(&mut self, name: &str) -> Option<File> {
+        let file = fs::open(self.0, name).ok()?;
+        self.locked(name, file)
+    }
+
+    fn lock_new(&mut self, name: &str) -> Option<File> {
+        let mut options = File::options();
+        let file = options
+            .write(true)
+            .create_new(true)
+            .open(self.0, name)
+            .ok()?;
+        self.locked(name, file)
+    }
+
     fn create(&mut self, name: &str) -> Option<File> {
         if Path::new(name).is_file(self.0) && !Path::new(name).is_symlink(self.0) {
+            let _lock = self.lock(name)?;
             fs::remove_file(self.0, name).ok()?;
         }
-        let mut options = File::options();
-        options.write(true).create_new(true).open(self.0, name).ok()
+        self.lock_new(name)
     }
 
     fn open_device(&mut self, name: &str) -> Option<File> {
@@ -78,8 +117,7 @@ impl Files for Disk<'_> {
         let mut options = File::options();
         options.read(true).append(true).create(true);
         let file = options.open(self.0, name).ok()?;
-        file.try_lock().ok()?;
-        Some(file)
+        self.locked(name, file)
     }
 
     fn input(&mut self) -> Stdin {

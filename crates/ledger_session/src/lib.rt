@@ -6,8 +6,9 @@
 #![tactic(auto)]
 
 mod lines;
+mod placing;
 mod reading;
 mod session;
 mod storing;
 
-pub use session::run;
+pub use session::{RunFiles, run};

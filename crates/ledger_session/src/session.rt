@@ -6,12 +6,13 @@ ghost use Rattle.ledger_setting.specs.Setting.{limits_of};
 ghost use Rattle.ledger_lines.specs.Told.{Tells};
 
 use crate::lines::{print_begun, print_state, print_step};
+use crate::placing::{Place, place_of};
 use crate::reading::{Next, next_line};
 use crate::storing::write_store;
 use events::{Action, BadLine, Bindings, read_event};
 use fab_types::{Endorsement, Payload, Proposal};
 use fabric_core::{Event, Reply, System, audit};
-use ledger_lines::{Failure, Files, Printer, Target, id_of, print_audit};
+use ledger_lines::{Failure, Files, Printer, id_of, print_audit};
 use ledger_setting::Genesis;
 use std::alloc::{AllocError, Global};
 use std::io::{BufRead, BufReader, Write};
@@ -25,28 +26,40 @@ struct Session {
     bindings: Bindings,
 }
 
+/// The names of the files of a run.
+#[derive(Clone, Copy)]
+pub struct RunFiles<'a> {
+    /// The genesis file, which was read.
+    pub genesis: &'a str,
+    /// The file of events, which is read as the run goes.
+    pub events: &'a str,
+    /// The store that gets the chain of the first peer, if there is one.
+    pub store: Option<&'a str>,
+}
+
 /// Runs the lines of a file of events on the system that a genesis opens, prints what each comes
 /// to, the state of the first peer after them and the audit of its chain, and writes that chain to a
 /// store if there is one.
 ///
 /// The file is read as the run goes. A line that stands for nothing ends the run, and then no store
-/// is written. The store's name is looked at before the first line is read.
+/// is written. The store's name is looked at before the first line is read: refused (703) where its
+/// file is one that the run reads, and where another one has it. The run has the file for itself
+/// alone until it ends.
 pub fn run<F: Files, W: Write>(
     alloc: Global,
     files: &mut F,
     genesis: &Genesis,
-    events: &str,
-    store: Option<&str>,
+    names: &RunFiles<'_>,
     out: &mut Printer<'_, W>,
 ) -> Result<(), Failure>
     requires { AreLimits (limits_of genesis.now) }
     ensures tells { Tells out.old out.new result }
 {
-    let Some(events) = files.open(events) else {
+    let Some(events) = files.open(names.events) else {
         return Err(Failure::File);
     };
     let mut lines = BufReader::new(alloc, events)?;
-    run_read(alloc, files, genesis, &mut lines, store, out)
+    run_read(alloc, files, genesis, names, &mut lines, out)
 }
 
 /// The same of the lines of a file, which are read as the run goes.
@@ -54,18 +67,20 @@ fn run_read<F: Files, B: BufRead, W: Write>(
     alloc: Global,
     files: &mut F,
     genesis: &Genesis,
+    names: &RunFiles<'_>,
     lines: &mut B,
-    store: Option<&str>,
     out: &mut Printer<'_, W>,
 ) -> Result<(), Failure>
     requires { AreLimits (limits_of genesis.now) }
     ensures tells { Tells out.old out.new result }
 {
-    let target = match store {
-        Some(name) => Some(files.target(alloc, name)?),
-        None => None,
-    };
-    run_into(alloc, files, genesis, lines, target.as_ref(), out)
+    match names.store {
+        Some(store) => {
+            let place = place_of(alloc, files, names, store)?;
+            run_into(alloc, files, genesis, lines, Some(&place), out)
+        }
+        None => run_into(alloc, files, genesis, lines, None, out),
+    }
 }
 
 /// The same, where the chain is written to this place if there is one.
@@ -74,7 +89,7 @@ fn run_into<F: Files, B: BufRead, W: Write>(
     files: &mut F,
     genesis: &Genesis,
     lines: &mut B,
-    store: Option<&Target>,
+    store: Option<&Place<F::Lock>>,
     out: &mut Printer<'_, W>,
 ) -> Result<(), Failure>
     requires { AreLimits (limits_of genesis.now) }
@@ -97,15 +112,15 @@ impl Session {
         files: &mut F,
         genesis: &Genesis,
         lines: &mut B,
-        store: Option<&Target>,
+        store: Option<&Place<F::Lock>>,
         out: &mut Printer<'_, W>,
     ) -> Result<(), Failure>
         ensures tells { Tells out.old out.new result }
     {
         self.run_lines(lines, out)?;
         let is_good = self.print_end(genesis, out)?;
-        if let (Some(target), Some(snapshot)) = (store, self.system.snapshot(0)) {
-            write_store(self.alloc, files, target, snapshot)?;
+        if let (Some(place), Some(snapshot)) = (store, self.system.snapshot(0)) {
+            write_store(self.alloc, files, &place.target, snapshot)?;
         }
         if is_good {
             Ok(())

@@ -47,12 +47,26 @@ impl Files for Fed<'_> {
 
     type Input = MemoryFile;
 
+    type Lock = File;
+
     fn open(&mut self, name: &str) -> Option<File> {
         self.disk.open(name)
     }
 
     fn target(&mut self, alloc: Global, name: &str) -> Result<Target, FileFault> {
         self.disk.target(alloc, name)
+    }
+
+    fn is_same(&mut self, name: &str, other: &str) -> bool {
+        self.disk.is_same(name, other)
+    }
+
+    fn lock(&mut self, name: &str) -> Option<File> {
+        self.disk.lock(name)
+    }
+
+    fn lock_new(&mut self, name: &str) -> Option<File> {
+        self.disk.lock_new(name)
     }
 
     fn create(&mut self, name: &str) -> Option<File> {

@@ -5,6 +5,7 @@
 //! The files that the words name lie in `data`, in which the cases are run. Behind ` < ` stands the
 //! name of the file that is the standard input, which else is empty. What `commit` writes is kept in
 //! memory and forgotten; a store's name may have a length behind it, as in `whole.store:100`.
+//! What is said on the standard error is printed behind `! `.
 #![tactic(auto)]
 
 mod fed;
