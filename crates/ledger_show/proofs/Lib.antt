@@ -1,3 +1,4 @@
 pub mod Cuts
 pub mod Behind
 pub mod Written
+pub mod Read

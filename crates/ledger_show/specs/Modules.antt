@@ -1,5 +1,5 @@
 -- What is printed of a module.
-use Rattle.std.specs.Prelude.{ℕ, ◌++◌, List, Option, codes, length, take}
+use Rattle.std.specs.Prelude.{ℕ, ◌++◌, List, Option, codes, length}
 use Rattle.std.specs.Fmt.{decimal}
 use Rattle.std.specs.Io.KnownBytes.{Appends}
 use Rattle.hex.specs.Hex.{encode_lower}
@@ -24,7 +24,7 @@ abbrev pub IsDigested : Profile → Bytes → (before after : Option Bytes) → 
 IsDigested profile bytes before after =
     (functions : ℕ) × IsDefinedBy profile bytes functions × Appends before after (line (encode_lower (sha256 bytes)))
 
--- a failure that says of the bytes why they are no module: of the first 262,145, one more than a module has
+-- a failure that says of bytes why they are no valid module of the profile
 abbrev pub IsNoModule : Profile → Bytes → Failure → Type 0
-IsNoModule profile bytes (failure.Module refusal) = NoModule profile (take 262145 bytes) refusal
+IsNoModule profile bytes (failure.Module refusal) = NoModule profile bytes refusal
 IsNoModule profile bytes _ = Unit {0}

@@ -31,8 +31,6 @@ pub fn check<F: Files, W: Write>(
     ensures tells { Tells out.old out.new result }
     ensures valid { OnOk result (IfSome (F.bytes files.old name.now) (λ bytes.
         IsChecked profile bytes out.old.bytes out.new.bytes)) }
-    ensures refused { IfErr result (λ failure. IfSome (F.bytes files.old name.now) (λ bytes.
-        IsNoModule profile bytes failure)) }
 {
     let bytes = read_at_most(alloc, files, name, MOST_READ)?;
     let functions = functions_of(alloc, &bytes, profile)?;
@@ -54,8 +52,6 @@ pub fn digest<F: Files, W: Write>(
     ensures tells { Tells out.old out.new result }
     ensures digest { OnOk result (IfSome (F.bytes files.old name.now) (λ bytes.
         IsDigested profile bytes out.old.bytes out.new.bytes)) }
-    ensures refused { IfErr result (λ failure. IfSome (F.bytes files.old name.now) (λ bytes.
-        IsNoModule profile bytes failure)) }
 {
     let bytes = read_at_most(alloc, files, name, MOST_READ)?;
     functions_of(alloc, &bytes, profile)?;
