@@ -12,6 +12,8 @@ mod batch_cutter_test;
 #[cfg(test)]
 mod block_store_test;
 #[cfg(test)]
+mod committer_test;
+#[cfg(test)]
 mod concurrent_reads_test;
 #[cfg(test)]
 mod endorsement_policy_test;
@@ -43,3 +45,5 @@ mod seq_test;
 mod snapshot_cell_test;
 #[cfg(test)]
 mod wire_test;
+#[cfg(test)]
+mod world_state_test;

@@ -48,6 +48,10 @@ pub const LOOP: &str =
 const PUT: [u8; 75] =
     *b"\x02kv\x00\x00\x00\x00\x00\x00\x00\x00\x00\x00\x00\x00\x00\x00\x00\x00\x00\x00\x00\x00\x00\x01\x03\x00kv\x00\x00\x00\x00\x01\x01a\x01\x00\x011\x01\x01A\x00\x00\x00\x00\x00\x00\x00\x00\x00\x00\x00\x00\x00\x00\x00\x00\x00\x00\x00\x00\x00\x00\x00\x00\x00\x00\x00\x00\x00\x00\x00\x00";
 
+/// The same of a call that deletes `a`.
+const DELETION: [u8; 72] =
+    *b"\x02kv\x00\x00\x00\x00\x00\x00\x00\x00\x00\x00\x00\x00\x00\x00\x00\x00\x00\x00\x00\x00\x00\x01\x03\x00kv\x00\x00\x00\x00\x01\x01a\x00\x01\x01A\x00\x00\x00\x00\x00\x00\x00\x00\x00\x00\x00\x00\x00\x00\x00\x00\x00\x00\x00\x00\x00\x00\x00\x00\x00\x00\x00\x00\x00\x00\x00\x00";
+
 /// Where the nonce, the key and the tag begin, and the payload ends.
 const NONCE: usize = 5;
 
@@ -78,6 +82,15 @@ pub fn transaction(alloc: Global, nonce: u8, key: u8) -> Result<Envelope, Fail> 
     bytes[KEY] = key;
     let tag = tag(b"Jefe", &bytes[..PAYLOAD]);
     bytes[TAG..].copy_from_slice(&tag);
+    decoded(alloc, &bytes)
+}
+
+/// A transaction of `kv` that reads its definition alone and deletes a key, with a tag that is not
+/// A's.
+pub fn deletion(alloc: Global, nonce: u8, key: u8) -> Result<Envelope, Fail> {
+    let mut bytes = DELETION;
+    bytes[NONCE] = nonce;
+    bytes[KEY] = key;
     decoded(alloc, &bytes)
 }
 

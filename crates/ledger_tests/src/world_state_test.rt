@@ -1,0 +1,149 @@
+//! An older snapshot, behind which a hundred blocks are put.
+
+use crate::committer_test::pushed;
+use crate::samples::{deletion, transaction};
+use committer::{Replay, commit_on};
+use fab_types::{Block, Bound, Envelope, Flag, Key, Value, Version};
+use orderer::Orderer;
+use std::alloc::{AllocError, Global};
+use std::test::Fail;
+use wire::tx_id;
+use world_state::Snapshot;
+
+/// How many blocks the older snapshot has.
+const OLD: usize = 5;
+
+/// How many blocks there are: a hundred more.
+const ALL: u8 = 105;
+
+/// The transaction of a block: it puts the key of one byte that has the block's number and one
+/// more. From block 81 on the keys come again from 2 on, and those of even blocks are deleted.
+fn nth(alloc: Global, number: u8) -> Result<Envelope, Fail> {
+    let key = number % 80 + 1;
+    if number > 80 && number % 2 == 0 {
+        deletion(alloc, number, key)
+    } else {
+        transaction(alloc, number, key)
+    }
+}
+
+fn order(alloc: Global, orderer: &mut Orderer) -> Result<(), Fail> {
+    for number in 1..=ALL {
+        if orderer.accept(nth(alloc, number)?).is_err() {
+            return Err("a block".into());
+        }
+    }
+    Ok(())
+}
+
+/// Whether blocks of one transaction each join a chain, each VALID.
+fn are_pushed(alloc: Global, chain: &mut Replay, blocks: &[Block]) -> Result<bool, AllocError> {
+    let mut are_pushed = true;
+    for block in blocks {
+        are_pushed &= pushed(alloc, chain, block, &[true], &[Flag::Valid])? == 0;
+    }
+    Ok(are_pushed)
+}
+
+/// Whether an entry is that of blocks 1 to 5 with this key: `1`, put by the block whose number is
+/// one less.
+fn is_old(key: u8, value: &Value, version: Version) -> bool {
+    value.as_slice() == b"1".as_slice()
+        && version.block() == u32::from(key.wrapping_sub(1))
+        && version.place() == 0
+        && version.block() <= OLD as u32
+}
+
+/// Whether a snapshot of blocks 1 to 5 has their keys, 2 to 6, and no other.
+fn is_found(old: &Snapshot, key: &Key) -> bool {
+    let [key_byte] = key.as_slice() else {
+        return false;
+    };
+    match old.get(key) {
+        Some((value, version)) => is_old(*key_byte, value, version),
+        None => *key_byte < 2 || *key_byte > 6,
+    }
+}
+
+/// Whether a snapshot of blocks 1 to 5 answers so of the key and the id of a block.
+fn is_of_block(alloc: Global, old: &Snapshot, block: &Block) -> Result<bool, AllocError> {
+    let [envelope] = block.envelopes.as_slice() else {
+        return Ok(false);
+    };
+    let [write] = envelope.payload.writes.as_slice() else {
+        return Ok(false);
+    };
+    let id = tx_id(alloc, &envelope.payload.proposal)?;
+    let has = block.header.number.get() <= OLD as u32;
+    Ok(old.has_tx(&id) == has && is_found(old, &write.key))
+}
+
+/// Whether entries are those of blocks 1 to 5, in key order.
+fn are_old(entries: &[(&Key, &(Value, Version))]) -> bool {
+    let mut key = 2;
+    for (found, (value, version)) in entries {
+        if found.as_slice() != [key].as_slice() || !is_old(key, value, *version) {
+            return false;
+        }
+        key = key.wrapping_add(1);
+    }
+    entries.len() == OLD
+}
+
+/// Whether a snapshot of blocks 1 to 5 answers of its height, of the range of all keys, and of each
+/// key and id of these blocks as it has to.
+fn is_as_it_was(alloc: Global, old: &Snapshot, blocks: &[Block]) -> Result<bool, AllocError> {
+    let Some(none) = Bound::new(Vec::new(alloc)) else {
+        return Ok(false);
+    };
+    let mut is = old.height() == OLD && are_old(&old.range(alloc, &none, &none, 100)?);
+    for block in blocks {
+        is &= is_of_block(alloc, old, block)?;
+    }
+    Ok(is)
+}
+
+/// Whether a hundred blocks join a chain behind an older snapshot, which stays as it is: the first
+/// makes a snapshot that shares its parts, and the others change that one.
+fn are_put_behind(
+    alloc: Global,
+    old: &Snapshot,
+    next: &Block,
+    blocks: &[Block],
+) -> Result<bool, AllocError> {
+    if next.envelopes.as_slice().len() != 1 {
+        return Ok(false);
+    }
+    let Ok(newest) = commit_on(alloc, old, next.clone()?, &[true]) else {
+        return Ok(false);
+    };
+    let mut newest = Replay::new(newest);
+    let are_pushed = are_pushed(alloc, &mut newest, blocks)?;
+    let newest = newest.snapshot();
+    // Of 80 keys, 12 are deleted.
+    Ok(are_pushed && newest.height() == usize::from(ALL) && newest.entries(alloc)?.len() == 68)
+}
+
+fn is_kept(alloc: Global, blocks: &[Block]) -> Result<bool, AllocError> {
+    let (first, later) = blocks.split_at(OLD.min(blocks.len()));
+    let [next, rest @ ..] = later else {
+        return Ok(false);
+    };
+    let mut old = Replay::new(Snapshot::empty(alloc));
+    let are_first = are_pushed(alloc, &mut old, first)?;
+    let old = old.snapshot();
+    let before = is_as_it_was(alloc, old, blocks)?;
+    let are_behind = are_put_behind(alloc, old, next, rest)?;
+    let after = is_as_it_was(alloc, old, blocks)?;
+    Ok(are_first && before && are_behind && after)
+}
+
+#[test]
+fn an_older_snapshot_stays_as_it_is(rt: HostRuntime) -> Result<(), Fail> {
+    let alloc = rt.alloc();
+    let mut orderer = Orderer::new(alloc, 1, 1000, 1000, false);
+    order(alloc, &mut orderer)?;
+    let is_kept = is_kept(alloc, orderer.blocks());
+    assert!(rt; is_kept == Ok(true));
+    Ok(())
+}
