@@ -6,13 +6,13 @@ ghost use Rattle.ledger_setting.specs.Setting.{limits_of};
 ghost use Rattle.ledger_lines.specs.Told.{Tells};
 
 use crate::lines::{print_begun, print_state, print_step};
-use crate::placing::{Place, place_of};
+use crate::placing::place_of;
 use crate::reading::{Next, next_line};
 use crate::storing::write_store;
 use events::{Action, BadLine, Bindings, read_event};
 use fab_types::{Endorsement, Payload, Proposal};
 use fabric_core::{Event, Reply, System, audit};
-use ledger_lines::{Failure, Files, Printer, id_of, print_audit};
+use ledger_lines::{Failure, Files, Printer, Target, id_of, print_audit};
 use ledger_setting::Genesis;
 use std::alloc::{AllocError, Global};
 use std::io::{BufRead, BufReader, Write};
@@ -77,7 +77,7 @@ fn run_read<F: Files, B: BufRead, W: Write>(
     match names.store {
         Some(store) => {
             let place = place_of(alloc, files, names, store)?;
-            run_into(alloc, files, genesis, lines, Some(&place), out)
+            run_into(alloc, files, genesis, lines, Some(&place.target), out)
         }
         None => run_into(alloc, files, genesis, lines, None, out),
     }
@@ -89,7 +89,7 @@ fn run_into<F: Files, B: BufRead, W: Write>(
     files: &mut F,
     genesis: &Genesis,
     lines: &mut B,
-    store: Option<&Place<F::Lock>>,
+    store: Option<&Target>,
     out: &mut Printer<'_, W>,
 ) -> Result<(), Failure>
     requires { AreLimits (limits_of genesis.now) }
@@ -112,15 +112,15 @@ impl Session {
         files: &mut F,
         genesis: &Genesis,
         lines: &mut B,
-        store: Option<&Place<F::Lock>>,
+        store: Option<&Target>,
         out: &mut Printer<'_, W>,
     ) -> Result<(), Failure>
         ensures tells { Tells out.old out.new result }
     {
         self.run_lines(lines, out)?;
         let is_good = self.print_end(genesis, out)?;
-        if let (Some(place), Some(snapshot)) = (store, self.system.snapshot(0)) {
-            write_store(self.alloc, files, &place.target, snapshot)?;
+        if let (Some(target), Some(snapshot)) = (store, self.system.snapshot(0)) {
+            write_store(self.alloc, files, target, snapshot)?;
         }
         if is_good {
             Ok(())
