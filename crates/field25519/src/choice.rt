@@ -2,17 +2,14 @@
 
 ghost use Rattle.std.specs.Prelude.{◌≡◌, ◌-◌, ◌*◌, ◌^◌, ◌≤◌, ◌⊎◌, nat_eq, if◌then◌else◌};
 
-/// No bit, and each bit. They are read from memory: of a mask that is computed from a flag, LLVM
-/// makes a branch on the flag.
-static MASKS: [u64; 2] = [0, u64::MAX];
-
-/// Ones in each bit where the flag is 1, zeros where it is 0.
-#[inline(always)]
+/// Ones in each bit where the flag is 1, zeros where it is 0. It is a call of its own: of a mask
+/// that LLVM sees computed from a flag it makes a branch on the flag.
+#[inline(never)]
 pub(crate) fn mask_of(flag: u64) -> u64
     requires { flag ≤ 1 }
     ensures { result ≡ flag * (2 ^ 64 - 1) }
 {
-    MASKS[flag as usize]
+    0_u64.wrapping_sub(flag)
 }
 
 /// The first word under ones, the second under zeros.
