@@ -20,6 +20,7 @@ REASONS = {
     ("bench/README.md", "bench/state"): MEASURES,
     ("bench/README.md", "bench/threads"): MEASURES,
     ("bench/README.md", "bench/roles"): MEASURES,
+    ("bench/README.md", "bench/instructions"): f"{MEASURES}; it needs a build of ed25519_bench",
     ("bench/README.md", "bench/gate"): LONG,
     ("bench/README.md", "bench/plants"): LONG,
     ("bench/README.md", "bench/hostile"): LONG,
@@ -29,7 +30,7 @@ WITHIN_TEXT = {"./ledger prove": LONG, "rt check, rt try, rt tidy ..": "for thos
 
 
 def documents() -> list[str]:
-    names = [*ROOT.glob("*.md"), *ROOT.glob("docs/*.md"), *ROOT.glob("bench/*.md")]
+    names = [*ROOT.glob("*.md"), *ROOT.glob("docs/**/*.md"), *ROOT.glob("bench/*.md")]
     return sorted(str(it.relative_to(ROOT)) for it in names)
 
 
