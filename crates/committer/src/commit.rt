@@ -1,10 +1,9 @@
 //! Whether a block is the next one of a chain, and its commit.
 
-ghost use Rattle.std.specs.Prelude.{◌≡◌, ◌≢◌, ◌++◌, ◌∷◌, [], length, IfOk, OnOk, IfErr};
+ghost use Rattle.std.specs.Prelude.{◌≡◌, ◌≢◌, ◌-◌, ◌++◌, ◌∷◌, [], length, option_map, slice_get, IfOk, OnOk, IfErr};
 ghost use Rattle.ledger_model.specs.Chain.{history};
 ghost use Rattle.ledger_model.specs.Flags.{flags_told};
 ghost use Rattle.wire.specs.Ids.{id_of};
-ghost use Rattle.wire.specs.Links.{next_link};
 ghost use Rattle.committer.specs.declared.refusal.CommitRefusal.TheVariants.{OutOfMemory};
 ghost use Rattle.world_state.specs.Judging.{IsOf};
 ghost use Rattle.committer.specs.Fits.{blocks_of, Fits, IsNext, IsRefused};
@@ -14,17 +13,17 @@ use fab_types::Block;
 use fab_types::limits::LAST_BLOCK;
 use mvcc_validate::mark;
 use std::alloc::{AllocError, Global};
-use wire::{data_hash, header_hash};
+use wire::{data_hash, next_link};
 use world_state::{Judged, Snapshot};
 
-/// The hash that the next header names: that of the last header, or 32 zero bytes where there is
-/// none.
-fn next_link(snapshot: &Snapshot) -> [u8; 32]
-    ensures { result ≡ next_link (blocks_of snapshot.now) }
+/// The last block. None where there is none.
+fn last_block(snapshot: &Snapshot) -> Option<&Block>
+    ensures { let blocks = blocks_of snapshot.now in
+        option_map (λ b. b.now) result ≡ slice_get blocks (length blocks - 1) }
 {
     match snapshot.last() {
-        None => [0; 32],
-        Some(committed) => header_hash(&committed.block().header),
+        None => None,
+        Some(committed) => Some(committed.block()),
     }
 }
 
@@ -43,7 +42,7 @@ fn check_next(snapshot: &Snapshot, block: &Block) -> Result<(), CommitRefusal>
     if block.header.number.get() != height as u32 + 1 {
         return Err(CommitRefusal::Number);
     }
-    if block.header.previous_hash != next_link(snapshot) {
+    if block.header.previous_hash != next_link(last_block(snapshot)) {
         return Err(CommitRefusal::PreviousHash);
     }
     Ok(())

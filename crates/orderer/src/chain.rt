@@ -6,7 +6,7 @@ ghost use Rattle.fab_types.specs.Data.{IsBlockData};
 ghost use Rattle.batch_cutter.specs.Offers.{batches};
 ghost use Rattle.orderer.specs.Plans.{envelopes_at};
 ghost use Rattle.orderer.specs.Arranged.{plans_of};
-ghost use Rattle.orderer.specs.Blocks.{Adds, AddsEach, next_block, next_link, next_number};
+ghost use Rattle.orderer.specs.Blocks.{Adds, AddsEach, next_block, next_number};
 ghost use Rattle.orderer.specs.Adding.{BeginsWith, IsBatchRefused, IsCutRefused};
 
 use crate::plan::plan_of;
@@ -16,18 +16,7 @@ use fab_types::limits::LAST_BLOCK;
 use fab_types::{Block, BlockData, BlockNumber, Envelope, Header};
 use seq::Seq;
 use std::alloc::{AllocError, Global};
-use wire::{data_hash, header_hash};
-
-/// The hash that the next header names: that of the last header, or 32 zero bytes where there is
-/// none.
-fn next_link(blocks: &[Block]) -> [u8; 32]
-    ensures { result ≡ next_link blocks.now }
-{
-    match blocks.last() {
-        None => [0; 32],
-        Some(block) => header_hash(&block.header),
-    }
-}
+use wire::{data_hash, next_link};
 
 /// The envelopes at these places of a batch, in the order of the places.
 fn pick(alloc: Global, batch: &[Envelope], order: &[usize]) -> Result<Vec<Envelope>, AllocError>
@@ -57,7 +46,7 @@ fn next_block(
     let data_hash = data_hash(alloc, &envelopes)?;
     let header = Header {
         number,
-        previous_hash: next_link(blocks),
+        previous_hash: next_link(blocks.last()),
         data_hash,
     };
     Ok(Block { header, envelopes })
