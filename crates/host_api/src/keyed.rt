@@ -1,34 +1,10 @@
 //! Items in key order.
 
-ghost use Rattle.std.specs.Prelude.{◌≡◌, ℕ, List, map, true};
+ghost use Rattle.std.specs.Prelude.{◌≡◌, map, true};
 ghost use Rattle.fab_types.specs.Order.{are_ascending};
 ghost use Rattle.host_api.specs.Places.{place_of, found_at};
 
-use fab_types::{Key, ReadItem, WriteItem};
-
-/// An item that is filed under a key.
-pub trait Keyed {
-    ghost key_of: { Self → List ℕ };
-
-    fn key(&self) -> &Key
-        ensures { result.now ≡ key_of self.now };
-}
-
-impl Keyed for ReadItem {
-    ghost key_of = { λ r. r.key };
-
-    fn key(&self) -> &Key {
-        &self.key
-    }
-}
-
-impl Keyed for WriteItem {
-    ghost key_of = { λ w. w.key };
-
-    fn key(&self) -> &Key {
-        &self.key
-    }
-}
+use fab_types::Keyed;
 
 /// The place of the item with these bytes as its key, or else the place where one would stand, by
 /// halving.
