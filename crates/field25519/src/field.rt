@@ -1,9 +1,8 @@
 //! Residues modulo p = 2^255 - 19, in five limbs of 51 bits and a little more, low limb first.
 
-ghost use Rattle.std.specs.Prelude.{◌≡◌, ℕ, ◌+◌, ◌-◌, ◌*◌, ◌/◌, ◌%◌, ◌^◌, ◌<◌, ◌≤◌, nat_eq, if◌then◌else◌};
+ghost use Rattle.std.specs.Prelude.{◌≡◌, ℕ, ◌+◌, ◌-◌, ◌*◌, ◌/◌, ◌%◌, ◌^◌, ◌<◌, ◌≤◌, nat_eq};
 ghost use Rattle.field25519.specs.Modulo.{p, plus, minus, times, power};
 
-use crate::choice::{mask_of, under};
 use crate::number::Number;
 use std::marker::Model;
 
@@ -270,22 +269,6 @@ impl Field {
             c: self.c,
             d: self.d,
             e: self.e,
-        }
-    }
-
-    /// The first where the flag is 1, the second where it is 0, with no branch on the flag.
-    #[inline(always)]
-    pub fn chosen(flag: u64, first: &Field, second: &Field) -> Field
-        requires { flag ≤ 1 }
-        ensures { result ≡ (if nat_eq flag 0 then second.now else first.now) }
-    {
-        let mask = mask_of(flag);
-        Field {
-            a: under(mask, first.a, second.a),
-            b: under(mask, first.b, second.b),
-            c: under(mask, first.c, second.c),
-            d: under(mask, first.d, second.d),
-            e: under(mask, first.e, second.e),
         }
     }
 

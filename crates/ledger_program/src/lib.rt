@@ -26,5 +26,4 @@ mod threading;
 
 pub use commands::program;
 pub use disk::Disk;
-pub use ledger_lines::{Files, Printer, system_genesis};
-pub use module_file::{ModuleRefusal, defined_functions, valid_module};
+pub use ledger_lines::{Files, Printer};
