@@ -48,7 +48,7 @@ impl<'a> Source<'a> {
         ensures { IfOk result (λ s. policy_from s
             ≡ policy_in rules.now (plain_after snapshot.now) chaincode.now) }
     {
-        let key = Key::of_definition(alloc, chaincode)?;
+        let key = Key::of_definition(chaincode);
         match snapshot.get(&key) {
             Some((value, _)) => Source::defined(alloc, rules.installed(), value.as_slice()),
             None => Ok(Source::listed(rules, chaincode)),

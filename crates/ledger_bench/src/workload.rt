@@ -131,7 +131,7 @@ pub fn key(alloc: Global, number: u64) -> Result<Key, Failure> {
 
 /// Reads of the chaincode's definition and of the keys of these numbers.
 fn reads(alloc: Global, snapshot: &Snapshot, numbers: &[u64]) -> Result<ReadSet, Failure> {
-    let definition = Key::of_definition(alloc, &chaincode(alloc)?)?;
+    let definition = Key::of_definition(&chaincode(alloc)?);
     let mut items = vec![in alloc; read(snapshot, definition)]?;
     for number in numbers {
         items.push(read(snapshot, key(alloc, *number)?))?;

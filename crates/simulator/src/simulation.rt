@@ -118,7 +118,7 @@ fn execute_call<V: View>(
     ensures { Answers
         (parts_or_refusal (exec_of book.now (proposals.Call call.now)) (V.state view.now)) result }
 {
-    let key = Key::of_definition(alloc, &call.chaincode)?;
+    let key = Key::of_definition(&call.chaincode);
     let (value, version) = look_up(view, &key);
     let Some(executable) = find_executable(alloc, book, &call.chaincode, value)? else {
         return Err(SimRefusal::UnknownChaincode);
@@ -188,7 +188,7 @@ fn put_definition<V: View>(alloc: Global, view: &V, upgrade: &Upgrade) -> Result
         (upgraded (definition_key upgrade.now.chaincode) (definition_bytes upgrade.now.definition)
         Done (values_of (V.state view.now))).seen) }
 {
-    let key = Key::of_definition(alloc, &upgrade.chaincode)?;
+    let key = Key::of_definition(&upgrade.chaincode);
     let (_, version) = look_up(view, &key);
     let value = definition_value(alloc, upgrade)?;
     let write = WriteItem {

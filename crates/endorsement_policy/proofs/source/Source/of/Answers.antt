@@ -12,7 +12,7 @@ returns-in-Some c =
     let chain = c.args.snapshot.now in
     let name = c.args.chaincode.now in
     let there : get (plain_after chain) (definition_key name) ≡ Some c.in-Some.value.now =
-    ap (get (plain_after chain)) (sym c.in_ok-key.ensures) ∙ value_after chain c.in_ok-key.key ∙ sym (ap (option_map (λ e. e.0)) c.in-Some.ensures) in
+    ap (get (plain_after chain)) (sym c.of_definition-key.ensures) ∙ value_after chain c.of_definition-key.result ∙ sym (ap (option_map (λ e. e.0)) c.in-Some.ensures) in
     subst (λ (p : Option Policy). IfOk c.defined.result (λ s. policy_from s ≡ p))
     (ap₂ defined_policy c.installed.ensures c.as_slice.ensures.value ∙ defined_right c.args.rules.now chain name c.in-Some.value.now there) c.defined.ensures
 
@@ -21,5 +21,5 @@ returns-in-None c =
     let chain = c.args.snapshot.now in
     let name = c.args.chaincode.now in
     let absent : get (plain_after chain) (definition_key name) ≡ None =
-    ap (get (plain_after chain)) (sym c.in_ok-key.ensures) ∙ value_after chain c.in_ok-key.key ∙ sym (ap (option_map (λ e. e.0)) c.in-None.ensures) in
+    ap (get (plain_after chain)) (sym c.of_definition-key.ensures) ∙ value_after chain c.of_definition-key.result ∙ sym (ap (option_map (λ e. e.0)) c.in-None.ensures) in
     c.listed.ensures ∙ listed_right c.args.rules.now chain name absent
