@@ -14,7 +14,7 @@ use ledger_setting::Genesis;
 use simulator::SimRefusal;
 use std::alloc::{AllocError, Global};
 use std::io::{Read, Write};
-use wire::{encode_envelope, encode_payload};
+use wire::encode_envelope;
 
 /// Reads lines, each a proposal, simulates each on the state after a store, and endorses its payload
 /// for an organisation of the genesis.
@@ -174,7 +174,7 @@ fn print_envelope<W: Write>(
 ) -> Result<(), Failure>
     ensures tells { Tells out.old out.new result }
 {
-    let length = encode_payload(alloc, &envelope.payload)?.len();
+    let length = envelope.payload.size();
     let envelope = encode_envelope(alloc, envelope)?;
     let payload = hex::encode(alloc, &envelope[..length])?;
     let endorsement = hex::encode(alloc, &envelope[length + 1..])?;
