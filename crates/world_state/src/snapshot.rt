@@ -156,17 +156,11 @@ impl Snapshot {
     }
 
     /// The entries of a range, in key order, as far as the caller asks for them. The bounds are as
-    /// in `range`.
-    pub fn entries_in(
-        &self,
-        alloc: Global,
-        start: &Bound,
-        end: &Bound,
-    ) -> Result<Range<'_, Key, (Value, Version)>, AllocError>
-        ensures { IfOk result
-            (λ r. r ≡ entries_within start.now end.now (entries (state (history self.now)))) }
+    /// in `range`. It takes no memory.
+    pub fn entries_in(&self, start: &Bound, end: &Bound) -> Range<'_, Key, (Value, Version)>
+        ensures { result ≡ entries_within start.now end.now (entries (state (history self.now))) }
     {
-        range_in(alloc, &self.map, start, end)
+        range_in(&self.map, start, end)
     }
 
     /// The first `n` entries of a range, in key order: from `start` on, or from the first key where

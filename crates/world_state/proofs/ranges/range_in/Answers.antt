@@ -8,8 +8,8 @@ use Rattle.world_state.proofs.Bounds.{span_within}
 pub returns-clause-all : goal.returns-clause-all
 returns-clause-all c =
     let es = c.args.entries.now.entries in
-    let key = c.in_ok-key.key in
-    let e : c.in_ok-end.end ≡ as_key c.args.end.now = c.in_ok-end.ensures in
+    let key = c.first_key-key.result in
+    let e : c.bound_key-end.result ≡ as_key c.args.end.now = c.bound_key-end.ensures in
     c.range.ensures.all
     ∙ ap (λ end. between key_cmp (Some key) end es) (c.as_ref.ensures.value ∙ e)
-    ∙ span_within c.args.start.now key c.args.end.now es c.in_ok-key.ensures
+    ∙ span_within c.args.start.now key c.args.end.now es c.first_key-key.ensures
