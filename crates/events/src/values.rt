@@ -48,12 +48,12 @@ fn argument(alloc: Global, text: &str) -> Result<Bytes, BadLine>
 }
 
 /// The chaincode's name that a text is.
-fn name(alloc: Global, text: &str) -> Result<Name, BadLine>
+fn name(text: &str) -> Result<Name, BadLine>
     ensures ok { IfOk result (λ n. (n ≡ text.now) × IsName text.now) }
     ensures refused { IfErr result
         (λ r. NoneIs (λ (n : List ℕ). (n ≡ text.now) × IsName text.now) r) }
 {
-    match Name::new(text.as_bytes().to_vec(alloc)?) {
+    match Name::from_slice(text.as_bytes()) {
         Some(name) => Ok(name),
         None => Err(BadLine::NoForm),
     }
@@ -70,7 +70,7 @@ pub(crate) fn call(alloc: Global, fields: &CallFields<'_>) -> Result<Call, BadLi
     let Ok(nonce) = <[u8; 16]>::from_hex(fields.nonce) else {
         return Err(BadLine::NoForm);
     };
-    let chaincode = name(alloc, fields.chaincode)?;
+    let chaincode = name(fields.chaincode)?;
     let argument = argument(alloc, fields.arg)?;
     Ok(Call {
         chaincode,
@@ -144,7 +144,7 @@ pub(crate) fn upgrade(alloc: Global, fields: &UpgradeFields<'_>) -> Result<Upgra
     let Ok(nonce) = <[u8; 16]>::from_hex(fields.nonce) else {
         return Err(BadLine::NoForm);
     };
-    let chaincode = name(alloc, fields.chaincode)?;
+    let chaincode = name(fields.chaincode)?;
     let definition = definition(alloc, fields)?;
     Ok(Upgrade {
         chaincode,

@@ -40,7 +40,7 @@ impl ReadItem for DefinitionReader<'_> {
             return Err(GenesisRefusal::Field);
         };
         let fuel = within(fields.fuel, 1, MOST_FUEL)?;
-        let Some(name) = Name::new(fields.name.as_bytes().to_vec(alloc)?) else {
+        let Some(name) = Name::from_slice(fields.name.as_bytes()) else {
             return Err(GenesisRefusal::Range);
         };
         let definition = definition(alloc, &fields, name, fuel, self.orgs)?;

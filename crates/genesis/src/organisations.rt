@@ -35,7 +35,7 @@ impl ReadItem for OrganisationReader {
         let Some(key) = TagKey::new(bytes_of(alloc, fields.key)?) else {
             return Err(GenesisRefusal::Range);
         };
-        let Some(name) = OrgName::new(fields.name.as_bytes().to_vec(alloc)?) else {
+        let Some(name) = OrgName::from_slice(fields.name.as_bytes()) else {
             return Err(GenesisRefusal::Range);
         };
         Ok(Organisation { name, key })

@@ -191,7 +191,7 @@ impl<'v, V: View> Recorder<'v, V> {
             Ok(at) => Ok(Some(look_up(self.view, &self.reads[at].key).0)),
             Err(_) if self.reads.len() == MOST_CHAINCODE_READS => Ok(None),
             Err(at) => {
-                let key = copied_key(self.alloc, key)?;
+                let key = copied_key(key);
                 let (value, version) = look_up(self.view, &key);
                 self.reads.insert(at, ReadItem { key, version })?;
                 Ok(Some(value))
@@ -252,7 +252,7 @@ impl<'v, V: View> Recorder<'v, V> {
             Ok(at) => self.writes[at].value = copy_of(self.alloc, value)?,
             Err(_) if self.writes.len() == MOST_WRITES => return Ok(negative(Refusal::NoRoom)),
             Err(at) => {
-                let key = copied_key(self.alloc, key)?;
+                let key = copied_key(key);
                 let value = copy_of(self.alloc, value)?;
                 self.writes.insert(at, WriteItem { key, value })?;
             }
@@ -372,11 +372,11 @@ fn is_key(bytes: &[u8]) -> bool
 }
 
 /// A key of these bytes.
-fn copied_key(alloc: Global, bytes: &[u8]) -> Result<Key, AllocError>
+fn copied_key(bytes: &[u8]) -> Key
     requires { IsKey bytes.now }
-    ensures { IfOk result (λ k. k ≡ bytes.now) }
+    ensures { result ≡ bytes.now }
 {
-    Ok(Key::new(bytes.to_vec(alloc)?).unwrap())
+    Key::from_slice(bytes).unwrap()
 }
 
 /// A bound of these bytes.

@@ -167,12 +167,12 @@ fn work_of<'a>(
     match name {
         "sim" => simulate(alloc, command),
         "run" => run(command),
-        "threads" => threads(alloc, command),
+        "threads" => threads(command),
         "audit" => audit(command),
         "show" => show(command),
         "state" => state(alloc, command),
         "trace" => trace(alloc, command),
-        _ => role_of(alloc, name, command),
+        _ => role_of(name, command),
     }
 }
 
@@ -190,10 +190,10 @@ fn run<'a>(command: &ArgMatches<'a>) -> Result<Work<'a>, WordsFault> {
     })
 }
 
-fn threads<'a>(alloc: Global, command: &ArgMatches<'a>) -> Result<Work<'a>, WordsFault> {
+fn threads<'a>(command: &ArgMatches<'a>) -> Result<Work<'a>, WordsFault> {
     Ok(Work::Threads {
         rounds: count(text(command, "ROUNDS")?)?,
-        chaincode: chaincode(alloc, command)?,
+        chaincode: chaincode(command)?,
     })
 }
 
@@ -227,17 +227,13 @@ fn trace<'a>(alloc: Global, command: &ArgMatches<'a>) -> Result<Work<'a>, WordsF
 }
 
 /// What a command of this name asks for that works on lines as they come.
-fn role_of<'a>(
-    alloc: Global,
-    name: &str,
-    command: &ArgMatches<'a>,
-) -> Result<Work<'a>, WordsFault> {
+fn role_of<'a>(name: &str, command: &ArgMatches<'a>) -> Result<Work<'a>, WordsFault> {
     match name {
         "commit" => Ok(Work::Commit {
             store: text(command, "STORE")?,
         }),
         "endorse" => Ok(Work::Endorse {
-            org: organisation(alloc, command)?,
+            org: organisation(command)?,
             store: text(command, "STORE")?,
         }),
         _ => Err(WordsFault::Usage),
@@ -286,15 +282,15 @@ fn profile_of(command: &ArgMatches<'_>) -> Result<Profile, WordsFault> {
 }
 
 /// The chaincode that the words name.
-fn chaincode(alloc: Global, call: &ArgMatches<'_>) -> Result<Name, WordsFault> {
-    let name = text(call, "CHAINCODE")?.as_bytes().to_vec(alloc)?;
-    Name::new(name).ok_or(WordsFault::Usage)
+fn chaincode(call: &ArgMatches<'_>) -> Result<Name, WordsFault> {
+    let name = text(call, "CHAINCODE")?;
+    Name::from_slice(name.as_bytes()).ok_or(WordsFault::Usage)
 }
 
 /// The organisation that the words name.
-fn organisation(alloc: Global, command: &ArgMatches<'_>) -> Result<OrgName, WordsFault> {
-    let name = text(command, "ORG")?.as_bytes().to_vec(alloc)?;
-    OrgName::new(name).ok_or(WordsFault::Usage)
+fn organisation(command: &ArgMatches<'_>) -> Result<OrgName, WordsFault> {
+    let name = text(command, "ORG")?;
+    OrgName::from_slice(name.as_bytes()).ok_or(WordsFault::Usage)
 }
 
 /// The bytes that hex stands for; none for `-`.
@@ -313,7 +309,7 @@ fn call(alloc: Global, command: &ArgMatches<'_>, nonce: Option<&str>) -> Result<
         None => [0; 16],
     };
     let argument = argument(alloc, text(command, "ARG")?)?;
-    let chaincode = chaincode(alloc, command)?;
+    let chaincode = chaincode(command)?;
     Ok(Call {
         chaincode,
         argument,

@@ -23,13 +23,13 @@ invariant_of-self-in-Err-2 g c =
     let reads = c.self.inside.reads.items in
     let gap = is_gap (λ (r : ReadItem). r.key) c.args.key.now reads _
     (c.in-Err.ensures ∙ ap (found_at (λ (r : ReadItem). r.key) c.args.key.now) c.deref.ensures.value) in
-    let item : ReadItem = record { key = c.in_ok-key-in-Err-2.key; version = c.look_up-version.result.1 } in
-    let new = c.in_ok-insert-in-Err-2.ensures.items ∙ gap.put item c.in_ok-key-in-Err-2.ensures in
+    let item : ReadItem = record { key = c.copied_key-key.result; version = c.look_up-version.result.1 } in
+    let new = c.in_ok-insert-in-Err-2.ensures.items ∙ gap.put item c.copied_key-key.ensures in
     let count = one_more 256 (length reads) c.self.invariant.read_count (λ e. c.if-len-eq-MOST_CHAINCODE_READS.false (omega (arith, e, c.len.ensures)))
-    (ap length new ∙ grown (λ (r : ReadItem). r.key) c.args.key.now reads _ gap item c.in_ok-key-in-Err-2.ensures) in
+    (ap length new ∙ grown (λ (r : ReadItem). r.key) c.args.key.now reads _ gap item c.copied_key-key.ensures) in
     items_read _ reads c.self.inside.ranges.items c.self.inside.writes.items c.self.invariant item
-    (λ i. record { key = c.in_ok-key-in-Err-2.key; version = c.look_up-version.ensures.version i }) _ new count
-    (ap is_shown c.in_ok-key-in-Err-2.ensures ∙ c.requires.shown)
+    (λ i. record { key = c.copied_key-key.result; version = c.look_up-version.ensures.version i }) _ new count
+    (ap is_shown c.copied_key-key.ensures ∙ c.requires.shown)
 
 pub returns-in-Ok-clause-answer : goal.returns-in-Ok-clause-answer
 returns-in-Ok-clause-answer g c =
@@ -62,15 +62,15 @@ returns-in_ok-insert-in-Err-2-clause-answer g c =
     let reads = c.self.inside.reads.items in
     let gap = is_gap (λ (r : ReadItem). r.key) c.args.key.now reads _
     (c.in-Err.ensures ∙ ap (found_at (λ (r : ReadItem). r.key) c.args.key.now) c.deref.ensures.value) in
-    let item : ReadItem = record { key = c.in_ok-key-in-Err-2.key; version = c.look_up-version.result.1 } in
-    let new = c.in_ok-insert-in-Err-2.ensures.items ∙ gap.put item c.in_ok-key-in-Err-2.ensures in
+    let item : ReadItem = record { key = c.copied_key-key.result; version = c.look_up-version.result.1 } in
+    let new = c.in_ok-insert-in-Err-2.ensures.items ∙ gap.put item c.copied_key-key.ensures in
     let count = one_more 256 (length reads) c.self.invariant.read_count (λ e. c.if-len-eq-MOST_CHAINCODE_READS.false (omega (arith, e, c.len.ensures)))
-    (ap length new ∙ grown (λ (r : ReadItem). r.key) c.args.key.now reads _ gap item c.in_ok-key-in-Err-2.ensures) in
+    (ap length new ∙ grown (λ (r : ReadItem). r.key) c.args.key.now reads _ gap item c.copied_key-key.ensures) in
     let after = recorded_of c.insert.new.self.items c.self.inside.ranges.items c.self.inside.result c.self.inside.writes.items in
-    let value = ap (get (values_of (g.V.View.state c.self.inside.view.now))) (sym c.in_ok-key-in-Err-2.ensures) ∙ sym c.look_up-version.ensures.value in
+    let value = ap (get (values_of (g.V.View.state c.self.inside.view.now))) (sym c.copied_key-key.ensures) ∙ sym c.look_up-version.ensures.value in
     subst (λ (r : Recording _). (target capacity : ℕ) (memory : List ℕ) →
     read_key (values_of (g.V.View.state r.opened.view)) c.args.key.now target capacity memory r.records ≡
     value_reply (option_map (λ v. v.now) c.look_up-version.result.0) target capacity memory after) c.self.view_is (λ target capacity memory.
-    read_new _ c.args.key.now reads c.self.inside.ranges.items c.self.inside.result c.self.inside.writes.items item c.in_ok-key-in-Err-2.ensures _ new count
+    read_new _ c.args.key.now reads c.self.inside.ranges.items c.self.inside.result c.self.inside.writes.items item c.copied_key-key.ensures _ new count
     target capacity memory
     ∙ ap (λ v. value_reply v target capacity memory after) value)

@@ -54,10 +54,10 @@ invariant_of-self-in_ok-insert-in-Err-2 g c =
     let writes = c.self.inside.writes.items in
     let gap = is_gap (λ (w : WriteItem). w.key) c.args.key.now writes _
     (c.in-Err.ensures ∙ ap (found_at (λ (w : WriteItem). w.key) c.args.key.now) c.deref.ensures.value) in
-    let item : WriteItem = record { key = c.in_ok-key-in-Err-2.key; value = c.in_ok-value-in-Err-2.value } in
-    let new = c.in_ok-insert-in-Err-2.ensures.items ∙ gap.put item c.in_ok-key-in-Err-2.ensures in
+    let item : WriteItem = record { key = c.copied_key-key.result; value = c.in_ok-value-in-Err-2.value } in
+    let new = c.in_ok-insert-in-Err-2.ensures.items ∙ gap.put item c.copied_key-key.ensures in
     let count = one_more 64 (length writes) c.self.invariant.write_set.count (λ e. c.if-len-eq-MOST_WRITES.false (omega (arith, e, c.len.ensures)))
-    (ap length new ∙ grown (λ (w : WriteItem). w.key) c.args.key.now writes _ gap item c.in_ok-key-in-Err-2.ensures) in
+    (ap length new ∙ grown (λ (w : WriteItem). w.key) c.args.key.now writes _ gap item c.copied_key-key.ensures) in
     items_written _ c.self.inside.reads.items c.self.inside.ranges.items writes c.self.invariant item _ new count
 
 pub returns-in_ok-self-inside-in-Ok-clause-answer : goal.returns-in_ok-self-inside-in-Ok-clause-answer
@@ -85,12 +85,12 @@ returns-in_ok-insert-in-Err-2-clause-answer g c =
     let writes = c.self.inside.writes.items in
     let gap = is_gap (λ (w : WriteItem). w.key) c.args.key.now writes _
     (c.in-Err.ensures ∙ ap (found_at (λ (w : WriteItem). w.key) c.args.key.now) c.deref.ensures.value) in
-    let item : WriteItem = record { key = c.in_ok-key-in-Err-2.key; value = c.in_ok-value-in-Err-2.value } in
+    let item : WriteItem = record { key = c.copied_key-key.result; value = c.in_ok-value-in-Err-2.value } in
     let wanted : WriteItem = record { key = c.args.key.now; value = option_map (λ v. v.now) c.args.value } in
-    let alike : item ≡ wanted = λ i. record { key = c.in_ok-key-in-Err-2.ensures i; value = c.in_ok-value-in-Err-2.ensures i } in
-    let new = c.in_ok-insert-in-Err-2.ensures.items ∙ gap.put item c.in_ok-key-in-Err-2.ensures in
+    let alike : item ≡ wanted = λ i. record { key = c.copied_key-key.ensures i; value = c.in_ok-value-in-Err-2.ensures i } in
+    let new = c.in_ok-insert-in-Err-2.ensures.items ∙ gap.put item c.copied_key-key.ensures in
     let count = one_more 64 (length writes) c.self.invariant.write_set.count (λ e. c.if-len-eq-MOST_WRITES.false (omega (arith, e, c.len.ensures)))
-    (ap length new ∙ grown (λ (w : WriteItem). w.key) c.args.key.now writes _ gap item c.in_ok-key-in-Err-2.ensures) in
+    (ap length new ∙ grown (λ (w : WriteItem). w.key) c.args.key.now writes _ gap item c.copied_key-key.ensures) in
     let done = recorded_of c.self.inside.reads.items c.self.inside.ranges.items c.self.inside.result c.insert.new.self.items in
     λ memory. subst (λ (r : Recording _). write wanted memory r.records ≡ says 0 memory done) c.self.view_is
     (write_new c.self.inside.reads.items c.self.inside.ranges.items c.self.inside.result writes wanted c.insert.new.self.items
