@@ -1,7 +1,7 @@
 //! Calls of the host.
 
 ghost use Rattle.std.specs.Prelude.{◌≡◌};
-ghost use Rattle.wasm_validate.specs.HostCalls.{arity};
+ghost use Rattle.wasm_typing.specs.HostCalls.{arity};
 
 use crate::bytes::{bytes_of, split_word};
 use crate::fault::CaseFault;

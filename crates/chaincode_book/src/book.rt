@@ -2,7 +2,7 @@
 
 ghost use Rattle.std.specs.Prelude.{◌≡◌, ◌↔◌, IsSome, IfSome, true, map, option_map, slice_get};
 ghost use Rattle.std.specs.List.{list_all, list_any, AllByRecursion};
-ghost use Rattle.wasm_validate.specs.ModuleRules.{IsValid};
+ghost use Rattle.wasm_typing.specs.ModuleRules.{IsValid};
 ghost use Rattle.chaincode_book.specs.Books.{IsBook, AreValid, chaincode_at, is_named, has_fuel, have_own_names, modules_of};
 
 use endorsement_policy::Installed;

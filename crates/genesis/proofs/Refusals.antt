@@ -7,7 +7,7 @@ use Rattle.wasm_profile.specs.declared.profile.Profile.{Profile}
 use Rattle.wasm_profile.specs.declared.profile.Profile.TheVariants.{Core1, SignExtension}
 use Rattle.wasm_ast.specs.declared.module.Module.{Module}
 use Rattle.wasm_decode.specs.ModuleSpelling.{IsModule}
-use Rattle.wasm_validate.specs.ModuleRules.{IsValid}
+use Rattle.wasm_typing.specs.ModuleRules.{IsValid}
 use Rattle.genesis.specs.declared.refusal.GenesisRefusal.{GenesisRefusal}
 use Rattle.genesis.specs.Lists.{IsNumber, IsWithin}
 use Rattle.policy_language.specs.Limits.{IsText}

@@ -10,7 +10,7 @@ use Rattle.wasm_profile.specs.declared.profile.Profile.{Profile}
 use Rattle.fab_types.specs.Limits.{IsName, IsOrgName}
 use Rattle.wasm_ast.specs.declared.module.Module.{Module}
 use Rattle.wasm_decode.specs.ModuleSpelling.{IsModule}
-use Rattle.wasm_validate.specs.ModuleRules.{IsValid}
+use Rattle.wasm_typing.specs.ModuleRules.{IsValid}
 use Rattle.policy_language.specs.GoodSets.{Names, is_among}
 use Rattle.policy_language.specs.Limits.{IsText}
 use Rattle.endorsement_policy.specs.TagKeys.{IsTagKey}

@@ -4,8 +4,8 @@ ghost use Rattle.std.specs.Prelude.{◌≡◌, ◌≢◌, ◌++◌, IfOk, IfErr}
 ghost use Rattle.serde_json.specs.View.{view};
 ghost use Rattle.wasm_ast.specs.declared.module.Module.{Module};
 ghost use Rattle.wasm_decode.specs.ModuleSpelling.{IsModule};
-ghost use Rattle.wasm_validate.specs.ModuleRules.{IsValid};
-ghost use Rattle.wasm_validate.specs.declared.fault.ValidateFault.{ValidateFault};
+ghost use Rattle.wasm_typing.specs.ModuleRules.{IsValid};
+ghost use Rattle.wasm_typing.specs.declared.fault.ValidateFault.{ValidateFault};
 ghost use Rattle.genesis.specs.declared.genesis.InstalledModule.{InstalledModule};
 ghost use Rattle.genesis.specs.declared.refusal.GenesisRefusal.TheVariants.{Memory, Json};
 ghost use Rattle.genesis.specs.Refused.{NoneIs};

@@ -8,7 +8,7 @@ use Rattle.fab_types.specs.Order.{key_cmp, is_before}
 use Rattle.fab_types.specs.declared.items.WriteItem.{WriteItem}
 use Rattle.wasm_ast.specs.declared.host_call.HostCall.TheVariants as call
 use Rattle.wasm_ast.specs.declared.module.Module.{Module}
-use Rattle.wasm_validate.specs.ModuleRules.{IsValid}
+use Rattle.wasm_typing.specs.ModuleRules.{IsValid}
 use Rattle.wasm_meaning.specs.Values.{Answer, Next, Branch, Returns, Trapped, Spent, Stuck, Reply}
 use Rattle.wasm_meaning.specs.Following.{Ends, Follows}
 use Rattle.wasm_meaning.specs.Fine.{IsEnding}

@@ -11,7 +11,7 @@
 
 ghost use Rattle.std.specs.Prelude.{◌≡◌, ℕ};
 ghost use Rattle.wasm_ast.specs.declared.module.Module.{Module};
-ghost use Rattle.wasm_validate.specs.ModuleRules.{IsValid};
+ghost use Rattle.wasm_typing.specs.ModuleRules.{IsValid};
 ghost use Rattle.ledger_model.specs.Chain.{Bytes};
 ghost use Rattle.ledger_model.specs.Views.{Versioned, values_of};
 ghost use Rattle.host_api.specs.HostStep.{host_step};

@@ -1,7 +1,7 @@
 //! The memory of chaincode, and the spans of it that a call names.
 
 ghost use Rattle.std.specs.Prelude.{◌≡◌, ◌≤◌, ◌<◌, ◌+◌, ◌^◌, length, option_map};
-ghost use Rattle.wasm_validate.specs.HostCalls.{arity};
+ghost use Rattle.wasm_typing.specs.HostCalls.{arity};
 ghost use Rattle.wasm_meaning.specs.Memory.{with_bytes};
 ghost use Rattle.host_api.specs.Recorded.{Recorded};
 ghost use Rattle.host_api.specs.HostStep.{nth, span_bytes, replies};

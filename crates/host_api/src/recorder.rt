@@ -6,7 +6,7 @@ ghost use Rattle.std.specs.Map.Iter.{deref_pair};
 ghost use Rattle.fab_types.specs.Limits.{IsKey, IsBound, IsValue};
 ghost use Rattle.fab_types.specs.Order.{is_shown};
 ghost use Rattle.wasm_ast.specs.declared.host_call.HostCall.TheVariants as host_call;
-ghost use Rattle.wasm_validate.specs.HostCalls.{arity};
+ghost use Rattle.wasm_typing.specs.HostCalls.{arity};
 ghost use Rattle.ledger_model.specs.Views.{values_of};
 ghost use Rattle.host_api.specs.Recorded.{Recorded, nothing_recorded, seen_on};
 ghost use Rattle.host_api.specs.HostStep.{is_key, read_key, write, ask_range};

@@ -1,7 +1,7 @@
 //! Hosts: what a module imports.
 
 ghost use Rattle.std.specs.Prelude.{◌≡◌, length, IfOk};
-ghost use Rattle.wasm_validate.specs.HostCalls.{arity};
+ghost use Rattle.wasm_typing.specs.HostCalls.{arity};
 ghost use Rattle.wasm_meaning.specs.Values.{Answering};
 
 use std::alloc::AllocError;

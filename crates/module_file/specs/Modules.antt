@@ -4,8 +4,8 @@ use Rattle.wasm_profile.specs.declared.profile.Profile.{Profile}
 use Rattle.wasm_ast.specs.declared.module.Module.{Module}
 use Rattle.wasm_decode.specs.ModuleSpelling.{IsModule}
 use Rattle.wasm_decode.specs.Faults.{Stands}
-use Rattle.wasm_validate.specs.ModuleRules.{IsValid}
-use Rattle.wasm_validate.specs.Broken.{Broken}
+use Rattle.wasm_typing.specs.ModuleRules.{IsValid}
+use Rattle.wasm_typing.specs.Broken.{Broken}
 use Rattle.module_file.specs.declared.module.ModuleRefusal.{ModuleRefusal}
 use Rattle.module_file.specs.declared.module.ModuleRefusal.TheVariants.{Memory, Malformed, Invalid}
 

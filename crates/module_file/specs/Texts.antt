@@ -2,7 +2,7 @@
 use Rattle.std.specs.Prelude.{◌++◌, List, ℕ, codes}
 use Rattle.std.specs.Fmt.{decimal}
 use Rattle.wasm_decode.specs.FaultNumbers.{number_of as decode_number}
-use Rattle.wasm_validate.specs.FaultNumbers.{number_of as validate_number}
+use Rattle.wasm_typing.specs.FaultNumbers.{number_of as validate_number}
 use Rattle.module_file.specs.declared.module.ModuleRefusal.{ModuleRefusal}
 use Rattle.module_file.specs.declared.module.ModuleRefusal.TheVariants.{Memory, Malformed, Invalid}
 

@@ -3,7 +3,7 @@
 ghost use Rattle.std.specs.Prelude.{◌≡◌, IfOk, IfErr};
 ghost use Rattle.wasm_ast.specs.declared.module.Module.{Module};
 ghost use Rattle.wasm_decode.specs.ModuleSpelling.{IsModule};
-ghost use Rattle.wasm_validate.specs.ModuleRules.{IsValid};
+ghost use Rattle.wasm_typing.specs.ModuleRules.{IsValid};
 ghost use Rattle.module_file.specs.Modules.{NoModule, IsDefinedBy};
 ghost use Rattle.module_file.specs.declared.module.ModuleRefusal.TheVariants.{Memory};
 

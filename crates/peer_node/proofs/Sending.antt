@@ -20,7 +20,7 @@ use Rattle.wasm_ast.proofs.types.GlobalType.TheSendSync as typed
 use Rattle.wasm_ast.proofs.module.Import.TheSendSync as imported
 use Rattle.wasm_ast.proofs.module.Export.TheSendSync as exported
 use Rattle.wasm_ast.proofs.host_call.HostCall.TheSendSync as host_call
-use Rattle.flat_text.proofs.translation.FlatText.TheSendSync as flat_text
+use Rattle.wasm_translate.proofs.translation.FlatText.TheSendSync as flat_code
 use Rattle.endorsement_policy.proofs.installed.Installed.TheSendSync as installed
 use Rattle.endorsement_policy.proofs.rules.Organisation.TheSendSync as organisation
 use Rattle.snapshot_cell.proofs.reader.Reader.TheSendSync as reader
@@ -115,7 +115,7 @@ send_module_tree_field =
     ) depth 30
 
 send_valid_module : IsSend valid_module_type.the_row
-send_valid_module = search (sendable, crosses, host_call.the_send, flat_text.the_send, send_module_tree_field) depth 30
+send_valid_module = search (sendable, crosses, host_call.the_send, flat_code.the_send, send_module_tree_field) depth 30
 
 send_chaincode : IsSend chaincode_type.the_row
 send_chaincode = search (sendable, crosses, name.the_send, send_valid_module) depth 30
@@ -164,7 +164,7 @@ sync_module_tree_field =
     ) depth 30
 
 sync_valid_module : IsSync valid_module_type.the_row
-sync_valid_module = search (sendable, crosses, host_call.the_sync, flat_text.the_sync, sync_module_tree_field) depth 30
+sync_valid_module = search (sendable, crosses, host_call.the_sync, flat_code.the_sync, sync_module_tree_field) depth 30
 
 sync_chaincode : IsSync chaincode_type.the_row
 sync_chaincode = search (sendable, crosses, name.the_sync, sync_valid_module) depth 30

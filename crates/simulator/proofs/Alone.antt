@@ -11,7 +11,7 @@ use Rattle.ledger_model.specs.Views.{Plain}
 use Rattle.ledger_model.specs.Execution as ledger
 use Rattle.ledger_model.specs.Defined.{IsAlone, called, upgraded, definition_key}
 use Rattle.wasm_ast.specs.declared.module.Module.{Module}
-use Rattle.wasm_validate.specs.ModuleRules.{IsValid}
+use Rattle.wasm_typing.specs.ModuleRules.{IsValid}
 use Rattle.endorsement_policy.specs.Installed.{usable_by, usable_in}
 use Rattle.endorsement_policy.specs.declared.installed.Usable.{Usable}
 use Rattle.host_api.specs.Executing as host

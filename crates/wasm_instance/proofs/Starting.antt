@@ -3,7 +3,7 @@ use Rattle.std.proofs.Common.{◌≡◌, ◌≤◌, ◌+◌, ◌*◌, ℕ, zero,
 use Rattle.std.specs.Prelude.{slice_get}
 use Rattle.wasm_ast.specs.declared.types.Limits.{Limits}
 use Rattle.wasm_ast.specs.declared.module.Module.{Module}
-use Rattle.wasm_validate.specs.ModuleRules.{IsValid}
+use Rattle.wasm_typing.specs.ModuleRules.{IsValid}
 use Rattle.wasm_meaning.specs.Program.{first_limits}
 use Rattle.wasm_instance.specs.Segments.{AreConstants, AreData, AreElements}
 

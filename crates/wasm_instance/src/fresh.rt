@@ -1,7 +1,7 @@
 //! How an instance begins (Core 1.0, section 4.5.4).
 
 ghost use Rattle.std.specs.Prelude.{◌≡◌, ◌<◌, ◌≤◌, ◌+◌, length, map, IfOk};
-ghost use Rattle.wasm_validate.specs.ModuleRules.{IsValid};
+ghost use Rattle.wasm_typing.specs.ModuleRules.{IsValid};
 ghost use Rattle.wasm_meaning.specs.Program.{initial, first_limits, with_segments, with_functions, with_elements, fresh_global, fresh_memory, fresh_table, most_pages};
 ghost use Rattle.wasm_instance.specs.Segments.{IsConstant, AreData, AreElements};
 ghost use Rattle.wasm_instance.specs.State.{words_of};

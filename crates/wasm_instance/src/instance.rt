@@ -3,6 +3,7 @@
 ghost use Rattle.std.specs.Prelude.{◌≡◌, ◌<◌, ◌+◌, length, slice_get, slice_set, IfOk, OnOk, OnErr};
 ghost use Rattle.std.specs.Borrow.{sem};
 ghost use Rattle.wasm_ast.specs.Access.{store_width};
+ghost use Rattle.wasm_typing.specs.ModuleRules.{IsValid};
 ghost use Rattle.wasm_meaning.specs.Memory.{size_word};
 ghost use Rattle.wasm_instance.specs.Accesses.{in_bounds, load_at, after_store, grow_word, after_grow, function_at};
 ghost use Rattle.wasm_instance.specs.State.{fresh};
@@ -13,8 +14,7 @@ use crate::fresh::{fresh_globals, fresh_memory, fresh_table, most_pages};
 use crate::memory::Memory;
 use std::alloc::{AllocError, Global};
 use std::marker::Model;
-use wasm_ast::{LoadOp, StoreOp, Trap};
-use wasm_validate::ValidModule;
+use wasm_ast::{LoadOp, Module, StoreOp, Trap};
 
 /// What the code of a module may change outside its frame, its memory and its globals, and the
 /// table that its indirect calls go by.
@@ -45,17 +45,17 @@ impl Model for Instance {
 }
 
 impl Instance {
-    /// The fresh instance of a module (Core 1.0, section 4.5.4).
+    /// The fresh instance of a valid module (Core 1.0, section 4.5.4).
     ///
     /// Its memory has its least size, zeros but for the data segments; its globals have the words
     /// of their initializers; its table has its least size, with no functions but for those of the
     /// element segments. The memory may grow to its greatest size, and to 16 pages at most.
     ///
     /// `AllocError` where there is no room for it.
-    pub fn new(alloc: Global, valid: &ValidModule) -> Result<Instance, AllocError>
-        ensures { IfOk result (λ i. i ≡ fresh valid.now) }
+    pub fn new(alloc: Global, module: &Module) -> Result<Instance, AllocError>
+        requires { IsValid «module».now }
+        ensures { IfOk result (λ i. i ≡ fresh «module».now) }
     {
-        let module = valid.module();
         Ok(Instance {
             memory: fresh_memory(alloc, module)?,
             globals: fresh_globals(alloc, module)?,

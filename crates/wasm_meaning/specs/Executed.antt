@@ -8,8 +8,8 @@ use Rattle.wasm_ast.specs.Types.{words, same_type}
 use Rattle.wasm_ast.specs.declared.types.FuncType.{FuncType}
 use Rattle.wasm_ast.specs.Op.{Op, Call, CallIndirect}
 use Rattle.wasm_ast.specs.Code.{Code, End, Do, Block, Loop, If}
-use Rattle.wasm_validate.specs.HostCalls.{host_calls}
-use Rattle.wasm_validate.specs.ModuleRules.{invoke_of}
+use Rattle.wasm_typing.specs.HostCalls.{host_calls}
+use Rattle.wasm_typing.specs.ModuleRules.{invoke_of}
 use Rattle.wasm_meaning.specs.Values.{Val, World, Answer, Next, Branch, Returns, Trapped, Spent, Stuck, Answering, Function, Program, zeros}
 use Rattle.wasm_meaning.specs.Meaning.{greatest_depth, same_func_type, block_end, loop_end, type_of, leaf, tree, meaning}
 use Rattle.wasm_meaning.specs.Program.{function_of, program_of, fresh_world}

@@ -57,8 +57,8 @@
 ghost use Rattle.std.specs.Prelude.{◌≡◌, ◌≢◌, ◌≤◌, ◌+◌, ℕ, List};
 ghost use Rattle.wasm_ast.specs.declared.module.Module.{Module};
 ghost use Rattle.wasm_ast.specs.Code.{Code};
-ghost use Rattle.wasm_validate.specs.Typing.{Context};
-ghost use Rattle.wasm_validate.specs.ModuleRules.{IsValid};
+ghost use Rattle.wasm_typing.specs.Typing.{Context};
+ghost use Rattle.wasm_typing.specs.ModuleRules.{IsValid};
 ghost use Rattle.wasm_meaning.specs.Values.{Val, World, Stuck, Answering, Program};
 ghost use Rattle.wasm_meaning.specs.Meaning.{tree, meaning};
 ghost use Rattle.wasm_meaning.specs.Program.{invocation};

@@ -14,8 +14,8 @@ use Rattle.wasm_ast.specs.declared.trap.Trap.TheVariants as trap
 use Rattle.wasm_ast.specs.View.{code_of}
 use Rattle.wasm_ast.specs.declared.host_call.HostCall.{HostCall}
 use Rattle.wasm_ast.specs.declared.host_call.HostAnswer.TheVariants as answer
-use Rattle.wasm_validate.specs.HostCalls.{host_calls, call_type}
-use Rattle.wasm_validate.specs.ModuleRules.{IsValid, no_type, invoke_of}
+use Rattle.wasm_typing.specs.HostCalls.{host_calls, call_type}
+use Rattle.wasm_typing.specs.ModuleRules.{IsValid, no_type, invoke_of}
 use Rattle.wasm_meaning.specs.Program.{function_of, program_of, fresh_world}
 use Rattle.wasm_meaning.specs.Meaning.{greatest_depth, with_some, call_function, meaning}
 use Rattle.wasm_meaning.specs.Fine.{IsEnding}

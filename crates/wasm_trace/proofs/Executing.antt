@@ -6,7 +6,7 @@ use Rattle.wasm_ast.specs.declared.body.Instr.TheVariants as instr
 use Rattle.wasm_ast.specs.declared.host_call.HostCall.{HostCall}
 use Rattle.wasm_ast.specs.Code.{Code}
 use Rattle.wasm_ast.specs.View.{then_code, code_of}
-use Rattle.wasm_validate.specs.HostCalls.{arity}
+use Rattle.wasm_typing.specs.HostCalls.{arity}
 use Rattle.wasm_meaning.specs.Values.{Val, World, Program, top_of}
 use Rattle.wasm_trace.specs.declared.parts.Value.{Value}
 use Rattle.wasm_trace.specs.declared.parts.Front.{Front}

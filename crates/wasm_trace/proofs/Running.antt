@@ -2,8 +2,8 @@
 use Rattle.std.proofs.Common.{◌≡◌, ◌≢◌, ℕ, zero, suc, ◌-◌, ◌<◌, ◌≤◌, Option, Some, None, [], ◌∷◌, length, map, refl, sym, ap, ◌∙◌, subst, arith, inl, inr}
 use Rattle.std.specs.Prelude.{slice_get}
 use Rattle.wasm_ast.specs.declared.module.Module.{Module}
-use Rattle.wasm_validate.specs.HostCalls.{host_calls}
-use Rattle.wasm_validate.specs.ModuleRules.{IsValid, invoke_of}
+use Rattle.wasm_typing.specs.HostCalls.{host_calls}
+use Rattle.wasm_typing.specs.ModuleRules.{IsValid, invoke_of}
 use Rattle.wasm_meaning.specs.Values as meant
 use Rattle.wasm_meaning.specs.Values.{World, Answer, Next, Branch, Returns, Answering, Function, Program}
 use Rattle.wasm_meaning.specs.Meaning.{with_some, call_function, meaning}

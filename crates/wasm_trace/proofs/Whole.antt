@@ -4,8 +4,8 @@ use Rattle.std.specs.Prelude.{slice_get}
 use Rattle.wasm_ast.specs.declared.trap.Trap.{Trap}
 use Rattle.wasm_ast.specs.declared.types.ValueType.TheVariants.{I32, I64}
 use Rattle.wasm_ast.specs.declared.module.Module.{Module}
-use Rattle.wasm_validate.specs.HostCalls.{host_calls}
-use Rattle.wasm_validate.specs.ModuleRules.{IsValid, invoke_of}
+use Rattle.wasm_typing.specs.HostCalls.{host_calls}
+use Rattle.wasm_typing.specs.ModuleRules.{IsValid, invoke_of}
 use Rattle.wasm_meaning.specs.Values as meant
 use Rattle.wasm_meaning.specs.Values.{Val, value, World, Answer, Next, Branch, Returns, Answering, Function, Program}
 use Rattle.wasm_meaning.specs.Meaning.{with_some, call_function, meaning}

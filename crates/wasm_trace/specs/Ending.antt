@@ -2,8 +2,8 @@
 use Rattle.std.specs.Prelude.{◌≡◌, ◌≢◌, ℕ, ◌+◌, ◌-◌, List, [], ◌∷◌, Some, map, length, slice_get}
 use Rattle.wasm_ast.specs.declared.types.ValueType.TheVariants.{I32, I64}
 use Rattle.wasm_ast.specs.declared.module.Module.{Module}
-use Rattle.wasm_validate.specs.HostCalls.{host_calls}
-use Rattle.wasm_validate.specs.ModuleRules.{invoke_of}
+use Rattle.wasm_typing.specs.HostCalls.{host_calls}
+use Rattle.wasm_typing.specs.ModuleRules.{invoke_of}
 use Rattle.wasm_meaning.specs.Values as meant
 use Rattle.wasm_meaning.specs.Values.{Val, value, World, Answer, Next, Branch, Returns, Answering, Function, Program}
 use Rattle.wasm_meaning.specs.Program.{function_of, program_of, fresh_world}

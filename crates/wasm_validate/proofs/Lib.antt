@@ -1,13 +1,1 @@
-pub mod Lists
-pub mod Types
-pub mod Heights
-pub mod Stands
-pub mod Sound
-pub mod Complete
-pub mod Instructions
-pub mod Untyped
 pub mod WellFormed
-pub mod Fronts
-pub mod Functions
-pub mod Modules
-pub mod PlainInstructions

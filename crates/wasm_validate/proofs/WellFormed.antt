@@ -8,9 +8,9 @@ use Rattle.wasm_ast.specs.declared.module.Func.{Func}
 use Rattle.wasm_ast.specs.declared.module.Module.{Module}
 use Rattle.wasm_ast.specs.Op.{Op, Unreachable, Br, BrIf, BrTable}
 use Rattle.wasm_ast.specs.Code.{BlockType, Code, End, Do, Block, Loop, If}
-use Rattle.flat_text.specs.WellFormed.{NamesLabels, HasLabels}
-use Rattle.wasm_validate.specs.Typing.{Context, EachLabel, TypingRule, Types, under}
-use Rattle.wasm_validate.specs.ModuleRules.{IsValid}
+use Rattle.wasm_translate.specs.WellFormed.{NamesLabels, HasLabels}
+use Rattle.wasm_typing.specs.Typing.{Context, EachLabel, TypingRule, Types, under}
+use Rattle.wasm_typing.specs.ModuleRules.{IsValid}
 
 each_within : (c : Context) (ns : List ℕ) (l : BlockType) → EachLabel c ns l → AllByRecursion (λ i. i < length c.labels) ns
 each_within c [] l h = tt

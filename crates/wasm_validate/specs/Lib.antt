@@ -1,16 +1,1 @@
-pub mod Typing
-pub mod HostCalls
-pub mod ModuleRules
 pub mod Flat
-pub mod Indices
-pub mod FaultNumbers
-pub mod Operands
-pub mod Algorithm
-pub mod Breaks
-pub mod Front
-pub mod Mistyped
-pub mod Refused
-pub mod Inside
-pub mod Marks
-pub mod Broken
-pub mod Plain

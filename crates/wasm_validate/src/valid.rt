@@ -1,26 +1,18 @@
 //! Modules that are known to be valid.
 
-ghost use Rattle.std.specs.Prelude.{◌≡◌, ◌≢◌, ℕ, IfOk, IfErr, Some};
-ghost use Rattle.flat_text.specs.Spelling.{Spells};
-ghost use Rattle.wasm_ast.specs.declared.module.Import.{Import};
+ghost use Rattle.std.specs.Prelude.{◌≡◌, ◌≢◌, IfOk, IfErr, Some};
+ghost use Rattle.wasm_flat.specs.Spelling.{Spells};
+ghost use Rattle.wasm_typing.specs.Broken.{Broken, BreaksAlone};
+ghost use Rattle.wasm_typing.specs.HostCalls.{host_calls};
+ghost use Rattle.wasm_typing.specs.ModuleRules.{IsValid, invoke_of};
 ghost use Rattle.wasm_validate.specs.Flat.{context_of};
-ghost use Rattle.wasm_validate.specs.HostCalls.{host_calls};
-ghost use Rattle.wasm_validate.specs.Indices.{AreTypes};
-ghost use Rattle.wasm_validate.specs.ModuleRules.{IsValid, IsValidImport, invoke_of, type_indices};
-ghost use Rattle.wasm_validate.specs.Typing.{at};
-ghost use Rattle.wasm_validate.specs.Broken.{Broken, BreaksAlone};
 
-use crate::code::check_code;
-use crate::exports::{check_exports, find_entry};
-use crate::fault::ValidateFault;
-use crate::globals::check_globals;
-use crate::imports::{check_imports, function_indices};
-use crate::limits::{check_memories, check_tables};
-use crate::segments::{check_data, check_elements};
-use flat_text::{FlatText, Source, flatten};
 use std::alloc::Global;
 use std::marker::Model;
 use wasm_ast::{HostCall, Module};
+use wasm_flat::Source;
+use wasm_translate::{FlatText, flatten};
+use wasm_typing::{Resolved, ValidateFault, check_module};
 
 /// A module that is valid (Core 1.0, section 3.4), with what a run looks up in it.
 ///
@@ -38,12 +30,12 @@ pub struct ValidModule {
 
 impl Model for ValidModule {
     ghost use Rattle.std.specs.Prelude.{◌≡◌, Some};
-    ghost use Rattle.flat_text.specs.Spelling.{Spells};
+    ghost use Rattle.wasm_flat.specs.Spelling.{Spells};
     ghost use Rattle.wasm_validate.specs.Flat.{context_of};
     ghost use Rattle.wasm_ast.specs.declared.module.Module.{Module};
     ghost use Rattle.wasm_ast.specs.contracts.module.Module as declared;
-    ghost use Rattle.wasm_validate.specs.HostCalls.{host_calls};
-    ghost use Rattle.wasm_validate.specs.ModuleRules.{IsValid, invoke_of};
+    ghost use Rattle.wasm_typing.specs.HostCalls.{host_calls};
+    ghost use Rattle.wasm_typing.specs.ModuleRules.{IsValid, invoke_of};
 
     ghost Value = { Module };
 
@@ -107,7 +99,7 @@ pub fn validate(alloc: Global, given: Module) -> Result<ValidModule, ValidateFau
     ensures alone { IfErr result (λ e. e ≢ ValidateFault.Memory →
         (only : ValidateFault) → BreaksAlone only given → e ≡ only) }
 {
-    let (calls, invoke, flat) = check_module(alloc, &given)?;
+    let (Resolved { calls, invoke }, flat) = look_up(alloc, &given)?;
     Ok(ValidModule {
         module: given,
         calls,
@@ -116,45 +108,17 @@ pub fn validate(alloc: Global, given: Module) -> Result<ValidModule, ValidateFau
     })
 }
 
-// What a run looks up in a module, where that is valid: the host calls, the index of `invoke`, and
-// the flat code.
-fn check_module(
-    alloc: Global,
-    given: &Module,
-) -> Result<(Vec<HostCall>, u32, FlatText), ValidateFault>
+// What a run looks up in a module, where that is valid: by name, and the flat code.
+fn look_up(alloc: Global, given: &Module) -> Result<(Resolved, FlatText), ValidateFault>
     ensures valid { IfOk result (λ _. IsValid given.now) }
-    ensures calls { IfOk result (λ found. found.0.items ≡ host_calls given.now.imports) }
-    ensures invoke { IfOk result (λ found. invoke_of given.now ≡ Some found.1) }
-    ensures flat { IfOk result (λ found. Spells found.2 (context_of given.now)) }
+    ensures calls { IfOk result (λ found. found.0.calls.items ≡ host_calls given.now.imports) }
+    ensures invoke { IfOk result (λ found. invoke_of given.now ≡ Some found.0.invoke) }
+    ensures flat { IfOk result (λ found. Spells found.1 (context_of given.now)) }
     ensures broken { IfErr result (λ e. Broken e given.now) }
 {
-    let calls = check_imports(alloc, given)?;
-    let functions = function_indices(alloc, given)?;
-    let invoke = check_sections(alloc, given, &functions)?;
-    let flat = flatten_module(alloc, given, &calls)?;
-    Ok((calls, invoke, flat))
-}
-
-// The index of `invoke` of a module that is valid. Its imports were checked, and the indices are
-// those of all functions' types.
-fn check_sections(alloc: Global, given: &Module, functions: &[u32]) -> Result<u32, ValidateFault>
-    requires imports { (k : ℕ) → (i : Import) → at given.now.imports k ≡ Some i →
-        IsValidImport given.now.types i }
-    requires indices { functions.now ≡ type_indices given.now }
-    requires known { AreTypes functions.now given.now.types }
-    ensures valid { IfOk result (λ _. IsValid given.now) }
-    ensures invoke { IfOk result (λ entry. invoke_of given.now ≡ Some entry) }
-    ensures broken { IfErr result (λ e. Broken e given.now) }
-{
-    check_tables(given)?;
-    check_memories(given)?;
-    check_globals(given)?;
-    check_exports(given, functions)?;
-    let invoke = find_entry(given, functions)?;
-    check_elements(given, functions)?;
-    check_code(alloc, given, functions)?;
-    check_data(given)?;
-    Ok(invoke)
+    let resolved = check_module(alloc, given)?;
+    let flat = flatten_module(alloc, given, &resolved.calls)?;
+    Ok((resolved, flat))
 }
 
 // The flat code of a valid module with these host calls. Its branches name labels, so there is one.

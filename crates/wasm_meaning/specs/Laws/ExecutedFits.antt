@@ -13,8 +13,8 @@ use Rattle.wasm_ast.specs.declared.types.FuncType.{FuncType}
 use Rattle.wasm_ast.specs.Op.{Op, Unreachable, Nop, Drop, Select, Return, Br, BrIf, BrTable, Call, CallIndirect, LocalGet, LocalSet, LocalTee, GlobalGet}
 use Rattle.wasm_ast.specs.Op.{GlobalSet, MemorySize, MemoryGrow, Load, Store, Const, Eqz, Unary, Compare, Binary, Convert}
 use Rattle.wasm_ast.specs.Code.{BlockType, Code, End, Do, Block, Loop, If}
-use Rattle.wasm_validate.specs.HostCalls.{host_calls}
-use Rattle.wasm_validate.specs.ModuleRules.{invoke_of}
+use Rattle.wasm_typing.specs.HostCalls.{host_calls}
+use Rattle.wasm_typing.specs.ModuleRules.{invoke_of}
 use Rattle.wasm_meaning.specs.Values.{Val, World, Answer, Next, Branch, Returns, Trapped, Spent, Stuck, Answering, Function, Program, Then, all_of, top_of}
 use Rattle.wasm_meaning.specs.Values.{zeros}
 use Rattle.wasm_meaning.specs.Meaning.{greatest_depth, same_func_type, then_do, pay, on_top, as_word, with_some, block_end, loop_end, call_end, call_host}

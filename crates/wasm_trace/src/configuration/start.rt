@@ -1,7 +1,7 @@
 //! How a configuration begins (Core 1.0, section 4.5.5).
 
 ghost use Rattle.std.specs.Prelude.{◌≡◌, map, IfOk};
-ghost use Rattle.wasm_validate.specs.ModuleRules.{IsValid, IsValidGlobal};
+ghost use Rattle.wasm_typing.specs.ModuleRules.{IsValid, IsValidGlobal};
 ghost use Rattle.wasm_meaning.specs.Program.{fresh_global};
 ghost use Rattle.wasm_trace.specs.View.{val_of, vals, Starts};
 
@@ -35,7 +35,7 @@ impl<'m> Configuration<'m> {
                 front: Front::Invoke(function_type, function),
                 code: &[],
                 globals: fresh_globals(alloc, module)?,
-                instance: Instance::new(alloc, valid)?,
+                instance: Instance::new(alloc, module)?,
             }),
         }
     }

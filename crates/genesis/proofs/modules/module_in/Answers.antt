@@ -1,6 +1,6 @@
 use Rattle.std.proofs.Common.{◌≡◌, sym, subst}
 use Rattle.wasm_decode.specs.ModuleSpelling.{IsModule}
-use Rattle.wasm_validate.specs.ModuleRules.{IsValid}
+use Rattle.wasm_typing.specs.ModuleRules.{IsValid}
 use Rattle.genesis.proofs.modules.module_in.Goals as goal
 
 pub returns-in-Err-Malformed-clause-refused : goal.returns-in-Err-Malformed-clause-refused

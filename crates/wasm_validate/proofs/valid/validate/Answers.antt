@@ -1,6 +1,6 @@
 use Rattle.std.proofs.Common.{refl}
 use Rattle.std.proofs.lemmas.Result.{err_from_is_err_and}
-use Rattle.wasm_validate.proofs.Modules.{broken_is_invalid}
+use Rattle.wasm_typing.proofs.Modules.{broken_is_invalid}
 use Rattle.wasm_validate.proofs.valid.validate.Goals as goal
 
 pub returns-in_err-calls-clause-refused : goal.returns-in_err-calls-clause-refused

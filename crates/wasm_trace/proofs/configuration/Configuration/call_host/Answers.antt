@@ -1,7 +1,7 @@
 use Rattle.std.proofs.Common.{◌≡◌, ◌-◌, None, Some, sym, ap, ◌∙◌, subst, arith, length, take, drop}
 use Rattle.std.specs.Prelude.{option_map}
 use Rattle.std.proofs.lemmas.Result.{IfOk-weaker}
-use Rattle.wasm_validate.specs.HostCalls.{arity}
+use Rattle.wasm_typing.specs.HostCalls.{arity}
 use Rattle.wasm_trace.specs.Calls.{AreWords, ask_step}
 use Rattle.wasm_trace.specs.View.{vals, stack_of, world}
 use Rattle.wasm_trace.proofs.Calling.{rest_all, length_drop}

@@ -1,0 +1,9 @@
+use Rattle.std.proofs.Common.{◌≡◌, ◌<◌, ℕ, Some}
+use Rattle.wasm_ast.specs.declared.types.Limits.{Limits}
+use Rattle.wasm_typing.specs.Typing.{at}
+use Rattle.wasm_typing.specs.ModuleRules.{IsMemory}
+use Rattle.wasm_typing.proofs.limits.check_memories.Given as goal
+
+abbrev pub invariant-loop-limits : goal.invariant-loop-limits
+invariant-loop-limits l =
+    (k : ℕ) → k < l.limits-index → (m : Limits) → at l.given.memories k ≡ Some m → IsMemory m

@@ -1,7 +1,0 @@
-use Rattle.std.proofs.Common.{◌≡◌, drop}
-use Rattle.wasm_validate.specs.Algorithm.{each_label}
-use Rattle.wasm_validate.proofs.labels.Labels.all_carry.Given as goal
-
-abbrev pub invariant-loop-label : goal.invariant-loop-label
-invariant-loop-label l =
-    each_label l.self (drop l.label-index l.labels) l.carried ≡ each_label l.self l.labels l.carried

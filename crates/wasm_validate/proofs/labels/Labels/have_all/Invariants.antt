@@ -1,7 +1,0 @@
-use Rattle.std.proofs.Common.{◌↔◌, drop}
-use Rattle.wasm_validate.specs.Breaks.{AnyMissing}
-use Rattle.wasm_validate.proofs.labels.Labels.have_all.Given as goal
-
-abbrev pub invariant-loop-label : goal.invariant-loop-label
-invariant-loop-label l =
-    AnyMissing l.self (drop l.label-index l.labels) ↔ AnyMissing l.self l.labels

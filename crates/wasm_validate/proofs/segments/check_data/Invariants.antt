@@ -1,9 +1,0 @@
-use Rattle.std.proofs.Common.{◌≡◌, ◌<◌, ℕ, Some}
-use Rattle.wasm_ast.specs.declared.module.DataSegment.{DataSegment}
-use Rattle.wasm_validate.specs.Typing.{at}
-use Rattle.wasm_validate.specs.ModuleRules.{IsData}
-use Rattle.wasm_validate.proofs.segments.check_data.Given as goal
-
-abbrev pub invariant-loop-segment : goal.invariant-loop-segment
-invariant-loop-segment l =
-    (k : ℕ) → k < l.segment-index → (d : DataSegment) → at l.given.data k ≡ Some d → IsData l.given d
