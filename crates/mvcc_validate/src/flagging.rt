@@ -40,27 +40,36 @@ fn add_tx(snapshot: &Snapshot, ids: &mut TxIds, id: [u8; 32]) -> Result<bool, Al
     Ok(!add_id(ids, id)?)
 }
 
-/// The flag of the transaction that comes next, whose id stood before it or did not.
+/// A transaction that is to be flagged.
+#[derive(Clone, Copy)]
+struct Transaction<'a> {
+    payload: &'a Payload,
+    /// Whether its id stands earlier in the chain or in its block.
+    stood: bool,
+    /// Whether its chaincode is known and its policy satisfied.
+    endorsed: bool,
+}
+
+/// The flag of the transaction that comes next.
 fn flag_of(
     alloc: Global,
     snapshot: &Snapshot,
     written: &Written,
-    stood: bool,
-    endorsed: bool,
-    payload: &Payload,
+    next: &Transaction<'_>,
 ) -> Result<Flag, AllocError>
     ensures { IfOk result
         (λ flag. (earlier : List Placed) →
-        stood ≡ stands_in id_of earlier (id_of payload.now.proposal) →
+        next.now.stood ≡ stands_in id_of earlier (id_of next.now.payload.now.proposal) →
         IsOver written.now.entries (state (history snapshot.now)) (state earlier) →
-        flag ≡ flag_at id_of earlier endorsed payload.now) }
+        flag ≡ flag_at id_of earlier next.now.endorsed next.now.payload.now) }
 {
-    if stood {
+    if next.stood {
         return Ok(Flag::DuplicateTxid);
     }
-    if !endorsed {
+    if !next.endorsed {
         return Ok(Flag::EndorsementPolicyFailure);
     }
+    let payload = next.payload;
     if !are_reads_current(snapshot, written, payload.reads.as_slice()) {
         return Ok(Flag::MvccReadConflict);
     }
@@ -142,7 +151,12 @@ fn flags_with_ids(
     for (place, envelope) in envelopes.iter().enumerate() {
         let payload = &envelope.payload;
         let stood = add_tx(snapshot, &mut seen, ids[place])?;
-        let flag = flag_of(alloc, snapshot, &written, stood, endorsed[place], payload)?;
+        let next = Transaction {
+            payload,
+            stood,
+            endorsed: endorsed[place],
+        };
+        let flag = flag_of(alloc, snapshot, &written, &next)?;
         if is_valid(flag) {
             let version = Version::new(number, place as u32).unwrap();
             put_writes(&mut written, payload.writes.as_slice(), version)?;
