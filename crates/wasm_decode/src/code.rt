@@ -183,30 +183,40 @@ fn plain(
     other(alloc, cursor, profile, opcode)
 }
 
+/// Where instructions stand: by which profile they are read, and how deep blocks may nest in them.
+#[derive(Clone, Copy)]
+struct Level {
+    profile: Profile,
+    nesting: u32,
+}
+
 /// The body of a `block` or a `loop`, in which blocks may nest one level less.
 #[cycle(code)]
 #[tactic(auto, unfolding(crate::specs::CodeReading::block_at))]
 fn block(
     alloc: Global,
     cursor: &mut Cursor<'_>,
-    profile: Profile,
+    level: Level,
     opcode: Opcode,
-    nesting: u32,
     left: &mut u32,
 ) -> Result<Box<Block>, DecodeFault>
     requires here { slice_get cursor.old.whole opcode.offset ≡ Some opcode.byte }
     requires opens { (0x02 ≤ opcode.byte) × (opcode.byte ≤ 0x04) }
     ensures read { Parses
         (λ b. record { result = b.value.result; body = b.value.body; left = left.new }) result
-        cursor.new (block_at (below profile nesting) left.old cursor.old.rest) }
-    ensures tells { TellsBy profile result cursor.old cursor.new }
+        cursor.new (block_at (below level.profile level.nesting) left.old cursor.old.rest) }
+    ensures tells { TellsBy level.profile result cursor.old cursor.new }
     ensures fewer { OnOk result (left.new ≤ left.old) }
 {
-    if nesting == 0 {
+    if level.nesting == 0 {
         return refuse(FaultKind::Limit, opcode.offset);
     }
+    let inner = Level {
+        nesting: level.nesting - 1,
+        ..level
+    };
     let result = block_type(cursor)?;
-    let body = closed(alloc, cursor, profile, nesting - 1, left)?;
+    let body = closed(alloc, cursor, inner, left)?;
     Ok(Box::new(alloc, Block { result, body })?)
 }
 
@@ -216,29 +226,32 @@ fn block(
 fn conditional(
     alloc: Global,
     cursor: &mut Cursor<'_>,
-    profile: Profile,
+    level: Level,
     opcode: Opcode,
-    nesting: u32,
     left: &mut u32,
 ) -> Result<Conditional, DecodeFault>
     requires here { slice_get cursor.old.whole opcode.offset ≡ Some opcode.byte }
     requires opens { (0x02 ≤ opcode.byte) × (opcode.byte ≤ 0x04) }
     ensures read { Parses
         (λ c. record { result = c.result; yes = c.yes; no = c.no; left = left.new }) result
-        cursor.new (conditional_at (below profile nesting) left.old cursor.old.rest) }
-    ensures tells { TellsBy profile result cursor.old cursor.new }
+        cursor.new (conditional_at (below level.profile level.nesting) left.old cursor.old.rest) }
+    ensures tells { TellsBy level.profile result cursor.old cursor.new }
     ensures fewer { OnOk result (left.new ≤ left.old) }
 {
-    if nesting == 0 {
+    if level.nesting == 0 {
         return refuse(FaultKind::Limit, opcode.offset);
     }
+    let inner = Level {
+        nesting: level.nesting - 1,
+        ..level
+    };
     let result = block_type(cursor)?;
-    let (yes, last) = instructions(alloc, cursor, profile, nesting - 1, left)?;
+    let (yes, last) = instructions(alloc, cursor, inner, left)?;
     if last.byte == END {
         let no = Body::new(Vec::new(alloc));
         return Ok(Conditional { result, yes, no });
     }
-    let no = closed(alloc, cursor, profile, nesting - 1, left)?;
+    let no = closed(alloc, cursor, inner, left)?;
     Ok(Conditional { result, yes, no })
 }
 
@@ -248,26 +261,27 @@ fn conditional(
 fn instruction(
     alloc: Global,
     cursor: &mut Cursor<'_>,
-    profile: Profile,
+    level: Level,
     opcode: Opcode,
-    nesting: u32,
     left: &mut u32,
 ) -> Result<Instr, DecodeFault>
     requires here { slice_get cursor.old.whole opcode.offset ≡ Some opcode.byte }
     requires behind { offset_of cursor.old ≡ opcode.offset + 1 }
     ensures read { Parses (λ i. record { code = code_of (i ∷ []); left = left.new }) result
-        cursor.new (step_at profile (below profile nesting) opcode.byte left.old cursor.old.rest) }
-    ensures tells { TellsBy profile result cursor.old cursor.new }
+        cursor.new
+        (step_at level.profile (below level.profile level.nesting) opcode.byte left.old
+        cursor.old.rest) }
+    ensures tells { TellsBy level.profile result cursor.old cursor.new }
     ensures fewer { OnOk result (left.new ≤ left.old) }
 {
     Ok(match opcode.byte {
-        0x02 => Instr::Block(block(alloc, cursor, profile, opcode, nesting, left)?),
-        0x03 => Instr::Loop(block(alloc, cursor, profile, opcode, nesting, left)?),
+        0x02 => Instr::Block(block(alloc, cursor, level, opcode, left)?),
+        0x03 => Instr::Loop(block(alloc, cursor, level, opcode, left)?),
         0x04 => {
-            let conditional = conditional(alloc, cursor, profile, opcode, nesting, left)?;
+            let conditional = conditional(alloc, cursor, level, opcode, left)?;
             Instr::If(Box::new(alloc, conditional)?)
         }
-        _ => plain(alloc, cursor, profile, opcode)?,
+        _ => plain(alloc, cursor, level.profile, opcode)?,
     })
 }
 
@@ -276,13 +290,12 @@ fn instruction(
 fn instructions(
     alloc: Global,
     cursor: &mut Cursor<'_>,
-    profile: Profile,
-    nesting: u32,
+    level: Level,
     left: &mut u32,
 ) -> Result<(Body, Opcode), DecodeFault>
     ensures read { Parses (λ x. record { code = x.0; last = x.1.byte; left = left.new }) result
-        cursor.new (body_at profile nesting left.old cursor.old.rest) }
-    ensures tells { TellsBy profile result cursor.old cursor.new }
+        cursor.new (body_at level.profile level.nesting left.old cursor.old.rest) }
+    ensures tells { TellsBy level.profile result cursor.old cursor.new }
     ensures here { IfOk result (λ x. slice_get cursor.old.whole x.1.offset ≡ Some x.1.byte) }
     ensures last { IfOk result (λ x. (x.1.byte ≡ 0x05) ⊎ (x.1.byte ≡ 0x0b)) }
     ensures fewer { OnOk result (left.new ≤ left.old) }
@@ -297,7 +310,7 @@ fn instructions(
             return refuse(FaultKind::Limit, opcode.offset);
         }
         *left -= 1;
-        items.push(instruction(alloc, cursor, profile, opcode, nesting, left)?)?;
+        items.push(instruction(alloc, cursor, level, opcode, left)?)?;
     }
 }
 
@@ -307,16 +320,15 @@ fn instructions(
 fn closed(
     alloc: Global,
     cursor: &mut Cursor<'_>,
-    profile: Profile,
-    nesting: u32,
+    level: Level,
     left: &mut u32,
 ) -> Result<Body, DecodeFault>
     ensures read { Parses (λ b. record { code = b; left = left.new }) result cursor.new
-        (closed_at (body_at profile nesting) left.old cursor.old.rest) }
-    ensures tells { TellsBy profile result cursor.old cursor.new }
+        (closed_at (body_at level.profile level.nesting) left.old cursor.old.rest) }
+    ensures tells { TellsBy level.profile result cursor.old cursor.new }
     ensures fewer { OnOk result (left.new ≤ left.old) }
 {
-    let (body, last) = instructions(alloc, cursor, profile, nesting, left)?;
+    let (body, last) = instructions(alloc, cursor, level, left)?;
     if last.byte != END {
         return refuse(FaultKind::Opcode, last.offset);
     }
@@ -333,6 +345,10 @@ pub(crate) fn expression(
     ensures read { Parses (λ b. b) result cursor.new (expression_at profile cursor.old.rest) }
     ensures tells { TellsBy profile result cursor.old cursor.new }
 {
+    let level = Level {
+        profile,
+        nesting: MOST_NESTING,
+    };
     let mut left = MOST_INSTRUCTIONS;
-    closed(alloc, cursor, profile, MOST_NESTING, &mut left)
+    closed(alloc, cursor, level, &mut left)
 }

@@ -10,15 +10,15 @@ use Rattle.wasm_decode.proofs.code.+code.Goals as goal
 use Rattle.wasm_decode.proofs.code.+code.Goals.{instructions-then-opcode-eq-END-via-then-opcode-eq-END}
 use Rattle.wasm_decode.proofs.code.+code.Goals.{instructions-then-opcode-eq-END-via-else-opcode-eq-END+then-opcode-eq-ELSE}
 
-pub block-returns-then-nesting-eq0-clause-read : goal.block-returns-then-nesting-eq0-clause-read
-block-returns-then-nesting-eq0-clause-read t c =
-    rw c.refuse.ensures (no_block c.args.profile c.args.nesting c.args.left.now c.args.cursor.now.rest c.if-nesting-eq0.true)
+pub block-returns-then-level-eq0-clause-read : goal.block-returns-then-level-eq0-clause-read
+block-returns-then-level-eq0-clause-read t c =
+    rw c.refuse.ensures (no_block c.args.level.profile c.args.level.nesting c.args.left.now c.args.cursor.now.rest c.if-level-eq0.true)
 
 pub block-returns-clause-read : goal.block-returns-clause-read
 unfolding block_at
 block-returns-clause-read t c =
     rw (
-      below_is c.args.profile c.args.nesting c.if-nesting-eq0.false,
+      below_is c.args.level.profile c.args.level.nesting c.if-level-eq0.false,
       c.in_ok-result.ensures.read,
       c.in_ok-body.ensures.read,
       c.in_ok-new.ensures.ok,
@@ -28,7 +28,7 @@ pub conditional-returns-clause-read : goal.conditional-returns-clause-read
 unfolding conditional_at
 conditional-returns-clause-read t c =
     rw (
-      below_is c.args.profile c.args.nesting c.if-nesting-eq0.false,
+      below_is c.args.level.profile c.args.level.nesting c.if-level-eq0.false,
       c.in_ok-result.ensures.read,
       c.in_ok-yes.ensures.read,
       differs _ _ c.if-last-eq-END.false,
@@ -39,19 +39,21 @@ pub instructions-items-init : goal.instructions-items-init
 instructions-items-init t c =
     let left = c.args.left.now in
     let rest = c.args.cursor.now.rest in
-    let all = code_at (step_at c.args.profile (below c.args.profile c.args.nesting)) (suc left) left rest in
+    let all = code_at (step_at c.args.level.profile (below c.args.level.profile c.args.level.nesting)) (suc left) left rest in
     record {
       turns = suc left;
       enough = omega arith;
       fewer = omega arith;
-      read = ap (λ is. before (code_of is) all) c.new-items.ensures.items ∙ nothing_before all ∙ sym (body_is c.args.profile c.args.nesting left rest);
+      read =
+          ap (λ is. before (code_of is) all) c.new-items.ensures.items ∙ nothing_before all
+          ∙ sym (body_is c.args.level.profile c.args.level.nesting left rest);
       kept = search rules;
     }
 
 pub instructions-returns-in_err-opcode-clause-read : goal.instructions-returns-in_err-opcode-clause-read
 instructions-returns-in_err-opcode-clause-read t c =
-    let one = step_at c.args.profile (below c.args.profile c.args.nesting) in
-    let total = body_at c.args.profile c.args.nesting c.args.left.now c.args.cursor.now.rest in
+    let one = step_at c.args.level.profile (below c.args.level.profile c.args.level.nesting) in
+    let total = body_at c.args.level.profile c.args.level.nesting c.args.left.now c.args.cursor.now.rest in
     let l = c.items in
     let p = err_from_is_err_and c.from_residual.result c.from_residual.ensures.1 in
     let i = l.invariant in
@@ -60,8 +62,8 @@ instructions-returns-in_err-opcode-clause-read t c =
 
 pub instructions-returns-then-opcode-eq-END-clause-read : goal.instructions-returns-then-opcode-eq-END-clause-read
 instructions-returns-then-opcode-eq-END-clause-read t c =
-    let one = step_at c.args.profile (below c.args.profile c.args.nesting) in
-    let total = body_at c.args.profile c.args.nesting c.args.left.now c.args.cursor.now.rest in
+    let one = step_at c.args.level.profile (below c.args.level.profile c.args.level.nesting) in
+    let total = body_at c.args.level.profile c.args.level.nesting c.args.left.now c.args.cursor.now.rest in
     let l = c.items in
     let i = l.invariant in
     let op = c.in_ok-opcode.opcode.byte in
@@ -76,8 +78,8 @@ instructions-returns-then-opcode-eq-END-clause-read t c =
 
 pub instructions-returns-then-left-eq0-clause-read : goal.instructions-returns-then-left-eq0-clause-read
 instructions-returns-then-left-eq0-clause-read t c =
-    let one = step_at c.args.profile (below c.args.profile c.args.nesting) in
-    let total = body_at c.args.profile c.args.nesting c.args.left.now c.args.cursor.now.rest in
+    let one = step_at c.args.level.profile (below c.args.level.profile c.args.level.nesting) in
+    let total = body_at c.args.level.profile c.args.level.nesting c.args.left.now c.args.cursor.now.rest in
     let l = c.items in
     let i = l.invariant in
     let op = c.in_ok-opcode.opcode.byte in
@@ -86,8 +88,8 @@ instructions-returns-then-left-eq0-clause-read t c =
 
 pub instructions-returns-in_err-instruction-clause-read : goal.instructions-returns-in_err-instruction-clause-read
 instructions-returns-in_err-instruction-clause-read t c =
-    let one = step_at c.args.profile (below c.args.profile c.args.nesting) in
-    let total = body_at c.args.profile c.args.nesting c.args.left.now c.args.cursor.now.rest in
+    let one = step_at c.args.level.profile (below c.args.level.profile c.args.level.nesting) in
+    let total = body_at c.args.level.profile c.args.level.nesting c.args.left.now c.args.cursor.now.rest in
     let l = c.items in
     let i = l.invariant in
     let op = c.in_ok-opcode.opcode.byte in
@@ -99,8 +101,8 @@ instructions-returns-in_err-instruction-clause-read t c =
 
 pub instructions-items-preserved : goal.instructions-items-preserved
 instructions-items-preserved t c =
-    let one = step_at c.args.profile (below c.args.profile c.args.nesting) in
-    let total = body_at c.args.profile c.args.nesting c.args.left.now c.args.cursor.now.rest in
+    let one = step_at c.args.level.profile (below c.args.level.profile c.args.level.nesting) in
+    let total = body_at c.args.level.profile c.args.level.nesting c.args.left.now c.args.cursor.now.rest in
     let l = c.items in
     let i = l.invariant in
     let op = c.in_ok-opcode.opcode.byte in
@@ -116,14 +118,14 @@ instructions-items-preserved t c =
       kept = search rules;
     }
 
-pub block-returns-then-nesting-eq0-clause-tells : goal.block-returns-then-nesting-eq0-clause-tells
-block-returns-then-nesting-eq0-clause-tells t c =
+pub block-returns-then-level-eq0-clause-tells : goal.block-returns-then-level-eq0-clause-tells
+block-returns-then-level-eq0-clause-tells t c =
     rw c.refuse.ensures (inr
     (inr (has_byte _ c.args.cursor.now.whole c.args.opcode.offset c.args.opcode.byte c.requires.here
     (λ e. omega (arith, c.requires.opens, e), λ e. omega (arith, c.requires.opens, e)))))
 
-pub conditional-returns-then-nesting-eq0-clause-tells : goal.conditional-returns-then-nesting-eq0-clause-tells
-conditional-returns-then-nesting-eq0-clause-tells t c =
+pub conditional-returns-then-level-eq0-clause-tells : goal.conditional-returns-then-level-eq0-clause-tells
+conditional-returns-then-level-eq0-clause-tells t c =
     rw c.refuse.ensures (inr
     (inr (has_byte _ c.args.cursor.now.whole c.args.opcode.offset c.args.opcode.byte c.requires.here
     (λ e. omega (arith, c.requires.opens, e), λ e. omega (arith, c.requires.opens, e)))))
@@ -132,4 +134,5 @@ pub closed-returns-then-last-ne-END-clause-tells : goal.closed-returns-then-last
 closed-returns-then-last-ne-END-clause-tells t c =
     let last = c.in_ok-body.last in
     let other : last.byte ≡ 0x05 = elim c.in_ok-body.ensures.last [ inl e ↦ e | inr e ↦ absurd (c.if-last-ne-END.true e) ] in
-    rw c.refuse.ensures (has_byte _ c.args.cursor.now.whole last.offset last.byte c.in_ok-body.ensures.here (inl (rw other (else_unlisted c.args.profile))))
+    rw c.refuse.ensures
+    (has_byte _ c.args.cursor.now.whole last.offset last.byte c.in_ok-body.ensures.here (inl (rw other (else_unlisted c.args.level.profile))))
