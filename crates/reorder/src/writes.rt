@@ -170,24 +170,25 @@ fn mark_ranges(row: &mut [bool], index: &[Written<'_>], ranges: &[RangeItem])
     }
 }
 
+/// The writes of a batch, in key order, and for each where those of its key begin.
+#[derive(Clone, Copy)]
+pub struct Index<'a> {
+    pub writes: &'a [Written<'a>],
+    pub starts: &'a [usize],
+}
+
 /// Marks the other transactions of which one sees a write.
-pub fn mark_row(
-    row: &mut [bool],
-    index: &[Written<'_>],
-    starts: &[usize],
-    payload: &Payload,
-    from: usize,
-)
-    requires inside { All (λ w. w.writer < length row.old) index.now }
-    requires sorted { IsSortedByKey key_of key_cmp index.now }
-    requires starts { AreStarts index.now starts.now }
+pub fn mark_row(row: &mut [bool], index: &Index<'_>, payload: &Payload, from: usize)
+    requires inside { All (λ w. w.writer < length row.old) index.now.writes.now }
+    requires sorted { IsSortedByKey key_of key_cmp index.now.writes.now }
+    requires starts { AreStarts index.now.writes.now index.now.starts.now }
     requires from_in { from < length row.old }
     ensures { (j : ℕ) →
         slice_index_or row.new j false
         ≡ (not (from == j) &&
-        (slice_index_or row.old j false || hits (sees payload.now) index.now j)) }
+        (slice_index_or row.old j false || hits (sees payload.now) index.now.writes.now j)) }
 {
-    mark_reads(row, index, starts, payload.reads.as_slice());
-    mark_ranges(row, index, payload.ranges.as_slice());
+    mark_reads(row, index.writes, index.starts, payload.reads.as_slice());
+    mark_ranges(row, index.writes, payload.ranges.as_slice());
     row[from] = false;
 }
