@@ -8,7 +8,7 @@ use Rattle.sha2.specs.Sha256.{sha256}
 use Rattle.sha2.proofs.Facts256.{length-sha256}
 use Rattle.fab_types.specs.Committed.{Committed}
 use Rattle.fab_types.specs.FlagNumber.{flag_number}
-use Rattle.wire.specs.Spelling.{block_bytes}
+use Rattle.fab_types.specs.BlockSpelling.{block_bytes}
 use Rattle.wire.proofs.BlockLaws.{block_length}
 use Rattle.block_store.specs.Record.{framed_bytes, digest_input, record_bytes, IsRecord}
 use Rattle.block_store.specs.Store.{AreRecords, Loads, IsBeginning}

@@ -10,8 +10,8 @@ use Rattle.fab_types.specs.Committed.{Committed}
 use Rattle.fab_types.specs.FlagNumber.{flag_number}
 use Rattle.fab_types.specs.declared.block.Block.{Block}
 use Rattle.grammar.specs.Reading.{whole_at}
-use Rattle.wire.specs.Spelling.{block_bytes}
-use Rattle.wire.specs.Within.{IsBlock}
+use Rattle.fab_types.specs.BlockSpelling.{block_bytes}
+use Rattle.fab_types.specs.BlockWithin.{IsBlock}
 use Rattle.wire.specs.Reading.{block_at}
 use Rattle.wire.proofs.BlockLaws.{block}
 use Rattle.wire.proofs.Codec.{whole_known, whole_read}

@@ -13,8 +13,8 @@ use Rattle.fab_types.specs.FlagNumber.{flag_number}
 use Rattle.fab_types.specs.declared.block.Block.{Block}
 use Rattle.fab_types.specs.declared.flag.Flag.{Flag}
 use Rattle.fab_types.specs.declared.flag.Flag.TheVariants.{Valid, EndorsementPolicyFailure, MvccReadConflict, PhantomReadConflict, DuplicateTxid}
-use Rattle.wire.specs.Spelling.{block_bytes}
-use Rattle.wire.specs.Within.{IsBlock}
+use Rattle.fab_types.specs.BlockSpelling.{block_bytes}
+use Rattle.fab_types.specs.BlockWithin.{IsBlock}
 use Rattle.wire.specs.Reading.{block_at, number_at}
 use Rattle.wire.proofs.BlockLaws.{block, block_length}
 use Rattle.wire.proofs.Measured.{number32}

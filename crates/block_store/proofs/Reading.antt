@@ -5,7 +5,7 @@ use Rattle.std.specs.List.{flat_map}
 use Rattle.std.specs.Int.{w32, to_be_bytes}
 use Rattle.std.proofs.lemmas.List.{append-nil, length-append}
 use Rattle.fab_types.specs.Committed.{Committed}
-use Rattle.wire.specs.Spelling.{block_bytes}
+use Rattle.fab_types.specs.BlockSpelling.{block_bytes}
 use Rattle.wire.proofs.BlockLaws.{block_length}
 use Rattle.block_store.specs.Record.{framed_bytes, record_bytes}
 use Rattle.block_store.specs.Store.{AreRecords, Loads, Awaits, IsBeginning, IsDamaged, EndsInBlock, EndsBehindBlock}

@@ -3,7 +3,7 @@ use Rattle.std.specs.Prelude.{◌≡◌, ◌≢◌, ◌⊎◌, ℕ, ◌<◌, ◌
 use Rattle.sha2.specs.Sha256.{sha256}
 use Rattle.fab_types.specs.FlagNumber.{flag_number}
 use Rattle.fab_types.specs.declared.block.Block.{Block}
-use Rattle.wire.specs.Spelling.{block_bytes}
+use Rattle.fab_types.specs.BlockSpelling.{block_bytes}
 use Rattle.fab_types.specs.Committed.{Committed}
 use Rattle.block_store.specs.Record.{record_bytes, IsBlockAt, IsRecord}
 use Rattle.block_store.specs.Store.{AreFlags, Awaits, IsBeginning, IsDamaged}

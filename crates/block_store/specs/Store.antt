@@ -5,7 +5,7 @@ use Rattle.std.specs.Int.{w32, to_be_bytes}
 use Rattle.sha2.specs.Sha256.{sha256}
 use Rattle.fab_types.specs.Committed.{Committed}
 use Rattle.fab_types.specs.declared.block.Block.{Block}
-use Rattle.wire.specs.Spelling.{block_bytes}
+use Rattle.fab_types.specs.BlockSpelling.{block_bytes}
 use Rattle.block_store.specs.Record.{framed_bytes, record_bytes, IsBlockAt, IsRecord}
 use Rattle.block_store.specs.declared.end.End.{End}
 use Rattle.block_store.specs.declared.end.End.TheVariants.{Clean, Torn, Damaged, DeviceFailed}

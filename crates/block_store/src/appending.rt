@@ -2,15 +2,15 @@
 
 ghost use Rattle.std.specs.Prelude.{◌≡◌, ◌++◌, OnOk, IfOk, length, map};
 ghost use Rattle.fab_types.specs.FlagNumber.{flag_number};
-ghost use Rattle.wire.specs.Within.{IsBlock};
-ghost use Rattle.block_store.specs.Record.{framed_bytes, record_bytes};
+ghost use Rattle.fab_types.specs.BlockWithin.{IsBlock};
+ghost use Rattle.block_store.specs.Record.{record_bytes};
 ghost use Rattle.block_store.specs.Appending.{Appended, fault_number};
 ghost use Rattle.block_store.specs.declared.appending.AppendFault.TheVariants.{Memory};
 
 use crate::device::CountedWrite;
 use fab_types::{Block, Flag};
 use sha2::{Digest, Sha256};
-use std::alloc::{AllocError, AllocFailed, Global};
+use std::alloc::{AllocError, Global};
 use std::error::Error;
 use std::fmt::{self, Display, Formatter, Write};
 use wire::encode_block;

@@ -76,7 +76,7 @@ fn definition_text(
 pub fn show_id(alloc: Global, pieces: &str) -> Result<String, CaseFault> {
     let bytes = bytes_of(alloc, pieces)?;
     let payload = decode_payload(alloc, &bytes)?;
-    id_text(alloc, &payload.proposal)
+    id_text(alloc, payload.proposal())
 }
 
 fn id_text(alloc: Global, proposal: &Proposal) -> Result<String, CaseFault> {

@@ -12,7 +12,6 @@ use hmac_tag::tag;
 use policy_language::{OrgSet, Policy, PolicyFault, parse};
 use std::alloc::Global;
 use wasm_profile::Profile;
-use wire::encode_payload;
 use world_state::Snapshot;
 
 /// Whether the text spells a policy over the organisations that the first word lists, or its fault.
@@ -181,10 +180,10 @@ fn endorsements_of(
     payload: &Payload,
     tags: &str,
 ) -> Result<Endorsements, CaseFault> {
-    let bytes = encode_payload(alloc, payload)?;
+    let bytes = payload.bytes();
     let mut items = Vec::new(alloc);
     for word in words_of(tags).split_terminator(',') {
-        items.push(endorsement_of(alloc, &bytes, word)?)?;
+        items.push(endorsement_of(alloc, bytes, word)?)?;
     }
     Endorsements::new(items).ok_or(CaseFault::BadLine)
 }

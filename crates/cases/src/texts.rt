@@ -35,11 +35,11 @@ pub fn write_hex(answer: &mut String, bytes: &[u8]) -> Result<(), AllocError> {
 
 /// A payload: its proposal, its result, and its words.
 pub fn write_payload(answer: &mut String, payload: &Payload) -> Result<(), AllocError> {
-    write_proposal(answer, &payload.proposal)?;
-    write_result(answer, &payload.result)?;
-    write_reads(answer, payload.reads.as_slice())?;
-    write_ranges(answer, payload.ranges.as_slice())?;
-    write_writes(answer, payload.writes.as_slice())
+    write_proposal(answer, payload.proposal())?;
+    write_result(answer, payload.result())?;
+    write_reads(answer, payload.reads().as_slice())?;
+    write_ranges(answer, payload.ranges().as_slice())?;
+    write_writes(answer, payload.writes().as_slice())
 }
 
 /// A call as `CHAINCODE(ARGUMENT)`, an upgrade as `CHAINCODE := DEFINITION`, and the nonce where

@@ -3,7 +3,7 @@
 use crate::bytes::from_digits;
 use crate::fault::CaseFault;
 use fab_types::{
-    Bound, Call, Definition, Endorsements, Envelope, Fuel, Key, Name, Payload, PolicyText,
+    Bound, Call, Definition, Endorsements, Envelope, Fuel, Key, Name, Payload, PayloadParts, PolicyText,
     Proposal, RangeEntry, RangeItem, Ranges, ReadItem, ReadSet, Upgrade, Value, Version, WriteItem,
     WriteSet,
 };
@@ -17,13 +17,14 @@ pub fn payload_of(alloc: Global, nonce: [u8; 16], words: &str) -> Result<Payload
     let writes = writes_of(alloc, words)?;
     let ranges = ranges_of(alloc, words)?;
     let proposal = proposal_of(alloc, nonce, words)?;
-    Ok(Payload {
+    let parts = PayloadParts {
         proposal,
         result: empty_value(alloc),
         reads,
         ranges,
         writes,
-    })
+    };
+    Ok(Payload::new(alloc, parts)?)
 }
 
 /// The envelope of a payload, without endorsements.

@@ -18,7 +18,7 @@ use Rattle.chaincode_book.specs.declared.book.Chaincode.{Chaincode}
 use Rattle.ledger_setting.specs.declared.genesis.Genesis.{Genesis}
 use Rattle.serde_json.specs.Data.{Data, depth, items_depth, string}
 use Rattle.serde_json.specs.View.{items_of}
-use Rattle.wire.specs.Spelling.{payload_bytes}
+use Rattle.fab_types.specs.Spelling.{payload_bytes}
 use Rattle.chain_json.specs.Texts.{pairs_json, value_json}
 use Rattle.chain_json.specs.Sets.{entry_json, range_json, read_json, seen_json, write_json}
 use Rattle.chain_json.specs.Transactions.{endorsement_json, proposal_json, transaction_json}

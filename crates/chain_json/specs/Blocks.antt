@@ -5,7 +5,7 @@ use Rattle.fab_types.specs.Committed.{Committed}
 use Rattle.fab_types.specs.declared.envelope.Envelope.{Envelope}
 use Rattle.fab_types.specs.declared.flag.Flag.{Flag}
 use Rattle.fab_types.specs.declared.block.Header.{Header}
-use Rattle.wire.specs.Spelling.{header_bytes}
+use Rattle.fab_types.specs.BlockSpelling.{header_bytes}
 use Rattle.endorsement_policy.specs.declared.rules.Organisation.{Organisation}
 use Rattle.serde_json.specs.Data.{Data, array, number, unsigned, Members, object, member, no_members, put}
 use Rattle.serde_json.specs.View.{items_of}

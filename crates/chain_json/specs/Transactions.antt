@@ -7,13 +7,13 @@ use Rattle.fab_types.specs.declared.definition.Definition.{Definition}
 use Rattle.fab_types.specs.declared.envelope.Endorsement.{Endorsement}
 use Rattle.fab_types.specs.declared.envelope.Envelope.{Envelope}
 use Rattle.fab_types.specs.declared.flag.Flag.{Flag}
-use Rattle.fab_types.specs.declared.payload.Payload.{Payload}
+use Rattle.fab_types.specs.Payloads.{Payload}
 use Rattle.fab_types.specs.declared.proposal.Call.{Call}
 use Rattle.fab_types.specs.declared.proposal.Upgrade.{Upgrade}
 use Rattle.fab_types.specs.declared.proposal.Proposal.{Proposal}
 use Rattle.fab_types.specs.declared.proposal.Proposal.TheVariants as proposal
 use Rattle.wire.specs.Ids.{id_of}
-use Rattle.wire.specs.Spelling.{payload_bytes}
+use Rattle.fab_types.specs.Spelling.{payload_bytes}
 use Rattle.endorsement_policy.specs.Endorsed.{is_org, is_tag_of}
 use Rattle.endorsement_policy.specs.declared.rules.Organisation.{Organisation}
 use Rattle.serde_json.specs.Data.{Data, boolean, number, unsigned, string, Members, object, member, no_members, put}

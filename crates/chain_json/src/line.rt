@@ -21,7 +21,7 @@ use fab_types::{CommittedBlock, Envelope, Flag, Key, Version};
 use ledger_setting::Genesis;
 use serde_json::Value;
 use std::alloc::{AllocError, Global};
-use wire::tx_id;
+use wire::payload_id;
 
 /// A value as a line, which is read back as the value.
 fn line_of(alloc: Global, value: &Value) -> Result<String, AllocError>
@@ -94,10 +94,10 @@ pub fn write_line(
     if !matches!(flag, Flag::Valid) {
         return Ok(None);
     }
-    let Some(value) = written_to(envelope.payload.writes.as_slice(), key) else {
+    let Some(value) = written_to(envelope.payload.writes().as_slice(), key) else {
         return Ok(None);
     };
-    let id = tx_id(alloc, &envelope.payload.proposal)?;
+    let id = payload_id(&envelope.payload);
     let value = write_of(alloc, &id, number, place, key, value)?;
     Ok(Some(line_of(alloc, &value)?))
 }

@@ -14,7 +14,7 @@ use endorsement_policy::Rules;
 use fab_types::{Call, Definition, Endorsement, Envelope, Flag, Payload, Proposal, Upgrade};
 use serde_json::Value;
 use std::alloc::{AllocError, Global};
-use wire::{encode_payload, tx_id};
+use wire::payload_id;
 
 /// A transaction, its flag, and which of its tags are right under these rules. The only error is
 /// want of memory.
@@ -26,7 +26,7 @@ pub(crate) fn transaction_of(
 ) -> Result<Value, AllocError>
     ensures { IfOk result (λ v. view v ≡ transaction_json rules.now.orgs envelope.now flag) }
 {
-    match &envelope.payload.proposal {
+    match envelope.payload.proposal() {
         Proposal::Call(call) => call_of(alloc, rules, envelope, flag, call),
         Proposal::Upgrade(upgrade) => upgrade_of(alloc, rules, envelope, flag, upgrade),
     }
@@ -100,7 +100,7 @@ fn put_rest(
     let payload = &envelope.payload;
     object.put("endorsements", endorsements_of(alloc, rules, envelope)?)?;
     object.put("flag", Value::from(flag.number()))?;
-    object.put_hex("id", &tx_id(alloc, &payload.proposal)?)?;
+    object.put_hex("id", &payload_id(payload))?;
     put_payload(object, payload)
 }
 
@@ -109,10 +109,10 @@ fn put_payload(object: &mut Object, payload: &Payload) -> Result<(), AllocError>
     ensures { OnOk result
         (members_in object.new ≡ with_payload payload.now (members_in object.old)) }
 {
-    object.put_list("ranges", payload.ranges.as_slice())?;
-    object.put_list("reads", payload.reads.as_slice())?;
-    object.put_hex("result", payload.result.as_slice())?;
-    object.put_list("writes", payload.writes.as_slice())
+    object.put_list("ranges", payload.ranges().as_slice())?;
+    object.put_list("reads", payload.reads().as_slice())?;
+    object.put_hex("result", payload.result().as_slice())?;
+    object.put_list("writes", payload.writes().as_slice())
 }
 
 impl ToJson for Definition {
@@ -132,8 +132,8 @@ impl ToJson for Definition {
 fn endorsements_of(alloc: Global, rules: &Rules, envelope: &Envelope) -> Result<Value, AllocError>
     ensures { IfOk result (λ v. view v ≡ endorsements_json rules.now.orgs envelope.now) }
 {
-    let bytes = encode_payload(alloc, &envelope.payload)?;
-    endorsements_over(alloc, rules, &bytes, envelope.endorsements.as_slice())
+    let bytes = envelope.payload.bytes();
+    endorsements_over(alloc, rules, bytes, envelope.endorsements.as_slice())
 }
 
 /// The same over a payload of these bytes.

@@ -2,7 +2,7 @@
 use Rattle.std.specs.Prelude.{◌≡◌, ◌≢◌, ◌<◌, List, map, length}
 use Rattle.sha2.specs.Sha256.{sha256}
 use Rattle.fab_types.specs.declared.block.Block.{Block}
-use Rattle.wire.specs.Spelling.{data_bytes}
+use Rattle.fab_types.specs.BlockSpelling.{data_bytes}
 use Rattle.wire.specs.Links.{next_link, next_number}
 use Rattle.ledger_model.specs.Chain.{Chain}
 use Rattle.committer.specs.declared.refusal.CommitRefusal.{CommitRefusal}

@@ -15,8 +15,8 @@ use Rattle.fab_types.specs.declared.definition.Definition.{Definition}
 use Rattle.grammar.specs.Reading.{whole_at}
 use Rattle.grammar.specs.Laws.Steps.{bind_some}
 use Rattle.wire.specs.Reading.{definition_at}
-use Rattle.wire.specs.Spelling.{definition_bytes}
-use Rattle.wire.specs.Within.{IsDefinition}
+use Rattle.fab_types.specs.Spelling.{definition_bytes}
+use Rattle.fab_types.specs.Within.{IsDefinition}
 use Rattle.wire.proofs.Codec.{whole_known, whole_read}
 use Rattle.wire.proofs.DefinitionLaws.{definition}
 use Rattle.policy_language.specs.GoodSets.{needs_someone}

@@ -10,11 +10,11 @@ use Rattle.fab_types.specs.declared.proposal.Call.{Call}
 use Rattle.fab_types.specs.declared.proposal.Upgrade.{Upgrade}
 use Rattle.fab_types.specs.declared.proposal.Proposal.{Proposal}
 use Rattle.fab_types.specs.declared.proposal.Proposal.TheVariants as proposal
-use Rattle.fab_types.specs.declared.payload.Payload.{Payload}
+use Rattle.fab_types.specs.Payloads.{Payload}
 use Rattle.fab_types.specs.declared.envelope.Endorsement.{Endorsement}
 use Rattle.fab_types.specs.declared.envelope.Envelope.{Envelope}
 use Rattle.hmac_tag.specs.Tag.{tag}
-use Rattle.wire.specs.Spelling.{definition_bytes, payload_bytes}
+use Rattle.fab_types.specs.Spelling.{definition_bytes, payload_bytes}
 use Rattle.ledger_model.specs.Defined.{definition_in}
 use Rattle.ledger_model.specs.Views.{Plain}
 use Rattle.policy_language.specs.GoodSets.{Name, Names, is_satisfied, needs_someone}

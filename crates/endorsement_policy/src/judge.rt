@@ -56,7 +56,7 @@ impl<'a> Judge<'a> {
             known,
         };
         for envelope in envelopes {
-            judge.meet(alloc, &envelope.payload.proposal)?;
+            judge.meet(alloc, envelope.payload.proposal())?;
         }
         Ok(judge)
     }
@@ -104,7 +104,7 @@ impl<'a> Judge<'a> {
             (λ orgs. orgs.now ≡ right_orgs self.now.listed.orgs envelope.now) }
         ensures { IfOk result (λ b. b ≡ judges self.now envelope.now) }
     {
-        match &envelope.payload.proposal {
+        match envelope.payload.proposal() {
             Proposal::Call(call) => self.is_call_endorsed(alloc, call, envelope, right),
             Proposal::Upgrade(upgrade) => self.is_upgrade_endorsed(alloc, upgrade, envelope, right),
         }

@@ -12,8 +12,8 @@ use wire::encode_definition;
 pub(crate) fn reads_own(payload: &Payload) -> bool
     ensures { result ≡ reads_own payload.now }
 {
-    let chaincode = payload.proposal.chaincode();
-    let reads = payload.reads.as_slice();
+    let chaincode = payload.proposal().chaincode();
+    let reads = payload.reads().as_slice();
     reads.iter().any(|r| r.key.is_of_definition(chaincode))
 }
 
@@ -21,8 +21,8 @@ pub(crate) fn reads_own(payload: &Payload) -> bool
 fn reads_no_other(payload: &Payload) -> bool
     ensures { result ≡ reads_no_other payload.now }
 {
-    let chaincode = payload.proposal.chaincode();
-    let reads = payload.reads.as_slice();
+    let chaincode = payload.proposal().chaincode();
+    let reads = payload.reads().as_slice();
     reads.iter().all(|r| r.key.is_of_definition(chaincode) || is_shown(r.key.as_slice()))
 }
 
@@ -30,7 +30,7 @@ fn reads_no_other(payload: &Payload) -> bool
 fn writes_shown(payload: &Payload) -> bool
     ensures { result ≡ writes_shown payload.now }
 {
-    let writes = payload.writes.as_slice();
+    let writes = payload.writes().as_slice();
     writes.iter().all(|w| is_shown(w.key.as_slice()))
 }
 
@@ -53,10 +53,10 @@ pub(crate) fn is_upgrade_payload(
 {
     let definition = encode_definition(alloc, &upgrade.definition)?;
     Ok(
-        is_one_read(&upgrade.chaincode, payload.reads.as_slice())
-            && payload.ranges.as_slice().is_empty()
-            && payload.result.as_slice().is_empty()
-            && is_one_put(&upgrade.chaincode, &definition, payload.writes.as_slice()),
+        is_one_read(&upgrade.chaincode, payload.reads().as_slice())
+            && payload.ranges().as_slice().is_empty()
+            && payload.result().as_slice().is_empty()
+            && is_one_put(&upgrade.chaincode, &definition, payload.writes().as_slice()),
     )
 }
 

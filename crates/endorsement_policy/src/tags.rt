@@ -9,7 +9,6 @@ use fab_types::Envelope;
 use policy_language::OrgSet;
 use std::alloc::{AllocError, Global};
 use std::thread::{Threads, join};
-use wire::encode_payload;
 
 /// The organisations of which the envelope carries a right tag.
 pub(crate) fn right_orgs(
@@ -19,10 +18,10 @@ pub(crate) fn right_orgs(
 ) -> Result<OrgSet, AllocError>
     ensures { IfOk result (λ orgs. orgs ≡ right_orgs rules.now.orgs envelope.now) }
 {
-    let bytes = encode_payload(alloc, &envelope.payload)?;
+    let bytes = envelope.payload.bytes();
     let mut names = Vec::new(alloc);
     for endorsement in envelope.endorsements.as_slice() {
-        if rules.is_tag(endorsement, &bytes) {
+        if rules.is_tag(endorsement, bytes) {
             names.push(endorsement.org.clone()?)?;
         }
     }

@@ -2,7 +2,7 @@
 use Rattle.std.specs.Prelude.{◌≡◌, true, Result, Ok, Err}
 use Rattle.std.specs.Arc.{arc_value}
 use Rattle.fab_types.specs.declared.proposal.Proposal.{Proposal}
-use Rattle.fab_types.specs.declared.payload.Payload.{Payload}
+use Rattle.fab_types.specs.Payloads.{Payload}
 use Rattle.fab_types.specs.declared.envelope.Endorsement.{Endorsement}
 use Rattle.ledger_model.specs.Chain.{Bytes, Chain, history}
 use Rattle.ledger_model.specs.State.{state}

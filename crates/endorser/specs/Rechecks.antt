@@ -1,6 +1,6 @@
 -- Why a recheck refuses.
 use Rattle.std.specs.Prelude.{◌≡◌, false}
-use Rattle.fab_types.specs.declared.payload.Payload.{Payload}
+use Rattle.fab_types.specs.Payloads.{Payload}
 use Rattle.ledger_model.specs.Views.{Versioned}
 use Rattle.mvcc_validate.specs.Current.{is_current}
 use Rattle.simulator.specs.declared.refusal.SimRefusal.{SimRefusal}

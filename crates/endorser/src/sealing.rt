@@ -7,7 +7,6 @@ ghost use Rattle.endorser.specs.Endorsing.{tag_of};
 use endorsement_policy::Rules;
 use fab_types::{Endorsement, OrgName, Payload};
 use std::alloc::{AllocError, Global};
-use wire::encode_payload;
 
 /// An organisation's endorsement of a payload: its tag under this key on the payload's bytes. The
 /// error is of memory.
@@ -19,10 +18,9 @@ pub fn seal(
 ) -> Result<Endorsement, AllocError>
     ensures { IfOk result (λ e. e ≡ endorsement_by org.now key.now payload.now) }
 {
-    let bytes = encode_payload(alloc, payload)?;
     Ok(Endorsement {
         org: org.clone()?,
-        tag: hmac_tag::tag(key, &bytes),
+        tag: hmac_tag::tag(key, payload.bytes()),
     })
 }
 

@@ -4,7 +4,7 @@ use Rattle.std.proofs.Common.{Err, option_map, refl, sym, ap, ◌∙◌, subst, 
 use Rattle.std.proofs.Common.{OnErr, is_err, length-append}
 use Rattle.std.proofs.lemmas.List.{take-append-drop}
 use Rattle.fab_types.specs.declared.proposal.Proposal.{Proposal}
-use Rattle.fab_types.specs.declared.payload.Payload.{Payload}
+use Rattle.fab_types.specs.Payloads.{Payload}
 use Rattle.ledger_model.specs.Chain.{Bytes, Envelope, Committed, Chain, Placed, placed_from, history}
 use Rattle.ledger_model.specs.Views.{Versioned, Plain, values_of}
 use Rattle.mvcc_validate.specs.Current.{is_current}

@@ -3,7 +3,7 @@ use Rattle.std.proofs.Common.{◌≡◌, ℕ, zero, suc, ◌+◌, ◌<◌, ◌�
 use Rattle.std.proofs.Common.{OnErr, option_map, replicate, refl, sym, ap, ◌∙◌, subst, slice_get, slice_set, get_or, take, arith}
 use Rattle.std.proofs.lemmas.List.{map-append}
 use Rattle.std.specs.List.{AllByRecursion}
-use Rattle.fab_types.specs.declared.payload.Payload.{Payload}
+use Rattle.fab_types.specs.Payloads.{Payload}
 use Rattle.ledger_model.specs.Chain.{Bytes, Envelope, Flag, Committed, Chain, history}
 use Rattle.ledger_model.specs.State.{state}
 use Rattle.ledger_model.specs.Execution.{Exec}

@@ -1,7 +1,7 @@
 -- What a run comes to: it is a run of the definitions, and the chains that it leaves are serial.
 use Rattle.std.specs.Prelude.{◌≡◌, ◌↔◌, ℕ, List, [], ◌∷◌, ◌++◌, Some, Bool, true, false, if◌then◌else◌, ◌+◌, take, slice_get}
 use Rattle.std.specs.FinMap.{empty}
-use Rattle.fab_types.specs.declared.payload.Payload.{Payload}
+use Rattle.fab_types.specs.Payloads.{Payload}
 use Rattle.fab_types.specs.declared.envelope.Endorsement.{Endorsement}
 use Rattle.std.specs.List.{AllByRecursion}
 use Rattle.ledger_model.specs.Legal.{DiffersBefore}

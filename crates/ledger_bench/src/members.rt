@@ -7,7 +7,6 @@ use fab_types::{Endorsement, Endorsements, Envelope, OrgName, Payload};
 use hmac_tag::tag;
 use policy_language::{Policies, Policy};
 use std::alloc::Global;
-use wire::encode_payload;
 use world_state::Snapshot;
 
 /// How many bytes two endorsements of organisations with names of one letter take behind a payload.
@@ -48,9 +47,9 @@ pub fn tagged_bytes(envelope: &Envelope) -> u64 {
 }
 
 fn endorsements(alloc: Global, payload: &Payload) -> Result<Endorsements, Failure> {
-    let bytes = encode_payload(alloc, payload)?;
-    let first = endorsement(alloc, b'A', &bytes)?;
-    let second = endorsement(alloc, b'B', &bytes)?;
+    let bytes = payload.bytes();
+    let first = endorsement(alloc, b'A', bytes)?;
+    let second = endorsement(alloc, b'B', bytes)?;
     Endorsements::new(vec![in alloc; first, second]?).ok_or(Failure::Limit)
 }
 

@@ -2,7 +2,7 @@
 
 use crate::failure::Failure;
 use fab_types::{
-    Call, Key, Name, Payload, Proposal, Ranges, ReadItem, ReadSet, Value, WriteItem, WriteSet,
+    Call, Key, Name, Payload, PayloadParts, Proposal, Ranges, ReadItem, ReadSet, Value, WriteItem, WriteSet,
 };
 use std::alloc::{AllocError, Global};
 use world_state::Snapshot;
@@ -65,13 +65,14 @@ impl Workload {
     ) -> Result<Payload, Failure> {
         let call = self.call(alloc)?;
         let writes = writes(alloc, numbers)?;
-        Ok(Payload {
+        let parts = PayloadParts {
             proposal: Proposal::Call(call),
             result: Value::new(Vec::new(alloc)).unwrap(),
             reads,
             ranges: Ranges::new(Vec::new(alloc)).unwrap(),
             writes,
-        })
+        };
+        Ok(Payload::new(alloc, parts)?)
     }
 
     /// A call of the chaincode `bench`, whose nonce tells it from the others.

@@ -7,7 +7,7 @@ use crate::printer::Printer;
 use fab_types::{Payload, RangeItem, ReadItem, Version, WriteItem};
 use std::alloc::{AllocError, Global};
 use std::io::Write;
-use wire::tx_id;
+use wire::payload_id;
 
 /// Bytes as lower-case hex; `-` where there are none.
 pub fn hex_of(alloc: Global, bytes: &[u8]) -> Result<String, AllocError> {
@@ -19,7 +19,7 @@ pub fn hex_of(alloc: Global, bytes: &[u8]) -> Result<String, AllocError> {
 
 /// The id of the transaction that a payload's proposal begins, in hex.
 pub fn id_of(alloc: Global, payload: &Payload) -> Result<String, AllocError> {
-    hex::encode(alloc, tx_id(alloc, &payload.proposal)?)
+    hex::encode(alloc, payload_id(payload))
 }
 
 /// A version as `<block>.<place>`.
@@ -126,10 +126,10 @@ pub fn print_payload<W: Write>(
     ensures tells { Tells out.old out.new result }
 {
     let id = id_of(alloc, payload)?;
-    let result = hex_of(alloc, payload.result.as_slice())?;
+    let result = hex_of(alloc, payload.result().as_slice())?;
     writeln!(out, "tx {id}")?;
     writeln!(out, "result {result}")?;
-    print_reads(alloc, payload.reads.as_slice(), out)?;
-    print_ranges(alloc, payload.ranges.as_slice(), out)?;
-    print_writes(alloc, payload.writes.as_slice(), out)
+    print_reads(alloc, payload.reads().as_slice(), out)?;
+    print_ranges(alloc, payload.ranges().as_slice(), out)?;
+    print_writes(alloc, payload.writes().as_slice(), out)
 }

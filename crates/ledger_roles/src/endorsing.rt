@@ -7,14 +7,13 @@ ghost use Rattle.growing_store.specs.Following.{IsFollowed};
 use crate::ending::end;
 use crate::input::InputLines;
 use events::{BadLine, read_proposal};
-use fab_types::{Endorsement, Endorsements, Envelope, OrgName, Payload, Proposal};
+use fab_types::{Endorsement, OrgName, Payload, Proposal, Spelled};
 use growing_store::StoreFollower;
 use ledger_lines::{Failure, Files, Printer};
 use ledger_setting::Genesis;
 use simulator::SimRefusal;
 use std::alloc::{AllocError, Global};
 use std::io::{Read, Write};
-use wire::encode_envelope;
 
 /// Reads lines, each a proposal, simulates each on the state after a store, and endorses its payload
 /// for an organisation of the genesis.
@@ -133,50 +132,24 @@ fn answer<S: Read + Drop, W: Write>(
     ensures tells { Tells out.old out.new result }
 {
     match follower.endorse(proposal) {
-        Ok((payload, endorsement)) => print_endorsed(alloc, payload, endorsement, out),
+        Ok((payload, endorsement)) => print_endorsed(alloc, &payload, &endorsement, out),
         Err(SimRefusal::Memory) => Err(Failure::Memory),
         Err(refusal) => writeln!(out, "{refusal}"),
     }
 }
 
-/// Prints the bytes of a payload and of an endorsement.
+/// Prints the bytes of a payload and of an endorsement, as they stand in an envelope.
 fn print_endorsed<W: Write>(
     alloc: Global,
-    payload: Payload,
-    endorsement: Endorsement,
+    payload: &Payload,
+    endorsement: &Endorsement,
     out: &mut Printer<'_, W>,
 ) -> Result<(), Failure>
     ensures tells { Tells out.old out.new result }
 {
-    let envelope = envelope_of(alloc, payload, endorsement)?;
-    print_envelope(alloc, &envelope, out)
-}
-
-/// A payload with one endorsement.
-fn envelope_of(
-    alloc: Global,
-    payload: Payload,
-    endorsement: Endorsement,
-) -> Result<Envelope, AllocError> {
-    let endorsements = Endorsements::new(vec![in alloc; endorsement]?).unwrap();
-    Ok(Envelope {
-        payload,
-        endorsements,
-    })
-}
-
-/// Prints the bytes of a payload, and those of its endorsement as they stand in an envelope: behind
-/// the payload and the count.
-fn print_envelope<W: Write>(
-    alloc: Global,
-    envelope: &Envelope,
-    out: &mut Printer<'_, W>,
-) -> Result<(), Failure>
-    ensures tells { Tells out.old out.new result }
-{
-    let length = envelope.payload.size();
-    let envelope = encode_envelope(alloc, envelope)?;
-    let payload = hex::encode(alloc, &envelope[..length])?;
-    let endorsement = hex::encode(alloc, &envelope[length + 1..])?;
+    let mut bytes = Vec::new(alloc);
+    endorsement.write(&mut bytes)?;
+    let payload = hex::encode(alloc, payload.bytes())?;
+    let endorsement = hex::encode(alloc, &bytes)?;
     writeln!(out, "endorsed {payload} {endorsement}")
 }

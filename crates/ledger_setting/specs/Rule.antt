@@ -1,5 +1,5 @@
 -- The rule by which a peer judges, and what it puts on a payload.
-use Rattle.fab_types.specs.declared.payload.Payload.{Payload}
+use Rattle.fab_types.specs.Payloads.{Payload}
 use Rattle.fab_types.specs.declared.envelope.Endorsement.{Endorsement}
 use Rattle.wire.specs.Ids.{id_of}
 use Rattle.endorsement_policy.specs.Endorsed.{Listed, is_endorsed, endorsement_by, key_of}

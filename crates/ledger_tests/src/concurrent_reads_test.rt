@@ -74,8 +74,8 @@ fn meet<R: Threads + Wait + Sync>(
     endorsing: Seat,
     reading: Seat,
 ) -> Option<Met> {
-    let proposal = &setup.call.payload.proposal;
-    let [write] = setup.call.payload.writes.as_slice() else {
+    let proposal = setup.call.payload.proposal();
+    let [write] = setup.call.payload.writes().as_slice() else {
         return None;
     };
     let (key, chain) = (&write.key, &setup.chain);

@@ -51,7 +51,7 @@ fn is_run(alloc: Global, setup: &Setup) -> Result<bool, AllocError>
     requires { AreLimits (limits_of setup.now.genesis) }
 {
     let genesis = &setup.genesis;
-    let events = events(alloc, &setup.call.payload.proposal)?;
+    let events = events(alloc, setup.call.payload.proposal())?;
     let ran = run(alloc, genesis, &events)?;
     is_done(alloc, genesis, &ran)
 }

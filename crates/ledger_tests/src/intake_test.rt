@@ -8,7 +8,7 @@ use std::sync::Wait;
 use std::test::Fail;
 
 fn nonce(envelope: &Envelope) -> u8 {
-    let nonce = envelope.payload.proposal.nonce();
+    let nonce = envelope.payload.proposal().nonce();
     nonce[0]
 }
 

@@ -118,8 +118,8 @@ fn seen_by<R: Threads + Wait + Sync>(
 ) -> Option<Sight>
     requires { peer_of seat.old ≡ peer_of_writer writer.old }
 {
-    let key = &setup.call.payload.writes.as_slice().first()?.key;
-    let (proposal, chain) = (&setup.call.payload.proposal, &setup.chain);
+    let key = &setup.call.payload.writes().as_slice().first()?.key;
+    let (proposal, chain) = (setup.call.payload.proposal(), &setup.chain);
     let endorsed = seat.endorse(proposal).is_ok();
     let ahead = commit_refusal(rt, writer, chain, 2);
     let first = commit_refusal(rt, writer, chain, 1);

@@ -9,7 +9,7 @@ use wire::{WireFault, encode_proposal};
 /// Whether the bytes of an envelope's proposal are the first of the envelope's, and these are as
 /// many as its size.
 fn is_in_front(alloc: Global, envelope: &Envelope) -> Result<bool, AllocError> {
-    let bytes = encode_proposal(alloc, &envelope.payload.proposal)?;
+    let bytes = encode_proposal(alloc, envelope.payload.proposal())?;
     Ok(bytes.as_slice() == &ENVELOPE[..PROPOSAL] && envelope.size() == ENVELOPE.len())
 }
 

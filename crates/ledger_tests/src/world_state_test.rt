@@ -70,10 +70,10 @@ fn is_of_block(alloc: Global, old: &Snapshot, block: &Block) -> Result<bool, All
     let [envelope] = block.envelopes.as_slice() else {
         return Ok(false);
     };
-    let [write] = envelope.payload.writes.as_slice() else {
+    let [write] = envelope.payload.writes().as_slice() else {
         return Ok(false);
     };
-    let id = tx_id(alloc, &envelope.payload.proposal)?;
+    let id = tx_id(alloc, envelope.payload.proposal())?;
     let has = block.header.number.get() <= OLD as u32;
     Ok(old.has_tx(&id) == has && is_found(old, &write.key))
 }

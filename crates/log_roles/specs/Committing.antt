@@ -3,7 +3,7 @@ use Rattle.std.specs.Prelude.{◌≡◌, ◌≢◌, ℕ, zero, suc, ◌<◌, Lis
 use Rattle.std.specs.Arc.{arc_value}
 use Rattle.sha2.specs.Sha256.{sha256}
 use Rattle.fab_types.specs.declared.block.Block.{Block}
-use Rattle.wire.specs.Spelling.{header_bytes}
+use Rattle.fab_types.specs.BlockSpelling.{header_bytes}
 use Rattle.ledger_model.specs.Chain.{Bytes, Chain}
 use Rattle.ledger_model.specs.Judged.{BlockRule, judge_onto}
 use Rattle.endorsement_policy.specs.Endorsed.{Listed}

@@ -4,7 +4,7 @@ use Rattle.std.proofs.Common.{◌∙◌, slice_get, arith, length-append}
 use Rattle.std.specs.List.{flat_map}
 use Rattle.fab_types.specs.declared.block.Block.{Block}
 use Rattle.fab_types.specs.declared.envelope.Endorsement.{Endorsement}
-use Rattle.fab_types.specs.declared.payload.Payload.{Payload}
+use Rattle.fab_types.specs.Payloads.{Payload}
 use Rattle.fab_types.specs.declared.proposal.Proposal.{Proposal}
 use Rattle.orderer.specs.Adding.{BeginsWith}
 use Rattle.orderer.specs.Ordering.{Ordering}

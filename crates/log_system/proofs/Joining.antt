@@ -6,7 +6,7 @@ use Rattle.std.specs.List.{flat_map}
 use Rattle.fab_types.specs.Size.{envelope_size}
 use Rattle.fab_types.specs.declared.envelope.Endorsement.{Endorsement}
 use Rattle.fab_types.specs.declared.envelope.Envelope.{Envelope}
-use Rattle.fab_types.specs.declared.payload.Payload.{Payload}
+use Rattle.fab_types.specs.Payloads.{Payload}
 use Rattle.batch_cutter.specs.Division.{IsPending, Mark}
 use Rattle.orderer.specs.Ordering.{AreLimits, IsOpening, IsOrdered, Ordering}
 use Rattle.orderer.specs.declared.report.BatchReport.{BatchReport}

@@ -5,7 +5,7 @@ use Rattle.std.proofs.lemmas.List.{length-map}
 use Rattle.std.proofs.lemmas.Option.{slice_get_within}
 use Rattle.fab_types.specs.declared.block.Block.{Block}
 use Rattle.fab_types.specs.declared.envelope.Endorsement.{Endorsement}
-use Rattle.fab_types.specs.declared.payload.Payload.{Payload}
+use Rattle.fab_types.specs.Payloads.{Payload}
 use Rattle.fab_types.specs.declared.proposal.Proposal.{Proposal}
 use Rattle.orderer.specs.Ordering.{Ordering}
 use Rattle.orderer.specs.declared.report.BatchReport.{BatchReport}

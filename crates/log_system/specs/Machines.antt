@@ -3,7 +3,7 @@ use Rattle.std.specs.Prelude.{◌≡◌, ℕ, Bool, List, [], ◌∷◌, ◌++�
 use Rattle.std.specs.List.{AllByRecursion}
 use Rattle.fab_types.specs.declared.block.Block.{Block}
 use Rattle.fab_types.specs.declared.proposal.Proposal.{Proposal}
-use Rattle.fab_types.specs.declared.payload.Payload.{Payload}
+use Rattle.fab_types.specs.Payloads.{Payload}
 use Rattle.fab_types.specs.declared.envelope.Endorsement.{Endorsement}
 use Rattle.batch_cutter.specs.Division.{Limits}
 use Rattle.orderer.specs.Ordering.{Ordering}

@@ -4,7 +4,7 @@ ghost use Rattle.std.specs.Prelude.{◌≡◌, ◌≢◌, ◌<◌, ◌++◌, [],
 ghost use Rattle.std.specs.Prelude.{◌⊎◌, Result, Ok, Err, Some, true, length, slice_get};
 ghost use Rattle.fab_types.specs.declared.block.Block.{Block};
 ghost use Rattle.fab_types.specs.declared.envelope.Endorsement.{Endorsement};
-ghost use Rattle.fab_types.specs.declared.payload.Payload.{Payload};
+ghost use Rattle.fab_types.specs.Payloads.{Payload};
 ghost use Rattle.fab_types.specs.declared.proposal.Proposal.{Proposal};
 ghost use Rattle.batch_cutter.specs.Division.{Limits};
 ghost use Rattle.orderer.specs.Ordering.{AreLimits, Ordering};

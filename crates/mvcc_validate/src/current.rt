@@ -19,8 +19,8 @@ pub fn is_current(alloc: Global, snapshot: &Snapshot, payload: &Payload) -> Resu
     ensures { IfOk result (λ b. b ≡ is_current (state (history snapshot.now)) payload.now) }
 {
     let written: Written = BTreeMap::new(alloc);
-    if !are_reads_current(snapshot, &written, payload.reads.as_slice()) {
+    if !are_reads_current(snapshot, &written, payload.reads().as_slice()) {
         return Ok(false);
     }
-    are_ranges_current(alloc, snapshot, &written, payload.ranges.as_slice())
+    are_ranges_current(alloc, snapshot, &written, payload.ranges().as_slice())
 }

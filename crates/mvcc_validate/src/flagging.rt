@@ -70,10 +70,10 @@ fn flag_of(
         return Ok(Flag::EndorsementPolicyFailure);
     }
     let payload = next.payload;
-    if !are_reads_current(snapshot, written, payload.reads.as_slice()) {
+    if !are_reads_current(snapshot, written, payload.reads().as_slice()) {
         return Ok(Flag::MvccReadConflict);
     }
-    if !are_ranges_current(alloc, snapshot, written, payload.ranges.as_slice())? {
+    if !are_ranges_current(alloc, snapshot, written, payload.ranges().as_slice())? {
         return Ok(Flag::PhantomReadConflict);
     }
     Ok(Flag::Valid)
@@ -159,7 +159,7 @@ fn flags_with_ids(
         let flag = flag_of(alloc, snapshot, &written, &next)?;
         if is_valid(flag) {
             let version = Version::new(number, place as u32).unwrap();
-            put_writes(&mut written, payload.writes.as_slice(), version)?;
+            put_writes(&mut written, payload.writes().as_slice(), version)?;
         }
         flags.push(flag)?;
     }

@@ -3,7 +3,7 @@ use Rattle.std.proofs.Common.{◌≡◌, Result, Ok, Err, IfOk, IfErr, refl, sym
 use Rattle.std.specs.Prelude.{IsOk}
 use mathlib.Core.List.{IsPrefix}
 use Rattle.fab_types.specs.declared.proposal.Proposal.{Proposal}
-use Rattle.fab_types.specs.declared.payload.Payload.{Payload}
+use Rattle.fab_types.specs.Payloads.{Payload}
 use Rattle.fab_types.specs.declared.envelope.Endorsement.{Endorsement}
 use Rattle.ledger_model.specs.Chain.{Chain}
 use Rattle.simulator.specs.declared.refusal.SimRefusal.{SimRefusal}

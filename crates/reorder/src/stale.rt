@@ -1,6 +1,6 @@
 //! Transactions that read an older version of a key than another one of their batch.
 
-ghost use Rattle.std.specs.Prelude.{◌≡◌, ℕ, ◌<◌, ◌^◌, ◌++◌, Some, map, length, IfOk, OnOk};
+ghost use Rattle.std.specs.Prelude.{◌≡◌, ◌<◌, ◌++◌, Some, map, IfOk, OnOk};
 ghost use Rattle.std.specs.List.{list_any};
 ghost use Rattle.std.specs.List.Sorted.{IsPermutation, IsSortedBy};
 ghost use Rattle.reorder.specs.Stale.{stale};
@@ -58,7 +58,7 @@ fn reads_of<'a>(alloc: Global, batch: &'a [Envelope]) -> Result<Vec<Seen<'a>>, A
 {
     let mut index = Vec::new(alloc);
     for envelope in batch {
-        add_reads(&mut index, envelope.payload.reads.as_slice())?;
+        add_reads(&mut index, envelope.payload.reads().as_slice())?;
     }
     index.sort_unstable_by(|a, b| order(a, b));
     Ok(index)
@@ -106,7 +106,7 @@ pub fn early_abort(alloc: Global, batch: &[Envelope]) -> Result<Vec<usize>, Allo
     let index = reads_of(alloc, batch)?;
     let mut stale = Vec::new(alloc);
     for (i, envelope) in batch.iter().enumerate() {
-        if are_outdated(&index, envelope.payload.reads.as_slice()) {
+        if are_outdated(&index, envelope.payload.reads().as_slice()) {
             stale.push(i)?;
         }
     }

@@ -46,7 +46,7 @@ pub fn writes_of<'a>(alloc: Global, batch: &'a [Envelope]) -> Result<Vec<Written
 {
     let mut index = Vec::new(alloc);
     for (writer, envelope) in batch.iter().enumerate() {
-        add_writes(&mut index, envelope.payload.writes.as_slice(), writer)?;
+        add_writes(&mut index, envelope.payload.writes().as_slice(), writer)?;
     }
     index.sort_unstable_by(|a, b| a.key.cmp(b.key));
     Ok(index)
@@ -188,7 +188,7 @@ pub fn mark_row(row: &mut [bool], index: &Index<'_>, payload: &Payload, from: us
         ≡ (not (from == j) &&
         (slice_index_or row.old j false || hits (sees payload.now) index.now.writes.now j)) }
 {
-    mark_reads(row, index.writes, index.starts, payload.reads.as_slice());
-    mark_ranges(row, index.writes, payload.ranges.as_slice());
+    mark_reads(row, index.writes, index.starts, payload.reads().as_slice());
+    mark_ranges(row, index.writes, payload.ranges().as_slice());
     row[from] = false;
 }

@@ -4,8 +4,8 @@ use Rattle.hex.specs.Hex.{decode_of, decode_pairs}
 use Rattle.hex.specs.declared.error.FromHexError.{FromHexError}
 use Rattle.fab_types.specs.declared.envelope.Envelope.{Envelope}
 use Rattle.batch_cutter.specs.Division.{Mark, message, timeout}
-use Rattle.wire.specs.Spelling.{envelope_bytes}
-use Rattle.wire.specs.Within.{IsEnvelope}
+use Rattle.fab_types.specs.BlockSpelling.{envelope_bytes}
+use Rattle.fab_types.specs.BlockWithin.{IsEnvelope}
 use Rattle.replicated_log.specs.Lines.{IsMark}
 
 -- bytes spell one envelope

@@ -3,8 +3,8 @@ use Rattle.std.specs.Prelude.{◌≡◌, ℕ, List, codes, Ok}
 use Rattle.hex.specs.Hex.{decode_of}
 use Rattle.fab_types.specs.declared.envelope.Envelope.{Envelope}
 use Rattle.batch_cutter.specs.Division.{Mark, message, timeout}
-use Rattle.wire.specs.Spelling.{envelope_bytes}
-use Rattle.wire.specs.Within.{IsEnvelope}
+use Rattle.fab_types.specs.BlockSpelling.{envelope_bytes}
+use Rattle.fab_types.specs.BlockWithin.{IsEnvelope}
 
 -- the hex of an envelope's bytes is a message, in either case of the letters; `tick` is a timeout
 abbrev pub IsMark : List ℕ → Mark Envelope → Type 0

@@ -4,8 +4,8 @@ use Rattle.hex.specs.Hex.{decode_of}
 use Rattle.fab_types.specs.declared.envelope.Envelope.{Envelope}
 use Rattle.batch_cutter.specs.Division.{Mark}
 use Rattle.wire.specs.Faults.{Says}
-use Rattle.wire.specs.Spelling.{envelope_bytes}
-use Rattle.wire.specs.Within.{IsEnvelope}
+use Rattle.fab_types.specs.BlockSpelling.{envelope_bytes}
+use Rattle.fab_types.specs.BlockWithin.{IsEnvelope}
 use Rattle.wire.specs.declared.fault.WireFault.{WireFault}
 use Rattle.wire.specs.declared.fault.WireFault.TheVariants as wire
 use Rattle.orderer.specs.Ordering.{Ordering, IsTooLarge, RunsOut}

@@ -17,12 +17,12 @@ ghost use Rattle.wire.specs.Ids.{id_of};
 use crate::asked::{Asked, Unread, asked_by};
 use crate::batch::{LogBatch, Room, cut, cut_each};
 use crate::skip::Skip;
-use fab_types::{Block, Envelope, Proposal};
+use fab_types::{Block, Envelope, Payload};
 use orderer::{OrderCause, Orderer};
 use seq::Seq;
 use std::alloc::{AllocError, Global};
 use std::marker::Model;
-use wire::tx_id;
+use wire::payload_id;
 
 /// What became of a line.
 #[derive(Debug, Drop)]
@@ -126,7 +126,7 @@ impl Replica {
             TellsIds report self.old line) }
         ensures unchanged { OnErr result (self.new ≡ self.old) }
     {
-        let (id, room) = prepared(self.alloc, &mut self.waiting, &envelope.payload.proposal)?;
+        let (id, room) = prepared(self.alloc, &mut self.waiting, &envelope.payload)?;
         match self.orderer.accept(envelope) {
             Ok(reports) => {
                 self.waiting.push(id).unwrap();
@@ -182,17 +182,17 @@ impl Replica {
 fn prepared(
     alloc: Global,
     waiting: &mut Vec<[u8; 32]>,
-    proposal: &Proposal,
+    payload: &Payload,
 ) -> Result<([u8; 32], Room), AllocError>
     ensures same { waiting.new.items ≡ waiting.old.items }
     ensures place { OnOk result (length waiting.new.items + 1 ≤ vec_capacity waiting.new) }
-    ensures id { IfOk result (λ r. r.0 ≡ id_of proposal.now) }
+    ensures id { IfOk result (λ r. r.0 ≡ id_of payload.now.proposal) }
     ensures batches { IfOk result (λ r. (r.1.batches.items ≡ []) ×
         (2 ≤ vec_capacity r.1.batches)) }
     ensures ids { IfOk result (λ r. (r.1.ids.items ≡ []) ×
         (length waiting.old.items + 1 ≤ vec_capacity r.1.ids)) }
 {
-    let id = tx_id(alloc, proposal)?;
+    let id = payload_id(payload);
     waiting.reserve(1)?;
     let room = Room::new(alloc, waiting.len() + 1)?;
     Ok((id, room))

@@ -5,7 +5,7 @@ use Rattle.std.specs.Option.{option_and_then}
 use Rattle.std.specs.List.{find, AllByRecursion}
 use Rattle.fab_types.specs.declared.proposal.Proposal.{Proposal}
 use Rattle.fab_types.specs.declared.proposal.Proposal.TheVariants as proposal
-use Rattle.wire.specs.Spelling.{definition_bytes}
+use Rattle.fab_types.specs.Spelling.{definition_bytes}
 use Rattle.ledger_model.specs.Chain.{Bytes}
 use Rattle.ledger_model.specs.Views.{Plain}
 use Rattle.ledger_model.specs.Execution as ledger

@@ -11,7 +11,7 @@ use Rattle.ledger_model.specs.Flags.{entry_of}
 use Rattle.ledger_model.specs.Execution as ledger
 use Rattle.ledger_model.specs.Execution.{Seen, read_item, range_item}
 use Rattle.ledger_model.specs.Defined.{definition_key, with_read}
-use Rattle.wire.specs.Spelling.{definition_bytes}
+use Rattle.fab_types.specs.Spelling.{definition_bytes}
 use Rattle.ledger_model.specs.Serial.{seen_key, seen_keys, read_key, range_keys}
 use Rattle.ledger_model.proofs.Views.{get-values_of, first-values_of}
 use Rattle.wasm_meaning.specs.Values.{Answer, Next, Branch, Returns, Trapped, Spent, Stuck}

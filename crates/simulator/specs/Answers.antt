@@ -3,7 +3,7 @@ use Rattle.std.specs.Prelude.{◌≡◌, ◌==◌, ℕ, Bool, List, [], ◌∷�
 use Rattle.std.specs.List.{find}
 use Rattle.fab_types.specs.declared.items.WriteItem.{WriteItem}
 use Rattle.fab_types.specs.declared.proposal.Proposal.{Proposal}
-use Rattle.fab_types.specs.declared.payload.Payload.{Payload}
+use Rattle.fab_types.specs.Payloads.{Payload}
 use Rattle.ledger_model.specs.Chain.{Bytes, Chain, history}
 use Rattle.ledger_model.specs.Views.{Plain, Versioned, values_of}
 use Rattle.ledger_model.specs.State.{state}

@@ -9,7 +9,7 @@ ghost use Rattle.ledger_model.specs.State.{state};
 ghost use Rattle.ledger_model.specs.Views.{values_of};
 ghost use Rattle.ledger_model.specs.Execution.{Done};
 ghost use Rattle.ledger_model.specs.Defined.{definition_key, upgraded};
-ghost use Rattle.wire.specs.Spelling.{definition_bytes};
+ghost use Rattle.fab_types.specs.Spelling.{definition_bytes};
 ghost use Rattle.endorsement_policy.specs.declared.fault.DefinitionFault.TheVariants as fault;
 ghost use Rattle.world_state.specs.Writing.{as_state};
 ghost use Rattle.host_api.specs.Plain.{plain_of};
@@ -23,10 +23,7 @@ ghost use Rattle.simulator.specs.declared.refusal.SimRefusal.TheVariants.{Unknow
 use crate::executable::{Executable, find_executable};
 use crate::refusal::SimRefusal;
 use chaincode_book::Book;
-use fab_types::{
-    Call, Key, Payload, Proposal, Ranges, ReadItem, ReadSet, Upgrade, Value, Version, WriteItem,
-    WriteSet,
-};
+use fab_types::{Call, Key, Payload, PayloadParts, Proposal, Ranges, ReadItem, ReadSet, Upgrade, Value, WriteItem, WriteSet};
 use host_api::{Parts, PlainMap, Recorder, View, look_up};
 use interp::{Outcome, run};
 use std::alloc::{AllocError, Global};
@@ -59,13 +56,14 @@ pub fn simulate(
 {
     let _valid = book.chaincodes();
     let parts = execute(alloc, book, snapshot, proposal)?;
-    Ok(Payload {
+    let whole = PayloadParts {
         proposal: proposal.clone()?,
         result: parts.result,
         reads: parts.reads,
         ranges: parts.ranges,
         writes: parts.writes,
-    })
+    };
+    Ok(Payload::new(alloc, whole)?)
 }
 
 /// What the execution of a proposal on a plain state reads, answers and writes. The versions in it

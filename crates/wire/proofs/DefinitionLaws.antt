@@ -12,8 +12,8 @@ use Rattle.wasm_profile.specs.declared.profile.Profile.{Profile}
 use Rattle.wasm_profile.specs.declared.profile.Profile.TheVariants.{Core1, SignExtension}
 use Rattle.fab_types.specs.Limits.{IsFuel, IsPolicyText, is_policy_byte}
 use Rattle.fab_types.specs.declared.definition.Definition.{Definition}
-use Rattle.wire.specs.Spelling.{long_bytes, definition_bytes}
-use Rattle.wire.specs.Within.{IsDefinition}
+use Rattle.fab_types.specs.Spelling.{long_bytes, definition_bytes}
+use Rattle.fab_types.specs.Within.{IsDefinition}
 use Rattle.wire.specs.Reading.{pair_at, front_and_rest, number_at, text_at, between_at, profile_at, fuel_at, policy_text_at, definition_at}
 use Rattle.wire.proofs.Codec.{Codec, respelled, checked, pair, made}
 use Rattle.wire.proofs.Measured.{both, and_both, fixed, number16, number32, text}

@@ -1,6 +1,6 @@
 use Rattle.std.proofs.Common.{Ok, Err, refl, ap, sym, ◌∙◌}
 use Rattle.std.proofs.lemmas.Result.{err_from_is_err_and}
-use Rattle.fab_types.specs.declared.payload.Payload.{Payload}
+use Rattle.fab_types.specs.Payloads.{Payload}
 use Rattle.fab_types.specs.declared.proposal.Proposal.{Proposal}
 use Rattle.host_api.specs.declared.recorder.Parts.{Parts}
 use Rattle.simulator.proofs.Refusals.{then_unknown, then_not_installed, then_bad_policy}
@@ -18,7 +18,7 @@ returns-in_err-parts-clause-unknown c =
 pub returns-clause-unknown : goal.returns-clause-unknown
 returns-clause-unknown c =
     then_unknown (made c.in_ok-clone.field-0) c.args.book.now c.chaincodes-valid.ensures.valid c.args.snapshot.now c.args.proposal.now
-    (Ok c.in_ok-parts.parts) c.in_ok-parts.ensures _ refl
+    (Ok c.in_ok-parts.parts) c.in_ok-parts.ensures _ (sym (ap Ok c.in_ok-new.ensures))
 
 pub returns-in_err-parts-clause-not_installed : goal.returns-in_err-parts-clause-not_installed
 returns-in_err-parts-clause-not_installed c =
@@ -29,7 +29,7 @@ returns-in_err-parts-clause-not_installed c =
 pub returns-clause-not_installed : goal.returns-clause-not_installed
 returns-clause-not_installed c =
     then_not_installed (made c.in_ok-clone.field-0) c.args.book.now c.chaincodes-valid.ensures.valid c.args.snapshot.now c.args.proposal.now
-    (Ok c.in_ok-parts.parts) c.in_ok-parts.ensures _ refl
+    (Ok c.in_ok-parts.parts) c.in_ok-parts.ensures _ (sym (ap Ok c.in_ok-new.ensures))
 
 pub returns-in_err-parts-clause-bad_policy : goal.returns-in_err-parts-clause-bad_policy
 returns-in_err-parts-clause-bad_policy c =
@@ -40,4 +40,4 @@ returns-in_err-parts-clause-bad_policy c =
 pub returns-clause-bad_policy : goal.returns-clause-bad_policy
 returns-clause-bad_policy c =
     then_bad_policy (made c.in_ok-clone.field-0) c.args.book.now c.chaincodes-valid.ensures.valid c.args.snapshot.now c.args.proposal.now
-    (Ok c.in_ok-parts.parts) c.in_ok-parts.ensures _ refl
+    (Ok c.in_ok-parts.parts) c.in_ok-parts.ensures _ (sym (ap Ok c.in_ok-new.ensures))

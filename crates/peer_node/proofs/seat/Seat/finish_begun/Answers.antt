@@ -1,6 +1,6 @@
 use Rattle.std.proofs.Common.{rules, ◌≡◌, Result, Ok, Err, sym, subst}
 use Rattle.std.specs.Arc.{arc_value}
-use Rattle.fab_types.specs.declared.payload.Payload.{Payload}
+use Rattle.fab_types.specs.Payloads.{Payload}
 use Rattle.fab_types.specs.declared.envelope.Endorsement.{Endorsement}
 use Rattle.peer_node.specs.declared.refusal.FinishRefusal.{FinishRefusal}
 use Rattle.peer_node.specs.Seats.{seen_chain, endorsing_of, simulated_on, FinishesBy}

@@ -1,0 +1,29 @@
+-- The one spelling of endorsements, envelopes, headers and blocks in bytes.
+use Rattle.std.specs.Prelude.{ℕ, List, ◌++◌, length}
+use Rattle.std.specs.Int.{w32, to_be_bytes}
+use Rattle.fab_types.specs.declared.envelope.Endorsement.{Endorsement}
+use Rattle.fab_types.specs.declared.envelope.Envelope.{Envelope}
+use Rattle.fab_types.specs.declared.block.Header.{Header}
+use Rattle.fab_types.specs.declared.block.Block.{Block}
+use Rattle.fab_types.specs.Spelling.{short_bytes, few_bytes, many_bytes, payload_bytes}
+
+abbrev pub endorsement_bytes : Endorsement → List ℕ
+endorsement_bytes e = short_bytes e.org ++ e.tag
+
+abbrev pub envelope_bytes : Envelope → List ℕ
+envelope_bytes e = payload_bytes e.payload ++ few_bytes endorsement_bytes e.endorsements
+
+-- the number in four bytes, and the two hashes
+abbrev pub header_bytes : Header → List ℕ
+header_bytes h = to_be_bytes w32 h.number ++ h.previous_hash ++ h.data_hash
+
+-- its length in four bytes, and the envelope
+abbrev pub sized_bytes : Envelope → List ℕ
+sized_bytes e = to_be_bytes w32 (length (envelope_bytes e)) ++ envelope_bytes e
+
+-- how many envelopes there are in two bytes, and each behind its length
+abbrev pub data_bytes : List Envelope → List ℕ
+data_bytes es = many_bytes sized_bytes es
+
+abbrev pub block_bytes : Block → List ℕ
+block_bytes b = header_bytes b.header ++ data_bytes b.envelopes
