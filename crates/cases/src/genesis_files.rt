@@ -2,7 +2,8 @@
 
 use crate::texts::write_hex;
 use endorsement_policy::ModuleId;
-use genesis::{GenesisFile, read_genesis};
+use genesis::read_genesis;
+use ledger_setting::Genesis;
 use std::alloc::{AllocError, Global};
 use std::fmt::Write;
 use wasm_profile::Profile;
@@ -16,7 +17,7 @@ pub fn genesis_file(alloc: Global, text: &str) -> Result<String, AllocError> {
 }
 
 /// How many there are of each, the numbers, and the digests of the modules.
-fn contents(alloc: Global, genesis: &GenesisFile) -> Result<String, AllocError> {
+fn contents(alloc: Global, genesis: &Genesis) -> Result<String, AllocError> {
     let mut text = String::new(alloc);
     write_counts(&mut text, genesis)?;
     write_numbers(&mut text, genesis)?;
@@ -25,7 +26,7 @@ fn contents(alloc: Global, genesis: &GenesisFile) -> Result<String, AllocError> 
     Ok(text)
 }
 
-fn write_counts(text: &mut String, genesis: &GenesisFile) -> Result<(), AllocError> {
+fn write_counts(text: &mut String, genesis: &Genesis) -> Result<(), AllocError> {
     let (chaincodes, modules) = (
         genesis.book.chaincodes().len(),
         genesis.book.modules().len(),
@@ -37,7 +38,7 @@ fn write_counts(text: &mut String, genesis: &GenesisFile) -> Result<(), AllocErr
     )
 }
 
-fn write_numbers(text: &mut String, genesis: &GenesisFile) -> Result<(), AllocError> {
+fn write_numbers(text: &mut String, genesis: &Genesis) -> Result<(), AllocError> {
     write!(
         text,
         " seats={} queue={} count={} preferred={} absolute={} reorder={}",

@@ -8,7 +8,6 @@ ghost use Rattle.ledger_setting.specs.Rule.{table_of};
 ghost use Rattle.endorsement_policy.specs.Endorsed.{is_right};
 ghost use Rattle.simulator.specs.Execution.{exec_of};
 ghost use Rattle.fabric_core.specs.System.{Reply, chain_of};
-ghost use Rattle.orderer.specs.Ordering.{AreLimits};
 ghost use Rattle.ledger_setting.specs.Setting.{limits_of};
 ghost use Rattle.fabric_core.specs.Inside.{rules_of, TakesStep, KeepsSetting};
 ghost use Rattle.fabric_core.specs.Headline.{IsRun, IsHonest, ConflictsAreOlder};
@@ -53,7 +52,6 @@ impl Ran {
 /// The events in order, from the opening of the system on. Where memory is refused after the
 /// opening, the system and the replies are those after the steps done.
 pub fn run(alloc: Global, genesis: &Genesis, events: &[Event]) -> Result<Ran, AllocError>
-    requires { AreLimits (limits_of genesis.now) }
     ensures run { IfOk result
         (λ ran. IsRun
         (rules_of (exec_of genesis.now.book.value) genesis.now.rules.value genesis.now.queue)

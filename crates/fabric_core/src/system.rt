@@ -4,7 +4,7 @@ ghost use Rattle.std.specs.Prelude.{◌≡◌, ◌≤◌, [], IfErr, IfOk, OnErr
 ghost use Rattle.std.specs.Option.{option_to_list};
 ghost use Rattle.batch_cutter.specs.Division.{timeout};
 ghost use Rattle.wire.specs.Links.{AreLinked};
-ghost use Rattle.orderer.specs.Ordering.{AreLimits, Takes, IsRefused};
+ghost use Rattle.orderer.specs.Ordering.{Takes, IsRefused};
 ghost use Rattle.ledger_setting.specs.Setting.{limits_of};
 ghost use Rattle.fabric_core.specs.System.{opening, Begin, Finish, Submit, Take, Tick, Commit, chain_of};
 ghost use Rattle.simulator.specs.Execution.{exec_of};
@@ -89,7 +89,6 @@ fn timed_out(orderer: &mut Orderer) -> Result<Option<BatchReport>, OrderCause>
 impl System {
     /// The system at its opening: no blocks, free seats and an empty queue.
     pub fn new(alloc: Global, genesis: &Genesis) -> Result<System, AllocError>
-        requires { AreLimits (limits_of genesis.now) }
         ensures { IfOk result
             (λ s. s
             ≡ record {

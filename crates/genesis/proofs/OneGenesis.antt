@@ -4,7 +4,7 @@ use Rattle.endorsement_policy.specs.Endorsed.{Listed}
 use Rattle.policy_language.specs.GoodSets.{Names}
 use Rattle.serde_json.specs.Data.{Data, boolean}
 use Rattle.serde_json.specs.Read.{read}
-use Rattle.genesis.specs.declared.genesis.GenesisFile.{GenesisFile}
+use Rattle.ledger_setting.specs.declared.genesis.Genesis.{Genesis}
 use Rattle.genesis.specs.Lists.{IsListOf}
 use Rattle.genesis.specs.Opening.{HoldsSame}
 use Rattle.genesis.specs.Spelling.{IsBookOf, IsGenesis, IsPeer, IsPolicy, Parts, Spells, names_of, object_of}
@@ -20,20 +20,20 @@ same_rules a b o p u i =
     ap (λ x. record a { orgs = x }) o ∙ ap (λ x. record a { orgs = b.orgs; policies = x }) p ∙
     ap (λ x. record b { upgrade = x; installed = a.installed }) u ∙ ap (λ x. record b { installed = x }) i
 
-same_fields : (p : Parts) (a b : GenesisFile) → IsGenesis p a → IsGenesis p b → HoldsSame a b
+same_fields : (p : Parts) (a b : Genesis) → IsGenesis p a → IsGenesis p b → HoldsSame a b
 same_fields p a b h k =
     let orgs = one_list p.orgs _ _ h.organisations.0 k.organisations.0 in
     let names = sym (ap names_of orgs) in
-    let those = names_of a.rules.orgs in
+    let those = names_of a.rules.value.orgs in
     let peers = subst (λ ns. IsListOf (IsPeer ns) 1 8 p.peers b.peers.items) names k.peers in
-    let upgrade = subst (λ ns. IsPolicy ns p.upgrade b.rules.upgrade) names k.upgrade in
-    let book = subst (λ ns. IsBookOf ns p.chaincodes p.modules b.book b.rules.policies) names k.book in
+    let upgrade = subst (λ ns. IsPolicy ns p.upgrade b.rules.value.upgrade) names k.upgrade in
+    let book = subst (λ ns. IsBookOf ns p.chaincodes p.modules b.book.value b.rules.value.policies) names k.book in
     let one = one_book those p.chaincodes p.modules _ _ _ _ h.book book in
     let installed = h.installed ∙ ap (λ x. x.installed) one.0 ∙ sym k.installed in
     let truth : boolean a.reorder ≡ boolean b.reorder = sym h.reorder ∙ k.reorder in
     record {
       book = one.0;
-      rules = same_rules a.rules b.rules orgs one.1 (one_policy those p.upgrade _ _ h.upgrade upgrade) installed;
+      rules = same_rules a.rules.value b.rules.value orgs one.1 (one_policy those p.upgrade _ _ h.upgrade upgrade) installed;
       peers = IsListOf-same (IsPeer those) (one_peer those) 1 8 p.peers a.peers.items b.peers.items h.peers peers;
       seats = same_number p.seats p.seats _ _ refl h.seats.0 k.seats.0;
       queue = same_number p.queue p.queue _ _ refl h.queue.0 k.queue.0;
@@ -70,7 +70,7 @@ one_object p q e = ap parts_in e
 one_data : (text : List ℕ) (d e : Data) → read text ≡ Some d → read text ≡ Some e → d ≡ e
 one_data text d e h k = let same = sym h ∙ k in cc
 
-pub one : (text : List ℕ) (a b : GenesisFile) → Spells text a → Spells text b → HoldsSame a b
+pub one : (text : List ℕ) (a b : Genesis) → Spells text a → Spells text b → HoldsSame a b
 one text a b h k =
     let same_data = one_data text h.0 k.0 h.1 k.1 in
     let parts = one_object h.2.0 k.2.0 (sym h.2.1 ∙ same_data ∙ k.2.1) in

@@ -10,8 +10,8 @@ use Rattle.endorsement_policy.specs.Endorsed.{do_need_someone}
 use Rattle.policy_language.specs.Limits.{IsText}
 use Rattle.policy_language.specs.declared.policy.Policy.{Policy}
 use Rattle.policy_language.proofs.Needed.{spelled_needs}
-use Rattle.genesis.specs.declared.genesis.Definition.{Definition}
-use Rattle.genesis.specs.declared.genesis.GenesisFile.{GenesisFile}
+use Rattle.ledger_setting.specs.declared.genesis.Genesis.{Genesis}
+use Rattle.genesis.specs.declared.definition.Definition.{Definition}
 use Rattle.genesis.specs.Lists.{IsListOf}
 use Rattle.genesis.specs.Opening.{CanOpen}
 use Rattle.genesis.specs.Spelling.{IsDefinition, IsPeer, Parts, IsGenesis, Spells, chaincodes_of, policies_of}
@@ -48,25 +48,19 @@ needed orgs (item d ds) (c ∷ cs) h = rw (policy_needed orgs c.policy.policy h.
 pub all_needed : (orgs : List (List ℕ)) (d : Data) (cs : List Definition) → IsListOf (IsDefinition orgs) 1 16 d cs → do_need_someone (policies_of cs) ≡ true
 all_needed orgs d cs h = needed orgs h.0 cs h.2
 
-opens : (p : Parts) (g : GenesisFile) → IsGenesis p g → CanOpen g
+opens : (p : Parts) (g : Genesis) → IsGenesis p g → CanOpen g
 opens p g h =
     let b = h.book in
     let cs = b.0 in
     let names = same_names _ b.2.0 cs b.2.2 in
     record {
-      seats = h.seats.1;
-      queue = h.queue.1;
-      count = h.count.1;
-      preferred = h.preferred.1;
-      absolute = h.absolute.1;
       organisations = h.organisations.0.3;
       different = h.organisations.1;
-      peers = h.peers.3;
       known = known_peers _ h.peers.0 g.peers.items h.peers.2;
       chaincodes = rw (b.5, same_count cs) b.2.3;
       policies = rw (b.5, b.6) names;
       installed = h.installed;
     }
 
-pub spelled_opens : (text : List ℕ) (g : GenesisFile) → Spells text g → CanOpen g
+pub spelled_opens : (text : List ℕ) (g : Genesis) → Spells text g → CanOpen g
 spelled_opens text g h = opens h.2.0 g h.2.2

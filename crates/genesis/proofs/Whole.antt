@@ -14,9 +14,9 @@ use Rattle.sha2.specs.Sha256.{sha256}
 use Rattle.chaincode_book.specs.Books.{Book, IsBook}
 use Rattle.chaincode_book.specs.declared.book.Chaincode.{Chaincode}
 use Rattle.serde_json.specs.Data.{Data, Num, unsigned, number}
-use Rattle.genesis.specs.declared.genesis.Definition.{Definition}
-use Rattle.genesis.specs.declared.genesis.GenesisFile.{GenesisFile}
-use Rattle.genesis.specs.declared.genesis.InstalledModule.{InstalledModule}
+use Rattle.ledger_setting.specs.declared.genesis.Genesis.{Genesis}
+use Rattle.genesis.specs.declared.definition.Definition.{Definition}
+use Rattle.genesis.specs.declared.definition.InstalledModule.{InstalledModule}
 use Rattle.genesis.specs.declared.refusal.GenesisRefusal.{GenesisRefusal}
 use Rattle.genesis.specs.Lists.{IsListOf}
 use Rattle.genesis.specs.Refused.{NoneIs}
@@ -128,8 +128,8 @@ NoneIs-different d os h not xs spelled =
     cc
 
 -- a part that rests on the names of the organisations
-pub NoneIs-part : {A : Type 0} (Is : Names → A → Type 0) (part : GenesisFile → A) (p : Parts) (os : List Organisation) (orgs : Names) (r : GenesisRefusal)
-    → ((g : GenesisFile) → IsGenesis p g → Is (names_of g.rules.orgs) (part g)) → AreOrganisations p.orgs os → orgs ≡ names_of os
+pub NoneIs-part : {A : Type 0} (Is : Names → A → Type 0) (part : Genesis → A) (p : Parts) (os : List Organisation) (orgs : Names) (r : GenesisRefusal)
+    → ((g : Genesis) → IsGenesis p g → Is (names_of g.rules.value.orgs) (part g)) → AreOrganisations p.orgs os → orgs ≡ names_of os
     → NoneIs (Is orgs) r → NoneIs (IsGenesis p) r
 NoneIs-part Is part p os orgs r has h is none = (
   none.0,

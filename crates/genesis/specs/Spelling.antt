@@ -20,9 +20,9 @@ use Rattle.endorsement_policy.specs.declared.rules.Organisation.{Organisation}
 use Rattle.endorsement_policy.specs.declared.rules.ChaincodePolicy.{ChaincodePolicy}
 use Rattle.chaincode_book.specs.Books.{Book, IsBook}
 use Rattle.chaincode_book.specs.declared.book.Chaincode.{Chaincode}
-use Rattle.genesis.specs.declared.genesis.Definition.{Definition}
-use Rattle.genesis.specs.declared.genesis.InstalledModule.{InstalledModule}
-use Rattle.genesis.specs.declared.genesis.GenesisFile.{GenesisFile}
+use Rattle.ledger_setting.specs.declared.genesis.Genesis.{Genesis}
+use Rattle.genesis.specs.declared.definition.Definition.{Definition}
+use Rattle.genesis.specs.declared.definition.InstalledModule.{InstalledModule}
 use Rattle.genesis.specs.Lists.{IsListOf, IsNumber}
 
 -- the bytes that a text of hex stands for
@@ -146,23 +146,23 @@ object_of p =
     (member (codes "seats") p.seats (member (codes "upgrade") p.upgrade no_members)))))))))))
 
 -- the genesis that the fields spell
-pub record IsGenesis (p : Parts) (g : GenesisFile) : Type 0 where
+pub record IsGenesis (p : Parts) (g : Genesis) : Type 0 where
   pub seats : IsNumber 1 64 p.seats g.seats
   pub queue : IsNumber 1 4096 p.queue g.queue
   pub count : IsNumber 1 512 p.count g.count
   pub preferred : IsNumber 1 524288 p.preferred g.preferred
   pub absolute : IsNumber 1 524288 p.absolute g.absolute
   pub reorder : p.reorder ≡ boolean g.reorder
-  pub organisations : AreOrganisations p.orgs g.rules.orgs
-  pub peers : IsListOf (IsPeer (names_of g.rules.orgs)) 1 8 p.peers g.peers.items
-  pub book : IsBookOf (names_of g.rules.orgs) p.chaincodes p.modules g.book g.rules.policies
-  pub upgrade : IsPolicy (names_of g.rules.orgs) p.upgrade g.rules.upgrade
-  pub installed : g.rules.installed ≡ g.book.installed
+  pub organisations : AreOrganisations p.orgs g.rules.value.orgs
+  pub peers : IsListOf (IsPeer (names_of g.rules.value.orgs)) 1 8 p.peers g.peers.items
+  pub book : IsBookOf (names_of g.rules.value.orgs) p.chaincodes p.modules g.book.value g.rules.value.policies
+  pub upgrade : IsPolicy (names_of g.rules.value.orgs) p.upgrade g.rules.value.upgrade
+  pub installed : g.rules.value.installed ≡ g.book.value.installed
 
 -- the genesis that the data of a file spells
-abbrev pub IsGenesisOf : Data → GenesisFile → Type 0
+abbrev pub IsGenesisOf : Data → Genesis → Type 0
 IsGenesisOf d g = (p : Parts) × (d ≡ object_of p) × IsGenesis p g
 
 -- the genesis that a text spells
-abbrev pub Spells : List ℕ → GenesisFile → Type 0
+abbrev pub Spells : List ℕ → Genesis → Type 0
 Spells text g = (d : Data) × (read text ≡ Some d) × IsGenesisOf d g

@@ -8,9 +8,9 @@ ghost use Rattle.genesis.specs.declared.refusal.GenesisRefusal.TheVariants.{Memo
 ghost use Rattle.genesis.specs.Refused.{NoneIs};
 ghost use Rattle.genesis.specs.Spelling.{HasParts, IsPolicy, chaincodes_of, ids_of, policies_of};
 
+use crate::definition::{Definition, InstalledModule};
 use crate::each::ReadItem;
 use crate::fields::{ChaincodeFields, chaincode_fields};
-use crate::genesis::{Definition, InstalledModule};
 use crate::modules::module;
 use crate::numbers::within;
 use crate::refusal::GenesisRefusal;

@@ -6,14 +6,14 @@ ghost use Rattle.wasm_ast.specs.declared.module.Module.{Module};
 ghost use Rattle.wasm_decode.specs.ModuleSpelling.{IsModule};
 ghost use Rattle.wasm_typing.specs.ModuleRules.{IsValid};
 ghost use Rattle.wasm_typing.specs.declared.fault.ValidateFault.{ValidateFault};
-ghost use Rattle.genesis.specs.declared.genesis.InstalledModule.{InstalledModule};
+ghost use Rattle.genesis.specs.declared.definition.InstalledModule.{InstalledModule};
 ghost use Rattle.genesis.specs.declared.refusal.GenesisRefusal.TheVariants.{Memory, Json};
 ghost use Rattle.genesis.specs.Refused.{NoneIs};
 ghost use Rattle.genesis.specs.Spelling.{IsModuleOf, more_ids_of, more_modules_of};
 
+use crate::definition::InstalledModule;
 use crate::each::ReadItem;
 use crate::fields::module_fields;
-use crate::genesis::InstalledModule;
 use crate::numbers::{bytes_of, profile};
 use crate::refusal::GenesisRefusal;
 use endorsement_policy::ModuleId;

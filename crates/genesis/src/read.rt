@@ -11,7 +11,6 @@ ghost use Rattle.genesis.specs.Spelling.{IsGenesis, IsGenesisOf, Spells};
 use crate::book::book;
 use crate::chaincodes::upgrade_policy;
 use crate::fields::{GenesisFields, genesis_fields};
-use crate::genesis::GenesisFile;
 use crate::lists::read_list;
 use crate::numbers::{size_within, truth};
 use crate::organisations::organisations;
@@ -19,9 +18,11 @@ use crate::peers::PeerReader;
 use crate::refusal::GenesisRefusal;
 use endorsement_policy::Rules;
 use fab_types::limits::{MOST_DATA_BYTES, MOST_PEERS, MOST_QUEUED, MOST_SEATS, MOST_TRANSACTIONS};
+use ledger_setting::Genesis;
 use serde_json::Value;
 use serde_json::error::Category;
 use std::alloc::Global;
+use std::sync::Arc;
 
 /// The genesis that a text spells.
 ///
@@ -29,7 +30,7 @@ use std::alloc::Global;
 /// kind or hex is not read (802), where a number, a length or a name is out of its range (803),
 /// where a module (804) or a policy (805) is refused, where a name stands twice or a peer's
 /// organisation is unknown (806), and for want of memory (9). Of several causes any may be told.
-pub fn read_genesis(alloc: Global, text: &str) -> Result<GenesisFile, GenesisRefusal>
+pub fn read_genesis(alloc: Global, text: &str) -> Result<Genesis, GenesisRefusal>
     ensures ok { IfOk result (λ g. Spells text.now g) }
     ensures opening { IfOk result (λ g. CanOpen g) }
     ensures refused { IfErr result (λ r. NoGenesis text.now r) }
@@ -42,7 +43,7 @@ pub fn read_genesis(alloc: Global, text: &str) -> Result<GenesisFile, GenesisRef
 }
 
 /// The genesis that the data of a file spells.
-fn genesis_of(alloc: Global, value: &Value) -> Result<GenesisFile, GenesisRefusal>
+fn genesis_of(alloc: Global, value: &Value) -> Result<Genesis, GenesisRefusal>
     ensures ok { IfOk result (λ g. IsGenesisOf (view value.now) g) }
     ensures refused { IfErr result (λ r. NoneIs (IsGenesisOf (view value.now)) r) }
 {
@@ -53,7 +54,7 @@ fn genesis_of(alloc: Global, value: &Value) -> Result<GenesisFile, GenesisRefusa
 }
 
 /// The genesis that the fields spell.
-fn genesis_from(alloc: Global, fields: &GenesisFields<'_>) -> Result<GenesisFile, GenesisRefusal>
+fn genesis_from(alloc: Global, fields: &GenesisFields<'_>) -> Result<Genesis, GenesisRefusal>
     ensures ok { IfOk result (λ g. IsGenesis (parts_of fields.now) g) }
     ensures refused { IfErr result (λ r. NoneIs (IsGenesis (parts_of fields.now)) r) }
 {
@@ -72,9 +73,9 @@ fn genesis_from(alloc: Global, fields: &GenesisFields<'_>) -> Result<GenesisFile
     let Some(rules) = Rules::new(organisations, policies, upgrade, installed) else {
         return Err(GenesisRefusal::Policy);
     };
-    Ok(GenesisFile {
-        book,
-        rules,
+    Ok(Genesis {
+        book: Arc::new(alloc, book)?,
+        rules: Arc::new(alloc, rules)?,
         peers,
         seats,
         queue,

@@ -16,6 +16,6 @@ mod verdict;
 pub use failure::Failure;
 pub use files::{FileFault, Files, Target, read_all, read_at_most};
 pub use lines::{hex_of, id_of, print_payload, version_of};
-pub use opening::{genesis_in, system_genesis};
+pub use opening::genesis_in;
 pub use printer::Printer;
 pub use verdict::print_audit;

@@ -1,9 +1,7 @@
 //! The program, but for the machine that it runs on.
 
-ghost use Rattle.std.specs.Prelude.{◌≡◌, ◌<◌, ◌^◌, true, false, IfSome, OnOk, length};
+ghost use Rattle.std.specs.Prelude.{◌≡◌, ◌<◌, true, false, IfSome, OnOk};
 ghost use Rattle.std.specs.Io.KnownBytes.{Appends};
-ghost use Rattle.orderer.specs.Ordering.{AreLimits};
-ghost use Rattle.ledger_setting.specs.Setting.{limits_of};
 ghost use Rattle.ledger_lines.specs.Texts.{last_line};
 ghost use Rattle.ledger_lines.specs.Told.{IsMore, IsTold, Says, Tells, Told};
 
@@ -169,10 +167,6 @@ fn do_work<R: Threads + Wait + Sync + Send + Copy + 'static, F: Files, W: Write>
     work: &Work<'_>,
     out: &mut Printer<'_, W>,
 ) -> Result<(), Failure>
-    requires limits { AreLimits (limits_of genesis.now) }
-    requires peers { 0 < length genesis.now.peers.items }
-    requires seats { (0 < genesis.now.seats) × (genesis.now.seats < 2 ^ 32) }
-    requires queue { 0 < genesis.now.queue }
     ensures tells { Tells out.old out.new result }
 {
     match work {

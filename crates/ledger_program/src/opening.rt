@@ -1,8 +1,6 @@
 //! The genesis that a command works by, and the command `order`, which needs its digest too.
 
-ghost use Rattle.std.specs.Prelude.{◌<◌, ◌^◌, IfOk, IfErr, length};
-ghost use Rattle.orderer.specs.Ordering.{AreLimits};
-ghost use Rattle.ledger_setting.specs.Setting.{limits_of};
+ghost use Rattle.std.specs.Prelude.{IfErr};
 ghost use Rattle.ledger_lines.specs.Told.{IsSilent, Tells};
 
 use ledger_lines::{Failure, Files, Printer, genesis_in, read_all};
@@ -15,10 +13,6 @@ use std::io::Write;
 /// What a system begins with, by the file of this name.
 pub fn opened<F: Files>(alloc: Global, files: &mut F, name: &str) -> Result<Genesis, Failure>
     ensures silent { IfErr result IsSilent }
-    ensures limits { IfOk result (λ g. AreLimits (limits_of g)) }
-    ensures peers { IfOk result (λ g. 0 < length g.peers.items) }
-    ensures seats { IfOk result (λ g. (0 < g.seats) × (g.seats < 2 ^ 32)) }
-    ensures queue { IfOk result (λ g. 0 < g.queue) }
 {
     let bytes = read_all(alloc, files, name)?;
     genesis_in(alloc, &bytes)

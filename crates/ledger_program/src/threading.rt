@@ -1,8 +1,5 @@
 //! The command `threads`.
 
-ghost use Rattle.std.specs.Prelude.{◌<◌, ◌^◌, length};
-ghost use Rattle.orderer.specs.Ordering.{AreLimits};
-ghost use Rattle.ledger_setting.specs.Setting.{limits_of};
 ghost use Rattle.ledger_lines.specs.Told.{Tells};
 
 use fab_types::Name;
@@ -25,10 +22,6 @@ pub fn threads<R: Threads + Wait + Sync + Send + Copy + 'static, W: Write>(
     rounds: u32,
     out: &mut Printer<'_, W>,
 ) -> Result<(), Failure>
-    requires limits { AreLimits (limits_of genesis.now) }
-    requires peers { 0 < length genesis.now.peers.items }
-    requires seats { (0 < genesis.now.seats) × (genesis.now.seats < 2 ^ 32) }
-    requires queue { 0 < genesis.now.queue }
     ensures tells { Tells out.old out.new result }
 {
     match run_seats(rt, alloc, genesis, chaincode, rounds) {

@@ -1,8 +1,6 @@
 //! The command `order`.
 
 ghost use Rattle.std.specs.Prelude.{IfOk};
-ghost use Rattle.orderer.specs.Ordering.{AreLimits};
-ghost use Rattle.ledger_setting.specs.Setting.{limits_of};
 ghost use Rattle.ledger_lines.specs.Told.{Tells};
 ghost use Rattle.ledger_roles.specs.Marks.{IsMarkOrNone};
 
@@ -38,7 +36,6 @@ pub fn order<F: Files, W: Write>(
     digest: &str,
     out: &mut Printer<'_, W>,
 ) -> Result<(), Failure>
-    requires { AreLimits (limits_of genesis.now) }
     ensures tells { Tells out.old out.new result }
 {
     let mut lines = InputLines::new(alloc, files.input())?;

@@ -1,8 +1,6 @@
 //! The command `run`: a system, on which the lines of a file are events.
 
 ghost use Rattle.std.specs.Prelude.{◌≡◌, ◌<◌, false, IfOk};
-ghost use Rattle.orderer.specs.Ordering.{AreLimits};
-ghost use Rattle.ledger_setting.specs.Setting.{limits_of};
 ghost use Rattle.ledger_lines.specs.Told.{Tells};
 
 use crate::lines::{print_begun, print_state, print_step};
@@ -52,7 +50,6 @@ pub fn run<F: Files, W: Write>(
     names: &RunFiles<'_>,
     out: &mut Printer<'_, W>,
 ) -> Result<(), Failure>
-    requires { AreLimits (limits_of genesis.now) }
     ensures tells { Tells out.old out.new result }
 {
     let Some(events) = files.open(names.events) else {
@@ -71,7 +68,6 @@ fn run_read<F: Files, B: BufRead, W: Write>(
     lines: &mut B,
     out: &mut Printer<'_, W>,
 ) -> Result<(), Failure>
-    requires { AreLimits (limits_of genesis.now) }
     ensures tells { Tells out.old out.new result }
 {
     match names.store {
@@ -92,7 +88,6 @@ fn run_into<F: Files, B: BufRead, W: Write>(
     store: Option<&Target>,
     out: &mut Printer<'_, W>,
 ) -> Result<(), Failure>
-    requires { AreLimits (limits_of genesis.now) }
     ensures tells { Tells out.old out.new result }
 {
     let system = System::new(alloc, genesis)?;

@@ -1,8 +1,5 @@
 //! A run of events, whose replies are told one by one.
 
-ghost use Rattle.orderer.specs.Ordering.{AreLimits};
-ghost use Rattle.ledger_setting.specs.Setting.{limits_of};
-
 use crate::samples::{GET_PUT_A, Setup, opening};
 use fab_types::Proposal;
 use fabric_core::{Audit, Event, Ran, Reply, audit, honest_chains_pass_the_audit, run};
@@ -47,9 +44,7 @@ fn is_done(alloc: Global, genesis: &Genesis, ran: &Ran) -> Result<bool, AllocErr
     Ok(agrees && !ran.refused && snapshot.height() == 0 && are_replies(&ran.replies))
 }
 
-fn is_run(alloc: Global, setup: &Setup) -> Result<bool, AllocError>
-    requires { AreLimits (limits_of setup.now.genesis) }
-{
+fn is_run(alloc: Global, setup: &Setup) -> Result<bool, AllocError> {
     let genesis = &setup.genesis;
     let events = events(alloc, setup.call.payload.proposal())?;
     let ran = run(alloc, genesis, &events)?;

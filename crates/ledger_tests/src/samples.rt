@@ -1,12 +1,8 @@
 //! Transactions, a genesis and chains that several tests look at or are made of.
 
-ghost use Rattle.std.specs.Prelude.{◌<◌, ◌^◌, IfOk, length};
-ghost use Rattle.orderer.specs.Ordering.{AreLimits};
-ghost use Rattle.ledger_setting.specs.Setting.{limits_of};
-
 use fab_types::Envelope;
+use genesis::read_genesis;
 use hmac_tag::tag;
-use ledger_lines::system_genesis;
 use ledger_setting::Genesis;
 use orderer::Orderer;
 use std::alloc::Global;
@@ -62,13 +58,8 @@ const TAG: usize = 43;
 const PAYLOAD: usize = 40;
 
 /// What a text spells.
-pub fn genesis(alloc: Global, text: &str) -> Result<Genesis, Fail>
-    ensures limits { IfOk result (λ g. AreLimits (limits_of g)) }
-    ensures peers { IfOk result (λ g. 0 < length g.peers.items) }
-    ensures seats { IfOk result (λ g. (0 < g.seats) × (g.seats < 2 ^ 32)) }
-    ensures queue { IfOk result (λ g. 0 < g.queue) }
-{
-    match system_genesis(alloc, text) {
+pub fn genesis(alloc: Global, text: &str) -> Result<Genesis, Fail> {
+    match read_genesis(alloc, text) {
         Ok(genesis) => Ok(genesis),
         Err(_) => Err("a genesis".into()),
     }
@@ -104,9 +95,7 @@ pub struct Setup {
 }
 
 /// A setup with what a text spells and a chain of so many blocks.
-pub fn opening(alloc: Global, text: &str, count: u8) -> Result<Setup, Fail>
-    ensures { IfOk result (λ s. AreLimits (limits_of s.genesis)) }
-{
+pub fn opening(alloc: Global, text: &str, count: u8) -> Result<Setup, Fail> {
     let call = transaction(alloc, 50, b'k')?;
     let chain = chain(alloc, count)?;
     let genesis = genesis(alloc, text)?;

@@ -1,6 +1,6 @@
 //! Seats that endorse on threads of their own, under contention.
 
-ghost use Rattle.std.specs.Prelude.{◌≡◌, ◌<◌, ◌+◌, ◌*◌, IfOk};
+ghost use Rattle.std.specs.Prelude.{◌≡◌, ◌≤◌, ◌+◌, ◌*◌, IfOk};
 
 use crate::samples::{GET_PUT_A, genesis};
 use fab_types::Name;
@@ -18,7 +18,7 @@ fn report_of<R: Threads + Wait + Sync + Send + Copy + 'static>(
     seats: usize,
     rounds: u32,
 ) -> Result<Report, Fail>
-    requires { (0 < seats) × (seats < 1000) }
+    requires { (1 ≤ seats) × (seats ≤ 64) }
     ensures { IfOk result (λ r. r.endorsed + r.refused ≡ seats * rounds) }
 {
     let Some(kv) = Name::new(b"kv".to_vec(alloc)?) else {

@@ -6,7 +6,6 @@ ghost use Rattle.atomic_table.specs.Seated.{TableId};
 ghost use Rattle.ledger_model.specs.Judged.{judged_chain};
 ghost use Rattle.simulator.specs.Execution.{exec_of};
 ghost use Rattle.wire.specs.Links.{AreLinked};
-ghost use Rattle.orderer.specs.Ordering.{AreLimits};
 ghost use Rattle.intake.specs.Mail.{receiver};
 ghost use Rattle.intake.specs.Seats.{intake_of_receiver, knows};
 ghost use Rattle.ledger_setting.specs.Rule.{table_of};
@@ -70,10 +69,6 @@ pub fn run_seats<R: Threads + Wait + Sync + Send + Copy + 'static>(
     chaincode: &Name,
     rounds: u32,
 ) -> Result<Report, SeatsRefusal>
-    requires limits { AreLimits (limits_of genesis.now) }
-    requires peers { 0 < length genesis.now.peers.items }
-    requires seats { (0 < genesis.now.seats) × (genesis.now.seats < 2 ^ 32) }
-    requires queue { 0 < genesis.now.queue }
     ensures counted { IfOk result (λ r. r.endorsed + r.refused ≡ genesis.now.seats * rounds) }
     ensures tells { IfOk result
         (TellsOfSeats (task_of genesis.now chaincode.now rounds) genesis.now.seats
@@ -95,10 +90,6 @@ fn opened<R: Threads + Wait + Sync>(
     genesis: &Genesis,
     chaincode: &Name,
 ) -> Result<(Vec<Worker>, Desk), SeatsRefusal>
-    requires limits { AreLimits (limits_of genesis.now) }
-    requires peers { 0 < length genesis.now.peers.items }
-    requires seats { (0 < genesis.now.seats) × (genesis.now.seats < 2 ^ 32) }
-    requires queue { 0 < genesis.now.queue }
     ensures count { IfOk result (λ t. length t.0.items ≡ genesis.now.seats) }
     ensures workers { IfOk result
         (λ t. (rounds : ℕ) → AreWorkersOf (task_of genesis.now chaincode.now rounds)
@@ -127,7 +118,6 @@ fn opened<R: Threads + Wait + Sync>(
 
 /// The orderer of a genesis, without blocks.
 fn orderer(alloc: Global, genesis: &Genesis) -> Orderer
-    requires { AreLimits (limits_of genesis.now) }
     ensures { result
         ≡ record {
           reorder = genesis.now.reorder;

@@ -54,7 +54,7 @@ returns-clause-run c =
     let limits = limits_of genesis in
     let start = opening genesis.peers.items genesis.seats limits genesis.reorder in
     let law = c.ordering_laws.ensures.step in
-    let began = c.ordering_laws.ensures.opening (fresh_orderer limits genesis.reorder) c.requires.some (refl, refl) in
+    let began = c.ordering_laws.ensures.opening (fresh_orderer limits genesis.reorder) (omega (arith, genesis.count_in_range.0)) (refl, refl) in
     let steps : (more : List Reply) (w : World) → more ≡ c.loop-event.ran.replies.items → w ≡ c.loop-event.ran.system.world →
     AreSteps r start (take i events) more w =
     λ more w a b. subst (λ (x : World). AreSteps r start (take i events) more x) (sym b)

@@ -64,7 +64,7 @@ returns-in_err-upgrade-clause-refused c =
     let names = c.deref-2.ensures.value ∙ c.in_ok-organisations.ensures.ok.1 in
     let d = (parts_of c.args.fields.now).upgrade in
     rw (p.1, p.2)
-    (NoneIs-part (λ orgs. IsPolicy orgs d) (λ g. g.rules.upgrade) _ _ _ _ (λ g h. h.upgrade) c.in_ok-organisations.ensures.ok.0 names
+    (NoneIs-part (λ orgs. IsPolicy orgs d) (λ g. g.rules.value.upgrade) _ _ _ _ (λ g h. h.upgrade) c.in_ok-organisations.ensures.ok.0 names
     c.in_err-upgrade.ensures.refused)
 
 pub returns-in_err-book-clause-refused : goal.returns-in_err-book-clause-refused
@@ -73,7 +73,7 @@ returns-in_err-book-clause-refused c =
     let names = c.in_ok-organisations.ensures.ok.1 in
     let parts = parts_of c.args.fields.now in
     rw (p.1, p.2)
-    (NoneIs-part (λ orgs b. IsBookOf orgs parts.chaincodes parts.modules b.0 b.1) (λ g. (g.book, g.rules.policies)) _ _ _ _ (λ g h. h.book)
+    (NoneIs-part (λ orgs b. IsBookOf orgs parts.chaincodes parts.modules b.0 b.1) (λ g. (g.book.value, g.rules.value.policies)) _ _ _ _ (λ g h. h.book)
     c.in_ok-organisations.ensures.ok.0 names c.in_err-book.ensures.refused)
 
 pub returns-in_default-clause-refused : goal.returns-in_default-clause-refused

@@ -17,7 +17,7 @@ returns-in-Ok-clause-workers g c = λ rounds.
     let task = task_of genesis c.args.chaincode.now rounds in
     let intake = intake_of_receiver c.in_ok-senders.receiver in
     let org : c.index.result.now ≡ slice_index_or genesis.peers.items 0 [] =
-    c.index.ensures ∙ first_of_some genesis.peers.items c.index.result.now [] c.requires.peers in
+    c.index.ensures ∙ first_of_some genesis.peers.items c.index.result.now [] genesis.peers_in_range.0 in
     let serves = All-weaker (IsSeat (arc_value genesis.book) (arc_value genesis.rules) c.index.result.now (peer_of_writer c.in_ok-writer.writer))
     (λ s. Serves task.book task.listed task.org (endorsing_of s)) (λ s h. (h.2.0, h.2.1, h.2.2 ∙ org)) c.in_ok-writer.seats.items c.in_ok-writer.ensures.seats in
     let each = c.in-Ok.ensures.each task intake refl serves
