@@ -78,6 +78,9 @@ def scripts(report: Report, at: Setting) -> None:
             ran = run([*command, "--help"], pathlib.Path("/"), SHORT)
             is_said = ran.status == 0 and ran.out.strip() != "" and "Traceback" not in ran.out + ran.err
             report.case(f"{script.relative_to(at.tree)} --help", is_said, f"status {ran.status}\n{ran.out}{ran.err}"[-800:])
+    # A command without its words prints the program's own usage.
+    said, asked = [run([at.tree / "ledger", word], at.tree, LONG, at.env).out for word in ("check", "--help")]
+    report.case("ledger --help begins with the program's usage", said.startswith("usage:") and asked.startswith(said), said + asked)
 
 
 def chaincode(report: Report, at: Setting) -> None:

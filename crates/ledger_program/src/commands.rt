@@ -12,46 +12,11 @@ use ledger_roles::{commit, endorse};
 use ledger_session::{RunFiles, run};
 use ledger_setting::Genesis;
 use ledger_show::{audit, check, digest, show, simulate, state, trace};
-use ledger_words::{Task, WordsFault, Work, parse};
+use ledger_words::{Task, Usage, WordsFault, Work, parse};
 use std::alloc::Global;
 use std::io::Write;
 use std::sync::Wait;
 use std::thread::Threads;
-
-const USAGE: &str = "usage: ledger check MODULE [--profile N]
-       ledger digest MODULE [--profile N]
-       ledger sim GENESIS CHAINCODE ARG [--nonce HEX] [--store FILE]
-       ledger run GENESIS EVENTS [--store FILE]
-       ledger threads GENESIS CHAINCODE ROUNDS
-       ledger audit GENESIS STORE
-       ledger show GENESIS STORE [--from N] [--to N]
-       ledger state GENESIS STORE [--at N] [--key HEX]
-       ledger trace GENESIS CHAINCODE ARG [--steps N]
-       ledger order GENESIS
-       ledger commit GENESIS STORE
-       ledger endorse GENESIS ORG STORE
-  check    tells whether the file MODULE is a valid module of profile N: 1, the default, or 2, which
-           has the sign-extension operators too
-  digest   prints the digest of the file MODULE, by which an upgrade names it, where check finds it
-           valid
-  sim      simulates a call of CHAINCODE with the argument ARG (hex, or - for none) on the empty
-           state, or on that after the store FILE; the nonce is 16 bytes of hex, zeros by default
-  run      runs the events of the file EVENTS, one JSON object a line, on the system that the
-           file GENESIS opens, and writes the chain of its first peer to the store FILE
-  threads  lets each seat of the first peer endorse ROUNDS calls (1 to 1000) of CHAINCODE on a thread
-           of its own while their blocks are committed, and audits the chain
-  audit    commits the file STORE again, and runs its VALID transactions again
-  show     shows what the genesis sets, the blocks of the file STORE from one number to another (all
-           by default), and what audit says of it, one JSON object a line
-  state    shows each key of the state after the block of number N (the last one by default), or each
-           write to the key HEX up to it, one JSON object a line
-  trace    shows the first N steps (1 to 1000, 1000 by default) of a call on the empty state, each
-           with the fuel that it leaves, and how the call ends
-  order    cuts blocks from a log: its lines come in, each an index and a mark (an envelope in hex, or
-           tick), and the blocks go out
-  commit   commits blocks, which come in line by line as order prints them, to the file STORE
-  endorse  endorses proposals, which come in line by line as JSON objects, for the organisation ORG
-           on the state after the file STORE, which it reads as it grows";
 
 /// Does what the words ask for, the command first, and answers the exit status: 0 for done, 1 for a
 /// refusal or a difference, which are printed, and 2 where the words name no task. Where a text
@@ -118,7 +83,7 @@ fn tell<W: Write>(failure: Failure, out: &mut Printer<'_, W>) -> Result<(), Fail
 {
     match failure {
         Failure::Printed | Failure::Output => Ok(()),
-        Failure::Usage => writeln!(out, "{USAGE}"),
+        Failure::Usage => write!(out, "{Usage}"),
         failure => writeln!(out, "{failure}"),
     }
 }

@@ -1,0 +1,113 @@
+//! The table of commands. Their usage is written from it, and `clap` reads the words by it.
+//!
+//! `./ledger` reads the rows too, for a program that is not built yet: their fields stand in this
+//! order, each text between quotes.
+
+/// A command.
+pub(crate) struct Form {
+    pub(crate) name: &'static str,
+    /// The names of its words, all of which have to be there.
+    pub(crate) words: &'static [&'static str],
+    /// The names of its options, and of the value of each.
+    pub(crate) options: &'static [(&'static str, &'static str)],
+    /// What it does, in lines.
+    pub(crate) does: &'static str,
+}
+
+/// All commands.
+pub(crate) const COMMANDS: [Form; 12] = [
+    Form {
+        name: "check",
+        words: &["MODULE"],
+        options: &[("profile", "N")],
+        does: "\
+tells whether the file MODULE is a valid module of profile N: 1, the default, or 2, which
+has the sign-extension operators too",
+    },
+    Form {
+        name: "digest",
+        words: &["MODULE"],
+        options: &[("profile", "N")],
+        does: "\
+prints the digest of the file MODULE, by which an upgrade names it, where check finds it
+valid",
+    },
+    Form {
+        name: "sim",
+        words: &["GENESIS", "CHAINCODE", "ARG"],
+        options: &[("nonce", "HEX"), ("store", "FILE")],
+        does: "\
+simulates a call of CHAINCODE with the argument ARG (hex, or - for none) on the empty
+state, or on that after the store FILE; the nonce is 16 bytes of hex, zeros by default",
+    },
+    Form {
+        name: "run",
+        words: &["GENESIS", "EVENTS"],
+        options: &[("store", "FILE")],
+        does: "\
+runs the events of the file EVENTS, one JSON object a line, on the system that the
+file GENESIS opens, and writes the chain of its first peer to the store FILE",
+    },
+    Form {
+        name: "threads",
+        words: &["GENESIS", "CHAINCODE", "ROUNDS"],
+        options: &[],
+        does: "\
+lets each seat of the first peer endorse ROUNDS calls (1 to 1000) of CHAINCODE on a thread
+of its own while their blocks are committed, and audits the chain",
+    },
+    Form {
+        name: "audit",
+        words: &["GENESIS", "STORE"],
+        options: &[],
+        does: "\
+commits the file STORE again, and runs its VALID transactions again",
+    },
+    Form {
+        name: "show",
+        words: &["GENESIS", "STORE"],
+        options: &[("from", "N"), ("to", "N")],
+        does: "\
+shows what the genesis sets, the blocks of the file STORE from one number to another (all
+by default), and what audit says of it, one JSON object a line",
+    },
+    Form {
+        name: "state",
+        words: &["GENESIS", "STORE"],
+        options: &[("at", "N"), ("key", "HEX")],
+        does: "\
+shows each key of the state after the block of number N (the last one by default), or each
+write to the key HEX up to it, one JSON object a line",
+    },
+    Form {
+        name: "trace",
+        words: &["GENESIS", "CHAINCODE", "ARG"],
+        options: &[("steps", "N")],
+        does: "\
+shows the first N steps (1 to 1000, 1000 by default) of a call on the empty state, each
+with the fuel that it leaves, and how the call ends",
+    },
+    Form {
+        name: "order",
+        words: &["GENESIS"],
+        options: &[],
+        does: "\
+cuts blocks from a log: its lines come in, each an index and a mark (an envelope in hex, or
+tick), and the blocks go out",
+    },
+    Form {
+        name: "commit",
+        words: &["GENESIS", "STORE"],
+        options: &[],
+        does: "\
+commits blocks, which come in line by line as order prints them, to the file STORE",
+    },
+    Form {
+        name: "endorse",
+        words: &["GENESIS", "ORG", "STORE"],
+        options: &[],
+        does: "\
+endorses proposals, which come in line by line as JSON objects, for the organisation ORG
+on the state after the file STORE, which it reads as it grows",
+    },
+];
