@@ -5,6 +5,7 @@ ghost use Rattle.serde_json.specs.View.{view};
 ghost use Rattle.chain_json.specs.Entries.{entry_json, placed_write_json};
 
 use crate::object::Object;
+use crate::placed::Placed;
 use crate::texts::value_of;
 use fab_types::{Key, Version};
 use serde_json::Value;
@@ -32,19 +33,19 @@ pub(crate) fn entry_of(
 pub(crate) fn write_of(
     alloc: Global,
     id: &[u8; 32],
-    block: usize,
-    place: usize,
+    placed: &Placed<'_>,
     key: &Key,
     value: &Option<fab_types::Value>,
 ) -> Result<Value, AllocError>
     ensures { IfOk result
-        (λ v. view v ≡ placed_write_json id.now block place key.now value.now) }
+        (λ v. view v
+        ≡ placed_write_json id.now placed.now.block placed.now.place key.now value.now) }
 {
     let mut object = Object::new(alloc);
-    object.put("block", Value::from(block))?;
+    object.put("block", Value::from(placed.block))?;
     object.put_hex("id", id)?;
     object.put_hex("key", key.as_slice())?;
-    object.put("place", Value::from(place))?;
+    object.put("place", Value::from(placed.place))?;
     object.put("value", value_of(alloc, value)?)?;
     Ok(object.into_value())
 }

@@ -9,6 +9,7 @@ mod ending;
 mod entries;
 mod line;
 mod object;
+mod placed;
 mod sets;
 mod setting;
 mod texts;
@@ -18,3 +19,4 @@ mod writes;
 
 pub use ending::Finding;
 pub use line::{block_line, ending_line, entry_line, setting_line, write_line};
+pub use placed::Placed;

@@ -13,11 +13,12 @@ ghost use Rattle.chain_json.specs.Writes.{IsWriteLine};
 use crate::block::block_of;
 use crate::ending::{Finding, ending_of};
 use crate::entries::{entry_of, write_of};
+use crate::placed::Placed;
 use crate::setting::setting_of;
 use crate::writes::written_to;
 use block_store::End;
 use endorsement_policy::Rules;
-use fab_types::{CommittedBlock, Envelope, Flag, Key, Version};
+use fab_types::{CommittedBlock, Flag, Key, Version};
 use ledger_setting::Genesis;
 use serde_json::Value;
 use std::alloc::{AllocError, Global};
@@ -79,25 +80,25 @@ pub fn entry_line(
     line_of(alloc, &entry_of(alloc, key, value, version)?)
 }
 
-/// What the transaction at a place of the block of a number wrote to a key. None where it is not
-/// VALID or does not write the key. The only error is want of memory.
+/// What a transaction wrote to a key. None where it is not VALID or does not write the key. The only
+/// error is want of memory.
 pub fn write_line(
     alloc: Global,
-    envelope: &Envelope,
-    flag: Flag,
+    placed: &Placed<'_>,
     key: &Key,
-    number: usize,
-    place: usize,
 ) -> Result<Option<String>, AllocError>
-    ensures { IfOk result (IsWriteLine envelope.now flag key.now number place) }
+    ensures { IfOk result
+        (IsWriteLine placed.now.envelope.now placed.now.flag key.now placed.now.block
+        placed.now.place) }
 {
-    if !matches!(flag, Flag::Valid) {
+    if !matches!(placed.flag, Flag::Valid) {
         return Ok(None);
     }
-    let Some(value) = written_to(envelope.payload.writes().as_slice(), key) else {
+    let payload = &placed.envelope.payload;
+    let Some(value) = written_to(payload.writes().as_slice(), key) else {
         return Ok(None);
     };
-    let id = payload_id(&envelope.payload);
-    let value = write_of(alloc, &id, number, place, key, value)?;
+    let id = payload_id(payload);
+    let value = write_of(alloc, &id, placed, key, value)?;
     Ok(Some(line_of(alloc, &value)?))
 }

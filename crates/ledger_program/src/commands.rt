@@ -11,7 +11,9 @@ use ledger_lines::{Failure, Files, Printer};
 use ledger_roles::{commit, endorse};
 use ledger_session::{RunFiles, run};
 use ledger_setting::Genesis;
-use ledger_show::{audit, check, digest, show, simulate, state, trace};
+use ledger_show::{
+    Asked, Shown, Simulated, Span, audit, check, digest, show, simulate, state, trace,
+};
 use ledger_words::{Task, Usage, WordsFault, Work, parse};
 use std::alloc::Global;
 use std::io::Write;
@@ -136,7 +138,11 @@ fn do_work<R: Threads + Wait + Sync + Send + Copy + 'static, F: Files, W: Write>
 {
     match work {
         Work::Simulate { proposal, store } => {
-            simulate(alloc, files, genesis, proposal, *store, out)
+            let simulated = Simulated {
+                proposal,
+                store: *store,
+            };
+            simulate(alloc, files, genesis, &simulated, out)
         }
         Work::Run { events, store } => {
             let names = RunFiles {
@@ -149,26 +155,19 @@ fn do_work<R: Threads + Wait + Sync + Send + Copy + 'static, F: Files, W: Write>
         Work::Threads { chaincode, rounds } => threads(rt, alloc, genesis, chaincode, *rounds, out),
         Work::Audit { store } => audit(alloc, files, genesis, store, out),
         Work::Show { store, from, to } => {
-            show(
-                alloc,
-                files,
-                genesis,
-                store,
-                *from as usize,
-                *to as usize,
-                out,
-            )
+            let span = Span {
+                from: *from as usize,
+                to: *to as usize,
+            };
+            show(alloc, files, genesis, &Shown { store, span }, out)
         }
         Work::State { store, at, key } => {
-            state(
-                alloc,
-                files,
-                genesis,
+            let asked = Asked {
                 store,
-                *at as usize,
-                key.as_ref(),
-                out,
-            )
+                at: *at as usize,
+                key: key.as_ref(),
+            };
+            state(alloc, files, genesis, &asked, out)
         }
         Work::Trace { call, most } => trace(alloc, genesis, call, *most, out),
         Work::Commit { store } => commit(alloc, files, genesis, store, out),

@@ -8,6 +8,7 @@ ghost use Rattle.ledger_show.specs.Lines.{HasLines, chain_json};
 ghost use Rattle.ledger_show.specs.Spans.{within};
 
 use crate::lines::print_line;
+use crate::span::Span;
 use chain_json::{block_line, setting_line};
 use endorsement_policy::Rules;
 use fab_types::CommittedBlock;
@@ -24,30 +25,24 @@ pub fn print_chain<W: Write>(
     alloc: Global,
     genesis: &Genesis,
     snapshot: &Snapshot,
-    from: usize,
-    to: usize,
+    span: Span,
     out: &mut Printer<'_, W>,
 ) -> Result<(), Failure>
     ensures tells { Tells out.old out.new result }
     ensures lines { OnOk result
-        (HasLines (chain_json genesis.now from to snapshot.now) out.old.bytes out.new.bytes) }
+        (HasLines (chain_json genesis.now span.from span.to snapshot.now) out.old.bytes out.new.bytes) }
 {
     let setting = setting_line(alloc, genesis)?;
     print_line(&setting, out)?;
-    print_blocks(
-        alloc,
-        &genesis.rules,
-        within(snapshot.blocks(), from, to),
-        out,
-    )
+    print_blocks(alloc, &genesis.rules, within(snapshot.blocks(), span), out)
 }
 
-/// The blocks from one number to another, counted from 1, as far as there are any.
-fn within(blocks: &[Arc<CommittedBlock>], from: usize, to: usize) -> &[Arc<CommittedBlock>]
-    ensures { blocks_in result.now ≡ within from to (blocks_in blocks.now) }
+/// Those of these blocks that a span holds.
+fn within(blocks: &[Arc<CommittedBlock>], span: Span) -> &[Arc<CommittedBlock>]
+    ensures { blocks_in result.now ≡ within span.from span.to (blocks_in blocks.now) }
 {
-    let blocks = &blocks[..to.min(blocks.len())];
-    &blocks[from.saturating_sub(1).min(blocks.len())..]
+    let blocks = &blocks[..span.to.min(blocks.len())];
+    &blocks[span.from.saturating_sub(1).min(blocks.len())..]
 }
 
 fn print_blocks<W: Write>(

@@ -18,6 +18,7 @@ mod lines;
 mod replaying;
 mod showing;
 mod simulation;
+mod span;
 mod tracing;
 mod writes;
 
@@ -26,7 +27,8 @@ pub use chain::print_chain;
 pub use checking::{check, digest};
 pub use entries::print_state;
 pub use findings::print_ending;
-pub use showing::{print_asked, show, state};
-pub use simulation::simulate;
+pub use showing::{Asked, Shown, print_asked, show, state};
+pub use simulation::{Simulated, simulate};
+pub use span::Span;
 pub use tracing::trace;
 pub use writes::print_writes;

@@ -10,6 +10,7 @@ use crate::chain::print_chain;
 use crate::entries::print_state;
 use crate::findings::print_ending;
 use crate::replaying::replayed;
+use crate::span::Span;
 use crate::writes::print_writes;
 use block_store::End;
 use fab_types::Key;
@@ -19,21 +20,35 @@ use std::alloc::Global;
 use std::io::Write;
 use store_replay::Replayed;
 
+/// What `show` is asked for: these blocks of the store in the file of a name.
+#[derive(Clone, Copy)]
+pub struct Shown<'a> {
+    pub store: &'a str,
+    pub span: Span,
+}
+
+/// What `state` is asked for: the state after the block of this number of the store in the file of a
+/// name, or each write to a key up to it.
+#[derive(Clone, Copy)]
+pub struct Asked<'a> {
+    pub store: &'a str,
+    pub at: usize,
+    pub key: Option<&'a Key>,
+}
+
 /// Prints what the genesis sets, the blocks of a store from one number to another, and what is
 /// found of the store, as lines of JSON.
 pub fn show<F: Files, W: Write>(
     alloc: Global,
     files: &mut F,
     genesis: &Genesis,
-    store: &str,
-    from: usize,
-    to: usize,
+    shown: &Shown<'_>,
     out: &mut Printer<'_, W>,
 ) -> Result<(), Failure>
     ensures tells { Tells out.old out.new result }
 {
-    let replayed = replayed(alloc, files, genesis, store)?;
-    print_shown(alloc, genesis, &replayed, from, to, out)
+    let replayed = replayed(alloc, files, genesis, shown.store)?;
+    print_shown(alloc, genesis, &replayed, shown.span, out)
 }
 
 /// Prints the chain of a store, and what is found of it.
@@ -41,13 +56,12 @@ fn print_shown<W: Write>(
     alloc: Global,
     genesis: &Genesis,
     replayed: &Replayed,
-    from: usize,
-    to: usize,
+    span: Span,
     out: &mut Printer<'_, W>,
 ) -> Result<(), Failure>
     ensures tells { Tells out.old out.new result }
 {
-    print_chain(alloc, genesis, &replayed.snapshot, from, to, out)?;
+    print_chain(alloc, genesis, &replayed.snapshot, span, out)?;
     if print_ending(alloc, genesis, replayed, out)? {
         Ok(())
     } else {
@@ -63,15 +77,13 @@ pub fn state<F: Files, W: Write>(
     alloc: Global,
     files: &mut F,
     genesis: &Genesis,
-    store: &str,
-    at: usize,
-    key: Option<&Key>,
+    asked: &Asked<'_>,
     out: &mut Printer<'_, W>,
 ) -> Result<(), Failure>
     ensures tells { Tells out.old out.new result }
 {
-    let replayed = replayed(alloc, files, genesis, store)?;
-    print_asked(alloc, &replayed, at, key, out)
+    let replayed = replayed(alloc, files, genesis, asked.store)?;
+    print_asked(alloc, &replayed, asked.at, asked.key, out)
 }
 
 /// Prints what is asked for of the state after a store, as `state` does.

@@ -12,6 +12,14 @@ use std::io::Write;
 use store_replay::Replayed;
 use world_state::Snapshot;
 
+/// What `sim` is asked for: this call, on the state after the store in the file of a name, or on the
+/// empty state.
+#[derive(Clone, Copy)]
+pub struct Simulated<'a> {
+    pub proposal: &'a Proposal,
+    pub store: Option<&'a str>,
+}
+
 /// Simulates a call, and prints its transaction.
 ///
 /// Refused where a block of the store does not fit, and where the store does not end with its last
@@ -20,13 +28,13 @@ pub fn simulate<F: Files, W: Write>(
     alloc: Global,
     files: &mut F,
     genesis: &Genesis,
-    proposal: &Proposal,
-    store: Option<&str>,
+    simulated: &Simulated<'_>,
     out: &mut Printer<'_, W>,
 ) -> Result<(), Failure>
     ensures tells { Tells out.old out.new result }
 {
-    match store {
+    let proposal = simulated.proposal;
+    match simulated.store {
         None => print_call(alloc, genesis, &Snapshot::empty(alloc), proposal, out),
         Some(name) => {
             let replayed = replayed(alloc, files, genesis, name)?;

@@ -7,8 +7,8 @@ ghost use Rattle.ledger_model.specs.Chain.{history, transactions_from};
 ghost use Rattle.ledger_show.specs.Lines.{HasLines, write_json, writes_json};
 
 use crate::lines::print_line;
-use chain_json::write_line;
-use fab_types::{CommittedBlock, Envelope, Flag, Key};
+use chain_json::{Placed, write_line};
+use fab_types::{CommittedBlock, Key};
 use ledger_lines::{Failure, Printer};
 use std::alloc::Global;
 use std::io::Write;
@@ -53,35 +53,32 @@ fn print_writes_in<W: Write>(
     let envelopes = committed.block().envelopes.as_slice();
     let flags = committed.flags();
     for place in 0..envelopes.len() {
-        print_write(
-            alloc,
-            &envelopes[place],
-            flags[place],
-            key,
-            number,
+        let placed = Placed {
+            envelope: &envelopes[place],
+            flag: flags[place],
+            block: number,
             place,
-            out,
-        )?;
+        };
+        print_write(alloc, &placed, key, out)?;
     }
     Ok(())
 }
 
-/// The same of the transaction at a place of it.
+/// The same of a transaction of it.
 fn print_write<W: Write>(
     alloc: Global,
-    envelope: &Envelope,
-    flag: Flag,
+    placed: &Placed<'_>,
     key: &Key,
-    number: usize,
-    place: usize,
     out: &mut Printer<'_, W>,
 ) -> Result<(), Failure>
     ensures tells { Tells out.old out.new result }
     ensures lines { OnOk result
-        (HasLines (write_json key.now (placed_at envelope.now flag number place)) out.old.bytes
-        out.new.bytes) }
+        (HasLines
+        (write_json key.now
+        (placed_at placed.now.envelope.now placed.now.flag placed.now.block placed.now.place))
+        out.old.bytes out.new.bytes) }
 {
-    match write_line(alloc, envelope, flag, key, number, place)? {
+    match write_line(alloc, placed, key)? {
         Some(line) => print_line(&line, out),
         None => Ok(()),
     }

@@ -16,9 +16,9 @@ returns-clause-lines g c =
     let before = c.args.out.now.bytes in
     let middle = c.print_line.new.out.bytes in
     let after = c.print_blocks.new.out.bytes in
-    let shown = within c.args.from c.args.to c.args.snapshot.now in
+    let shown = within c.args.span.from c.args.span.to c.args.snapshot.now in
     let blocks : blocks_in c.within.result.now ≡ shown =
-    c.within.ensures ∙ ap (λ (chain : List Committed). within c.args.from c.args.to chain) c.blocks-2.ensures.value in
+    c.within.ensures ∙ ap (λ (chain : List Committed). within c.args.span.from c.args.span.to chain) c.blocks-2.ensures.value in
     let same = ap₂ (λ (listed : Listed) (chain : List Committed). map (block_json listed.orgs) chain) c.deref.ensures blocks in
     let first : HasLines (setting_json genesis ∷ []) before middle =
     one_line (setting_json genesis) (string_bytes c.in_ok-setting.setting) before middle c.in_ok-setting.ensures c.in_ok-print_line.ensures.line in

@@ -11,9 +11,10 @@ pub returns-in-Some-clause-lines : goal.returns-in-Some-clause-lines
 returns-in-Some-clause-lines g c =
     let a = c.args.out.now.bytes in
     let b = c.print_line.new.out.bytes in
-    let e = c.args.envelope.now in
+    let placed = c.args.placed.now in
+    let e = placed.envelope.now in
     let key = c.args.key.now in
     on_ok c.print_line.result (Appends a b (line (string_bytes c.in-Some.line)))
-    (HasLines (write_json key (placed_at e c.args.flag c.args.number c.args.place)) a b)
-    (λ h. line_of_write e c.args.flag key c.args.number c.args.place c.in_ok-line.field-0 c.in-Some.line a b c.in_ok-line.ensures c.in-Some.is h)
+    (HasLines (write_json key (placed_at e placed.flag placed.block placed.place)) a b)
+    (λ h. line_of_write e placed.flag key placed.block placed.place c.in_ok-line.field-0 c.in-Some.line a b c.in_ok-line.ensures c.in-Some.is h)
     c.print_line.ensures.line
