@@ -2,7 +2,6 @@
 
 ghost use Rattle.std.specs.Prelude.{◌≡◌, IfOk, IfErr};
 ghost use Rattle.serde_json.specs.View.{view};
-ghost use Rattle.policy_language.specs.GoodSets.{is_among};
 ghost use Rattle.genesis.specs.Refused.{NoneIs};
 ghost use Rattle.genesis.specs.Spelling.{AreOrganisations, are_different, names_of};
 
@@ -14,6 +13,7 @@ use crate::refusal::GenesisRefusal;
 use endorsement_policy::{Organisation, TagKey};
 use fab_types::OrgName;
 use fab_types::limits::MOST_ORGANISATIONS;
+use policy_language::is_among;
 use serde_json::Value;
 use std::alloc::{AllocError, Global};
 
@@ -68,13 +68,6 @@ fn names(alloc: Global, organisations: &[Organisation]) -> Result<Vec<OrgName>, 
         names.push(organisation.name.clone()?)?;
     }
     Ok(names)
-}
-
-/// Whether a name is one of the names.
-pub(crate) fn is_among(names: &[OrgName], name: &OrgName) -> bool
-    ensures { result ≡ is_among names.now name.now }
-{
-    names.iter().any(|n| n.as_slice() == name.as_slice())
 }
 
 /// Whether no name stands twice among these.

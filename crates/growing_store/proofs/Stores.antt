@@ -1,5 +1,5 @@
 -- A file with the records of a chain.
-use Rattle.std.proofs.Common.{◌≡◌, ℕ, ◌-◌, ◌+◌, List, [], ◌∷◌, ◌++◌, length, take, ap, ◌∙◌, sym, subst, arith, append-nil, append_assoc}
+use Rattle.std.proofs.Common.{◌≡◌, ℕ, ◌-◌, ◌+◌, List, [], ◌∷◌, ◌++◌, length, take, ap, ◌∙◌, arith, append-nil}
 use Rattle.std.specs.Prelude.{Err}
 use Rattle.std.specs.List.{flat_map}
 use Rattle.std.proofs.Math.Seq.{take-append_seam}
@@ -17,8 +17,6 @@ use Rattle.counted.specs.History.{cut_back}
 use Rattle.log_roles.specs.Committing.{Receives}
 use Rattle.log_roles.specs.declared.refusal.ReceiveRefusal.{ReceiveRefusal}
 use Rattle.log_roles.specs.declared.refusal.ReceiveRefusal.TheVariants.{Forked, Unfit}
-use Rattle.store_replay.specs.Lawful.{AreLawful}
-use Rattle.store_replay.proofs.Lawful.{lawful_more}
 use Rattle.growing_store.specs.Refusals.{append_refusal}
 use Rattle.growing_store.specs.Storing.{IsOfMachine}
 
@@ -43,10 +41,3 @@ refused_same rule old new block (Unfit cause) h = h.2
 pub append_is_of_machine : (fault : AppendFault) → IsOfMachine (append_refusal fault)
 append_is_of_machine append.Memory = tt
 append_is_of_machine (append.Device written) = tt
-
--- lawful records behind lawful blocks
-pub lawful_joined : (rule : BlockRule) (chain more : Chain) → AreLawful rule [] chain → AreLawful rule chain more → AreLawful rule [] (chain ++ more)
-lawful_joined rule chain [] h k = subst (AreLawful rule []) (sym (append-nil chain)) h
-lawful_joined rule chain (c ∷ cs) h k =
-    let rest = lawful_joined rule (chain ++ c ∷ []) cs (lawful_more rule [] chain c h k.0 k.1) k.2 in
-    subst (AreLawful rule []) (append_assoc chain (c ∷ []) cs) rest

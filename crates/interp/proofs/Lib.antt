@@ -1,5 +1,4 @@
 pub mod Lists
-pub mod FuncTypes
 pub mod Functions
 pub mod Invoked
 pub mod Words

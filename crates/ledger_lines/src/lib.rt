@@ -15,7 +15,7 @@ mod verdict;
 
 pub use failure::Failure;
 pub use files::{FileFault, Files, Target, read_all, read_at_most};
-pub use lines::{hex_of, id_of, print_payload, version_of};
+pub use lines::{hex_of, id_of, print_committed, print_payload, version_of};
 pub use opening::genesis_in;
 pub use printer::Printer;
 pub use verdict::print_audit;

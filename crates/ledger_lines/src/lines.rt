@@ -1,10 +1,10 @@
-//! What the program prints of a transaction.
+//! What the program prints of a transaction, and of a block that was committed.
 
 ghost use Rattle.ledger_lines.specs.Told.{Tells};
 
 use crate::failure::Failure;
 use crate::printer::Printer;
-use fab_types::{Payload, RangeItem, ReadItem, Version, WriteItem};
+use fab_types::{Flag, Payload, RangeItem, ReadItem, Version, WriteItem};
 use std::alloc::{AllocError, Global};
 use std::io::Write;
 use wire::payload_id;
@@ -132,4 +132,19 @@ pub fn print_payload<W: Write>(
     print_reads(alloc, payload.reads().as_slice(), out)?;
     print_ranges(alloc, payload.ranges().as_slice(), out)?;
     print_writes(alloc, payload.writes().as_slice(), out)
+}
+
+/// Prints the number of a block that was committed, and its flags.
+pub fn print_committed<W: Write>(
+    number: usize,
+    flags: &[Flag],
+    out: &mut Printer<'_, W>,
+) -> Result<(), Failure>
+    ensures tells { Tells out.old out.new result }
+{
+    write!(out, "committed {number} flags")?;
+    for flag in flags {
+        write!(out, " {flag}")?;
+    }
+    writeln!(out)
 }

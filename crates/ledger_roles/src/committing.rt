@@ -6,10 +6,10 @@ ghost use Rattle.growing_store.specs.Storing.{IsStored};
 
 use crate::ending::end;
 use crate::input::InputLines;
-use fab_types::{Block, Flag};
+use fab_types::Block;
 use growing_store::StoredChain;
 use hex::FromHexError;
-use ledger_lines::{Failure, Files, Printer};
+use ledger_lines::{Failure, Files, Printer, print_committed};
 use ledger_setting::Genesis;
 use log_roles::Received;
 use std::alloc::{AllocError, Global};
@@ -172,14 +172,14 @@ fn receive<D: Read + Write + Seek + OpenFile + Drop, W: Write>(
 {
     let number = number_of(&block);
     match chain.receive(block) {
-        Ok(Received::Committed) => print_committed(chain, out),
+        Ok(Received::Committed) => print_newest(chain, out),
         Ok(Received::Known) => writeln!(out, "known {number}"),
         Err(refusal) => Err(end(refusal, out)),
     }
 }
 
 /// Prints the number and the flags of the newest block, which is on the disk.
-fn print_committed<D: Read + Write + Seek + OpenFile + Drop, W: Write>(
+fn print_newest<D: Read + Write + Seek + OpenFile + Drop, W: Write>(
     chain: &StoredChain<D>,
     out: &mut Printer<'_, W>,
 ) -> Result<(), Failure>
@@ -187,22 +187,7 @@ fn print_committed<D: Read + Write + Seek + OpenFile + Drop, W: Write>(
     ensures tells { Tells out.old out.new result }
 {
     match chain.newest() {
-        Some(newest) => print_flags(chain.height(), newest.flags(), out),
+        Some(newest) => print_committed(chain.height(), newest.flags(), out),
         None => Ok(()),
     }
-}
-
-/// Prints the number of a block that was committed, and its flags.
-fn print_flags<W: Write>(
-    number: usize,
-    flags: &[Flag],
-    out: &mut Printer<'_, W>,
-) -> Result<(), Failure>
-    ensures tells { Tells out.old out.new result }
-{
-    write!(out, "committed {number} flags")?;
-    for flag in flags {
-        write!(out, " {flag}")?;
-    }
-    writeln!(out)
 }

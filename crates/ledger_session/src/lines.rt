@@ -5,9 +5,9 @@ ghost use Rattle.std.specs.Io.KnownBytes.{Appends};
 ghost use Rattle.ledger_lines.specs.Told.{Tells};
 ghost use Rattle.ledger_session.specs.Replies.{refusal_line};
 
-use fab_types::{Flag, Key, Value, Version};
+use fab_types::{Key, Value, Version};
 use fabric_core::Reply;
-use ledger_lines::{Failure, Printer, hex_of, version_of};
+use ledger_lines::{Failure, Printer, hex_of, print_committed, version_of};
 use orderer::BatchReport;
 use std::alloc::{AllocError, Global};
 use std::io::Write;
@@ -65,22 +65,6 @@ fn print_batches<W: Write>(reports: &[BatchReport], out: &mut Printer<'_, W>) ->
     for report in reports {
         print_batch(report, out)?;
     }
-    Ok(())
-}
-
-/// Prints the number of a block that was committed, and its flags.
-fn print_committed<W: Write>(
-    number: usize,
-    flags: &[Flag],
-    out: &mut Printer<'_, W>,
-) -> Result<(), Failure>
-    ensures tells { Tells out.old out.new result }
-{
-    write!(out, "committed {number} flags")?;
-    for flag in flags {
-        write!(out, " {flag}")?;
-    }
-    writeln!(out)?;
     Ok(())
 }
 

@@ -40,13 +40,6 @@ judged_again rule before (c ∷ cs) h =
 pub restarted : (rule : BlockRule) (chain : Chain) → AreLawful rule [] chain → Commits rule [] (blocks_of chain) chain
 restarted rule chain h = judged_again rule [] chain h
 
--- lawful records behind lawful blocks
-pub lawful_joined : (rule : BlockRule) (chain more : Chain) → AreLawful rule [] chain → AreLawful rule chain more → AreLawful rule [] (chain ++ more)
-lawful_joined rule chain [] h k = subst (AreLawful rule []) (sym (append-nil chain)) h
-lawful_joined rule chain (c ∷ cs) h k =
-    let rest = lawful_joined rule (chain ++ c ∷ []) cs (lawful_more rule [] chain c h k.0 k.1) k.2 in
-    subst (AreLawful rule []) (append_assoc chain (c ∷ []) cs) rest
-
 -- a store without damage or a torn end is the bytes of its records
 pub bytes_of_records : (n : ℕ) (bytes : List ℕ) (cs : List Committed) → Loads n bytes cs Clean → bytes ≡ flat_map record_bytes cs
 bytes_of_records n bytes [] h = h

@@ -1,4 +1,4 @@
--- Lawful blocks and one more.
+-- Lawful blocks and more of them.
 use Rattle.std.proofs.Common.{◌≡◌, ◌+◌, ◌++◌, ◌∷◌, [], List, length, true, refl, ap, sym, subst, append_assoc, append-nil}
 use Rattle.fab_types.specs.Committed.{Committed}
 use Rattle.fab_types.specs.declared.flag.Flag.{Flag}
@@ -21,6 +21,13 @@ lawful_more rule before (d ∷ cs) c done fits flags =
     let rest = lawful_more rule (before ++ d ∷ []) cs c done.2 (subst (λ (x : Chain). Fits (blocks_of x) c.block) same fits)
     (subst (λ (x : Chain). HasTheFlags rule x c true) same flags) in
     (done.0, done.1, rest)
+
+-- lawful records behind lawful records
+pub lawful_joined : (rule : BlockRule) (chain more : Chain) → AreLawful rule [] chain → AreLawful rule chain more → AreLawful rule [] (chain ++ more)
+lawful_joined rule chain [] h k = subst (AreLawful rule []) (sym (append-nil chain)) h
+lawful_joined rule chain (c ∷ cs) h k =
+    let rest = lawful_joined rule (chain ++ c ∷ []) cs (lawful_more rule [] chain c h k.0 k.1) k.2 in
+    subst (AreLawful rule []) (append_assoc chain (c ∷ []) cs) rest
 
 -- the record at which lawful records end is refused
 pub refused_at : (rule : BlockRule) (all before after : List Committed) (c : Committed) (r : RecommitRefusal) → all ≡ before ++ c ∷ after →

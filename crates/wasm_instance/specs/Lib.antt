@@ -4,3 +4,4 @@ pub mod Segments
 pub mod Front
 pub mod LendingFront
 pub mod Lending
+pub mod FuncTypes

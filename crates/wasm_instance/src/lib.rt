@@ -7,12 +7,19 @@
 //! lie within the front, and take no memory of the machine; a growth of the memory does. Contracts
 //! see an instance as a `State`, and say what each call gives in the words of the meaning
 //! (`specs/Accesses.antt`). Nothing is tested here that validation has shown.
+//!
+//! [`host_cost`] and [`grow_cost`] are what a call of the host and a growth of the memory cost, and
+//! [`same_func_type`] is what an indirect call tests.
 #![tactic(auto)]
 
 mod access;
+mod cost;
 mod fresh;
 mod instance;
 mod memory;
+mod types;
 
+pub use cost::{grow_cost, host_cost};
 pub use instance::Instance;
 pub use memory::Memory;
+pub use types::same_func_type;

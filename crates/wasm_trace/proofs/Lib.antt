@@ -7,7 +7,6 @@ pub mod Stepping
 pub mod Leaving
 pub mod Taking
 pub mod Calling
-pub mod FuncTypes
 pub mod Executing
 pub mod Plain
 pub mod Stepped

@@ -1,6 +1,7 @@
+use Rattle.store_replay.proofs.Lawful.{lawful_joined}
 use Rattle.log_roles.proofs.Agreeing.{one_chain, begins, joined, known_again}
 use Rattle.log_roles.proofs.Answering.{one_answer}
-use Rattle.log_roles.proofs.Replaying.{replayed, restarted, lawful_joined, bytes_of_records}
+use Rattle.log_roles.proofs.Replaying.{replayed, restarted, bytes_of_records}
 use Rattle.log_roles.proofs.laws.peers_agree.Goals as goal
 
 pub returns : goal.returns

@@ -5,8 +5,8 @@ use Rattle.ledger_setting.specs.Rule.{table_of}
 use Rattle.block_store.specs.Progress.{FeedsBy, Reads}
 use Rattle.block_store.proofs.Reading.{reads_on}
 use Rattle.store_replay.specs.Lawful.{AreLawful}
+use Rattle.store_replay.proofs.Lawful.{lawful_joined}
 use Rattle.log_roles.specs.Following.{Endorsing, endorsing_of, followed_chain}
-use Rattle.growing_store.proofs.Stores.{lawful_joined}
 use Rattle.growing_store.proofs.following.StoreFollower.catch_up.Goals as goal
 
 pub loop-preserved : goal.loop-preserved
