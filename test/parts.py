@@ -66,7 +66,7 @@ def tutorial(report: Report, at: Setting) -> None:
 def formats(report: Report, at: Setting) -> None:
     genesis, store = "examples/assets/genesis.json", "formats.store"
     at.run(report, "a store to show", ["./ledger", "run", genesis, "examples/assets/events.jsonl", "--store", store])
-    at.type(report, blocks_of(at.tree, "docs/FORMATS.md"), instead={"GENESIS": genesis, "STORE": store})
+    at.type(report, blocks_of(at.tree, "docs/OUTPUT.md"), instead={"GENESIS": genesis, "STORE": store})
 
 
 def scripts(report: Report, at: Setting) -> None:

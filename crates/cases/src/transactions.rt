@@ -3,9 +3,9 @@
 use crate::bytes::from_digits;
 use crate::fault::CaseFault;
 use fab_types::{
-    Bound, Call, Definition, Endorsements, Envelope, Fuel, Key, Name, Payload, PayloadParts, PolicyText,
-    Proposal, RangeEntry, RangeItem, Ranges, ReadItem, ReadSet, Upgrade, Value, Version, WriteItem,
-    WriteSet,
+    Bound, Call, Definition, Endorsements, Envelope, Fuel, Key, Name, Payload, PayloadParts,
+    PolicyText, Proposal, RangeEntry, RangeItem, Ranges, ReadItem, ReadSet, Upgrade, Value,
+    Version, WriteItem, WriteSet,
 };
 use std::alloc::Global;
 use wasm_profile::Profile;

@@ -2,7 +2,8 @@
 
 use crate::failure::Failure;
 use fab_types::{
-    Call, Key, Name, Payload, PayloadParts, Proposal, Ranges, ReadItem, ReadSet, Value, WriteItem, WriteSet,
+    Call, Key, Name, Payload, PayloadParts, Proposal, Ranges, ReadItem, ReadSet, Value, WriteItem,
+    WriteSet,
 };
 use std::alloc::{AllocError, Global};
 use world_state::Snapshot;

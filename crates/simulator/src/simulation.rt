@@ -23,7 +23,10 @@ ghost use Rattle.simulator.specs.declared.refusal.SimRefusal.TheVariants.{Unknow
 use crate::executable::{Executable, find_executable};
 use crate::refusal::SimRefusal;
 use chaincode_book::Book;
-use fab_types::{Call, Key, Payload, PayloadParts, Proposal, Ranges, ReadItem, ReadSet, Upgrade, Value, WriteItem, WriteSet};
+use fab_types::{
+    Call, Key, Payload, PayloadParts, Proposal, Ranges, ReadItem, ReadSet, Upgrade, Value,
+    WriteItem, WriteSet,
+};
 use host_api::{Parts, PlainMap, Recorder, View, look_up};
 use interp::{Outcome, run};
 use std::alloc::{AllocError, Global};
