@@ -5,7 +5,7 @@ use Rattle.batch_cutter.specs.Division.{Limits, State, message, timeout, IsPendi
 use Rattle.batch_cutter.specs.declared.cut.Cut.{Cut}
 use Rattle.batch_cutter.specs.declared.cut.Cut.TheVariants.{Nothing, One, Two}
 use Rattle.batch_cutter.specs.declared.cut.Cause.{Cause}
-use Rattle.batch_cutter.specs.declared.cut.Cause.TheVariants.{TooLarge, OutOfMemory}
+use Rattle.batch_cutter.specs.declared.cut.Cause.TheVariants.{TooLarge, Memory}
 
 -- the batches that an offer cut, in their order
 abbrev pub batches : {M : Type 0} → Cut M → List (List M)
@@ -16,11 +16,11 @@ batches (Two first second) = first.items ∷ second.items ∷ []
 -- why a message of this size was refused
 abbrev pub IsCause : Cause → Limits → ℕ → Type 0
 IsCause TooLarge limits size = limits.absolute < size
-IsCause OutOfMemory limits size = size ≤ limits.absolute
+IsCause Memory limits size = size ≤ limits.absolute
 
 abbrev pub cause_number : Cause → ℕ
 cause_number TooLarge = 421
-cause_number OutOfMemory = 9
+cause_number Memory = 9
 
 -- an offer divides the messages that waited and one more
 pub record Offers {M : Type 0} (weight : M → ℕ) (old : State M) (given : M) (cut : Cut M) (new : State M) : Type 0 where

@@ -32,7 +32,7 @@ pub enum Cause {
     /// The message is above the absolute size.
     TooLarge = 421,
     /// A growth of memory was refused.
-    OutOfMemory = 9,
+    Memory = 9,
 }
 
 impl Cause {

@@ -118,7 +118,7 @@ impl<M: Weigh + Drop> Cutter<M> {
         if let Err(failed) = self.pending.push(given) {
             return Err(Offered {
                 message: failed.value,
-                cause: Cause::OutOfMemory,
+                cause: Cause::Memory,
             });
         }
         if self.pending.len() < self.count {
@@ -146,7 +146,7 @@ impl<M: Weigh + Drop> Cutter<M> {
         if let Err(failed) = next.push(given) {
             return Err(Offered {
                 message: failed.value,
-                cause: Cause::OutOfMemory,
+                cause: Cause::Memory,
             });
         }
         self.size = size;
@@ -167,7 +167,7 @@ impl<M: Weigh + Drop> Cutter<M> {
         if let Err(failed) = alone.push(given) {
             return Err(Offered {
                 message: failed.value,
-                cause: Cause::OutOfMemory,
+                cause: Cause::Memory,
             });
         }
         if self.pending.is_empty() {

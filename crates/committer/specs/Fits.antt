@@ -6,7 +6,7 @@ use Rattle.fab_types.specs.BlockSpelling.{data_bytes}
 use Rattle.wire.specs.Links.{next_link, next_number}
 use Rattle.ledger_model.specs.Chain.{Chain}
 use Rattle.committer.specs.declared.refusal.CommitRefusal.{CommitRefusal}
-use Rattle.committer.specs.declared.refusal.CommitRefusal.TheVariants.{Number, PreviousHash, DataHash, AtEnd, OutOfMemory}
+use Rattle.committer.specs.declared.refusal.CommitRefusal.TheVariants.{Number, PreviousHash, DataHash, AtEnd, Memory}
 
 -- the blocks without their flags
 abbrev pub blocks_of : Chain → List Block
@@ -33,4 +33,4 @@ IsRefused PreviousHash blocks block =
 IsRefused DataHash blocks block =
     (length blocks < 65535) × (block.header.number ≡ next_number blocks) × (block.header.previous_hash ≡ next_link blocks) ×
     (block.header.data_hash ≢ sha256 (data_bytes block.envelopes))
-IsRefused OutOfMemory blocks block = IsNext blocks block
+IsRefused Memory blocks block = IsNext blocks block

@@ -4,7 +4,7 @@ ghost use Rattle.std.specs.Prelude.{◌≡◌, ◌≢◌, ◌-◌, ◌++◌, ◌
 ghost use Rattle.ledger_model.specs.Chain.{history};
 ghost use Rattle.ledger_model.specs.Flags.{flags_told};
 ghost use Rattle.wire.specs.Ids.{id_of};
-ghost use Rattle.committer.specs.declared.refusal.CommitRefusal.TheVariants.{OutOfMemory};
+ghost use Rattle.committer.specs.declared.refusal.CommitRefusal.TheVariants.{Memory};
 ghost use Rattle.world_state.specs.Judging.{IsOf};
 ghost use Rattle.committer.specs.Fits.{blocks_of, Fits, IsNext, IsRefused};
 
@@ -32,7 +32,7 @@ fn last_block(snapshot: &Snapshot) -> Option<&Block>
 fn check_next(snapshot: &Snapshot, block: &Block) -> Result<(), CommitRefusal>
     ensures next { OnOk result (IsNext (blocks_of snapshot.now) block.now) }
     ensures refused { IfErr result
-        (λ refusal. (refusal ≢ OutOfMemory) ×
+        (λ refusal. (refusal ≢ Memory) ×
         IsRefused refusal (blocks_of snapshot.now) block.now) }
 {
     let height = snapshot.height();
@@ -59,7 +59,7 @@ fn check_next(snapshot: &Snapshot, block: &Block) -> Result<(), CommitRefusal>
 ///   1.
 /// - `DataHash` (603): its header does not name the hash of its data.
 ///
-/// `OutOfMemory` (9) is answered where a growth of memory was refused, behind the first three tests
+/// `Memory` (9) is answered where a growth of memory was refused, behind the first three tests
 /// alone: the bytes that are hashed for the fourth take memory.
 pub fn check_fits(alloc: Global, snapshot: &Snapshot, block: &Block) -> Result<(), CommitRefusal>
     ensures fits { OnOk result (Fits (blocks_of snapshot.now) block.now) }

@@ -1,7 +1,7 @@
 //! Why a block is not committed.
 
 ghost use Rattle.std.specs.Prelude.{◌≡◌};
-ghost use Rattle.committer.specs.declared.refusal.CommitRefusal.TheVariants.{OutOfMemory};
+ghost use Rattle.committer.specs.declared.refusal.CommitRefusal.TheVariants.{Memory};
 ghost use Rattle.committer.specs.Numbers.{refusal_number};
 
 use std::alloc::{AllocError, AllocFailed};
@@ -20,7 +20,7 @@ pub enum CommitRefusal {
     /// There are 65,535 blocks already.
     AtEnd = 604,
     /// A growth of memory was refused.
-    OutOfMemory = 9,
+    Memory = 9,
 }
 
 impl CommitRefusal {
@@ -46,17 +46,17 @@ impl Display for CommitRefusal {
 impl Error for CommitRefusal {}
 
 impl From<AllocError> for CommitRefusal {
-    ghost from_gives = { λ _ c. c ≡ OutOfMemory };
+    ghost from_gives = { λ _ c. c ≡ Memory };
 
     fn from(_error: AllocError) -> CommitRefusal {
-        CommitRefusal::OutOfMemory
+        CommitRefusal::Memory
     }
 }
 
 impl<T: Drop> From<AllocFailed<T>> for CommitRefusal {
-    ghost from_gives = { λ _ c. c ≡ OutOfMemory };
+    ghost from_gives = { λ _ c. c ≡ Memory };
 
     fn from(_error: AllocFailed<T>) -> CommitRefusal {
-        CommitRefusal::OutOfMemory
+        CommitRefusal::Memory
     }
 }

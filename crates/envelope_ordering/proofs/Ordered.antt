@@ -8,7 +8,7 @@ use Rattle.batch_cutter.specs.Division.{Mark, message, timeout}
 use Rattle.orderer.specs.Ordering.{Ordering, IsOrdered, IsRefused, Takes}
 use Rattle.orderer.specs.declared.report.BatchReport.{BatchReport}
 use Rattle.orderer.specs.declared.report.OrderCause.{OrderCause}
-use Rattle.orderer.specs.declared.report.OrderCause.TheVariants.{TooLarge, NoNumber, OutOfMemory}
+use Rattle.orderer.specs.declared.report.OrderCause.TheVariants.{TooLarge, NoNumber, Memory}
 use Rattle.orderer.proofs.Refusing.{takes_begins}
 use Rattle.envelope_ordering.specs.Given.{IsRejected, WasGiven, WasCut}
 use Rattle.envelope_ordering.proofs.Parting.{push_taken, push_refused, by_same}
@@ -24,14 +24,14 @@ one_taken given e old new missing after step limits reorder kept h = (
   kept ∙ h.4,
 )
 
-rejected : (cause : OrderCause) (old : Ordering) (e : Envelope) (ordered : List Envelope) → IsRefused cause old (message e) → cause ≢ OutOfMemory →
+rejected : (cause : OrderCause) (old : Ordering) (e : Envelope) (ordered : List Envelope) → IsRefused cause old (message e) → cause ≢ Memory →
     IsOrdered (map message ordered) old → IsRejected old.limits old.reorder ordered e
 rejected TooLarge old e ordered why other is = inl why
 rejected NoNumber old e ordered why other is = inr (old, refl, refl, is, why)
-rejected OutOfMemory old e ordered why other is = absurd (other refl)
+rejected Memory old e ordered why other is = absurd (other refl)
 
 pub one_refused : (given : List Envelope) (e : Envelope) (old new : Ordering) (missing after : ℕ) (cause : OrderCause) → new ≡ old →
-    after ≡ min (missing + 1) (2 ^ 64 - 1) → IsRefused cause old (message e) → cause ≢ OutOfMemory → WasGiven given old missing →
+    after ≡ min (missing + 1) (2 ^ 64 - 1) → IsRefused cause old (message e) → cause ≢ Memory → WasGiven given old missing →
     WasGiven (given ++ e ∷ []) new after
 one_refused given e old new missing after cause same counted why other h =
     subst (λ (o : Ordering). WasGiven (given ++ e ∷ []) o after) (sym same) (
@@ -53,14 +53,14 @@ one_timeout given old new missing after step limits reorder kept h = (
   kept ∙ h.4,
 )
 
-without_number : (cause : OrderCause) (given : List Envelope) (old : Ordering) (missing : ℕ) → IsRefused cause old timeout → cause ≢ OutOfMemory →
+without_number : (cause : OrderCause) (given : List Envelope) (old : Ordering) (missing : ℕ) → IsRefused cause old timeout → cause ≢ Memory →
     WasGiven given old missing → WasCut given old missing
 without_number TooLarge given old missing why other h = absurd why
 without_number NoNumber given old missing why other h = (h.0, h.1, h.2, inr (h.3, why), h.4)
-without_number OutOfMemory given old missing why other h = absurd (other refl)
+without_number Memory given old missing why other h = absurd (other refl)
 
 pub no_timeout : (given : List Envelope) (old new : Ordering) (missing after : ℕ) (cause : OrderCause) → new ≡ old → after ≡ missing →
-    IsRefused cause old timeout → cause ≢ OutOfMemory → WasGiven given old missing → WasCut given new after
+    IsRefused cause old timeout → cause ≢ Memory → WasGiven given old missing → WasCut given new after
 no_timeout given old new missing after cause same kept why other h =
     subst (λ (o : Ordering). WasCut given o after) (sym same)
     (subst (λ (n : ℕ). WasCut given old n) (sym kept) (without_number cause given old missing why other h))

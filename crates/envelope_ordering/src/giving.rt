@@ -32,7 +32,7 @@ pub fn give(orderer: &mut Orderer, missing: &mut u64, envelope: Envelope) -> Res
         Err(refusal) => {
             let cause = refusal.cause;
             drop(refusal);
-            if matches!(cause, OrderCause::OutOfMemory) {
+            if matches!(cause, OrderCause::Memory) {
                 Err(AllocError)
             } else {
                 let count = missing.saturating_add(1);
@@ -65,7 +65,7 @@ pub fn cut(orderer: &mut Orderer) -> Result<(), AllocError>
         Err(refusal) => {
             let cause = refusal.cause;
             drop(refusal);
-            if matches!(cause, OrderCause::OutOfMemory) {
+            if matches!(cause, OrderCause::Memory) {
                 Err(AllocError)
             } else {
                 Ok(())

@@ -174,7 +174,7 @@ impl System {
                 match refusal.cause {
                     OrderCause::TooLarge => Ok(Reply::TooLarge(envelope)),
                     OrderCause::NoNumber => Ok(Reply::NoBlockLeft(Some(envelope))),
-                    OrderCause::OutOfMemory => {
+                    OrderCause::Memory => {
                         self.queue.push_front_reserved(envelope);
                         Err(AllocError)
                     }
@@ -194,7 +194,7 @@ impl System {
             Ok(Some(report)) => Ok(Reply::Cut(report)),
             Err(cause) => match cause {
                 OrderCause::NoNumber => Ok(Reply::NoBlockLeft(None)),
-                OrderCause::TooLarge | OrderCause::OutOfMemory => Err(AllocError),
+                OrderCause::TooLarge | OrderCause::Memory => Err(AllocError),
             },
         }
     }

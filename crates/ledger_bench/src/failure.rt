@@ -1,7 +1,7 @@
 //! Why nothing was measured.
 
 use committer::CommitRefusal;
-use module_file::ModuleRefusal;
+use wasm_file::ModuleRefusal;
 use orderer::OrderCause;
 use simulator::SimRefusal;
 use std::alloc::{AllocError, AllocFailed};

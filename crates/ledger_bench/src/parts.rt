@@ -9,7 +9,7 @@ use crate::failure::Failure;
 use crate::members::{rules, tagged_bytes, transaction};
 use crate::workload::Workload;
 use block_store::{End, Loaded};
-use counted::Counted;
+use store_devices::Counted;
 use endorsement_policy::{Gate, Rules, check_all, check_with_right_orgs, right_orgs_of_blocks};
 use fab_types::{Block, Envelope};
 use orderer::Orderer;

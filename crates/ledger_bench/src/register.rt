@@ -7,7 +7,7 @@ use crate::done::Done;
 use crate::failure::Failure;
 use endorsement_policy::{Installed, ModuleId};
 use fab_types::{Block, BlockData, Call, Flag, Name, Payload, Proposal, Value};
-use module_file::valid_module;
+use wasm_file::valid_module;
 use simulator::{Book, Chaincode, simulate};
 use std::alloc::Global;
 use wasm_profile::Profile;

@@ -1,10 +1,10 @@
 //! The program of the ledger on a machine: the words of the command line, its files and its
 //! standard output.
 //!
-//! What it does is `ledger_program`'s.
+//! What it does is `cli_program`'s.
 #![tactic(auto)]
 
-use ledger_program::{Disk, Printer, program};
+use cli_program::{Disk, Printer, program};
 use std::io::{BufWriter, ErrorKind};
 use std::process::ExitCode;
 use std::{env, io};

@@ -1,6 +1,6 @@
 //! A cutter of at most three messages a batch, 100 bytes preferred and 1,000 at most: which batches
 //! it cuts, and that its offers and timeouts are taken back. More that is cut is a line of
-//! `program_cases`, `run sizes.json`.
+//! `cli_cases`, `run sizes.json`.
 
 use batch_cutter::{Cause, Cut, Cutter, Weigh};
 use std::test::Fail;

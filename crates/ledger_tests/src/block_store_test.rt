@@ -3,7 +3,7 @@
 ghost use Rattle.std.specs.Prelude.{◌≤◌};
 
 use block_store::{AppendFault, End, RecordReader, append, load};
-use counted::Counted;
+use store_devices::Counted;
 use fab_types::{Block, CommittedBlock, Flag};
 use std::alloc::{AllocError, Global};
 use std::io::{self, Read, Write};

@@ -1,8 +1,8 @@
 //! Tests of the ledger's crates, a file for each crate. There is no code beside them.
 //!
 //! What can be said as data (bytes, batches, their order, chains with their flags, chains that do
-//! not fit, calls of the host and of chaincode, with their answers) is a line of `cases` or
-//! `program_cases`. What stands here is what no line can say: calls that no line makes, threads,
+//! not fit, calls of the host and of chaincode, with their answers) is a line of `ledger_cases` or
+//! `cli_cases`. What stands here is what no line can say: calls that no line makes, threads,
 //! devices that fail, and each law once. It stands above the crates that it tests, since a crate
 //! with tests is proved a second time together with them.
 #![tactic(auto)]

@@ -35,9 +35,9 @@ fn printed_of_stores(alloc: Global) -> Result<String, AllocError> {
 fn printed_of_seats(alloc: Global) -> Result<String, AllocError> {
     format!(in alloc;
         "{}, {}, {}, {}, {}, {}",
-        OpenRefusal::OutOfMemory,
+        OpenRefusal::Memory,
         TakeRefusal::NoEntry,
-        TakeRefusal::OutOfMemory,
+        TakeRefusal::Memory,
         SeatsRefusal::NoPlace,
         SeatsRefusal::NoEntry,
         SeatsRefusal::from(AllocError)

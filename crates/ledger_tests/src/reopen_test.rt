@@ -3,7 +3,7 @@
 use crate::peer_node_test::commit;
 use crate::samples::{GET_PUT_A, Setup, opening};
 use block_store::{append, load};
-use counted::Counted;
+use store_devices::Counted;
 use fab_types::{Block, CommittedBlock, Flag, Key, Value, Version};
 use orderer::Orderer;
 use peer_node::{Peer, PeerWriter, ReopenRefusal};

@@ -1,7 +1,7 @@
 //! Transactions, a genesis and chains that several tests look at or are made of.
 
 use fab_types::Envelope;
-use genesis::read_genesis;
+use json_genesis::read_genesis;
 use hmac_tag::tag;
 use ledger_setting::Genesis;
 use orderer::Orderer;

@@ -6,7 +6,7 @@ use Rattle.ledger_model.specs.Chain.{Bytes, Chain, Committed}
 use Rattle.ledger_model.specs.Judged.{BlockRule}
 use Rattle.committer.specs.Fits.{Fits, IsRefused, blocks_of}
 use Rattle.committer.specs.declared.refusal.CommitRefusal.{CommitRefusal}
-use Rattle.committer.specs.declared.refusal.CommitRefusal.TheVariants.{Number, PreviousHash, DataHash, AtEnd, OutOfMemory}
+use Rattle.committer.specs.declared.refusal.CommitRefusal.TheVariants.{Number, PreviousHash, DataHash, AtEnd, Memory}
 use Rattle.committer.proofs.Last.{length_map, only_memory}
 use Rattle.log_roles.specs.Committing.{IsKnown, IsForked, Receives, for_memory, header_hash, own_hash}
 use Rattle.log_roles.specs.declared.receiving.Received.{Received}
@@ -29,9 +29,9 @@ known_or_forked chain b known forked = forked.2 (same_Some forked.0 (header_hash
 
 -- ---- causes
 
-one_cause : (c d : CommitRefusal) (blocks : List Block) (b : Block) → c ≢ OutOfMemory → d ≢ OutOfMemory → IsRefused c blocks b → IsRefused d blocks b → c ≡ d
-one_cause OutOfMemory d blocks b x y h k = absurd (x refl)
-one_cause c OutOfMemory blocks b x y h k = absurd (y refl)
+one_cause : (c d : CommitRefusal) (blocks : List Block) (b : Block) → c ≢ Memory → d ≢ Memory → IsRefused c blocks b → IsRefused d blocks b → c ≡ d
+one_cause Memory d blocks b x y h k = absurd (x refl)
+one_cause c Memory blocks b x y h k = absurd (y refl)
 one_cause AtEnd AtEnd blocks b x y h k = refl
 one_cause AtEnd Number blocks b x y h k = absurd omega (arith, h, k.0)
 one_cause AtEnd PreviousHash blocks b x y h k = absurd omega (arith, h, k.0)

@@ -8,7 +8,7 @@ use Rattle.ledger_model.specs.Chain.{Bytes, Chain}
 use Rattle.ledger_model.specs.Judged.{BlockRule, judge_onto}
 use Rattle.endorsement_policy.specs.Endorsed.{Listed}
 use Rattle.committer.specs.Fits.{Fits, IsRefused, blocks_of}
-use Rattle.committer.specs.declared.refusal.CommitRefusal.TheVariants.{OutOfMemory}
+use Rattle.committer.specs.declared.refusal.CommitRefusal.TheVariants.{Memory}
 use Rattle.log_roles.specs.declared.receiving.Committer.{Committer}
 use Rattle.log_roles.specs.declared.receiving.Received.{Received}
 use Rattle.log_roles.specs.declared.receiving.Received.TheVariants as received
@@ -58,4 +58,4 @@ Receives rule old block (Err (Unfit cause)) new = (length old < block.header.num
 
 -- the refusal for want of memory, beside which a block comes to one answer alone (the law `peers_agree`, clause `answer`)
 abbrev pub for_memory : Result Received ReceiveRefusal
-for_memory = Err (Unfit OutOfMemory)
+for_memory = Err (Unfit Memory)

@@ -18,7 +18,7 @@ use Rattle.ledger_setting.specs.Rule.{table_of, seal_of}
 use Rattle.simulator.specs.Answers.{payload_or_refusal}
 use Rattle.simulator.specs.Execution.{exec_of}
 use Rattle.simulator.specs.declared.refusal.SimRefusal.{SimRefusal}
-use Rattle.replicated_log.specs.Log.{ReadsEach}
+use Rattle.log_orderer.specs.Log.{ReadsEach}
 use Rattle.log_roles.specs.Committing.{Commits}
 use Rattle.log_roles.specs.Following.{endorsed_on}
 use Rattle.fabric_core.specs.System.{Noted, PeerState, World, chain_of_first, begin, finish, finish_reply, commit, commit_next, AreSteps}

@@ -28,7 +28,7 @@ use Rattle.ledger_model.proofs.Kept.{block_legal}
 use Rattle.committer.specs.Fits.{Fits, blocks_of}
 use Rattle.endorsement_policy.specs.Endorsed.{is_endorsed}
 use Rattle.ledger_setting.specs.Rule.{table_of}
-use Rattle.replicated_log.specs.Log.{Reads, ReadsEach, TakesMark}
+use Rattle.log_orderer.specs.Log.{Reads, ReadsEach, TakesMark}
 use Rattle.fabric_core.specs.System.{chain_of_first}
 use Rattle.fabric_core.specs.Headline.{ConflictsAreOlder, IsAmong}
 use Rattle.log_system.specs.Machines.{AreMachines, DoesEach, Machine, Setting, unread}

@@ -21,7 +21,7 @@ use Rattle.ledger_setting.specs.Rule.{table_of, seal_of}
 use Rattle.simulator.specs.Answers.{done_or_refusal}
 use Rattle.simulator.specs.Execution.{exec_of}
 use Rattle.simulator.specs.declared.refusal.SimRefusal.{SimRefusal}
-use Rattle.replicated_log.specs.Log.{ReadsEach}
+use Rattle.log_orderer.specs.Log.{ReadsEach}
 use Rattle.log_roles.specs.Following.{endorsed_on, sealed_by}
 use Rattle.fabric_core.specs.declared.event.Reply.{Reply}
 use Rattle.fabric_core.specs.Headline.{IsAmong, IsGenuine, IsHonest, IsUnforged}

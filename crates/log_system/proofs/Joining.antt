@@ -12,7 +12,7 @@ use Rattle.orderer.specs.Ordering.{AreLimits, IsOpening, IsOrdered, Ordering}
 use Rattle.orderer.specs.declared.report.BatchReport.{BatchReport}
 use Rattle.ledger_model.specs.Chain.{Bytes}
 use Rattle.ledger_setting.specs.Rule.{table_of}
-use Rattle.replicated_log.specs.Log.{ReadsEach}
+use Rattle.log_orderer.specs.Log.{ReadsEach}
 use Rattle.fabric_core.specs.System.{PeerState, World, AreSteps, chain_of_first, fresh, opening}
 use Rattle.fabric_core.specs.declared.event.Event.{Event}
 use Rattle.fabric_core.specs.declared.event.Reply.{Reply}

@@ -12,8 +12,8 @@ use Rattle.orderer.specs.Arranged.{plans_of}
 use Rattle.orderer.specs.Blocks.{AddsEach}
 use Rattle.orderer.specs.Ordering.{IsOrdered, Ordering, Takes}
 use Rattle.orderer.specs.declared.report.BatchReport.{BatchReport}
-use Rattle.replicated_log.specs.Lines.{IsMark}
-use Rattle.replicated_log.specs.Log.{Reads, ReadsEach, TakesMark}
+use Rattle.log_orderer.specs.Lines.{IsMark}
+use Rattle.log_orderer.specs.Log.{Reads, ReadsEach, TakesMark}
 use Rattle.fabric_core.specs.System.{Rules, PeerState, World, IsStep, AreSteps}
 use Rattle.fabric_core.specs.declared.event.Event.{Event}
 use Rattle.fabric_core.specs.declared.event.Event.TheVariants.{Submit, Take, Tick}

@@ -18,7 +18,7 @@ use Rattle.simulator.specs.Answers.{Answers}
 use Rattle.simulator.specs.declared.refusal.SimRefusal.{SimRefusal}
 use Rattle.simulator.specs.declared.refusal.SimRefusal.TheVariants as refusal
 use Rattle.store_replay.specs.Lawful.{AreLawful}
-use Rattle.replicated_log.specs.Log.{ReadsEach}
+use Rattle.log_orderer.specs.Log.{ReadsEach}
 use Rattle.log_roles.specs.Committing.{Receives}
 use Rattle.log_roles.specs.Following.{endorsed_on}
 use Rattle.log_roles.specs.declared.receiving.Received.TheVariants as received

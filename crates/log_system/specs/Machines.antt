@@ -13,7 +13,7 @@ use Rattle.endorsement_policy.specs.Endorsed.{Listed}
 use Rattle.ledger_setting.specs.Rule.{table_of}
 use Rattle.chaincode_book.specs.Books.{Book}
 use Rattle.simulator.specs.declared.refusal.SimRefusal.{SimRefusal}
-use Rattle.replicated_log.specs.Log.{ReadsEach}
+use Rattle.log_orderer.specs.Log.{ReadsEach}
 use Rattle.log_roles.specs.Committing.{Commits}
 use Rattle.log_roles.specs.Following.{endorsed_on}
 use Rattle.fabric_core.specs.System.{fresh_orderer}

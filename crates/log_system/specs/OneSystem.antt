@@ -13,7 +13,7 @@ use Rattle.orderer.specs.declared.report.BatchReport.{BatchReport}
 use Rattle.ledger_model.specs.Chain.{Bytes}
 use Rattle.simulator.specs.Execution.{exec_of}
 use Rattle.simulator.specs.declared.refusal.SimRefusal.{SimRefusal}
-use Rattle.replicated_log.specs.Lines.{IsMark}
+use Rattle.log_orderer.specs.Lines.{IsMark}
 use Rattle.fabric_core.specs.System.{Rules, PeerState, World, chain_of}
 use Rattle.fabric_core.specs.declared.event.Event.{Event}
 use Rattle.fabric_core.specs.declared.event.Event.TheVariants.{Begin, Finish, Submit, Take, Tick, Commit}

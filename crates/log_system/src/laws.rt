@@ -9,7 +9,7 @@ ghost use Rattle.fab_types.specs.declared.proposal.Proposal.{Proposal};
 ghost use Rattle.batch_cutter.specs.Division.{Limits};
 ghost use Rattle.orderer.specs.Ordering.{AreLimits, Ordering};
 ghost use Rattle.orderer.specs.declared.report.BatchReport.{BatchReport};
-ghost use Rattle.replicated_log.specs.Log.{ReadsEach};
+ghost use Rattle.log_orderer.specs.Log.{ReadsEach};
 ghost use Rattle.ledger_model.specs.Chain.{Bytes, Chain, Committed};
 ghost use Rattle.ledger_model.specs.Serial.{IsPrefix};
 ghost use Rattle.committer.specs.Fits.{Fits, blocks_of};
@@ -32,7 +32,7 @@ ghost use Rattle.log_system.specs.OneSystem.{IsOneSystem, replies_of_machines};
 use chaincode_book::Book;
 use endorsement_policy::{Rules, an_endorsed_envelope_carries_a_right_tag};
 use orderer::ordering_laws;
-use replicated_log::log_laws;
+use log_orderer::log_laws;
 use simulator::reads_alone;
 
 /// Machines that go by one genesis, and of which each has read a beginning of one list of lines,

@@ -8,7 +8,7 @@ use Rattle.orderer.specs.Blocks.{AddsEach}
 use Rattle.orderer.specs.Arranged.{plans_of}
 use Rattle.orderer.specs.declared.report.BatchReport.{BatchReport}
 use Rattle.orderer.specs.declared.report.OrderCause.{OrderCause}
-use Rattle.orderer.specs.declared.report.OrderCause.TheVariants.{TooLarge, NoNumber, OutOfMemory}
+use Rattle.orderer.specs.declared.report.OrderCause.TheVariants.{TooLarge, NoNumber, Memory}
 
 -- whether batches are put in a legal order, the limits, the envelopes that wait, and the chain
 pub record Ordering : Type 0 where
@@ -59,7 +59,7 @@ IsTooLarge limits timeout = ⊥
 abbrev pub IsRefused : OrderCause → Ordering → Mark Envelope → Type 0
 IsRefused TooLarge old mark = IsTooLarge old.limits mark
 IsRefused NoNumber old mark = RunsOut old mark
-IsRefused OutOfMemory old mark = ¬ IsTooLarge old.limits mark
+IsRefused Memory old mark = ¬ IsTooLarge old.limits mark
 
 -- nothing waits, and there are no blocks
 abbrev pub IsOpening : Ordering → Type 0

@@ -1,7 +1,7 @@
 //! What an orderer answers.
 
 ghost use Rattle.std.specs.Prelude.{◌≡◌};
-ghost use Rattle.orderer.specs.declared.report.OrderCause.TheVariants.{OutOfMemory};
+ghost use Rattle.orderer.specs.declared.report.OrderCause.TheVariants.{Memory};
 ghost use Rattle.orderer.specs.Numbers.{cause_number};
 
 use crate::plan::AbortCause;
@@ -32,7 +32,7 @@ pub enum OrderCause {
     /// The call would need a block past number 65,535.
     NoNumber = 422,
     /// A growth of memory was refused.
-    OutOfMemory = 9,
+    Memory = 9,
 }
 
 /// A call that was refused and changed nothing.
@@ -86,23 +86,23 @@ impl From<Cause> for OrderCause {
     fn from(cause: Cause) -> OrderCause {
         match cause {
             Cause::TooLarge => OrderCause::TooLarge,
-            Cause::OutOfMemory => OrderCause::OutOfMemory,
+            Cause::Memory => OrderCause::Memory,
         }
     }
 }
 
 impl From<AllocError> for OrderCause {
-    ghost from_gives = { λ _ c. c ≡ OutOfMemory };
+    ghost from_gives = { λ _ c. c ≡ Memory };
 
     fn from(_error: AllocError) -> OrderCause {
-        OrderCause::OutOfMemory
+        OrderCause::Memory
     }
 }
 
 impl<T: Drop> From<AllocFailed<T>> for OrderCause {
-    ghost from_gives = { λ _ c. c ≡ OutOfMemory };
+    ghost from_gives = { λ _ c. c ≡ Memory };
 
     fn from(_error: AllocFailed<T>) -> OrderCause {
-        OrderCause::OutOfMemory
+        OrderCause::Memory
     }
 }

@@ -26,7 +26,7 @@ is_done payload r is = subst (λ (r : Result Payload SimRefusal). IsOk r) (sym i
 
 refused_take : (before after : Chain) (payload : Payload) (t : TakeRefusal) → after ≡ before → Finishes before after payload (of_take t)
 refused_take before after payload take.NoEntry same = λ e p first done. (is_done payload (simulated_on e p first) done, same)
-refused_take before after payload take.OutOfMemory same = λ e p first done. inl same
+refused_take before after payload take.Memory same = λ e p first done. inl same
 
 -- no snapshot was taken
 pub not_taken : (before after : Chain) (payload : Payload) (t : TakeRefusal) (r : Result Endorsement FinishRefusal) → r ≡ Err (of_take t) → after ≡ before →

@@ -24,7 +24,7 @@ no_memory = Simulation Memory
 -- the refusal of a seat that took no snapshot
 abbrev pub of_take : TakeRefusal → FinishRefusal
 of_take take.NoEntry = NoEntry
-of_take take.OutOfMemory = no_memory
+of_take take.Memory = no_memory
 
 abbrev pub reopen_number : ReopenRefusal → ℕ
 reopen_number (Stored r) = recommit_number r

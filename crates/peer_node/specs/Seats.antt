@@ -84,5 +84,5 @@ Endorses e p before after r =
 -- what a refused read leaves: nothing was seen; or the entry that the key has after a list was not copied for want of memory
 abbrev pub IsReadRefused : Bytes → (before after : Chain) → TakeRefusal → Type 0
 IsReadRefused key before after take.NoEntry = after ≡ before
-IsReadRefused key before after take.OutOfMemory =
+IsReadRefused key before after take.Memory =
     (after ≡ before) ⊎ (IsPrefix before after × IsSome (state_at (history after) key))

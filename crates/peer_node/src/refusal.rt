@@ -63,7 +63,7 @@ impl From<TakeRefusal> for FinishRefusal {
     fn from(refusal: TakeRefusal) -> FinishRefusal {
         match refusal {
             TakeRefusal::NoEntry => FinishRefusal::NoEntry,
-            TakeRefusal::OutOfMemory => FinishRefusal::Simulation(SimRefusal::Memory),
+            TakeRefusal::Memory => FinishRefusal::Simulation(SimRefusal::Memory),
         }
     }
 }

@@ -16,7 +16,7 @@ use Rattle.ledger_setting.specs.Rule.{table_of}
 use Rattle.fabric_core.specs.Audit.{AuditSays}
 use Rattle.seat_threads.specs.declared.counts.Counts.{Counts}
 use Rattle.seat_threads.specs.declared.refusal.SeatsRefusal.{SeatsRefusal}
-use Rattle.seat_threads.specs.declared.refusal.SeatsRefusal.TheVariants.{OutOfMemory, NoPlace, NoEntry}
+use Rattle.seat_threads.specs.declared.refusal.SeatsRefusal.TheVariants.{Memory, NoPlace, NoEntry}
 use Rattle.seat_threads.specs.declared.running.Report.{Report}
 use Rattle.seat_threads.specs.Desks.{envelopes_got}
 use Rattle.seat_threads.specs.Rounds.{Outcome, envelopes_in}
@@ -66,25 +66,25 @@ pub record TellsOfSeats (task : Task) (seats : ℕ) (reorder : Bool) (limits : L
 
 -- Where each refusal comes. Of want of memory, and of places in the cell, nothing is said
 abbrev pub IsSeatsRefused : Task → ℕ → SeatsRefusal → Type 0
-IsSeatsRefused task seats OutOfMemory = Unit {0}
+IsSeatsRefused task seats Memory = Unit {0}
 IsSeatsRefused task seats NoPlace = Unit {0}
 IsSeatsRefused task seats NoEntry =
     (outcomes : List (List Outcome)) × (length outcomes ≡ seats) × AllCameTo task 0 outcomes × (0 < (total_of outcomes).without_entry)
 
 -- a peer opens without a round
 abbrev pub IsOpeningRefused : SeatsRefusal → Type 0
-IsOpeningRefused OutOfMemory = Unit {0}
+IsOpeningRefused Memory = Unit {0}
 IsOpeningRefused NoPlace = Unit {0}
 IsOpeningRefused NoEntry = ⊥
 
 -- seats at work have their places
 abbrev pub IsWorkRefused : Task → ℕ → SeatsRefusal → Type 0
-IsWorkRefused task seats OutOfMemory = Unit {0}
+IsWorkRefused task seats Memory = Unit {0}
 IsWorkRefused task seats NoPlace = ⊥
 IsWorkRefused task seats NoEntry = IsSeatsRefused task seats NoEntry
 
 -- some round counts as one without an entry
 abbrev pub IsCountRefused : Counts → SeatsRefusal → Type 0
-IsCountRefused counts OutOfMemory = Unit {0}
+IsCountRefused counts Memory = Unit {0}
 IsCountRefused counts NoPlace = ⊥
 IsCountRefused counts NoEntry = 0 < counts.without_entry

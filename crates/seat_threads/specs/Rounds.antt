@@ -15,7 +15,7 @@ use Rattle.peer_node.specs.Seats.{Endorses}
 use Rattle.ledger_model.specs.Chain.{Bytes, Chain}
 use Rattle.seat_threads.specs.declared.counts.Counts.{Counts}
 use Rattle.seat_threads.specs.declared.refusal.SeatsRefusal.{SeatsRefusal}
-use Rattle.seat_threads.specs.declared.refusal.SeatsRefusal.TheVariants.{OutOfMemory, NoEntry as EntryRefused}
+use Rattle.seat_threads.specs.declared.refusal.SeatsRefusal.TheVariants.{Memory, NoEntry as EntryRefused}
 
 -- a call without an argument, whose nonce is the numbers of the seat and of the round
 abbrev pub proposal_of : Bytes → (seat round : ℕ) → Proposal
@@ -79,4 +79,4 @@ sum_of a b = record {
 
 -- want of memory comes before want of an entry
 abbrev pub least_refusal : Counts → Option SeatsRefusal
-least_refusal c = if c.out_of_memory == 0 then (if c.without_entry == 0 then None else Some EntryRefused) else Some OutOfMemory
+least_refusal c = if c.out_of_memory == 0 then (if c.without_entry == 0 then None else Some EntryRefused) else Some Memory

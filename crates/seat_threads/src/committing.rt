@@ -53,7 +53,7 @@ fn commit<R: Threads + Wait + Sync>(
     match writer.commit(rt, block.clone()?) {
         Ok(_) => Ok(()),
         Err(refusal) => {
-            prove!(matches!(refusal, CommitRefusal::OutOfMemory));
+            prove!(matches!(refusal, CommitRefusal::Memory));
             Err(AllocError)
         }
     }

@@ -63,7 +63,7 @@ impl Counts {
         ensures { result ≡ least_refusal self }
     {
         if self.out_of_memory > 0 {
-            Some(SeatsRefusal::OutOfMemory)
+            Some(SeatsRefusal::Memory)
         } else if self.without_entry > 0 {
             Some(SeatsRefusal::NoEntry)
         } else {

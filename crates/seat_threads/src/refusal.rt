@@ -9,7 +9,7 @@ use std::fmt::{self, Display, Formatter, Write};
 #[derive(Clone, Copy, Debug, Drop, PartialEq, Eq)]
 pub enum SeatsRefusal {
     /// A growth of memory was refused.
-    OutOfMemory = 9,
+    Memory = 9,
     /// A seat got no place in the cell.
     NoPlace = 431,
     /// The cell gave a seat no entry.
@@ -38,23 +38,23 @@ impl Error for SeatsRefusal {}
 
 impl From<AllocError> for SeatsRefusal {
     ghost use Rattle.std.specs.Prelude.{◌≡◌};
-    ghost use Rattle.seat_threads.specs.declared.refusal.SeatsRefusal.TheVariants.{OutOfMemory};
+    ghost use Rattle.seat_threads.specs.declared.refusal.SeatsRefusal.TheVariants.{Memory};
 
-    ghost from_gives = { λ _ r. r ≡ OutOfMemory };
+    ghost from_gives = { λ _ r. r ≡ Memory };
 
     fn from(_error: AllocError) -> SeatsRefusal {
-        SeatsRefusal::OutOfMemory
+        SeatsRefusal::Memory
     }
 }
 
 impl<T: Drop> From<AllocFailed<T>> for SeatsRefusal {
     ghost use Rattle.std.specs.Prelude.{◌≡◌};
-    ghost use Rattle.seat_threads.specs.declared.refusal.SeatsRefusal.TheVariants.{OutOfMemory};
+    ghost use Rattle.seat_threads.specs.declared.refusal.SeatsRefusal.TheVariants.{Memory};
 
-    ghost from_gives = { λ _ r. r ≡ OutOfMemory };
+    ghost from_gives = { λ _ r. r ≡ Memory };
 
     fn from(_error: AllocFailed<T>) -> SeatsRefusal {
-        SeatsRefusal::OutOfMemory
+        SeatsRefusal::Memory
     }
 }
 
@@ -67,7 +67,7 @@ impl From<OpenRefusal> for SeatsRefusal {
     fn from(refusal: OpenRefusal) -> SeatsRefusal {
         match refusal {
             OpenRefusal::NoPlace => SeatsRefusal::NoPlace,
-            OpenRefusal::OutOfMemory => SeatsRefusal::OutOfMemory,
+            OpenRefusal::Memory => SeatsRefusal::Memory,
         }
     }
 }

@@ -233,7 +233,7 @@ fn reported(
         return Err(refusal);
     }
     if desk.starved {
-        return Err(SeatsRefusal::OutOfMemory);
+        return Err(SeatsRefusal::Memory);
     }
     let blocks = desk.orderer.blocks().len();
     let audit = audit(alloc, genesis, desk.writer.newest())?;

@@ -7,8 +7,8 @@ use Rattle.snapshot_cell.specs.declared.refusal.TakeRefusal.TheVariants as takin
 
 abbrev pub open_number : OpenRefusal → ℕ
 open_number opening.NoPlace = 431
-open_number opening.OutOfMemory = 9
+open_number opening.Memory = 9
 
 abbrev pub take_number : TakeRefusal → ℕ
 take_number taking.NoEntry = 432
-take_number taking.OutOfMemory = 9
+take_number taking.Memory = 9

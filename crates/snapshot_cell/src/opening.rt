@@ -127,7 +127,7 @@ fn fill(
             return Err(OpenRefusal::NoPlace);
         };
         if readers.push(reader).is_err() {
-            return Err(OpenRefusal::OutOfMemory);
+            return Err(OpenRefusal::Memory);
         }
     }
     Ok(())

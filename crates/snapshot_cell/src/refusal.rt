@@ -13,7 +13,7 @@ pub enum OpenRefusal {
     /// A seat got no place in the cell.
     NoPlace = 431,
     /// A growth of memory was refused.
-    OutOfMemory = 9,
+    Memory = 9,
 }
 
 /// Why a seat took no snapshot.
@@ -22,7 +22,7 @@ pub enum TakeRefusal {
     /// The cell gave no entry, as after its writer's end.
     NoEntry = 432,
     /// A growth of memory, or one more owner of the snapshot, was refused.
-    OutOfMemory = 9,
+    Memory = 9,
 }
 
 impl OpenRefusal {
@@ -60,31 +60,31 @@ impl Error for OpenRefusal {}
 impl Error for TakeRefusal {}
 
 impl From<AllocError> for OpenRefusal {
-    ghost use Rattle.snapshot_cell.specs.declared.refusal.OpenRefusal.TheVariants.{OutOfMemory};
+    ghost use Rattle.snapshot_cell.specs.declared.refusal.OpenRefusal.TheVariants.{Memory};
 
-    ghost from_gives = { λ _ r. r ≡ OutOfMemory };
+    ghost from_gives = { λ _ r. r ≡ Memory };
 
     fn from(_error: AllocError) -> OpenRefusal {
-        OpenRefusal::OutOfMemory
+        OpenRefusal::Memory
     }
 }
 
 impl<T: Drop> From<AllocFailed<T>> for OpenRefusal {
-    ghost use Rattle.snapshot_cell.specs.declared.refusal.OpenRefusal.TheVariants.{OutOfMemory};
+    ghost use Rattle.snapshot_cell.specs.declared.refusal.OpenRefusal.TheVariants.{Memory};
 
-    ghost from_gives = { λ _ r. r ≡ OutOfMemory };
+    ghost from_gives = { λ _ r. r ≡ Memory };
 
     fn from(_error: AllocFailed<T>) -> OpenRefusal {
-        OpenRefusal::OutOfMemory
+        OpenRefusal::Memory
     }
 }
 
 impl From<AllocError> for TakeRefusal {
-    ghost use Rattle.snapshot_cell.specs.declared.refusal.TakeRefusal.TheVariants.{OutOfMemory};
+    ghost use Rattle.snapshot_cell.specs.declared.refusal.TakeRefusal.TheVariants.{Memory};
 
-    ghost from_gives = { λ _ r. r ≡ OutOfMemory };
+    ghost from_gives = { λ _ r. r ≡ Memory };
 
     fn from(_error: AllocError) -> TakeRefusal {
-        TakeRefusal::OutOfMemory
+        TakeRefusal::Memory
     }
 }

@@ -5,14 +5,14 @@ use Rattle.ledger_model.specs.Chain.{Chain}
 use Rattle.ledger_model.specs.Judged.{BlockRule}
 use Rattle.committer.specs.Fits.{Fits, IsRefused, blocks_of}
 use Rattle.committer.specs.declared.refusal.CommitRefusal.{CommitRefusal}
-use Rattle.committer.specs.declared.refusal.CommitRefusal.TheVariants.{OutOfMemory}
+use Rattle.committer.specs.declared.refusal.CommitRefusal.TheVariants.{Memory}
 use Rattle.ledger_setting.specs.Judging.{next_by}
 use Rattle.block_store.specs.Loading.{Gives}
 use Rattle.store_replay.specs.declared.replaying.Replayed.{Replayed}
 
 -- a block does not fit, for this cause
 abbrev pub IsUnfit : Chain → Committed → CommitRefusal → Type 0
-IsUnfit chain c cause = (cause ≢ OutOfMemory) × IsRefused cause (blocks_of chain) c.block
+IsUnfit chain c cause = (cause ≢ Memory) × IsRefused cause (blocks_of chain) c.block
 
 -- whether the record has the rule's flags
 abbrev pub HasTheFlags : BlockRule → Chain → Committed → Bool → Type 0

@@ -24,7 +24,7 @@ fn refused(snapshot: &Snapshot, cause: CommitRefusal) -> RecommitRefusal
         IsNextRefused rule snapshot.now stored result }
 {
     match cause {
-        CommitRefusal::OutOfMemory => RecommitRefusal::Memory,
+        CommitRefusal::Memory => RecommitRefusal::Memory,
         cause => RecommitRefusal::Unfit(snapshot.height() + 1, cause),
     }
 }

@@ -55,7 +55,7 @@ fn commit_all(
     'records: for stored in records {
         match push(alloc, rules, &mut progress.snapshot, stored) {
             Ok(is_same) => progress.note(is_same),
-            Err(CommitRefusal::OutOfMemory) => return Err(AllocError),
+            Err(CommitRefusal::Memory) => return Err(AllocError),
             Err(cause) => {
                 progress.refused = Some(cause);
                 break;

@@ -1,9 +1,9 @@
 use Rattle.std.proofs.Common.{◌≢◌, ◌∙◌, true≢false, refl, sym}
 use Rattle.std.specs.Option.{option_to_list}
 use Rattle.batch_cutter.specs.Division.{timeout}
-use Rattle.orderer.specs.declared.report.OrderCause.TheVariants.{OutOfMemory}
+use Rattle.orderer.specs.declared.report.OrderCause.TheVariants.{Memory}
 use Rattle.envelope_ordering.proofs.Ordered.{one_timeout, no_timeout, longer, as_long}
-use Rattle.envelope_ordering.proofs.giving.cut.Goals.{in-OutOfMemory, in_default}
+use Rattle.envelope_ordering.proofs.giving.cut.Goals.{in-Memory, in_default}
 use Rattle.envelope_ordering.proofs.giving.cut.Goals as goal
 
 pub returns-in-Ok-clause-cut : goal.returns-in-Ok-clause-cut
@@ -22,8 +22,8 @@ returns-then-matches-clause-longer c = as_long c.args.orderer.now c.tick.new.sel
 
 pub returns-else-matches-clause-cut : goal.returns-else-matches-clause-cut
 returns-else-matches-clause-cut c = λ given missing h.
-    let other : c.in-Err.refusal.cause ≢ OutOfMemory =
-    elim c.match-matches.branch [ in-OutOfMemory w ↦ absurd (true≢false (sym w.matches-is ∙ c.if-matches.false)) | in_default w ↦ w.in_default.not-OutOfMemory ]
+    let other : c.in-Err.refusal.cause ≢ Memory =
+    elim c.match-matches.branch [ in-Memory w ↦ absurd (true≢false (sym w.matches-is ∙ c.if-matches.false)) | in_default w ↦ w.in_default.not-Memory ]
     in
     no_timeout given c.args.orderer.now c.tick.new.self missing missing c.in-Err.refusal.cause c.in-Err.ensures.unchanged refl c.in-Err.ensures.refused other h
 

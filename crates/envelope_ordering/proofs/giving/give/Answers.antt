@@ -1,8 +1,8 @@
 use Rattle.std.proofs.Common.{◌≢◌, ◌∙◌, true≢false, refl, sym}
 use Rattle.batch_cutter.specs.Division.{message}
-use Rattle.orderer.specs.declared.report.OrderCause.TheVariants.{OutOfMemory}
+use Rattle.orderer.specs.declared.report.OrderCause.TheVariants.{Memory}
 use Rattle.envelope_ordering.proofs.Ordered.{one_taken, one_refused, longer, as_long}
-use Rattle.envelope_ordering.proofs.giving.give.Goals.{in-OutOfMemory, in_default}
+use Rattle.envelope_ordering.proofs.giving.give.Goals.{in-Memory, in_default}
 use Rattle.envelope_ordering.proofs.giving.give.Goals as goal
 
 pub returns-in-Ok-clause-ordered : goal.returns-in-Ok-clause-ordered
@@ -24,8 +24,8 @@ returns-then-matches-clause-longer c = as_long c.args.orderer.now c.accept.new.s
 
 pub returns-else-matches-clause-ordered : goal.returns-else-matches-clause-ordered
 returns-else-matches-clause-ordered c = λ given h.
-    let other : c.in-Err.refusal.cause ≢ OutOfMemory =
-    elim c.match-matches.branch [ in-OutOfMemory w ↦ absurd (true≢false (sym w.matches-is ∙ c.if-matches.false)) | in_default w ↦ w.in_default.not-OutOfMemory ]
+    let other : c.in-Err.refusal.cause ≢ Memory =
+    elim c.match-matches.branch [ in-Memory w ↦ absurd (true≢false (sym w.matches-is ∙ c.if-matches.false)) | in_default w ↦ w.in_default.not-Memory ]
     in
     one_refused given c.args.envelope c.args.orderer.now c.accept.new.self c.args.missing.now c.saturating_add-count.result c.in-Err.refusal.cause
     c.in-Err.ensures.unchanged c.saturating_add-count.ensures c.in-Err.ensures.refused other h

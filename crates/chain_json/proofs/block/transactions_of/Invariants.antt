@@ -1,9 +1,0 @@
-use Rattle.std.proofs.Common.{◌≡◌, ◌++◌, map, drop}
-use Rattle.serde_json.specs.View.{view}
-use Rattle.chain_json.specs.Blocks.{transactions_json}
-use Rattle.chain_json.proofs.block.transactions_of.Given as goal
-
-abbrev pub invariant-loop-place : goal.invariant-loop-place
-invariant-loop-place l =
-    map view l.values.items ++ transactions_json l.rules.orgs (drop l.place l.envelopes) (drop l.place l.flags) ≡
-    transactions_json l.rules.orgs l.envelopes l.flags

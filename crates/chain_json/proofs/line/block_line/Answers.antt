@@ -1,6 +1,0 @@
-use Rattle.std.proofs.Common.{arith}
-use Rattle.chain_json.proofs.Depths.{block_low}
-use Rattle.chain_json.proofs.line.block_line.Goals as goal
-
-pub line_of-requires : goal.line_of-requires
-line_of-requires c = rw c.in_ok-block_of.ensures (omega (arith, block_low c.args.rules.now.orgs c.args.committed.now))

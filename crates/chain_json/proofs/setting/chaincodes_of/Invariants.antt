@@ -1,9 +1,0 @@
-use Rattle.std.proofs.Common.{◌≡◌, ◌++◌, map, drop}
-use Rattle.serde_json.specs.View.{view}
-use Rattle.chain_json.specs.Settings.{chaincodes_json}
-use Rattle.chain_json.proofs.setting.chaincodes_of.Given as goal
-
-abbrev pub invariant-loop-place : goal.invariant-loop-place
-invariant-loop-place l =
-    map view l.values.items ++ chaincodes_json l.rules.policies (drop l.place l.chaincodes) (drop l.place l.ids)
-    ≡ chaincodes_json l.rules.policies l.chaincodes l.ids

@@ -1,8 +1,0 @@
-use Rattle.std.proofs.Common.{◌≡◌, ◌++◌, map, drop}
-use Rattle.serde_json.specs.View.{view}
-use Rattle.chain_json.specs.Transactions.{endorsement_json}
-use Rattle.chain_json.proofs.transaction.endorsements_over.Given as goal
-
-abbrev pub invariant-loop-item : goal.invariant-loop-item
-invariant-loop-item l =
-    map view l.values.items ++ map (endorsement_json l.rules.orgs l.bytes) (drop l.item-index l.items) ≡ map (endorsement_json l.rules.orgs l.bytes) l.items

@@ -1,7 +1,0 @@
--- The members of an object that is being made.
-use Rattle.serde_json.specs.Data.{Members}
-use Rattle.serde_json.specs.View.{members_view}
-use Rattle.chain_json.specs.declared.object.Object.{Object}
-
-abbrev pub members_in : Object → Members
-members_in o = members_view o.members.entries

@@ -1,0 +1,42 @@
+-- What the program prints of a failure.
+use Rattle.std.specs.Prelude.{◌++◌, ℕ, List, [], Option, Some, None, codes, option_map}
+use Rattle.std.specs.Fmt.{decimal}
+use Rattle.block_store.specs.End.{end_text}
+use Rattle.committer.specs.Numbers.{refusal_number as commit_number}
+use Rattle.json_genesis.specs.Numbers.{refusal_number as genesis_number}
+use Rattle.wasm_file.specs.Texts.{refusal_text as module_text}
+use Rattle.simulator.specs.RefusalNumber.{refusal_text as simulation_text}
+use Rattle.cli_lines.specs.declared.failure.Failure.{Failure}
+use Rattle.cli_lines.specs.declared.failure.Failure.TheVariants as failure
+
+-- a refusal by its number
+abbrev pub refused : ℕ → List ℕ
+refused n = codes "refused " ++ decimal n
+
+-- the text of a failure, empty where it is told otherwise. None of a status, which is written as a signed number
+abbrev pub failure_text : Failure → Option (List ℕ)
+failure_text failure.Usage = Some []
+failure_text failure.Memory = Some (codes "refused 9")
+failure_text failure.File = Some (codes "refused 703")
+failure_text (failure.Module refusal) = Some (module_text refusal)
+failure_text (failure.Genesis refusal) = Some (refused (genesis_number refusal))
+failure_text (failure.Simulation refusal) = simulation_text refusal
+failure_text failure.NoPlace = Some (codes "refused 431")
+failure_text failure.NoEntry = Some (codes "refused 432")
+failure_text (failure.Commit refusal) = Some (refused (commit_number refusal))
+failure_text (failure.Flags n) = Some (codes "refused 711 block " ++ decimal n)
+failure_text (failure.Store end) = Some (codes "refused " ++ end_text end)
+failure_text (failure.BadLine n) = Some (codes "bad line " ++ decimal n)
+failure_text failure.Printed = Some []
+failure_text failure.Output = Some []
+
+-- a text with its line's end
+abbrev pub line : List ℕ → List ℕ
+line text = text ++ codes "\n"
+
+-- the line by which a failure is told at the end. None where it is told otherwise, or its text is not said
+abbrev pub last_line : Failure → Option (List ℕ)
+last_line failure.Usage = None
+last_line failure.Printed = None
+last_line failure.Output = None
+last_line f = option_map line (failure_text f)

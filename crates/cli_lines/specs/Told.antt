@@ -1,0 +1,37 @@
+-- What the program tells by the lines that it prints.
+use Rattle.std.specs.Prelude.{◌≡◌, ◌<◌, ◌≤◌, ◌⊎◌, ℕ, List, Bool, true, false, Option, Result, Ok, Err}
+use Rattle.cli_lines.specs.declared.failure.Failure.{Failure}
+use Rattle.cli_lines.specs.declared.failure.Failure.TheVariants as failure
+
+-- how many texts were printed, whether one could not be, and all that the writer holds, where that is known
+pub record Told : Type 0 where
+  pub printed : ℕ
+  pub failed : Bool
+  pub bytes : Option (List ℕ)
+
+abbrev pub nothing_told : Option (List ℕ) → Told
+nothing_told bytes = record { printed = 0; failed = false; bytes = bytes }
+
+-- nothing of it is taken back
+pub record IsMore (before after : Told) : Type 0 where
+  pub prints : before.printed ≤ after.printed
+  pub fails : before.failed ≡ true → after.failed ≡ true
+
+-- what a failure says of what was told meanwhile: a difference was printed, and output failed where a text could not be
+abbrev pub Says : (before after : Told) → Failure → Type 0
+Says before after failure.Printed = before.printed < after.printed
+Says before after failure.Output = after.failed ≡ true
+Says before after _ = Unit {0}
+
+-- a text was printed meanwhile, or could not be
+abbrev pub IsTold : (before after : Told) → Type 0
+IsTold before after = (before.printed < after.printed) ⊎ (after.failed ≡ true)
+
+-- a failure that has nothing to do with what is printed
+abbrev pub IsSilent : Failure → Type 0
+IsSilent e = (before after : Told) → Says before after e
+
+-- a task that prints; where it is done, each of its texts was printed
+abbrev pub Tells : {A : Type 0} → (before after : Told) → Result A Failure → Type 0
+Tells before after (Ok a) = IsMore before after × (after.failed ≡ before.failed)
+Tells before after (Err e) = IsMore before after × Says before after e

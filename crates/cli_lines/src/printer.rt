@@ -1,0 +1,93 @@
+//! Where lines are printed.
+
+ghost use Rattle.std.specs.Prelude.{◌≡◌, ◌<◌, true, IfSome, OnOk, OnErr};
+ghost use Rattle.std.specs.Io.KnownBytes.{Appends, Keeps};
+ghost use Rattle.cli_lines.specs.Told.{Says, Tells, Told, nothing_told};
+
+use crate::failure::Failure;
+use std::fmt::Display;
+use std::io::{self, ErrorKind, Write};
+use std::marker::Model;
+
+/// A writer on which texts are printed. It keeps how many were, and whether one could not be.
+/// Contracts see this, and the bytes that the writer holds, where they are known.
+#[derive(Drop)]
+pub struct Printer<'w, W: Write> {
+    out: &'w mut W,
+    printed: u64,
+    has_failed: bool,
+}
+
+impl<'w, W: Write> Model for Printer<'w, W> {
+    ghost use Rattle.cli_lines.specs.Told.{Told};
+
+    ghost Value = { Told };
+
+    ghost view = { λ p.
+        record { printed = p.printed; failed = p.has_failed; bytes = W.contents p.out.now } };
+}
+
+impl<'w, W: Write> Printer<'w, W> {
+    /// Nothing was printed yet.
+    pub fn new(out: &'w mut W) -> Printer<'w, W>
+        ensures { result ≡ nothing_told (W.contents out.old) }
+    {
+        Printer {
+            out,
+            printed: 0,
+            has_failed: false,
+        }
+    }
+
+    /// Prints a text, by `write!` and `writeln!`. Refused where the writer refuses it, and behind
+    /// 2^64 - 1 texts.
+    pub fn write_fmt<D: Display + Drop>(&mut self, text: D) -> Result<(), Failure>
+        ensures tells { Tells self.old self.new result }
+        ensures printed { OnOk result (self.old.printed < self.new.printed) }
+        ensures text { OnOk result
+            (IfSome (D.output text) (Appends self.old.bytes self.new.bytes)) }
+        ensures failed { OnErr result (self.new.failed ≡ true) }
+    {
+        let Some(printed) = self.printed.checked_add(1) else {
+            self.has_failed = true;
+            return Err(Failure::Output);
+        };
+        match self.out.write_fmt(text) {
+            Ok(()) => {
+                self.printed = printed;
+                Ok(())
+            }
+            Err(error) => {
+                self.has_failed = true;
+                Err(reason(&error))
+            }
+        }
+    }
+
+    /// Hands on what was printed. Refused where the writer refuses it.
+    pub fn flush(&mut self) -> Result<(), Failure>
+        ensures tells { Tells self.old self.new result }
+        ensures printed { self.new.printed ≡ self.old.printed }
+        ensures bytes { Keeps self.old.bytes self.new.bytes }
+        ensures failed { OnErr result (self.new.failed ≡ true) }
+    {
+        match self.out.flush() {
+            Ok(()) => Ok(()),
+            Err(error) => {
+                self.has_failed = true;
+                Err(reason(&error))
+            }
+        }
+    }
+}
+
+/// Why a text could not be printed.
+fn reason(error: &io::Error) -> Failure
+    ensures { (before after : Told) → after.failed ≡ true → Says before after result }
+{
+    if error.kind() == ErrorKind::OutOfMemory {
+        Failure::Memory
+    } else {
+        Failure::Output
+    }
+}

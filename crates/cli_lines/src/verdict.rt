@@ -1,0 +1,26 @@
+//! What the program prints of an audit.
+
+ghost use Rattle.std.specs.Prelude.{◌≡◌, ◌<◌, false, IfOk};
+ghost use Rattle.cli_lines.specs.Told.{Tells};
+
+use crate::failure::Failure;
+use crate::printer::Printer;
+use ledger_setting::Audit;
+use std::io::Write;
+
+/// Prints what an audit says, and answers whether all transactions agree with their reruns.
+pub fn print_audit<W: Write>(audit: Audit, out: &mut Printer<'_, W>) -> Result<bool, Failure>
+    ensures tells { Tells out.old out.new result }
+    ensures differs { IfOk result (λ good. good ≡ false → out.old.printed < out.new.printed) }
+{
+    match audit {
+        Audit::Agrees { .. } => {
+            writeln!(out, "audit agrees")?;
+            Ok(true)
+        }
+        Audit::Differs { block, tx } => {
+            writeln!(out, "audit differs {block}.{tx}")?;
+            Ok(false)
+        }
+    }
+}

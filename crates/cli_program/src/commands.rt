@@ -1,0 +1,176 @@
+//! The program, but for the machine that it runs on.
+
+ghost use Rattle.std.specs.Prelude.{◌≡◌, ◌<◌, true, false, IfSome, OnOk};
+ghost use Rattle.std.specs.Io.KnownBytes.{Appends};
+ghost use Rattle.cli_lines.specs.Texts.{last_line};
+ghost use Rattle.cli_lines.specs.Told.{IsMore, IsTold, Says, Tells, Told};
+
+use crate::opening::{opened, order_log};
+use crate::threading::threads;
+use cli_lines::{Failure, Files, Printer};
+use cli_roles::{commit, endorse};
+use cli_session::{RunFiles, run};
+use ledger_setting::Genesis;
+use cli_show::{
+    Asked, Shown, Simulated, Span, audit, check, digest, show, simulate, state, trace,
+};
+use cli_words::{Task, Usage, WordsFault, Work, parse};
+use std::alloc::Global;
+use std::io::Write;
+use std::sync::Wait;
+use std::thread::Threads;
+
+/// Does what the words ask for, the command first, and answers the exit status: 0 for done, 1 for a
+/// refusal or a difference, which are printed, and 2 where the words name no task. Where a text
+/// cannot be printed, it is 1. What was printed is handed on at the end.
+pub fn program<R: Threads + Wait + Sync + Send + Copy + 'static, F: Files, W: Write>(
+    rt: &R,
+    alloc: Global,
+    words: &[String],
+    files: &mut F,
+    out: &mut Printer<'_, W>,
+) -> u8
+    ensures status { result < 3 }
+    ensures done { result ≡ 0 → out.new.failed ≡ out.old.failed }
+    ensures told { 0 < result → IsTold out.old out.new }
+{
+    match carry_out(rt, alloc, words, files, out) {
+        Ok(()) => done(out),
+        Err(failure) => refused(failure, out),
+    }
+}
+
+/// The status of a task that was done: 0, where what it printed can be handed on.
+fn done<W: Write>(out: &mut Printer<'_, W>) -> u8
+    ensures status { result < 2 }
+    ensures done { result ≡ 0 → out.new.failed ≡ out.old.failed }
+    ensures told { 0 < result → out.new.failed ≡ true }
+{
+    if hand_on(out) { 0 } else { 1 }
+}
+
+/// The status of a task that was not done: 2, where the words name none. Prints why, where that is
+/// not printed yet.
+fn refused<W: Write>(failure: Failure, out: &mut Printer<'_, W>) -> u8
+    ensures status { (0 < result) × (result < 3) }
+    ensures told { (before : Told) → IsMore before out.old → Says before out.old failure
+        → IsTold before out.new }
+{
+    let is_told = tell(failure, out).is_ok();
+    let is_handed_on = hand_on(out);
+    if is_told && is_handed_on && matches!(failure, Failure::Usage) {
+        2
+    } else {
+        1
+    }
+}
+
+/// Hands on what was printed. Whether that could be done.
+fn hand_on<W: Write>(out: &mut Printer<'_, W>) -> bool
+    ensures more { IsMore out.old out.new }
+    ensures kept { result ≡ true → out.new.failed ≡ out.old.failed }
+    ensures lost { result ≡ false → out.new.failed ≡ true }
+{
+    match out.flush() {
+        Ok(()) => true,
+        Err(_) => false,
+    }
+}
+
+/// Prints why a task was not done, where that is not printed yet.
+fn tell<W: Write>(failure: Failure, out: &mut Printer<'_, W>) -> Result<(), Failure>
+    ensures told { (before : Told) → IsMore before out.old → Says before out.old failure
+        → IsTold before out.new }
+    ensures line { OnOk result (IfSome (last_line failure) (Appends out.old.bytes out.new.bytes)) }
+{
+    match failure {
+        Failure::Printed | Failure::Output => Ok(()),
+        Failure::Usage => write!(out, "{Usage}"),
+        failure => writeln!(out, "{failure}"),
+    }
+}
+
+fn carry_out<R: Threads + Wait + Sync + Send + Copy + 'static, F: Files, W: Write>(
+    rt: &R,
+    alloc: Global,
+    words: &[String],
+    files: &mut F,
+    out: &mut Printer<'_, W>,
+) -> Result<(), Failure>
+    ensures tells { Tells out.old out.new result }
+{
+    match parse(alloc, words) {
+        Ok(Task::Check { module, profile }) => check(alloc, files, module, profile, out),
+        Ok(Task::Digest { module, profile }) => digest(alloc, files, module, profile, out),
+        Ok(Task::Order { genesis }) => order_log(alloc, files, genesis, out),
+        Ok(Task::Work { genesis, work }) => { with_genesis(rt, alloc, files, genesis, &work, out) }
+        Err(WordsFault::Memory) => Err(Failure::Memory),
+        Err(WordsFault::Usage) => Err(Failure::Usage),
+    }
+}
+
+/// Does what is asked for of the genesis in the file of this name.
+fn with_genesis<R: Threads + Wait + Sync + Send + Copy + 'static, F: Files, W: Write>(
+    rt: &R,
+    alloc: Global,
+    files: &mut F,
+    name: &str,
+    work: &Work<'_>,
+    out: &mut Printer<'_, W>,
+) -> Result<(), Failure>
+    ensures tells { Tells out.old out.new result }
+{
+    let genesis = opened(alloc, files, name)?;
+    do_work(rt, alloc, files, name, &genesis, work, out)
+}
+
+/// Does what is asked for of a genesis, whose file has this name.
+fn do_work<R: Threads + Wait + Sync + Send + Copy + 'static, F: Files, W: Write>(
+    rt: &R,
+    alloc: Global,
+    files: &mut F,
+    name: &str,
+    genesis: &Genesis,
+    work: &Work<'_>,
+    out: &mut Printer<'_, W>,
+) -> Result<(), Failure>
+    ensures tells { Tells out.old out.new result }
+{
+    match work {
+        Work::Simulate { proposal, store } => {
+            let simulated = Simulated {
+                proposal,
+                store: *store,
+            };
+            simulate(alloc, files, genesis, &simulated, out)
+        }
+        Work::Run { events, store } => {
+            let names = RunFiles {
+                genesis: name,
+                events,
+                store: *store,
+            };
+            run(alloc, files, genesis, &names, out)
+        }
+        Work::Threads { chaincode, rounds } => threads(rt, alloc, genesis, chaincode, *rounds, out),
+        Work::Audit { store } => audit(alloc, files, genesis, store, out),
+        Work::Show { store, from, to } => {
+            let span = Span {
+                from: *from as usize,
+                to: *to as usize,
+            };
+            show(alloc, files, genesis, &Shown { store, span }, out)
+        }
+        Work::State { store, at, key } => {
+            let asked = Asked {
+                store,
+                at: *at as usize,
+                key: key.as_ref(),
+            };
+            state(alloc, files, genesis, &asked, out)
+        }
+        Work::Trace { call, most } => trace(alloc, genesis, call, *most, out),
+        Work::Commit { store } => commit(alloc, files, genesis, store, out),
+        Work::Endorse { org, store } => endorse(alloc, files, genesis, org, store, out),
+    }
+}

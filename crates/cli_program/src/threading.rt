@@ -1,0 +1,58 @@
+//! The command `threads`.
+
+ghost use Rattle.cli_lines.specs.Told.{Tells};
+
+use fab_types::Name;
+use cli_lines::{Failure, Printer, print_audit};
+use ledger_setting::Genesis;
+use seat_threads::{Report, SeatsRefusal, run_seats};
+use std::alloc::Global;
+use std::io::Write;
+use std::sync::Wait;
+use std::thread::Threads;
+
+/// Lets each seat of the first peer endorse and submit so many calls of a chaincode on a thread of
+/// its own, and prints how many were endorsed and refused, how many of the endorsed ones the
+/// orderer refused, if any, how many blocks came of them, and what the audit of the chain says.
+pub fn threads<R: Threads + Wait + Sync + Send + Copy + 'static, W: Write>(
+    rt: &R,
+    alloc: Global,
+    genesis: &Genesis,
+    chaincode: &Name,
+    rounds: u32,
+    out: &mut Printer<'_, W>,
+) -> Result<(), Failure>
+    ensures tells { Tells out.old out.new result }
+{
+    match run_seats(rt, alloc, genesis, chaincode, rounds) {
+        Ok(report) => print_report(report, out),
+        Err(SeatsRefusal::Memory) => Err(Failure::Memory),
+        Err(SeatsRefusal::NoPlace) => Err(Failure::NoPlace),
+        Err(SeatsRefusal::NoEntry) => Err(Failure::NoEntry),
+    }
+}
+
+/// Prints what seats have done.
+fn print_report<W: Write>(report: Report, out: &mut Printer<'_, W>) -> Result<(), Failure>
+    ensures tells { Tells out.old out.new result }
+{
+    writeln!(out, "endorsed {}", report.endorsed)?;
+    writeln!(out, "refused {}", report.refused)?;
+    print_missing(report.missing, out)?;
+    writeln!(out, "blocks {}", report.blocks)?;
+    if print_audit(report.audit, out)? {
+        Ok(())
+    } else {
+        Err(Failure::Printed)
+    }
+}
+
+/// Prints how many envelopes the orderer refused, where there are any.
+fn print_missing<W: Write>(missing: u64, out: &mut Printer<'_, W>) -> Result<(), Failure>
+    ensures tells { Tells out.old out.new result }
+{
+    if missing > 0 {
+        writeln!(out, "missing {missing}")?;
+    }
+    Ok(())
+}

@@ -1,0 +1,18 @@
+//! Why a filter ends before its input.
+
+ghost use Rattle.cli_lines.specs.Told.{IsMore, Says};
+
+use log_store::StoreRefusal;
+use cli_lines::{Failure, Printer};
+use std::io::Write;
+
+/// Prints why a filter ends.
+pub(crate) fn end<W: Write>(refusal: StoreRefusal, out: &mut Printer<'_, W>) -> Failure
+    ensures more { IsMore out.old out.new }
+    ensures says { Says out.old out.new result }
+{
+    match writeln!(out, "{refusal}") {
+        Ok(()) => Failure::Printed,
+        Err(failure) => failure,
+    }
+}

@@ -1,0 +1,230 @@
+//! The command `order`.
+
+ghost use Rattle.std.specs.Prelude.{IfOk};
+ghost use Rattle.cli_lines.specs.Told.{Tells};
+ghost use Rattle.cli_roles.specs.Marks.{IsMarkOrNone};
+
+use crate::input::InputLines;
+use crate::marks::{
+    index_and_mark, is_of_mark, leaves_genesis_open, names_another_genesis, seen_in,
+};
+use fab_types::Block;
+use cli_lines::{Failure, Files, Printer};
+use ledger_setting::Genesis;
+use log_orderer::{LineReport, LogBatch, Replica};
+use std::alloc::Global;
+use std::io::{Read, Write};
+use wire::{encode_block, header_hash};
+
+/// What is said of a log whose first line leaves open which genesis file counts.
+const LEFT_OPEN: &str =
+    "the log does not say which genesis file counts: let its first mark be `genesis <SHA-256>`";
+
+/// Reads the lines of a log, each an index and a mark, and prints the blocks that the log makes.
+///
+/// Behind each line comes `read`, its index, and how many envelopes wait; before it what came of the
+/// mark: `aborted` for each transaction that is left out of a batch, `block` with the bytes of a
+/// block, and `skipped` with the reason where the mark asks for nothing that can be done. Before a
+/// skipped mark comes `forked`, where it says that an organisation has seen another block of a number
+/// than this log's. A first line that names another genesis by its file's digest ends it. One that
+/// says nothing that an orderer or its readers know is told on the standard error: so nobody takes
+/// a log for one that names its genesis.
+pub fn order<F: Files, W: Write>(
+    alloc: Global,
+    files: &mut F,
+    genesis: &Genesis,
+    digest: &str,
+    out: &mut Printer<'_, W>,
+) -> Result<(), Failure>
+    ensures tells { Tells out.old out.new result }
+{
+    let mut lines = InputLines::new(alloc, files.input())?;
+    let (count, preferred, absolute) = (genesis.count, genesis.preferred, genesis.absolute);
+    let mut ordering = Ordering {
+        replica: Replica::new(alloc, count, preferred, absolute, genesis.reorder),
+        alloc,
+    };
+    ordering.read_lines(files, &mut lines, digest, out)
+}
+
+/// A replica of the orderer, of which is printed what it does.
+#[derive(Drop)]
+struct Ordering {
+    replica: Replica,
+    alloc: Global,
+}
+
+impl Ordering {
+    /// Reads each line, and prints what comes of it.
+    fn read_lines<F: Files, R: Read + Drop, W: Write>(
+        &mut self,
+        files: &mut F,
+        lines: &mut InputLines<R>,
+        digest: &str,
+        out: &mut Printer<'_, W>,
+    ) -> Result<(), Failure>
+        ensures tells { Tells out.old out.new result }
+    {
+        for number in 1..u64::MAX {
+            match lines.next()? {
+                Some(line) if number == 1 => self.take_first(files, line, digest, out)?,
+                Some(line) => self.take_line(line, out)?,
+                None => return Ok(()),
+            }
+            if !lines.is_at_hand() {
+                out.flush()?;
+            }
+        }
+        Ok(())
+    }
+
+    /// Reads the first line. It may name a genesis, which has to be the one with this digest. Where
+    /// it leaves open which one counts, that is said.
+    fn take_first<F: Files, W: Write>(
+        &mut self,
+        files: &mut F,
+        line: &[u8],
+        digest: &str,
+        out: &mut Printer<'_, W>,
+    ) -> Result<(), Failure>
+        ensures tells { Tells out.old out.new result }
+    {
+        let text = String::from_utf8_lossy(self.alloc, line)?;
+        let (index, mark) = index_and_mark(&text);
+        if names_another_genesis(mark, digest) {
+            writeln!(out, "refused 807")?;
+            return Err(Failure::Printed);
+        }
+        let is_mark = self.take_mark(index, mark, out)?;
+        if !is_mark && leaves_genesis_open(mark) {
+            files.remark(LEFT_OPEN);
+        }
+        writeln!(out, "read {index} {}", self.replica.waiting().len())
+    }
+
+    /// Reads a line behind the first.
+    fn take_line<W: Write>(&mut self, line: &[u8], out: &mut Printer<'_, W>) -> Result<(), Failure>
+        ensures tells { Tells out.old out.new result }
+    {
+        let text = String::from_utf8_lossy(self.alloc, line)?;
+        let (index, mark) = index_and_mark(&text);
+        self.take_mark(index, mark, out)?;
+        writeln!(out, "read {index} {}", self.replica.waiting().len())
+    }
+
+    /// Reads the mark of a line, and answers whether it is one of an orderer: an envelope or `tick`.
+    fn take_mark<W: Write>(
+        &mut self,
+        index: &str,
+        mark: &str,
+        out: &mut Printer<'_, W>,
+    ) -> Result<bool, Failure>
+        ensures tells { Tells out.old out.new result }
+        ensures mark { IfOk result (IsMarkOrNone mark.now) }
+    {
+        match self.replica.read(mark)? {
+            LineReport::Accepted { id: _, batches } => {
+                self.print_batches(batches.as_slice(), out)?;
+                Ok(true)
+            }
+            LineReport::Ticked(None) => Ok(true),
+            LineReport::Ticked(Some(batch)) => {
+                self.print_batch(&batch, out)?;
+                Ok(true)
+            }
+            LineReport::Skipped(skip) => {
+                self.print_fork(mark, out)?;
+                writeln!(out, "skipped {index} {skip}")?;
+                Ok(is_of_mark(skip))
+            }
+        }
+    }
+
+    /// Prints the batches that a line ended.
+    fn print_batches<W: Write>(
+        &self,
+        batches: &[LogBatch],
+        out: &mut Printer<'_, W>,
+    ) -> Result<(), Failure>
+        ensures tells { Tells out.old out.new result }
+    {
+        for batch in batches {
+            self.print_batch(batch, out)?;
+        }
+        Ok(())
+    }
+
+    /// Prints which transactions a batch leaves out, and its block, where there is one.
+    fn print_batch<W: Write>(
+        &self,
+        batch: &LogBatch,
+        out: &mut Printer<'_, W>,
+    ) -> Result<(), Failure>
+        ensures tells { Tells out.old out.new result }
+    {
+        print_aborted(self.alloc, batch, out)?;
+        let Some(number) = batch.report.block else {
+            return Ok(());
+        };
+        match self.replica.blocks_from(number).first() {
+            Some(block) => print_block(self.alloc, number, block, out),
+            None => Ok(()),
+        }
+    }
+
+    /// Prints that an organisation has seen another block than this log's, if a mark says so.
+    fn print_fork<W: Write>(&self, mark: &str, out: &mut Printer<'_, W>) -> Result<(), Failure>
+        ensures tells { Tells out.old out.new result }
+    {
+        let Some(seen) = seen_in(mark) else {
+            return Ok(());
+        };
+        let (org, number) = (seen.org, seen.number);
+        if !has_header(self.replica.blocks(), number, &seen.hash) {
+            writeln!(out, "forked {org} {number}")?;
+        }
+        Ok(())
+    }
+}
+
+/// Whether the block of this number, from 1 on, has a header with this hash.
+fn has_header(blocks: &[Block], number: u32, hash: &[u8; 32]) -> bool {
+    let Some(place) = (number as usize).checked_sub(1) else {
+        return false;
+    };
+    match blocks.get(place) {
+        Some(block) => header_hash(&block.header) == *hash,
+        None => false,
+    }
+}
+
+/// Prints the transactions that a batch leaves out, by their ids, and why.
+fn print_aborted<W: Write>(
+    alloc: Global,
+    batch: &LogBatch,
+    out: &mut Printer<'_, W>,
+) -> Result<(), Failure>
+    ensures tells { Tells out.old out.new result }
+{
+    let causes = batch.report.aborted.as_slice();
+    for (place, id) in batch.aborted.as_slice().iter().enumerate() {
+        if let Some((_, cause)) = causes.get(place) {
+            let id = hex::encode(alloc, id)?;
+            writeln!(out, "aborted {id} {cause}")?;
+        }
+    }
+    Ok(())
+}
+
+/// Prints the bytes of a block.
+fn print_block<W: Write>(
+    alloc: Global,
+    number: u32,
+    block: &Block,
+    out: &mut Printer<'_, W>,
+) -> Result<(), Failure>
+    ensures tells { Tells out.old out.new result }
+{
+    let bytes = hex::encode(alloc, &encode_block(alloc, block)?)?;
+    writeln!(out, "block {number} {bytes}")
+}

@@ -1,0 +1,11 @@
+use Rattle.std.proofs.lemmas.Result.{err_from_is_err_and}
+use Rattle.cli_lines.proofs.Silence.{tells_by, and_more}
+use Rattle.cli_session.proofs.session.Session.run_to_end.Goals as goal
+
+pub returns-in_err-write_store : goal.returns-in_err-write_store
+returns-in_err-write_store g c =
+    let p = err_from_is_err_and c.from_residual-in_err-write_store.result c.from_residual-in_err-write_store.ensures.1 in
+    rw (p.1, p.2) (record {
+      tells = tells_by c.args.out.now c.print_end.new.out _ (and_more _ _ _ c.in_ok-run_lines.ensures.tells.0 c.in_ok-is_good.ensures.tells.0)
+          c.in_err-write_store.ensures.silent;
+    })

@@ -1,0 +1,118 @@
+//! The store that a run writes.
+
+ghost use Rattle.std.specs.Prelude.{IfErr};
+ghost use Rattle.cli_lines.specs.Told.{IsSilent};
+
+use crate::placing::part_of;
+use block_store::{AppendFault, append};
+use store_devices::Counted;
+use fab_types::CommittedBlock;
+use cli_lines::{Failure, Files, Target};
+use std::alloc::Global;
+use std::io::Write;
+use std::sync::Arc;
+use world_state::Snapshot;
+
+/// Writes a chain as a store.
+///
+/// A file stays as it was until the store is whole, and so does one that has got the name of a new
+/// one meanwhile. A device or a pipe keeps what it was given when a write fails.
+pub(crate) fn write_store<F: Files>(
+    alloc: Global,
+    files: &mut F,
+    target: &Target,
+    snapshot: &Snapshot,
+) -> Result<(), Failure>
+    ensures silent { IfErr result IsSilent }
+{
+    match target {
+        Target::File(name) => write_beside(alloc, files, name, snapshot, true),
+        Target::NewFile(name) => write_beside(alloc, files, name, snapshot, false),
+        Target::Device(name) => match files.open_device(name) {
+            Some(writer) => write_chain(alloc, writer, snapshot).map(drop),
+            None => Err(Failure::File),
+        },
+    }
+}
+
+/// Writes a chain beside a file, under its name with `.part` behind it, and gives it the file's
+/// place. Where that fails, nothing of it stays.
+fn write_beside<F: Files>(
+    alloc: Global,
+    files: &mut F,
+    name: &str,
+    snapshot: &Snapshot,
+    is_there: bool,
+) -> Result<(), Failure>
+    ensures silent { IfErr result IsSilent }
+{
+    let part = part_of(alloc, name)?;
+    let Some(writer) = files.create(&part) else {
+        return Err(Failure::File);
+    };
+    let written = match write_chain(alloc, writer, snapshot) {
+        Ok(_writer) if is_there => replace_file(files, &part, name),
+        Ok(_writer) => place_file(files, &part, name),
+        Err(failure) => Err(failure),
+    };
+    if written.is_err() {
+        files.remove(&part);
+    }
+    written
+}
+
+/// Gives a file the name of another one, whose place it takes.
+fn replace_file<F: Files>(files: &mut F, part: &str, name: &str) -> Result<(), Failure>
+    ensures silent { IfErr result IsSilent }
+{
+    if files.rename(part, name) {
+        Ok(())
+    } else {
+        Err(Failure::File)
+    }
+}
+
+/// Gives a file a name that no file has, in the place of an empty one that nobody else has.
+fn place_file<F: Files>(files: &mut F, part: &str, name: &str) -> Result<(), Failure>
+    ensures silent { IfErr result IsSilent }
+{
+    let Some(_lock) = files.lock_new(name) else {
+        return Err(Failure::File);
+    };
+    let placed = replace_file(files, part, name);
+    if placed.is_err() {
+        files.remove(name);
+    }
+    placed
+}
+
+/// Writes a chain as a whole store, and gives the writer back.
+fn write_chain<W: Write + Drop>(alloc: Global, writer: W, snapshot: &Snapshot) -> Result<W, Failure>
+    ensures silent { IfErr result IsSilent }
+{
+    let mut device = Counted::new(writer);
+    write_blocks(alloc, &mut device, snapshot.blocks())?;
+    let mut writer = device.into_inner();
+    match writer.flush() {
+        Ok(()) => Ok(writer),
+        Err(_) => Err(Failure::File),
+    }
+}
+
+/// Appends the record of each block.
+fn write_blocks<W: Write + Drop>(
+    alloc: Global,
+    device: &mut Counted<W>,
+    blocks: &[Arc<CommittedBlock>],
+) -> Result<(), Failure>
+    ensures silent { IfErr result IsSilent }
+{
+    for committed in blocks {
+        match append(alloc, device, committed.block(), committed.flags()) {
+            Ok(()) => {}
+            Err(AppendFault::Memory) => return Err(Failure::Memory),
+            Err(AppendFault::Device(_)) => return Err(Failure::File),
+        }
+    }
+    Ok(())
+}

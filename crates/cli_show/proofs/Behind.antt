@@ -1,0 +1,45 @@
+-- Lines behind lines.
+use Rattle.std.proofs.Common.{◌≡◌, List, [], ◌∷◌, ◌++◌, Option, Some, None, Result, Ok, Err, OnOk, refl, sym, ap, ap₂, subst, ◌∙◌, append_assoc}
+use Rattle.std.proofs.lemmas.List.{append-nil, map-append}
+use Rattle.std.proofs.lemmas.List.Concat.{flat_map-append}
+use Rattle.std.specs.List.{flat_map}
+use Rattle.std.specs.Io.KnownBytes.{Appends}
+use Rattle.serde_json.specs.Data.{Data}
+use Rattle.serde_json.specs.Read.{read}
+use Rattle.ledger_model.specs.Chain.{Bytes}
+use Rattle.cli_lines.specs.Texts.{line}
+use Rattle.cli_show.specs.Lines.{HasLines}
+
+appends_none : (b : Option Bytes) → Appends b b []
+appends_none None = tt
+appends_none (Some xs) = sym (append-nil xs)
+
+appends_more : (a b c : Option Bytes) (s t : Bytes) → Appends a b s → Appends b c t → Appends a c (s ++ t)
+appends_more None b c s t h k = tt
+appends_more (Some xs) None c s t h k = absurd h
+appends_more (Some xs) (Some ys) None s t h k = absurd k
+appends_more (Some xs) (Some ys) (Some zs) s t h k = rw (k, h) (simp append_assoc)
+
+pub no_lines : (b : Option Bytes) → HasLines [] b b
+no_lines b = ([], refl, appends_none b)
+
+pub one_line : (d : Data) (text : Bytes) (a b : Option Bytes) → read text ≡ Some d → Appends a b (line text) → HasLines (d ∷ []) a b
+one_line d text a b is h =
+    (text ∷ [], ap (λ (o : Option Data). o ∷ []) is, subst (λ (s : Bytes). Appends a b s) (sym (append-nil (line text))) h)
+
+pub more_lines : (ds es : List Data) (a b c : Option Bytes) → HasLines ds a b → HasLines es b c → HasLines (ds ++ es) a c
+more_lines ds es a b c h k = (
+  h.0 ++ k.0,
+  map-append read h.0 k.0 ∙ ap₂ (λ (xs ys : List (Option Data)). xs ++ ys) h.1 k.1 ∙ sym (map-append Some ds es),
+  subst (λ (s : Bytes). Appends a c s) (sym (flat_map-append line h.0 k.0)) (appends_more a b c (flat_map line h.0) (flat_map line k.0) h.2 k.2),
+)
+
+-- one line more
+pub line_behind : (before after : List Data) (d : Data) (text : Bytes) (a b c : Option Bytes) → after ≡ before ++ d ∷ [] → HasLines before a b →
+    read text ≡ Some d → Appends b c (line text) → HasLines after a c
+line_behind before after d text a b c longer h is k =
+    subst (λ (ds : List Data). HasLines ds a c) (sym longer) (more_lines before (d ∷ []) a b c h (one_line d text b c is k))
+
+pub on_ok : {A E : Type 0} (r : Result A E) (P Q : Type 0) → (P → Q) → OnOk r P → OnOk r Q
+on_ok (Ok x) P Q f h = f h
+on_ok (Err e) P Q f h = tt

@@ -1,0 +1,14 @@
+use Rattle.std.proofs.Common.{◌≡◌, List, OnOk, map, ap, subst, ◌∙◌}
+use Rattle.std.specs.FinMap.{entries}
+use Rattle.std.specs.Map.Iter.{deref_pair}
+use Rattle.ledger_model.specs.Chain.{Bytes, Version, history}
+use Rattle.ledger_model.specs.State.{state}
+use Rattle.cli_show.specs.Lines.{HasLines, entries_json}
+use Rattle.cli_show.proofs.entries.print_state_of.Goals as goal
+
+pub returns-clause-lines : goal.returns-clause-lines
+returns-clause-lines g c =
+    let same : map deref_pair c.deref.result.now ≡ entries (state (history c.args.snapshot.now)) =
+    ap (map deref_pair) c.deref.ensures.value ∙ c.in_ok-entries.ensures in
+    subst (λ (es : List (Bytes × (Bytes × Version))).
+    OnOk c.print_entries.result (HasLines (entries_json es) c.args.out.now.bytes c.print_entries.new.out.bytes)) same c.print_entries.ensures.lines

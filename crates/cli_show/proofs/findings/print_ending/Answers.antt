@@ -1,0 +1,13 @@
+use Rattle.std.proofs.Common.{string_bytes}
+use Rattle.cli_show.proofs.Behind.{one_line}
+use Rattle.cli_show.proofs.findings.print_ending.Goals as goal
+
+pub returns-clause-line : goal.returns-clause-line
+returns-clause-line g c =
+    let finding = c.in_ok-finding.finding in
+    let reads = rw c.height.ensures.value at c.in_ok-line.ensures in (
+      finding,
+      c.in_ok-finding.ensures,
+      c.is_good.ensures,
+      one_line _ (string_bytes c.in_ok-line.line) c.args.out.now.bytes c.print_line.new.out.bytes reads c.in_ok-print_line.ensures.line,
+    )

@@ -1,0 +1,20 @@
+use Rattle.std.proofs.Common.{string_bytes}
+use Rattle.std.specs.Io.KnownBytes.{Appends}
+use Rattle.json_chain.specs.Writes.{placed_at}
+use Rattle.cli_lines.specs.Texts.{line}
+use Rattle.cli_show.specs.Lines.{HasLines, write_json}
+use Rattle.cli_show.proofs.Behind.{on_ok}
+use Rattle.cli_show.proofs.Written.{line_of_write}
+use Rattle.cli_show.proofs.writes.print_write.Goals as goal
+
+pub returns-in-Some-clause-lines : goal.returns-in-Some-clause-lines
+returns-in-Some-clause-lines g c =
+    let a = c.args.out.now.bytes in
+    let b = c.print_line.new.out.bytes in
+    let placed = c.args.placed.now in
+    let e = placed.envelope.now in
+    let key = c.args.key.now in
+    on_ok c.print_line.result (Appends a b (line (string_bytes c.in-Some.line)))
+    (HasLines (write_json key (placed_at e placed.flag placed.block placed.place)) a b)
+    (λ h. line_of_write e placed.flag key placed.block placed.place c.in_ok-line.field-0 c.in-Some.line a b c.in_ok-line.ensures c.in-Some.is h)
+    c.print_line.ensures.line

@@ -1,0 +1,72 @@
+//! The lines of a state.
+
+ghost use Rattle.std.specs.Prelude.{◌≡◌, OnOk, map, take};
+ghost use Rattle.std.specs.FinMap.{entries};
+ghost use Rattle.std.specs.Map.Iter.{deref_pair};
+ghost use Rattle.cli_lines.specs.Told.{Tells};
+ghost use Rattle.ledger_model.specs.Chain.{history};
+ghost use Rattle.ledger_model.specs.State.{state};
+ghost use Rattle.cli_show.specs.Lines.{HasLines, entries_json};
+
+use crate::earlier::first_blocks;
+use crate::lines::print_line;
+use json_chain::entry_line;
+use committer::CommitRefusal;
+use fab_types::{Key, Value, Version};
+use cli_lines::{Failure, Printer};
+use std::alloc::Global;
+use std::io::Write;
+use world_state::Snapshot;
+
+/// Prints each entry of the state after the first so many blocks of a chain, or after all where
+/// there are no more, in key order, as a line of JSON.
+pub fn print_state<W: Write>(
+    alloc: Global,
+    snapshot: &Snapshot,
+    at: usize,
+    out: &mut Printer<'_, W>,
+) -> Result<(), Failure>
+    ensures tells { Tells out.old out.new result }
+    ensures lines { OnOk result
+        (HasLines (entries_json (entries (state (history (take at snapshot.now)))))
+        out.old.bytes out.new.bytes) }
+{
+    if at >= snapshot.height() {
+        return print_state_of(alloc, snapshot, out);
+    }
+    match first_blocks(alloc, snapshot, at) {
+        Ok(earlier) => print_state_of(alloc, &earlier, out),
+        Err(CommitRefusal::Memory) => Err(Failure::Memory),
+        Err(refusal) => Err(Failure::Commit(refusal)),
+    }
+}
+
+fn print_state_of<W: Write>(
+    alloc: Global,
+    snapshot: &Snapshot,
+    out: &mut Printer<'_, W>,
+) -> Result<(), Failure>
+    ensures tells { Tells out.old out.new result }
+    ensures lines { OnOk result
+        (HasLines (entries_json (entries (state (history snapshot.now)))) out.old.bytes
+        out.new.bytes) }
+{
+    let entries = snapshot.entries(alloc)?;
+    print_entries(alloc, &entries, out)
+}
+
+fn print_entries<W: Write>(
+    alloc: Global,
+    entries: &[(&Key, &(Value, Version))],
+    out: &mut Printer<'_, W>,
+) -> Result<(), Failure>
+    ensures tells { Tells out.old out.new result }
+    ensures lines { OnOk result
+        (HasLines (entries_json (map deref_pair entries.now)) out.old.bytes out.new.bytes) }
+{
+    for (key, entry) in entries {
+        let line = entry_line(alloc, key, &entry.0, entry.1)?;
+        print_line(&line, out)?;
+    }
+    Ok(())
+}

@@ -1,0 +1,34 @@
+//! The commands of the ledger's program that show a module ([`check`], [`digest`]), a call ([`simulate`], and
+//! [`trace`] step by step) or a store ([`audit`], [`show`] and [`state`]), whose chain is committed
+//! again.
+//!
+//! `show` and `state` print that chain, and the state after it, as lines of JSON (`json_chain`).
+//! [`print_chain`] prints what the genesis sets and the blocks, and [`print_ending`] what is found
+//! of them. [`print_asked`] answers `state`: [`print_state`] prints the entries of the state after a
+//! block, and [`print_writes`] each write to a key. Contracts say which lines the writer has then (`specs/Lines.antt`).
+#![tactic(auto)]
+
+mod auditing;
+mod chain;
+mod checking;
+mod earlier;
+mod entries;
+mod findings;
+mod lines;
+mod replaying;
+mod showing;
+mod simulation;
+mod span;
+mod tracing;
+mod writes;
+
+pub use auditing::audit;
+pub use chain::print_chain;
+pub use checking::{check, digest};
+pub use entries::print_state;
+pub use findings::print_ending;
+pub use showing::{Asked, Shown, print_asked, show, state};
+pub use simulation::{Simulated, simulate};
+pub use span::Span;
+pub use tracing::trace;
+pub use writes::print_writes;

@@ -1,0 +1,130 @@
+//! The commands `show` and `state`.
+
+ghost use Rattle.std.specs.Prelude.{◌≡◌, IfSome, OnOk, take};
+ghost use Rattle.cli_lines.specs.Told.{Tells};
+ghost use Rattle.ledger_model.specs.Chain.{history};
+ghost use Rattle.cli_show.specs.Answers.{fault_of, state_json};
+ghost use Rattle.cli_show.specs.Lines.{HasLines, writes_json};
+
+use crate::chain::print_chain;
+use crate::entries::print_state;
+use crate::findings::print_ending;
+use crate::replaying::replayed;
+use crate::span::Span;
+use crate::writes::print_writes;
+use block_store::End;
+use fab_types::Key;
+use cli_lines::{Failure, Files, Printer};
+use ledger_setting::Genesis;
+use std::alloc::Global;
+use std::io::Write;
+use store_replay::Replayed;
+
+/// What `show` is asked for: these blocks of the store in the file of a name.
+#[derive(Clone, Copy)]
+pub struct Shown<'a> {
+    pub store: &'a str,
+    pub span: Span,
+}
+
+/// What `state` is asked for: the state after the block of this number of the store in the file of a
+/// name, or each write to a key up to it.
+#[derive(Clone, Copy)]
+pub struct Asked<'a> {
+    pub store: &'a str,
+    pub at: usize,
+    pub key: Option<&'a Key>,
+}
+
+/// Prints what the genesis sets, the blocks of a store from one number to another, and what is
+/// found of the store, as lines of JSON.
+pub fn show<F: Files, W: Write>(
+    alloc: Global,
+    files: &mut F,
+    genesis: &Genesis,
+    shown: &Shown<'_>,
+    out: &mut Printer<'_, W>,
+) -> Result<(), Failure>
+    ensures tells { Tells out.old out.new result }
+{
+    let replayed = replayed(alloc, files, genesis, shown.store)?;
+    print_shown(alloc, genesis, &replayed, shown.span, out)
+}
+
+/// Prints the chain of a store, and what is found of it.
+fn print_shown<W: Write>(
+    alloc: Global,
+    genesis: &Genesis,
+    replayed: &Replayed,
+    span: Span,
+    out: &mut Printer<'_, W>,
+) -> Result<(), Failure>
+    ensures tells { Tells out.old out.new result }
+{
+    print_chain(alloc, genesis, &replayed.snapshot, span, out)?;
+    if print_ending(alloc, genesis, replayed, out)? {
+        Ok(())
+    } else {
+        Err(Failure::Printed)
+    }
+}
+
+/// Prints the state after the block of a number, or each write to a key up to it, as lines of JSON.
+///
+/// Refused where a block is stored with other flags than the table's (711), where one does not fit
+/// (601 to 604), and where the store does not end with its last record (701 to 703).
+pub fn state<F: Files, W: Write>(
+    alloc: Global,
+    files: &mut F,
+    genesis: &Genesis,
+    asked: &Asked<'_>,
+    out: &mut Printer<'_, W>,
+) -> Result<(), Failure>
+    ensures tells { Tells out.old out.new result }
+{
+    let replayed = replayed(alloc, files, genesis, asked.store)?;
+    print_asked(alloc, &replayed, asked.at, asked.key, out)
+}
+
+/// Prints what is asked for of the state after a store, as `state` does.
+pub fn print_asked<W: Write>(
+    alloc: Global,
+    replayed: &Replayed,
+    at: usize,
+    key: Option<&Key>,
+    out: &mut Printer<'_, W>,
+) -> Result<(), Failure>
+    ensures tells { Tells out.old out.new result }
+    ensures refused { IfSome (fault_of replayed.now) (λ failure.
+        (result ≡ Err failure) × (out.new ≡ out.old)) }
+    ensures state { key.entry ≡ None → OnOk result
+        (HasLines (state_json at replayed.now.snapshot) out.old.bytes out.new.bytes) }
+    ensures writes { IfSome key.entry (λ k. OnOk result
+        (HasLines (writes_json k.now (history (take at replayed.now.snapshot))) out.old.bytes
+        out.new.bytes)) }
+{
+    if let Some(failure) = fault_of(replayed) {
+        return Err(failure);
+    }
+    match key {
+        None => print_state(alloc, &replayed.snapshot, at, out),
+        Some(key) => print_writes(alloc, &replayed.snapshot, key, at, out),
+    }
+}
+
+/// Why the state after a store is not told: what is wrong with the store first. None where it is
+/// whole, all its blocks fit, and all have the flags of the table.
+fn fault_of(replayed: &Replayed) -> Option<Failure>
+    ensures { result ≡ fault_of replayed.now }
+{
+    if let Some(block) = replayed.differs {
+        return Some(Failure::Flags(block));
+    }
+    if let Some(refusal) = replayed.refused {
+        return Some(Failure::Commit(refusal));
+    }
+    match replayed.end {
+        End::Clean => None,
+        end => Some(Failure::Store(end)),
+    }
+}

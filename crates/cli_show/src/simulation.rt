@@ -1,0 +1,77 @@
+//! The command `sim`.
+
+ghost use Rattle.cli_lines.specs.Told.{Tells};
+
+use crate::replaying::replayed;
+use block_store::End;
+use fab_types::Proposal;
+use cli_lines::{Failure, Files, Printer, print_payload};
+use ledger_setting::Genesis;
+use std::alloc::Global;
+use std::io::Write;
+use store_replay::Replayed;
+use world_state::Snapshot;
+
+/// What `sim` is asked for: this call, on the state after the store in the file of a name, or on the
+/// empty state.
+#[derive(Clone, Copy)]
+pub struct Simulated<'a> {
+    pub proposal: &'a Proposal,
+    pub store: Option<&'a str>,
+}
+
+/// Simulates a call, and prints its transaction.
+///
+/// Refused where a block of the store does not fit, and where the store does not end with its last
+/// record. Flags that the store has are passed over.
+pub fn simulate<F: Files, W: Write>(
+    alloc: Global,
+    files: &mut F,
+    genesis: &Genesis,
+    simulated: &Simulated<'_>,
+    out: &mut Printer<'_, W>,
+) -> Result<(), Failure>
+    ensures tells { Tells out.old out.new result }
+{
+    let proposal = simulated.proposal;
+    match simulated.store {
+        None => print_call(alloc, genesis, &Snapshot::empty(alloc), proposal, out),
+        Some(name) => {
+            let replayed = replayed(alloc, files, genesis, name)?;
+            print_call_after(alloc, genesis, &replayed, proposal, out)
+        }
+    }
+}
+
+/// Simulates a call on the state after a whole store.
+fn print_call_after<W: Write>(
+    alloc: Global,
+    genesis: &Genesis,
+    replayed: &Replayed,
+    proposal: &Proposal,
+    out: &mut Printer<'_, W>,
+) -> Result<(), Failure>
+    ensures tells { Tells out.old out.new result }
+{
+    if let Some(refusal) = replayed.refused {
+        return Err(Failure::Commit(refusal));
+    }
+    match replayed.end {
+        End::Clean => print_call(alloc, genesis, &replayed.snapshot, proposal, out),
+        end => Err(Failure::Store(end)),
+    }
+}
+
+/// Simulates a call on the state of a snapshot.
+fn print_call<W: Write>(
+    alloc: Global,
+    genesis: &Genesis,
+    snapshot: &Snapshot,
+    proposal: &Proposal,
+    out: &mut Printer<'_, W>,
+) -> Result<(), Failure>
+    ensures tells { Tells out.old out.new result }
+{
+    let payload = simulator::simulate(alloc, &*genesis.book, snapshot, proposal)?;
+    print_payload(alloc, &payload, out)
+}

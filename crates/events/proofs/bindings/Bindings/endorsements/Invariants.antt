@@ -1,8 +1,0 @@
-use Rattle.std.proofs.Common.{◌≡◌, map, string_bytes}
-use Rattle.events.specs.Bound.{bound_as, endorsements_of}
-use Rattle.events.proofs.Together.{found_before}
-use Rattle.events.proofs.bindings.Bindings.endorsements.Given as goal
-
-abbrev pub invariant-names : goal.invariant-names
-invariant-names l =
-    endorsements_of (bound_as l.self) (map string_bytes l.names) ≡ found_before (bound_as l.self) l.names l.name-index l.found.items

@@ -1,0 +1,97 @@
+-- How deep the lines nest.
+use Rattle.std.proofs.Common.{ℕ, ◌≤◌, List, [], ◌∷◌, Option, Some, None, map, arith}
+use Rattle.fab_types.specs.Version.{Version}
+use Rattle.fab_types.specs.Sets.{Range}
+use Rattle.fab_types.specs.Committed.{Committed}
+use Rattle.fab_types.specs.declared.items.ReadItem.{ReadItem}
+use Rattle.fab_types.specs.declared.items.WriteItem.{WriteItem}
+use Rattle.fab_types.specs.declared.envelope.Envelope.{Envelope}
+use Rattle.fab_types.specs.declared.flag.Flag.{Flag}
+use Rattle.fab_types.specs.declared.proposal.Proposal.{Proposal}
+use Rattle.fab_types.specs.declared.proposal.Proposal.TheVariants as proposal
+use Rattle.policy_language.specs.declared.policy.Policy.{Policy}
+use Rattle.endorsement_policy.specs.declared.installed.ModuleId.{ModuleId}
+use Rattle.endorsement_policy.specs.declared.rules.Organisation.{Organisation}
+use Rattle.endorsement_policy.specs.declared.rules.ChaincodePolicy.{ChaincodePolicy}
+use Rattle.endorsement_policy.specs.Endorsed.{listed_policy}
+use Rattle.chaincode_book.specs.declared.book.Chaincode.{Chaincode}
+use Rattle.ledger_setting.specs.declared.genesis.Genesis.{Genesis}
+use Rattle.serde_json.specs.Data.{Data, depth, items_depth, string}
+use Rattle.serde_json.specs.View.{items_of}
+use Rattle.fab_types.specs.Spelling.{payload_bytes}
+use Rattle.json_chain.specs.Texts.{pairs_json, value_json}
+use Rattle.json_chain.specs.Sets.{entry_json, range_json, read_json, seen_json, write_json}
+use Rattle.json_chain.specs.Transactions.{endorsement_json, proposal_json, transaction_json}
+use Rattle.json_chain.specs.Blocks.{block_json}
+use Rattle.json_chain.specs.Settings.{chaincode_json, module_json, policy_json, setting_json}
+use Rattle.json_chain.specs.Entries.{placed_write_json}
+
+items_low : {A : Type 0} (json : A → Data) (n : ℕ) → ((x : A) → depth (json x) ≤ n) → (xs : List A) → items_depth (items_of (map json xs)) ≤ n
+items_low json n low [] = omega arith
+items_low json n low (x ∷ xs) = omega (arith, low x, items_low json n low xs)
+
+pairs_low : {A B : Type 0} (json : A → B → Data) (n : ℕ) → ((x : A) (y : B) → depth (json x y) ≤ n) → (xs : List A) (ys : List B) →
+    items_depth (items_of (pairs_json json xs ys)) ≤ n
+pairs_low json n low [] ys = omega arith
+pairs_low json n low (x ∷ xs) [] = omega arith
+pairs_low json n low (x ∷ xs) (y ∷ ys) = omega (arith, low x y, pairs_low json n low xs ys)
+
+value_low : (value : Option (List ℕ)) → depth (value_json value) ≤ 0
+value_low None = omega arith
+value_low (Some value) = omega arith
+
+seen_low : (version : Option Version) → depth (seen_json version) ≤ 0
+seen_low None = omega arith
+seen_low (Some version) = omega arith
+
+read_low : (r : ReadItem) → depth (read_json r) ≤ 1
+read_low r = omega (arith, seen_low r.version)
+
+write_low : (w : WriteItem) → depth (write_json w) ≤ 1
+write_low w = omega (arith, value_low w.value)
+
+range_low : (r : Range) → depth (range_json r) ≤ 3
+range_low r = omega (arith, items_low entry_json 1 (λ e. omega arith) r.entries)
+
+proposal_low : (p : Proposal) (flag : Flag) (a b c d e f : Data) → depth a ≤ 4 → depth b ≤ 4 → depth c ≤ 4 → depth d ≤ 4 → depth e ≤ 4 → depth f ≤ 4 →
+    depth (proposal_json p flag a b c d e f) ≤ 5
+proposal_low (proposal.Call x) flag a b c d e f ha hb hc hd he hf = omega arith
+proposal_low (proposal.Upgrade u) flag a b c d e f ha hb hc hd he hf = omega arith
+
+transaction_low : (orgs : List Organisation) (e : Envelope) (flag : Flag) → depth (transaction_json orgs e flag) ≤ 5
+transaction_low orgs e flag =
+    let p = e.payload in
+    proposal_low p.proposal flag _ _ _ _ _ _
+    (omega (arith, items_low (endorsement_json orgs (payload_bytes p)) 1 (λ x. omega arith) e.endorsements))
+    (omega arith) (omega (arith, items_low range_json 3 range_low p.ranges)) (omega (arith, items_low read_json 1 read_low p.reads))
+    (omega arith) (omega (arith, items_low write_json 1 write_low p.writes))
+
+pub block_low : (orgs : List Organisation) (c : Committed) → depth (block_json orgs c) ≤ 7
+block_low orgs c = omega (arith, pairs_low (transaction_json orgs) 5 (transaction_low orgs) c.block.envelopes c.flags)
+
+policy_low : (p : Option Policy) → depth (policy_json p) ≤ 0
+policy_low None = omega arith
+policy_low (Some p) = omega arith
+
+chaincode_low : (policies : List ChaincodePolicy) (c : Chaincode) (id : ModuleId) → depth (chaincode_json policies c id) ≤ 1
+chaincode_low policies c id = omega (arith, policy_low (listed_policy policies c.name))
+
+string_low : (s : List ℕ) → depth (string s) ≤ 0
+string_low s = omega arith
+
+module_low : (id : ModuleId) → depth (module_json id) ≤ 1
+module_low id = omega arith
+
+pub setting_low : (g : Genesis) → depth (setting_json g) ≤ 3
+setting_low g =
+    let book = g.book.value in
+    omega (
+      arith,
+      pairs_low (chaincode_json g.rules.value.policies) 1 (chaincode_low g.rules.value.policies) book.chaincodes book.installed.modules,
+      items_low module_json 1 module_low book.installed.modules,
+      items_low string 0 string_low book.installed.orgs,
+      items_low string 0 string_low g.peers.items,
+    )
+
+pub placed_write_low : (id : List ℕ) (block place : ℕ) (key : List ℕ) (value : Option (List ℕ)) → depth (placed_write_json id block place key value) ≤ 1
+placed_write_low id block place key value = omega (arith, value_low value)

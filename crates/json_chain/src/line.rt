@@ -1,0 +1,104 @@
+//! Lines of JSON.
+
+ghost use Rattle.std.specs.Prelude.{◌≡◌, ◌≤◌, Some, IfOk, string_bytes};
+ghost use Rattle.serde_json.specs.Data.{depth};
+ghost use Rattle.serde_json.specs.Read.{max_depth, read};
+ghost use Rattle.serde_json.specs.View.{view};
+ghost use Rattle.json_chain.specs.Blocks.{block_json};
+ghost use Rattle.json_chain.specs.Endings.{ending_json};
+ghost use Rattle.json_chain.specs.Entries.{entry_json};
+ghost use Rattle.json_chain.specs.Settings.{setting_json};
+ghost use Rattle.json_chain.specs.Writes.{IsWriteLine};
+
+use crate::block::block_of;
+use crate::ending::{Finding, ending_of};
+use crate::entries::{entry_of, write_of};
+use crate::placed::Placed;
+use crate::setting::setting_of;
+use crate::writes::written_to;
+use block_store::End;
+use endorsement_policy::Rules;
+use fab_types::{CommittedBlock, Flag, Key, Version};
+use ledger_setting::Genesis;
+use serde_json::Value;
+use std::alloc::{AllocError, Global};
+use wire::payload_id;
+
+/// A value as a line, which is read back as the value.
+fn line_of(alloc: Global, value: &Value) -> Result<String, AllocError>
+    requires { depth (view value.now) ≤ max_depth }
+    ensures { IfOk result (λ s. read (string_bytes s) ≡ Some (view value.now)) }
+{
+    value.to_string(alloc)
+}
+
+/// What a ledger begins with, but for the keys of the organisations. The only error is want of
+/// memory.
+pub fn setting_line(alloc: Global, genesis: &Genesis) -> Result<String, AllocError>
+    ensures { IfOk result (λ s. read (string_bytes s) ≡ Some (setting_json genesis.now)) }
+{
+    line_of(alloc, &setting_of(alloc, genesis)?)
+}
+
+/// A block with its hashes, its transactions and their flags, and which of their tags are right
+/// under these rules. The only error is want of memory.
+pub fn block_line(
+    alloc: Global,
+    rules: &Rules,
+    committed: &CommittedBlock,
+) -> Result<String, AllocError>
+    ensures { IfOk result
+        (λ s. read (string_bytes s) ≡ Some (block_json rules.now.orgs committed.now)) }
+{
+    line_of(alloc, &block_of(alloc, rules, committed)?)
+}
+
+/// What is found of a chain of so many blocks, and how its store ends. The only error is want of
+/// memory.
+pub fn ending_line(
+    alloc: Global,
+    finding: Finding,
+    blocks: usize,
+    end: End,
+) -> Result<String, AllocError>
+    ensures { IfOk result (λ s. read (string_bytes s) ≡ Some (ending_json finding blocks end)) }
+{
+    line_of(alloc, &ending_of(alloc, finding, blocks, end)?)
+}
+
+/// A key of a state, with its value and the version of its last writer. The only error is want of
+/// memory.
+pub fn entry_line(
+    alloc: Global,
+    key: &Key,
+    value: &fab_types::Value,
+    version: Version,
+) -> Result<String, AllocError>
+    ensures { IfOk result
+        (λ s. read (string_bytes s) ≡ Some (entry_json key.now value.now version)) }
+{
+    line_of(alloc, &entry_of(alloc, key, value, version)?)
+}
+
+/// What a transaction wrote to a key. None where it is not VALID or does not write the key. The only
+/// error is want of memory.
+pub fn write_line(
+    alloc: Global,
+    placed: &Placed<'_>,
+    key: &Key,
+) -> Result<Option<String>, AllocError>
+    ensures { IfOk result
+        (IsWriteLine placed.now.envelope.now placed.now.flag key.now placed.now.block
+        placed.now.place) }
+{
+    if !matches!(placed.flag, Flag::Valid) {
+        return Ok(None);
+    }
+    let payload = &placed.envelope.payload;
+    let Some(value) = written_to(payload.writes().as_slice(), key) else {
+        return Ok(None);
+    };
+    let id = payload_id(payload);
+    let value = write_of(alloc, &id, placed, key, value)?;
+    Ok(Some(line_of(alloc, &value)?))
+}

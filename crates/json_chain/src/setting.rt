@@ -1,0 +1,123 @@
+//! What a ledger begins with, as JSON.
+
+ghost use Rattle.std.specs.Prelude.{◌≡◌, ◌≤◌, IfOk, OnOk, length};
+ghost use Rattle.serde_json.specs.Data.{array};
+ghost use Rattle.serde_json.specs.View.{items_of, view};
+ghost use Rattle.json_chain.specs.Members.{members_in};
+ghost use Rattle.json_chain.specs.Settings.{chaincode_json, chaincodes_json, module_json, policy_json, setting_json, with_book, with_limits};
+ghost use Rattle.endorsement_policy.specs.Endorsed.{listed_policy};
+
+use crate::object::Object;
+use crate::texts::name_of;
+use crate::to_json::ToJson;
+use chaincode_book::Chaincode;
+use endorsement_policy::{ModuleId, Rules};
+use fab_types::Name;
+use ledger_setting::Genesis;
+use policy_text::policy_text;
+use serde_json::Value;
+use std::alloc::{AllocError, Global};
+
+/// What a ledger begins with, but for the keys of the organisations. The only error is want of
+/// memory.
+pub(crate) fn setting_of(alloc: Global, genesis: &Genesis) -> Result<Value, AllocError>
+    ensures { IfOk result (λ v. view v ≡ setting_json genesis.now) }
+{
+    let mut object = Object::new(alloc);
+    put_limits(&mut object, genesis)?;
+    put_book(alloc, &mut object, genesis)?;
+    Ok(object.into_value())
+}
+
+/// Puts in what batches are cut and ordered by, and the number of this form of a setting.
+fn put_limits(object: &mut Object, genesis: &Genesis) -> Result<(), AllocError>
+    ensures { OnOk result
+        (members_in object.new ≡ with_limits genesis.now (members_in object.old)) }
+{
+    object.put("absolute", Value::from(genesis.absolute))?;
+    object.put("count", Value::from(genesis.count))?;
+    object.put("ledger", Value::from(1u8))?;
+    object.put("preferred", Value::from(genesis.preferred))?;
+    object.put("reorder", Value::from(genesis.reorder))
+}
+
+/// Puts in what is installed, who takes part, and the policies.
+fn put_book(alloc: Global, object: &mut Object, genesis: &Genesis) -> Result<(), AllocError>
+    ensures { OnOk result
+        (members_in object.new ≡ with_book genesis.now (members_in object.old)) }
+{
+    let installed = genesis.book.installed();
+    let chaincodes = genesis.book.chaincodes();
+    let ids = installed.modules();
+    object.put(
+        "chaincodes",
+        chaincodes_of(alloc, &genesis.rules, chaincodes, ids)?,
+    )?;
+    object.put_list("modules", ids)?;
+    object.put_list("orgs", installed.orgs())?;
+    object.put_list("peers", &genesis.peers)?;
+    object.put(
+        "upgrade",
+        Value::String(policy_text(alloc, genesis.rules.upgrade())?),
+    )
+}
+
+impl ToJson for ModuleId {
+    ghost json = { module_json };
+
+    fn to_json(&self, alloc: Global) -> Result<Value, AllocError> {
+        let mut object = Object::new(alloc);
+        object.put_hex("module", &self.digest)?;
+        object.put("profile", Value::from(self.profile.number()))?;
+        Ok(object.into_value())
+    }
+}
+
+/// The chaincodes of a genesis, each with the id at its place.
+fn chaincodes_of(
+    alloc: Global,
+    rules: &Rules,
+    chaincodes: &[Chaincode],
+    ids: &[ModuleId],
+) -> Result<Value, AllocError>
+    requires one_each { length chaincodes.now ≤ length ids.now }
+    ensures { IfOk result
+        (λ v. view v
+        ≡ array (items_of (chaincodes_json rules.now.policies chaincodes.now ids.now))) }
+{
+    let mut values = Vec::new(alloc);
+    for place in 0..chaincodes.len() {
+        let chaincode = chaincode_of(alloc, rules, &chaincodes[place], &ids[place])?;
+        values.push(chaincode)?;
+    }
+    Ok(Value::Array(values))
+}
+
+fn chaincode_of(
+    alloc: Global,
+    rules: &Rules,
+    chaincode: &Chaincode,
+    id: &ModuleId,
+) -> Result<Value, AllocError>
+    ensures { IfOk result
+        (λ v. view v ≡ chaincode_json rules.now.policies chaincode.now id.now) }
+{
+    let mut object = Object::new(alloc);
+    object.put("fuel", Value::from(chaincode.fuel))?;
+    object.put_hex("module", &id.digest)?;
+    object.put_text("name", name_of(&chaincode.name))?;
+    object.put("policy", policy_of(alloc, rules, &chaincode.name)?)?;
+    object.put("profile", Value::from(id.profile.number()))?;
+    Ok(object.into_value())
+}
+
+/// The policy of a chaincode by the genesis; null where it has none.
+fn policy_of(alloc: Global, rules: &Rules, chaincode: &Name) -> Result<Value, AllocError>
+    ensures { IfOk result
+        (λ v. view v ≡ policy_json (listed_policy rules.now.policies chaincode.now)) }
+{
+    match rules.policy(chaincode) {
+        Some(listed) => Ok(Value::String(policy_text(alloc, &listed.policy)?)),
+        None => Ok(Value::Null),
+    }
+}

@@ -1,0 +1,170 @@
+//! Transactions as JSON.
+
+ghost use Rattle.std.specs.Prelude.{◌≡◌, IfOk, OnOk};
+ghost use Rattle.serde_json.specs.View.{view};
+ghost use Rattle.json_chain.specs.Members.{members_in};
+ghost use Rattle.json_chain.specs.Texts.{list_json};
+ghost use Rattle.json_chain.specs.Transactions.{of_parts, call_json, definition_json, endorsement_json, endorsements_json, transaction_json, upgrade_json, with_call, with_payload, with_rest, with_upgrade};
+
+use crate::object::Object;
+use crate::sets;
+use crate::texts::{name_of, policy_of};
+use crate::to_json::ToJson;
+use endorsement_policy::Rules;
+use fab_types::{Call, Definition, Endorsement, Envelope, Flag, Payload, Proposal, Upgrade};
+use serde_json::Value;
+use std::alloc::{AllocError, Global};
+use wire::payload_id;
+
+/// A transaction, its flag, and which of its tags are right under these rules. The only error is
+/// want of memory.
+pub(crate) fn transaction_of(
+    alloc: Global,
+    rules: &Rules,
+    envelope: &Envelope,
+    flag: Flag,
+) -> Result<Value, AllocError>
+    ensures { IfOk result (λ v. view v ≡ transaction_json rules.now.orgs envelope.now flag) }
+{
+    match envelope.payload.proposal() {
+        Proposal::Call(call) => call_of(alloc, rules, envelope, flag, call),
+        Proposal::Upgrade(upgrade) => upgrade_of(alloc, rules, envelope, flag, upgrade),
+    }
+}
+
+/// A transaction of this call.
+fn call_of(
+    alloc: Global,
+    rules: &Rules,
+    envelope: &Envelope,
+    flag: Flag,
+    call: &Call,
+) -> Result<Value, AllocError>
+    ensures { IfOk result
+        (λ v. view v ≡ of_parts (call_json call.now flag) rules.now.orgs envelope.now) }
+{
+    let mut object = Object::new(alloc);
+    put_call(&mut object, call)?;
+    put_rest(alloc, &mut object, rules, envelope, flag)?;
+    Ok(object.into_value())
+}
+
+/// Puts in what a call has alone.
+fn put_call(object: &mut Object, call: &Call) -> Result<(), AllocError>
+    ensures { OnOk result (members_in object.new ≡ with_call call.now (members_in object.old)) }
+{
+    object.put_hex("arg", call.argument.as_slice())?;
+    object.put_text("chaincode", name_of(&call.chaincode))?;
+    object.put_hex("nonce", &call.nonce)
+}
+
+/// A transaction of this upgrade.
+fn upgrade_of(
+    alloc: Global,
+    rules: &Rules,
+    envelope: &Envelope,
+    flag: Flag,
+    upgrade: &Upgrade,
+) -> Result<Value, AllocError>
+    ensures { IfOk result
+        (λ v. view v ≡ of_parts (upgrade_json upgrade.now flag) rules.now.orgs envelope.now) }
+{
+    let mut object = Object::new(alloc);
+    put_upgrade(&mut object, upgrade)?;
+    put_rest(alloc, &mut object, rules, envelope, flag)?;
+    Ok(object.into_value())
+}
+
+/// Puts in what an upgrade has alone.
+fn put_upgrade(object: &mut Object, upgrade: &Upgrade) -> Result<(), AllocError>
+    ensures { OnOk result
+        (members_in object.new ≡ with_upgrade upgrade.now (members_in object.old)) }
+{
+    object.put_text("chaincode", name_of(&upgrade.chaincode))?;
+    object.put_hex("nonce", &upgrade.nonce)?;
+    object.put_json("upgrade", &upgrade.definition)
+}
+
+/// Puts in what a call and an upgrade have in common.
+fn put_rest(
+    alloc: Global,
+    object: &mut Object,
+    rules: &Rules,
+    envelope: &Envelope,
+    flag: Flag,
+) -> Result<(), AllocError>
+    ensures { OnOk result
+        (members_in object.new
+        ≡ with_rest rules.now.orgs envelope.now flag (members_in object.old)) }
+{
+    let payload = &envelope.payload;
+    object.put("endorsements", endorsements_of(alloc, rules, envelope)?)?;
+    object.put("flag", Value::from(flag.number()))?;
+    object.put_hex("id", &payload_id(payload))?;
+    put_payload(object, payload)
+}
+
+/// Puts in what a payload read, gave and wrote.
+fn put_payload(object: &mut Object, payload: &Payload) -> Result<(), AllocError>
+    ensures { OnOk result
+        (members_in object.new ≡ with_payload payload.now (members_in object.old)) }
+{
+    object.put_list("ranges", payload.ranges().as_slice())?;
+    object.put_list("reads", payload.reads().as_slice())?;
+    object.put_hex("result", payload.result().as_slice())?;
+    object.put_list("writes", payload.writes().as_slice())
+}
+
+impl ToJson for Definition {
+    ghost json = { definition_json };
+
+    fn to_json(&self, alloc: Global) -> Result<Value, AllocError> {
+        let mut object = Object::new(alloc);
+        object.put("fuel", Value::from(self.fuel.get()))?;
+        object.put_hex("module", &self.digest)?;
+        object.put_text("policy", policy_of(&self.policy))?;
+        object.put("profile", Value::from(self.profile.number()))?;
+        Ok(object.into_value())
+    }
+}
+
+/// The endorsements of a transaction, each with whether its tag is right.
+fn endorsements_of(alloc: Global, rules: &Rules, envelope: &Envelope) -> Result<Value, AllocError>
+    ensures { IfOk result (λ v. view v ≡ endorsements_json rules.now.orgs envelope.now) }
+{
+    let bytes = envelope.payload.bytes();
+    endorsements_over(alloc, rules, bytes, envelope.endorsements.as_slice())
+}
+
+/// The same over a payload of these bytes.
+fn endorsements_over(
+    alloc: Global,
+    rules: &Rules,
+    bytes: &[u8],
+    items: &[Endorsement],
+) -> Result<Value, AllocError>
+    ensures { IfOk result
+        (λ v. view v ≡ list_json (endorsement_json rules.now.orgs bytes.now) items.now) }
+{
+    let mut values = Vec::new(alloc);
+    for item in items {
+        values.push(endorsement_of(alloc, rules, bytes, item)?)?;
+    }
+    Ok(Value::Array(values))
+}
+
+fn endorsement_of(
+    alloc: Global,
+    rules: &Rules,
+    bytes: &[u8],
+    endorsement: &Endorsement,
+) -> Result<Value, AllocError>
+    ensures { IfOk result
+        (λ v. view v ≡ endorsement_json rules.now.orgs bytes.now endorsement.now) }
+{
+    let mut object = Object::new(alloc);
+    object.put_json("org", &endorsement.org)?;
+    object.put("right", Value::from(rules.is_tag(endorsement, bytes)))?;
+    object.put_hex("tag", &endorsement.tag)?;
+    Ok(object.into_value())
+}

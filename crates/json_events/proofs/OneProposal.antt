@@ -1,0 +1,88 @@
+-- A line spells at most one proposal.
+use Rattle.std.proofs.Common.{◌≡◌, ℕ, List, codes, Some, Ok, Result, refl, sym, ap, subst, ◌∙◌, inl, inr}
+use Rattle.serde_json.specs.Data.{Data}
+use Rattle.serde_json.specs.Read.{read}
+use Rattle.hex.specs.Hex.{decode_sized}
+use Rattle.fab_types.specs.declared.definition.Definition.{Definition}
+use Rattle.fab_types.specs.declared.proposal.Call.{Call}
+use Rattle.fab_types.specs.declared.proposal.Upgrade.{Upgrade}
+use Rattle.fab_types.specs.declared.proposal.Proposal.{Proposal}
+use Rattle.fab_types.specs.declared.proposal.Proposal.TheVariants as proposal
+use Rattle.wasm_profile.specs.Numbers.{number_of}
+use Rattle.wasm_profile.specs.declared.profile.Profile.{Profile}
+use Rattle.wasm_profile.specs.declared.profile.Profile.TheVariants.{Core1, SignExtension}
+use Rattle.json_events.specs.Spelling.{IsArgument, IsDefinition, IsHex, IsProposal, SpellsProposal}
+
+pub same_ok : {A E : Type 0} (r : Result A E) (a b : A) → r ≡ Ok a → r ≡ Ok b → a ≡ b
+same_ok {A} {E} r a b e f = let h = sym e ∙ f in cc
+
+-- `-` is no hex
+no_hex : (bytes : List ℕ) → ¬ IsHex (codes "-") bytes
+no_hex bytes h = cc
+
+one_argument : (text a b : List ℕ) → IsArgument text a → IsArgument text b → a ≡ b
+one_argument text a b ((inl h), small) ((inl k), also) = h.1 ∙ sym k.1
+one_argument text a b ((inl h), small) ((inr k), also) = absurd (no_hex b (subst (λ t. IsHex t b) h.0 k))
+one_argument text a b ((inr h), small) ((inl k), also) = absurd (no_hex a (subst (λ t. IsHex t a) k.0 h))
+one_argument text a b ((inr h), small) ((inr k), also) = same_ok _ a b h k
+
+same_call : (a b : Call) → a.chaincode ≡ b.chaincode → a.argument ≡ b.argument → a.nonce ≡ b.nonce → a ≡ b
+same_call a b c x n =
+    ap (λ y. record a { chaincode = y }) c ∙ ap (λ y. record a { chaincode = b.chaincode; argument = y }) x ∙ ap (λ y. record b { nonce = y }) n
+
+same_definition : (a b : Definition) → a.profile ≡ b.profile → a.digest ≡ b.digest → a.fuel ≡ b.fuel → a.policy ≡ b.policy → a ≡ b
+same_definition a b r d f p =
+    ap (λ y. record a { profile = y }) r ∙ ap (λ y. record a { profile = b.profile; digest = y }) d
+    ∙ ap (λ y. record b { fuel = y; policy = a.policy }) f ∙ ap (λ y. record b { policy = y }) p
+
+same_upgrade : (a b : Upgrade) → a.chaincode ≡ b.chaincode → a.definition ≡ b.definition → a.nonce ≡ b.nonce → a ≡ b
+same_upgrade a b c d n =
+    ap (λ y. record a { chaincode = y }) c ∙ ap (λ y. record a { chaincode = b.chaincode; definition = y }) d ∙ ap (λ y. record b { nonce = y }) n
+
+one_call : (d : Data) (a b : Call) → IsProposal d (proposal.Call a) → IsProposal d (proposal.Call b) → a ≡ b
+one_call d a b h k =
+    let e = sym h.3 ∙ k.3 in
+    let arg : h.0 ≡ k.0 = cc in
+    let chaincode : h.1 ≡ k.1 = cc in
+    let nonce : h.2 ≡ k.2 = cc in
+    let argument = one_argument k.0 _ _ (subst (λ x. IsArgument x a.argument) arg h.4.2) k.4.2 in
+    let bytes = same_ok _ _ _ (subst (λ x. decode_sized x 16 ≡ Ok a.nonce) nonce h.4.3) k.4.3 in
+    same_call a b (h.4.0 ∙ chaincode ∙ sym k.4.0) argument bytes
+
+one_profile : (a b : Profile) → number_of a ≡ number_of b → a ≡ b
+one_profile Core1 Core1 e = refl
+one_profile Core1 SignExtension e = cc
+one_profile SignExtension Core1 e = cc
+one_profile SignExtension SignExtension e = refl
+
+one_definition : (fuel : ℕ) (digest policy : List ℕ) (profile : ℕ) (a b : Definition)
+    → IsDefinition fuel digest policy profile a → IsDefinition fuel digest policy profile b → a ≡ b
+one_definition fuel digest policy profile a b h k =
+    same_definition a b (one_profile _ _ (h.0 ∙ sym k.0)) (same_ok _ _ _ h.1 k.1) (h.2 ∙ sym k.2) (h.4 ∙ sym k.4)
+
+one_upgrade : (d : Data) (a b : Upgrade) → IsProposal d (proposal.Upgrade a) → IsProposal d (proposal.Upgrade b) → a ≡ b
+one_upgrade d a b h k =
+    let e = sym h.6 ∙ k.6 in
+    let fuel : h.0 ≡ k.0 = cc in
+    let digest : h.1 ≡ k.1 = cc in
+    let nonce : h.2 ≡ k.2 = cc in
+    let policy : h.3 ≡ k.3 = cc in
+    let profile : h.4 ≡ k.4 = cc in
+    let chaincode : h.5 ≡ k.5 = cc in
+    let spelled : IsDefinition k.0 k.1 k.3 k.4 a.definition = rw (sym fuel, sym digest, sym policy, sym profile) h.7.2 in
+    let definition = one_definition k.0 k.1 k.3 k.4 _ _ spelled k.7.2 in
+    let bytes = same_ok _ _ _ (subst (λ x. decode_sized x 16 ≡ Ok a.nonce) nonce h.7.3) k.7.3 in
+    same_upgrade a b (h.7.0 ∙ chaincode ∙ sym k.7.0) definition bytes
+
+pub one_proposal : (d : Data) (p q : Proposal) → IsProposal d p → IsProposal d q → p ≡ q
+one_proposal d (proposal.Call a) (proposal.Call b) h k = ap proposal.Call (one_call d a b h k)
+one_proposal d (proposal.Call a) (proposal.Upgrade b) h k = let e = sym h.3 ∙ k.6 in cc
+one_proposal d (proposal.Upgrade a) (proposal.Call b) h k = let e = sym h.6 ∙ k.3 in cc
+one_proposal d (proposal.Upgrade a) (proposal.Upgrade b) h k = ap proposal.Upgrade (one_upgrade d a b h k)
+
+pub one_data : (text : List ℕ) (d e : Data) → read text ≡ Some d → read text ≡ Some e → d ≡ e
+one_data text d e h k = let same = sym h ∙ k in cc
+
+pub one : (line : List ℕ) (p q : Proposal) → SpellsProposal line p → SpellsProposal line q → p ≡ q
+one line p q h k =
+    one_proposal h.0 p q h.2 (subst (λ d. IsProposal d q) (sym (one_data line h.0 k.0 h.1 k.1)) k.2)

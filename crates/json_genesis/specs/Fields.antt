@@ -1,0 +1,19 @@
+-- What the fields hold that were found in an object.
+use Rattle.serde_json.specs.View.{view}
+use Rattle.json_genesis.specs.Spelling.{Parts}
+use Rattle.json_genesis.specs.declared.fields.GenesisFields.{GenesisFields}
+
+abbrev pub parts_of : GenesisFields → Parts
+parts_of f = record {
+  absolute = view f.absolute.now;
+  chaincodes = view f.chaincodes.now;
+  count = view f.count.now;
+  modules = view f.modules.now;
+  orgs = view f.orgs.now;
+  peers = view f.peers.now;
+  preferred = view f.preferred.now;
+  queue = view f.queue.now;
+  reorder = view f.reorder.now;
+  seats = view f.seats.now;
+  upgrade = view f.upgrade.now;
+}

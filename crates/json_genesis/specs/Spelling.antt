@@ -1,0 +1,168 @@
+-- What a genesis file spells, over the data that it is as JSON. A JSON object has each of its members
+-- once, in the order of their names; so an object with exactly some fields is written out in that order.
+use Rattle.std.specs.Prelude.{◌≡◌, ◌&&◌, ℕ, Bool, true, not, List, [], ◌∷◌, ◌++◌, map, codes, Some, Ok}
+use Rattle.serde_json.specs.Data.{Data, object, member, no_members, string, boolean, number, unsigned}
+use Rattle.serde_json.specs.Read.{read}
+use Rattle.hex.specs.Hex.{decode_of}
+use Rattle.sha2.specs.Sha256.{sha256}
+use Rattle.wasm_profile.specs.Numbers.{number_of}
+use Rattle.wasm_profile.specs.declared.profile.Profile.{Profile}
+use Rattle.fab_types.specs.Limits.{IsName, IsOrgName}
+use Rattle.wasm_ast.specs.declared.module.Module.{Module}
+use Rattle.wasm_decode.specs.ModuleSpelling.{IsModule}
+use Rattle.wasm_typing.specs.ModuleRules.{IsValid}
+use Rattle.policy_language.specs.GoodSets.{Names, is_among}
+use Rattle.policy_language.specs.Limits.{IsText}
+use Rattle.endorsement_policy.specs.TagKeys.{IsTagKey}
+use Rattle.endorsement_policy.specs.declared.installed.ModuleId.{ModuleId}
+use Rattle.policy_language.specs.declared.policy.Policy.{Policy}
+use Rattle.endorsement_policy.specs.declared.rules.Organisation.{Organisation}
+use Rattle.endorsement_policy.specs.declared.rules.ChaincodePolicy.{ChaincodePolicy}
+use Rattle.chaincode_book.specs.Books.{Book, IsBook}
+use Rattle.chaincode_book.specs.declared.book.Chaincode.{Chaincode}
+use Rattle.ledger_setting.specs.declared.genesis.Genesis.{Genesis}
+use Rattle.json_genesis.specs.declared.definition.Definition.{Definition}
+use Rattle.json_genesis.specs.declared.definition.InstalledModule.{InstalledModule}
+use Rattle.json_genesis.specs.Lists.{IsListOf, IsNumber}
+
+-- the bytes that a text of hex stands for
+abbrev pub IsHex : List ℕ → List ℕ → Type 0
+IsHex text bytes = decode_of text ≡ Ok bytes
+
+-- {"key":"4a656665","name":"A"}: the key has 1 to 128 bytes
+abbrev pub IsOrganisation : Data → Organisation → Type 0
+IsOrganisation d o =
+    (key : List ℕ) × (d ≡ object (member (codes "key") (string key) (member (codes "name") (string o.name) no_members)))
+    × IsHex key o.key × IsTagKey o.key × IsOrgName o.name
+
+abbrev pub names_of : List Organisation → List (List ℕ)
+names_of os = map (λ (o : Organisation). o.name) os
+
+-- no name stands twice
+abbrev pub are_different : List (List ℕ) → Bool
+are_different [] = true
+are_different (name ∷ names) = not (is_among names name) && are_different names
+
+-- organisations of different names
+abbrev pub AreOrganisations : Data → List Organisation → Type 0
+AreOrganisations d os = IsListOf IsOrganisation 1 16 d os × (are_different (names_of os) ≡ true)
+
+-- "A": the organisation of a peer, which is one of these
+abbrev pub IsPeer : List (List ℕ) → Data → List ℕ → Type 0
+IsPeer orgs d name = (d ≡ string name) × IsOrgName name × (is_among orgs name ≡ true)
+
+-- {"fuel":71,"module":"..","name":"kv","policy":"'A'","profile":1}
+abbrev pub chaincode_object : Data → List ℕ → List ℕ → List ℕ → Data → Data
+chaincode_object fuel hex name policy profile =
+    object (member (codes "fuel") fuel (member (codes "module") (string hex) (member (codes "name") (string name)
+    (member (codes "policy") (string policy) (member (codes "profile") profile no_members)))))
+
+-- {"module":"..","profile":2}
+abbrev pub module_object : List ℕ → Data → Data
+module_object hex profile = object (member (codes "module") (string hex) (member (codes "profile") profile no_members))
+
+-- 1 or 2: the number of this profile
+abbrev pub IsProfile : Data → Profile → Type 0
+IsProfile d profile = d ≡ number (unsigned (number_of profile))
+
+-- the hex is of bytes that spell this module by the id's profile, which is valid, and that have the id's digest
+abbrev pub IsHexModule : List ℕ → Module → ModuleId → Type 0
+IsHexModule hex m id = (bytes : List ℕ) × IsHex hex bytes × IsModule id.profile m bytes × IsValid m × (id.digest ≡ sha256 bytes)
+
+-- the hex is of this module by the profile that the data name
+abbrev pub IsModuleOf : List ℕ → Data → InstalledModule → Type 0
+IsModuleOf hex profile m = IsProfile profile m.id.profile × IsHexModule hex m.«module» m.id
+
+-- one more module
+abbrev pub IsInstalled : Data → InstalledModule → Type 0
+IsInstalled d m = (hex : List ℕ) × (profile : Data) × (d ≡ module_object hex profile) × IsModuleOf hex profile m
+
+-- "'A'": a policy over these organisations
+abbrev pub IsPolicy : Names → Data → Policy → Type 0
+IsPolicy orgs d policy = (text : List ℕ) × (d ≡ string text) × IsText orgs policy text
+
+abbrev pub IsDefinition : List (List ℕ) → Data → Definition → Type 0
+IsDefinition orgs d c =
+    (fuel : Data) × (hex : List ℕ) × (policy : List ℕ) × (profile : Data)
+    × (d ≡ chaincode_object fuel hex c.chaincode.name policy profile)
+    × IsNumber 1 10000000 fuel c.chaincode.fuel × IsProfile profile c.id.profile × IsHexModule hex c.chaincode.«module» c.id
+    × IsName c.chaincode.name × IsText orgs c.policy.policy policy × (c.policy.chaincode ≡ c.chaincode.name)
+
+-- its module and its policy are those of these fields
+abbrev pub HasParts : List (List ℕ) → (hex : List ℕ) → (profile : Data) → (policy : List ℕ) → Definition → Type 0
+HasParts orgs hex profile policy c =
+    IsProfile profile c.id.profile × IsHexModule hex c.chaincode.«module» c.id × IsText orgs c.policy.policy policy
+
+abbrev pub chaincodes_of : List Definition → List Chaincode
+chaincodes_of cs = map (λ (c : Definition). c.chaincode) cs
+
+abbrev pub ids_of : List Definition → List ModuleId
+ids_of cs = map (λ (c : Definition). c.id) cs
+
+abbrev pub policies_of : List Definition → List ChaincodePolicy
+policies_of cs = map (λ (c : Definition). c.policy) cs
+
+abbrev pub more_modules_of : List InstalledModule → List Module
+more_modules_of ms = map (λ (m : InstalledModule). m.«module») ms
+
+abbrev pub more_ids_of : List InstalledModule → List ModuleId
+more_ids_of ms = map (λ (m : InstalledModule). m.id) ms
+
+-- the book of these chaincodes and more modules, where policies name these organisations
+abbrev pub book_of : Names → List Definition → List InstalledModule → Book
+book_of orgs cs ms = record {
+  chaincodes = chaincodes_of cs;
+  modules = more_modules_of ms;
+  installed = record { modules = ids_of cs ++ more_ids_of ms; orgs = orgs };
+}
+
+-- the book that the fields "chaincodes" and "modules" spell, and the policies of its chaincodes
+abbrev pub IsBookOf : Names → Data → Data → Book → List ChaincodePolicy → Type 0
+IsBookOf orgs chaincodes modules book policies =
+    (cs : List Definition) × (ms : List InstalledModule)
+    × IsListOf (IsDefinition orgs) 1 16 chaincodes cs × IsListOf IsInstalled 0 16 modules ms
+    × IsBook book × (book ≡ book_of orgs cs ms) × (policies ≡ policies_of cs)
+
+-- what the fields of the file hold
+pub record Parts : Type 0 where
+  pub absolute : Data
+  pub chaincodes : Data
+  pub count : Data
+  pub modules : Data
+  pub orgs : Data
+  pub peers : Data
+  pub preferred : Data
+  pub queue : Data
+  pub reorder : Data
+  pub seats : Data
+  pub upgrade : Data
+
+-- the object that has exactly these fields
+abbrev pub object_of : Parts → Data
+object_of p =
+    object (member (codes "absolute") p.absolute (member (codes "chaincodes") p.chaincodes (member (codes "count") p.count
+    (member (codes "modules") p.modules (member (codes "orgs") p.orgs (member (codes "peers") p.peers
+    (member (codes "preferred") p.preferred (member (codes "queue") p.queue (member (codes "reorder") p.reorder
+    (member (codes "seats") p.seats (member (codes "upgrade") p.upgrade no_members)))))))))))
+
+-- the genesis that the fields spell
+pub record IsGenesis (p : Parts) (g : Genesis) : Type 0 where
+  pub seats : IsNumber 1 64 p.seats g.seats
+  pub queue : IsNumber 1 4096 p.queue g.queue
+  pub count : IsNumber 1 512 p.count g.count
+  pub preferred : IsNumber 1 524288 p.preferred g.preferred
+  pub absolute : IsNumber 1 524288 p.absolute g.absolute
+  pub reorder : p.reorder ≡ boolean g.reorder
+  pub organisations : AreOrganisations p.orgs g.rules.value.orgs
+  pub peers : IsListOf (IsPeer (names_of g.rules.value.orgs)) 1 8 p.peers g.peers.items
+  pub book : IsBookOf (names_of g.rules.value.orgs) p.chaincodes p.modules g.book.value g.rules.value.policies
+  pub upgrade : IsPolicy (names_of g.rules.value.orgs) p.upgrade g.rules.value.upgrade
+  pub installed : g.rules.value.installed ≡ g.book.value.installed
+
+-- the genesis that the data of a file spells
+abbrev pub IsGenesisOf : Data → Genesis → Type 0
+IsGenesisOf d g = (p : Parts) × (d ≡ object_of p) × IsGenesis p g
+
+-- the genesis that a text spells
+abbrev pub Spells : List ℕ → Genesis → Type 0
+Spells text g = (d : Data) × (read text ≡ Some d) × IsGenesisOf d g

@@ -1,0 +1,48 @@
+//! The book.
+
+ghost use Rattle.std.specs.Prelude.{IfOk, IfErr, List};
+ghost use Rattle.serde_json.specs.View.{view};
+ghost use Rattle.endorsement_policy.specs.declared.rules.ChaincodePolicy.{ChaincodePolicy};
+ghost use Rattle.chaincode_book.specs.Books.{Book};
+ghost use Rattle.json_genesis.specs.Refused.{NoneIs};
+ghost use Rattle.json_genesis.specs.Spelling.{IsBookOf};
+
+use crate::chaincodes::{Apart, DefinitionReader, parted};
+use crate::lists::read_list;
+use crate::modules::{ModuleReader, modules_apart};
+use crate::refusal::GenesisRefusal;
+use chaincode_book::Book;
+use endorsement_policy::{ChaincodePolicy, Installed};
+use fab_types::OrgName;
+use fab_types::limits::{MOST_CHAINCODES, MOST_MODULES};
+use serde_json::Value;
+use std::alloc::Global;
+
+/// The book of the chaincodes and modules that are listed, and the policies of its chaincodes.
+pub(crate) fn book(
+    alloc: Global,
+    chaincodes: &Value,
+    modules: &Value,
+    orgs: Vec<OrgName>,
+) -> Result<(Book, Vec<ChaincodePolicy>), GenesisRefusal>
+    ensures ok { IfOk result
+        (λ b. IsBookOf orgs.items (view chaincodes.now) (view modules.now) b.0 b.1.items) }
+    ensures refused { IfErr result
+        (λ r. NoneIs
+        (λ (b : Book × List ChaincodePolicy). IsBookOf orgs.items (view chaincodes.now)
+        (view modules.now) b.0 b.1) r) }
+{
+    let reader = DefinitionReader { orgs: &orgs };
+    let definitions = read_list(alloc, &reader, chaincodes, 1, MOST_CHAINCODES)?;
+    let installed = read_list(alloc, &ModuleReader, modules, 0, MOST_MODULES)?;
+    let Apart {
+        chaincodes,
+        ids,
+        policies,
+    } = parted(alloc, definitions)?;
+    let (modules, ids) = modules_apart(alloc, installed, ids)?;
+    match Book::new(chaincodes, modules, Installed::new(ids, orgs)) {
+        Some(book) => Ok((book, policies)),
+        None => Err(GenesisRefusal::Names),
+    }
+}

@@ -1,0 +1,109 @@
+//! The modules.
+
+ghost use Rattle.std.specs.Prelude.{◌≡◌, ◌≢◌, ◌++◌, IfOk, IfErr};
+ghost use Rattle.serde_json.specs.View.{view};
+ghost use Rattle.wasm_ast.specs.declared.module.Module.{Module};
+ghost use Rattle.wasm_decode.specs.ModuleSpelling.{IsModule};
+ghost use Rattle.wasm_typing.specs.ModuleRules.{IsValid};
+ghost use Rattle.wasm_typing.specs.declared.fault.ValidateFault.{ValidateFault};
+ghost use Rattle.json_genesis.specs.declared.definition.InstalledModule.{InstalledModule};
+ghost use Rattle.json_genesis.specs.declared.refusal.GenesisRefusal.TheVariants.{Memory, Json};
+ghost use Rattle.json_genesis.specs.Refused.{NoneIs};
+ghost use Rattle.json_genesis.specs.Spelling.{IsModuleOf, more_ids_of, more_modules_of};
+
+use crate::definition::InstalledModule;
+use crate::each::ReadItem;
+use crate::fields::module_fields;
+use crate::numbers::{bytes_of, profile};
+use crate::refusal::GenesisRefusal;
+use endorsement_policy::ModuleId;
+use serde_json::Value;
+use sha2::{Digest, Sha256};
+use std::alloc::{AllocError, Global};
+use wasm_decode::{DecodeFault, decode_as};
+use wasm_profile::Profile;
+use wasm_validate::{ValidModule, ValidateFault, validate};
+
+/// Reads a module.
+#[derive(Clone, Copy)]
+pub(crate) struct ModuleReader;
+
+impl ReadItem for ModuleReader {
+    type Item = InstalledModule;
+
+    ghost use Rattle.json_genesis.specs.Spelling.{IsInstalled};
+
+    ghost spells = { λ _. IsInstalled };
+
+    fn read(&self, alloc: Global, value: &Value) -> Result<InstalledModule, GenesisRefusal> {
+        match module_fields(value) {
+            Some(fields) => module(alloc, fields.hex, fields.profile),
+            None => Err(GenesisRefusal::Field),
+        }
+    }
+}
+
+/// The valid module whose bytes are written in hex, read by the profile that a field holds, with
+/// what it is known by.
+pub(crate) fn module(
+    alloc: Global,
+    hex: &str,
+    number: &Value,
+) -> Result<InstalledModule, GenesisRefusal>
+    ensures ok { IfOk result (λ m. IsModuleOf hex.now (view number.now) m) }
+    ensures refused { IfErr result (λ r. NoneIs (IsModuleOf hex.now (view number.now)) r) }
+{
+    let profile = profile(number)?;
+    let bytes = bytes_of(alloc, hex)?;
+    let module = module_in(alloc, &bytes, profile)?;
+    let digest = Sha256::digest(bytes.as_slice());
+    let id = ModuleId { digest, profile };
+    Ok(InstalledModule { module, id })
+}
+
+/// The valid module of a profile that bytes spell.
+fn module_in(alloc: Global, bytes: &[u8], profile: Profile) -> Result<ValidModule, GenesisRefusal>
+    ensures ok { IfOk result (λ m. IsModule profile m bytes.now × IsValid m) }
+    ensures refused { IfErr result
+        (λ r. NoneIs (λ (m : Module). IsModule profile m bytes.now × IsValid m) r) }
+{
+    let module = match decode_as(alloc, bytes, profile) {
+        Ok(module) => module,
+        Err(DecodeFault::Memory) => return Err(GenesisRefusal::Memory),
+        Err(DecodeFault::Malformed(..)) => return Err(GenesisRefusal::Module),
+    };
+    match validate(alloc, module) {
+        Ok(valid) => Ok(valid),
+        Err(fault) => Err(refusal_of_module(fault)),
+    }
+}
+
+/// The refusal of a file whose module is not valid.
+fn refusal_of_module(fault: ValidateFault) -> GenesisRefusal
+    ensures read { result ≢ Json }
+    ensures fault { result ≢ Memory → fault ≢ ValidateFault.Memory }
+{
+    match fault {
+        ValidateFault::Memory => GenesisRefusal::Memory,
+        _ => GenesisRefusal::Module,
+    }
+}
+
+/// The modules apart from their ids, which come behind those that are given.
+pub(crate) fn modules_apart(
+    alloc: Global,
+    installed: Vec<InstalledModule>,
+    ids: Vec<ModuleId>,
+) -> Result<(Vec<ValidModule>, Vec<ModuleId>), AllocError>
+    ensures { IfOk result (λ p. (p.0.items ≡ more_modules_of installed.items)
+        × (p.1.items ≡ ids.items ++ more_ids_of installed.items)) }
+{
+    let mut modules = Vec::with_capacity(alloc, installed.len())?;
+    let mut ids = ids;
+    'modules: for each in installed {
+        let InstalledModule { module, id } = each;
+        modules.push(module)?;
+        ids.push(id)?;
+    }
+    Ok((modules, ids))
+}

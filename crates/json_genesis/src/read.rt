@@ -1,0 +1,87 @@
+//! The file as a whole.
+
+ghost use Rattle.std.specs.Prelude.{IfOk, IfErr};
+ghost use Rattle.serde_json.specs.View.{view};
+ghost use Rattle.json_genesis.specs.Fields.{parts_of};
+ghost use Rattle.json_genesis.specs.NoGenesis.{NoGenesis};
+ghost use Rattle.json_genesis.specs.Opening.{CanOpen};
+ghost use Rattle.json_genesis.specs.Refused.{NoneIs};
+ghost use Rattle.json_genesis.specs.Spelling.{IsGenesis, IsGenesisOf, Spells};
+
+use crate::book::book;
+use crate::chaincodes::upgrade_policy;
+use crate::fields::{GenesisFields, genesis_fields};
+use crate::lists::read_list;
+use crate::numbers::{size_within, truth};
+use crate::organisations::organisations;
+use crate::peers::PeerReader;
+use crate::refusal::GenesisRefusal;
+use endorsement_policy::Rules;
+use fab_types::limits::{MOST_DATA_BYTES, MOST_PEERS, MOST_QUEUED, MOST_SEATS, MOST_TRANSACTIONS};
+use ledger_setting::Genesis;
+use serde_json::Value;
+use serde_json::error::Category;
+use std::alloc::Global;
+use std::sync::Arc;
+
+/// The genesis that a text spells.
+///
+/// Refused where the text is not JSON (801), where a field is missing, left over or of the wrong
+/// kind or hex is not read (802), where a number, a length or a name is out of its range (803),
+/// where a module (804) or a policy (805) is refused, where a name stands twice or a peer's
+/// organisation is unknown (806), and for want of memory (9). Of several causes any may be told.
+pub fn read_genesis(alloc: Global, text: &str) -> Result<Genesis, GenesisRefusal>
+    ensures ok { IfOk result (λ g. Spells text.now g) }
+    ensures opening { IfOk result (λ g. CanOpen g) }
+    ensures refused { IfErr result (λ r. NoGenesis text.now r) }
+{
+    match Value::from_str(alloc, text) {
+        Ok(value) => genesis_of(alloc, &value),
+        Err(error) if error.classify() == Category::Memory => Err(GenesisRefusal::Memory),
+        Err(_) => Err(GenesisRefusal::Json),
+    }
+}
+
+/// The genesis that the data of a file spells.
+fn genesis_of(alloc: Global, value: &Value) -> Result<Genesis, GenesisRefusal>
+    ensures ok { IfOk result (λ g. IsGenesisOf (view value.now) g) }
+    ensures refused { IfErr result (λ r. NoneIs (IsGenesisOf (view value.now)) r) }
+{
+    match genesis_fields(value) {
+        Some(fields) => genesis_from(alloc, &fields),
+        None => Err(GenesisRefusal::Field),
+    }
+}
+
+/// The genesis that the fields spell.
+fn genesis_from(alloc: Global, fields: &GenesisFields<'_>) -> Result<Genesis, GenesisRefusal>
+    ensures ok { IfOk result (λ g. IsGenesis (parts_of fields.now) g) }
+    ensures refused { IfErr result (λ r. NoneIs (IsGenesis (parts_of fields.now)) r) }
+{
+    let seats = size_within(fields.seats, 1, MOST_SEATS)?;
+    let queue = size_within(fields.queue, 1, MOST_QUEUED)?;
+    let count = size_within(fields.count, 1, MOST_TRANSACTIONS)?;
+    let preferred = size_within(fields.preferred, 1, MOST_DATA_BYTES)?;
+    let absolute = size_within(fields.absolute, 1, MOST_DATA_BYTES)?;
+    let reorder = truth(fields.reorder)?;
+    let (organisations, orgs) = organisations(alloc, fields.orgs)?;
+    let reader = PeerReader { orgs: &orgs };
+    let peers = read_list(alloc, &reader, fields.peers, 1, MOST_PEERS)?;
+    let upgrade = upgrade_policy(alloc, fields.upgrade, &orgs)?;
+    let (book, policies) = book(alloc, fields.chaincodes, fields.modules, orgs)?;
+    let installed = book.installed().clone()?;
+    let Some(rules) = Rules::new(organisations, policies, upgrade, installed) else {
+        return Err(GenesisRefusal::Policy);
+    };
+    Ok(Genesis {
+        book: Arc::new(alloc, book)?,
+        rules: Arc::new(alloc, rules)?,
+        peers,
+        seats,
+        queue,
+        count,
+        preferred,
+        absolute,
+        reorder,
+    })
+}

@@ -1,0 +1,71 @@
+//! Cases `genesis TEXT`: what the genesis has that a text spells, or why it spells none.
+
+use crate::texts::write_hex;
+use endorsement_policy::ModuleId;
+use json_genesis::read_genesis;
+use ledger_setting::Genesis;
+use std::alloc::{AllocError, Global};
+use std::fmt::Write;
+use wasm_profile::Profile;
+
+/// The answer of a case.
+pub fn genesis_file(alloc: Global, text: &str) -> Result<String, AllocError> {
+    match read_genesis(alloc, text) {
+        Ok(genesis) => contents(alloc, &genesis),
+        Err(refusal) => format!(in alloc; "{refusal}"),
+    }
+}
+
+/// How many there are of each, the numbers, and the digests of the modules.
+fn contents(alloc: Global, genesis: &Genesis) -> Result<String, AllocError> {
+    let mut text = String::new(alloc);
+    write_counts(&mut text, genesis)?;
+    write_numbers(&mut text, genesis)?;
+    text.push_str(" installed=")?;
+    write_installed(&mut text, genesis.book.installed().modules())?;
+    Ok(text)
+}
+
+fn write_counts(text: &mut String, genesis: &Genesis) -> Result<(), AllocError> {
+    let (chaincodes, modules) = (
+        genesis.book.chaincodes().len(),
+        genesis.book.modules().len(),
+    );
+    let (policies, peers) = (genesis.rules.policies().len(), genesis.peers.len());
+    write!(
+        text,
+        "read chaincodes={chaincodes} modules={modules} policies={policies} peers={peers}"
+    )
+}
+
+fn write_numbers(text: &mut String, genesis: &Genesis) -> Result<(), AllocError> {
+    write!(
+        text,
+        " seats={} queue={} count={} preferred={} absolute={} reorder={}",
+        genesis.seats,
+        genesis.queue,
+        genesis.count,
+        genesis.preferred,
+        genesis.absolute,
+        genesis.reorder
+    )
+}
+
+/// The digests in hex, with `/2` behind those of profile 2, and commas between them.
+fn write_installed(text: &mut String, ids: &[ModuleId]) -> Result<(), AllocError> {
+    for (place, id) in ids.iter().enumerate() {
+        if place > 0 {
+            text.push(',')?;
+        }
+        write_id(text, id)?;
+    }
+    Ok(())
+}
+
+fn write_id(text: &mut String, id: &ModuleId) -> Result<(), AllocError> {
+    write_hex(text, &id.digest)?;
+    if id.profile == Profile::SignExtension {
+        text.push_str("/2")?;
+    }
+    Ok(())
+}

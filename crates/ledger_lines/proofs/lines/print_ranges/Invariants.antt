@@ -1,6 +1,0 @@
-use Rattle.std.proofs.Common.{◌≡◌}
-use Rattle.ledger_lines.specs.Told.{IsMore}
-use Rattle.ledger_lines.proofs.lines.print_ranges.Given as goal
-
-abbrev pub invariant-loop-range : goal.invariant-loop-range
-invariant-loop-range g l = IsMore l.fn.out l.out × (l.out.failed ≡ l.fn.out.failed)

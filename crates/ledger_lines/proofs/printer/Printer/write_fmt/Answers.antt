@@ -1,8 +1,0 @@
-use Rattle.std.proofs.Common.{rules, true, refl}
-use Rattle.ledger_lines.specs.Told.{Told}
-use Rattle.ledger_lines.proofs.printer.Printer.write_fmt.Goals as goal
-
-pub returns-in-Err-clause-tells : goal.returns-in-Err-clause-tells
-returns-in-Err-clause-tells g c =
-    let after : Told = record { printed = c.self.inside.printed; failed = true; bytes = g.W.Write.contents c.write_fmt.new.self } in
-    (record { prints = search rules; fails = search rules }, c.reason.ensures c.args.self.now after refl)

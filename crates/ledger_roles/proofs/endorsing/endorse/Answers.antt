@@ -1,8 +1,0 @@
-use Rattle.std.proofs.lemmas.Result.{err_from_is_err_and}
-use Rattle.ledger_lines.proofs.Silence.{no_less, tells_by}
-use Rattle.ledger_roles.proofs.endorsing.endorse.Goals as goal
-
-pub returns-in_err-lines : goal.returns-in_err-lines
-returns-in_err-lines g c =
-    let p = err_from_is_err_and c.from_residual-in_err-lines.result c.from_residual-in_err-lines.ensures.1 in
-    rw (p.1, p.2) (record { tells = tells_by c.args.out.now c.args.out.now _ (no_less c.args.out.now) c.in_err-lines.ensures.silent })

@@ -1,6 +1,0 @@
-use Rattle.std.proofs.Common.{◌≡◌}
-use Rattle.ledger_lines.specs.Told.{IsMore}
-use Rattle.ledger_roles.proofs.ordering.print_aborted.Given as goal
-
-abbrev pub invariant-loop-place : goal.invariant-loop-place
-invariant-loop-place g l = IsMore l.fn.out l.out × (l.out.failed ≡ l.fn.out.failed)

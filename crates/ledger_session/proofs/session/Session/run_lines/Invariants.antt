@@ -1,6 +1,0 @@
-use Rattle.std.proofs.Common.{◌≡◌}
-use Rattle.ledger_lines.specs.Told.{IsMore}
-use Rattle.ledger_session.proofs.session.Session.run_lines.Given as goal
-
-abbrev pub invariant-loop-number : goal.invariant-loop-number
-invariant-loop-number g l = IsMore l.fn.out l.out × (l.out.failed ≡ l.fn.out.failed)

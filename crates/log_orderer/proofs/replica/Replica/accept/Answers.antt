@@ -1,0 +1,80 @@
+use Rattle.std.proofs.Common.{◌≤◌, ◌∷◌, [], List, length, ap, arith, rules, subst, sym, ◌∙◌}
+use Rattle.std.specs.Vec.{vec_capacity}
+use Rattle.std.proofs.lemmas.List.{length-append}
+use Rattle.batch_cutter.specs.Division.{message}
+use Rattle.orderer.specs.Ordering.{Takes}
+use Rattle.orderer.specs.declared.report.BatchReport.{BatchReport}
+use Rattle.log_orderer.proofs.Taking.{few_of, front_of, named_of, parted_after, told_of, waits_on}
+use Rattle.log_orderer.proofs.replica.Replica.accept.Goals as goal
+
+pub cut_each-batches-requires : goal.cut_each-batches-requires
+cut_each-batches-requires c =
+    let old = c.self.inside.orderer in
+    let new = c.accept.new.self in
+    let e = c.args.envelope in
+    let reports = c.in-Ok.reports.items in
+    let takes = c.in-Ok.ensures.taken in
+    let waiting = c.prepared.new.waiting in
+    let more = c.push.new.self.items in
+    let id = c.in_ok-id.id in
+    let pushed = rw c.unwrap.ensures at c.push.ensures.items in
+    let parted = parted_after old new e reports takes waiting.items more id pushed (c.prepared.ensures.same ∙ c.self.invariant.0) c.in_ok-id.ensures.id in
+    let room = vec_capacity c.in_ok-id.room.ids in
+    let fits : length more ≤ room =
+    omega (
+      arith,
+      ap length pushed,
+      length-append waiting.items (id ∷ []),
+      waiting.ok.0,
+      c.in_ok-id.ensures.place,
+      ap length c.prepared.ensures.same,
+      c.in_ok-id.ensures.ids.1,
+    ) in
+    let few = few_of old new e reports takes more room c.self.invariant.1 parted fits in
+    record {
+      front = front_of old new (message e) reports takes more parted;
+      two = few.0;
+      batches = c.in_ok-id.ensures.batches;
+      empty = c.in_ok-id.ensures.ids.0;
+      room = few.1;
+    }
+
+pub invariant_of-self-in-Ok : goal.invariant_of-self-in-Ok
+invariant_of-self-in-Ok c =
+    let old = c.self.inside.orderer in
+    let new = c.accept.new.self in
+    let e = c.args.envelope in
+    let reports = c.in-Ok.reports.items in
+    let takes = c.in-Ok.ensures.taken in
+    let more = c.push.new.self.items in
+    let left = c.cut_each-batches.new.waiting.items in
+    let pushed = rw c.unwrap.ensures at c.push.ensures.items in
+    let parted = parted_after old new e reports takes c.prepared.new.waiting.items more c.in_ok-id.id pushed (c.prepared.ensures.same ∙ c.self.invariant.0)
+    c.in_ok-id.ensures.id in
+    let told = told_of old new (message e) reports takes more c.cut_each-batches.result left parted c.cut_each-batches.ensures in
+    (told.1, waits_on old new (message e) reports takes)
+
+pub returns-in-Ok : goal.returns-in-Ok
+returns-in-Ok c =
+    let old = c.self.inside.orderer in
+    let new = c.accept.new.self in
+    let e = c.args.envelope in
+    let reports = c.in-Ok.reports.items in
+    let takes = c.in-Ok.ensures.taken in
+    let more = c.push.new.self.items in
+    let batches = c.cut_each-batches.result in
+    let left = c.cut_each-batches.new.waiting.items in
+    let pushed = rw c.unwrap.ensures at c.push.ensures.items in
+    let parted = parted_after old new e reports takes c.prepared.new.waiting.items more c.in_ok-id.id pushed (c.prepared.ensures.same ∙ c.self.invariant.0)
+    c.in_ok-id.ensures.id in
+    let told = told_of old new (message e) reports takes more batches left parted c.cut_each-batches.ensures in
+    let named = named_of old new (message e) reports takes batches told.0 in
+    rw (← c.self.view_is) (record {
+      marks = (
+        subst (λ (rs : List BatchReport). Takes old (message e) rs new) (sym told.2) takes,
+        λ large. omega (arith, large, c.in-Ok.ensures.size),
+        c.in-Ok.ensures.numbers,
+      );
+      ids = λ line is. (e, is, c.in_ok-id.ensures.id, named);
+      unchanged = search rules;
+    })

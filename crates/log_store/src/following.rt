@@ -1,0 +1,113 @@
+//! An endorser beside a store that grows.
+
+ghost use Rattle.std.specs.Prelude.{◌≡◌, [], ◌++◌, IsTrue, IfOk, OnOk};
+ghost use Rattle.std.specs.Arc.{arc_value};
+ghost use Rattle.ledger_setting.specs.Rule.{table_of};
+ghost use Rattle.simulator.specs.Answers.{Answers};
+ghost use Rattle.store_replay.specs.Lawful.{AreLawful};
+ghost use Rattle.log_roles.specs.Following.{endorsed_on, endorsing_of, followed_chain};
+ghost use Rattle.log_store.specs.Following.{IsFollowed, bytes_read, endorses_by, read_chain};
+
+use crate::refusal::StoreRefusal;
+use block_store::{CountedRead, RecordReader};
+use store_devices::Counted;
+use endorsement_policy::Rules;
+use fab_types::{CommittedBlock, Endorsement, OrgName, Payload, Proposal};
+use log_roles::Follower;
+use simulator::{Book, SimRefusal};
+use std::alloc::{AllocError, Global};
+use std::io::Read;
+use std::sync::Arc;
+use store_replay::RecommitRefusal;
+
+/// So many bytes at most are asked of the file at a time.
+const PIECE: usize = 65_536;
+
+/// An endorser on the state after a store, which is read as it grows.
+///
+/// Contracts see the blocks that it has followed with their flags (`read_chain`), what it endorses
+/// by (`endorses_by`), and the bytes that it has read (`bytes_read`).
+#[derive(Drop)]
+pub struct StoreFollower<R: Drop> {
+    follower: Follower,
+    records: RecordReader,
+    file: Counted<R>,
+    piece: Vec<u8>,
+}
+
+impl<R: Read + Drop> StoreFollower<R> {
+    /// An endorser of an organisation that has read nothing of a store.
+    pub fn new(
+        alloc: Global,
+        book: Arc<Book>,
+        rules: Arc<Rules>,
+        org: OrgName,
+        file: R,
+    ) -> Result<StoreFollower<R>, AllocError>
+        ensures chain { IfOk result (λ s. (read_chain s ≡ []) × (bytes_read s ≡ [])) }
+        ensures followed { IfOk result (λ s. IsFollowed s) }
+        ensures endorsing { IfOk result
+            (λ s. endorses_by s
+            ≡ record { book = arc_value book; listed = arc_value rules; org = org }) }
+    {
+        let piece = vec![in alloc; 0u8; PIECE]?;
+        Ok(StoreFollower {
+            follower: Follower::new(alloc, book, rules, org),
+            records: RecordReader::new(alloc),
+            file: Counted::new(file),
+            piece,
+        })
+    }
+
+    /// Goes on by the whole records that the store has got. What stands behind them is kept, and
+    /// taken up where the store goes on.
+    ///
+    /// Refused where the store is damaged (702), where a block does not fit (601 to 604) or has
+    /// other flags than the table's (711), where a call of the file fails (703), and for want of
+    /// memory (9).
+    pub fn catch_up(&mut self) -> Result<(), StoreRefusal>
+        requires followed { IsFollowed self.old }
+        ensures followed { OnOk result (IsFollowed self.new) }
+        ensures all { OnOk result (IsTrue self.new.file.is_at_end) }
+        ensures same { endorses_by self.new ≡ endorses_by self.old }
+    {
+        for _ in 0..u64::MAX {
+            let count = self.file.read(&mut self.piece)?;
+            if count == 0 {
+                return Ok(());
+            }
+            let records = self.records.feed(&self.piece[..count])?;
+            follow_each(&mut self.follower, records)?;
+            if self.records.is_damaged() {
+                return Err(StoreRefusal::Damaged(self.records.next()));
+            }
+        }
+        // So many pieces no file has.
+        Err(StoreRefusal::File)
+    }
+
+    /// Simulates a proposal on the state after the records that were read, and endorses the
+    /// payload.
+    ///
+    /// Refused as the simulation is (401 to 404, 406 and 407), and for want of memory (9).
+    pub fn endorse(&self, proposal: &Proposal) -> Result<(Payload, Endorsement), SimRefusal>
+        ensures { Answers (endorsed_on (endorses_by self.now) proposal.now (read_chain self.now)) result }
+    {
+        self.follower.endorse(proposal)
+    }
+}
+
+/// Goes on by records, one after another.
+fn follow_each(follower: &mut Follower, records: Vec<CommittedBlock>) -> Result<(), RecommitRefusal>
+    ensures chain { OnOk result
+        (followed_chain follower.new ≡ followed_chain follower.old ++ records.items) }
+    ensures lawful { OnOk result
+        (AreLawful (table_of (endorsing_of follower.old).listed) (followed_chain follower.old)
+        records.items) }
+    ensures same { endorsing_of follower.new ≡ endorsing_of follower.old }
+{
+    'records: for stored in records {
+        follower.follow(stored)?;
+    }
+    Ok(())
+}

@@ -1,0 +1,153 @@
+//! A reader or a writer of std as a device of the block store.
+//!
+//! [`Counted`] keeps what its calls moved and how many of them failed in a history that exists in
+//! contracts alone: it takes no memory, and the count has no greatest.
+#![tactic(auto)]
+
+ghost use Rattle.std.specs.Prelude.{◌≡◌, suc, OnOk, OnErr};
+ghost use Rattle.store_devices.specs.History.{cut_back, fresh};
+
+mod history;
+
+use crate::history::{Call, History};
+use block_store::{CountedRead, CountedWrite, DeviceError};
+use std::fs::OpenFile;
+use std::io::{self, Read, Seek, SeekFrom, Write};
+
+/// A reader or a writer with the history of its calls. Each error is a failed call, an interrupted
+/// one too, and so is a write that takes no byte.
+///
+/// A file hands each write to the system before it answers. That the bytes are on the disk is
+/// promised by [`Counted::sync`] alone. A `BufWriter` takes bytes that it writes later, so its errors
+/// may come after an append that was done: put none in between.
+///
+/// A file that is read to its end and written there has moved the bytes that it holds.
+#[derive(Drop)]
+pub struct Counted<D: Drop> {
+    device: D,
+    history: History,
+    is_at_end: bool,
+}
+
+impl<D: Drop> Counted<D> {
+    /// The device, before its first call.
+    pub fn new(device: D) -> Counted<D>
+        ensures device { result.device ≡ device }
+        ensures history { result.history ≡ fresh }
+    {
+        Counted {
+            device,
+            history: History::new(),
+            is_at_end: false,
+        }
+    }
+
+    /// The reader or writer itself.
+    pub fn into_inner(self) -> D
+        ensures { result ≡ self.device }
+    {
+        self.device
+    }
+}
+
+impl<D: Read + Drop> CountedRead for Counted<D> {
+    ghost use Rattle.std.specs.Prelude.{IsTrue};
+
+    ghost taken = { λ c. c.history.moved };
+
+    ghost failures = { λ c. c.history.failures };
+
+    ghost IsAtEnd = { λ c. IsTrue c.is_at_end };
+
+    fn read(&mut self, buffer: &mut [u8]) -> Result<usize, DeviceError> {
+        match self.device.read(buffer) {
+            Ok(count) => {
+                self.history = self.history.and(&Call::Moved(&buffer[..count]));
+                self.is_at_end = count == 0;
+                Ok(count)
+            }
+            Err(_) => {
+                self.history = self.history.and(&Call::Failed);
+                Err(DeviceError)
+            }
+        }
+    }
+}
+
+impl<D: Write + Drop> CountedWrite for Counted<D> {
+    ghost written = { λ c. c.history.moved };
+
+    ghost failures = { λ c. c.history.failures };
+
+    fn write(&mut self, bytes: &[u8]) -> Result<usize, DeviceError> {
+        match self.device.write(bytes) {
+            Ok(count) if count > 0 => {
+                self.history = self.history.and(&Call::Moved(&bytes[..count]));
+                Ok(count)
+            }
+            _ => {
+                self.history = self.history.and(&Call::Failed);
+                Err(DeviceError)
+            }
+        }
+    }
+}
+
+impl<D: Seek + OpenFile + Drop> Counted<D> {
+    /// Takes so many bytes away from the end of a file. An error is a failed call; then the file has
+    /// them still.
+    pub fn cut_back(&mut self, count: usize) -> Result<(), DeviceError>
+        ensures cut { OnOk result
+            (self.new.history.moved ≡ cut_back count self.old.history.moved) }
+        ensures failed { OnErr result ((self.new.history.moved ≡ self.old.history.moved)
+            × (self.new.history.failures ≡ suc self.old.history.failures)) }
+        ensures counted { OnOk result
+            (self.new.history.failures ≡ self.old.history.failures) }
+        ensures synced { self.new.history.synced ≡ self.old.history.synced }
+    {
+        match shorten(&mut self.device, count) {
+            Ok(()) => {
+                self.history = self.history.and(&Call::CutBack(count));
+                Ok(())
+            }
+            Err(_) => {
+                self.history = self.history.and(&Call::Failed);
+                Err(DeviceError)
+            }
+        }
+    }
+
+    /// Waits until all that a file holds is on the disk. An error is a failed call; then it may be
+    /// there or not.
+    pub fn sync(&mut self) -> Result<(), DeviceError>
+        ensures synced { OnOk result
+            (self.new.history.synced ≡ self.new.history.moved) }
+        ensures moved { self.new.history.moved ≡ self.old.history.moved }
+        ensures failed { OnErr result
+            (self.new.history.failures ≡ suc self.old.history.failures) }
+        ensures counted { OnOk result
+            (self.new.history.failures ≡ self.old.history.failures) }
+    {
+        match self.device.sync_all() {
+            Ok(()) => {
+                self.history = self.history.and(&Call::Synced);
+                Ok(())
+            }
+            Err(_) => {
+                self.history = self.history.and(&Call::Failed);
+                Err(DeviceError)
+            }
+        }
+    }
+}
+
+/// Sets the length of a file to so many bytes less, and goes to its end.
+fn shorten<D: Seek + OpenFile>(file: &mut D, count: usize) -> io::Result<()> {
+    let length = file.seek(SeekFrom::End(0))?;
+    let Some(left) = length.checked_sub(count as u64) else {
+        return Err(io::Error::from(io::ErrorKind::UnexpectedEof));
+    };
+    file.set_len(left)?;
+    file.seek(SeekFrom::Start(left))?;
+    Ok(())
+}
