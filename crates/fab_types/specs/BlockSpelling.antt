@@ -5,10 +5,11 @@ use Rattle.fab_types.specs.declared.envelope.Endorsement.{Endorsement}
 use Rattle.fab_types.specs.declared.envelope.Envelope.{Envelope}
 use Rattle.fab_types.specs.declared.block.Header.{Header}
 use Rattle.fab_types.specs.declared.block.Block.{Block}
-use Rattle.fab_types.specs.Spelling.{short_bytes, few_bytes, many_bytes, payload_bytes}
+use Rattle.fab_types.specs.Spelling.{few_bytes, many_bytes, payload_bytes}
+use Rattle.fab_types.specs.Tags.{tagged_bytes}
 
 abbrev pub endorsement_bytes : Endorsement → List ℕ
-endorsement_bytes e = short_bytes e.org ++ e.tag
+endorsement_bytes e = tagged_bytes e.org e.tag
 
 abbrev pub envelope_bytes : Envelope → List ℕ
 envelope_bytes e = payload_bytes e.payload ++ few_bytes endorsement_bytes e.endorsements

@@ -7,12 +7,12 @@ use Rattle.fab_types.specs.declared.envelope.Envelope.{Envelope}
 use Rattle.fab_types.specs.declared.block.Header.{Header}
 use Rattle.fab_types.specs.declared.block.Block.{Block}
 use Rattle.fab_types.specs.Data.{IsBlockData}
+use Rattle.fab_types.specs.Tags.{IsTag}
 use Rattle.fab_types.specs.Within.{IsPayload}
 
--- the tag has 32 bytes
 pub record IsEndorsement (e : Endorsement) : Type 0 where
   pub org : IsOrgName e.org
-  pub tag : length e.tag ≡ 32
+  pub tag : IsTag e.tag
 
 -- up to 32 endorsements
 pub record IsEnvelope (e : Envelope) : Type 0 where

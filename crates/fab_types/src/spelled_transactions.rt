@@ -16,6 +16,7 @@ use crate::envelope::{Endorsement, Endorsements, Envelope};
 use crate::payload::Payload;
 use crate::proposal::{Call, Proposal, Upgrade};
 use crate::spelled::{Spelled, write_few};
+use crate::tag::Tag;
 use std::alloc::AllocError;
 use wasm_profile::Profile;
 
@@ -109,8 +110,17 @@ impl Spelled for Endorsement {
     ghost within = { IsEndorsement };
 
     fn write(&self, out: &mut Vec<u8>) -> Result<(), AllocError> {
-        self.org.write(out)?;
-        out.extend_from_slice(&self.tag)
+        match &self.tag {
+            Tag::Hmac(bytes) => {
+                self.org.write(out)?;
+                out.extend_from_slice(bytes)
+            }
+            Tag::Ed25519(bytes) => {
+                out.push(0)?;
+                self.org.write(out)?;
+                out.extend_from_slice(bytes)
+            }
+        }
     }
 }
 
