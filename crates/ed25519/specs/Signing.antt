@@ -55,3 +55,7 @@ verifies public message signature =
 -- the bytes are decoded to a point that 8 times is the neutral point: eight keys are (bytes of no point are not)
 abbrev pub IsOfSmallOrder : List ℕ → Type 0
 IsOfSmallOrder public = (a : Affine) × (decoded public ≡ Some a) × (multiple 8 a ≡ neutral)
+
+-- the bytes are decoded to a point that 8 times is not the neutral point
+abbrev pub IsPublicKey : List ℕ → Type 0
+IsPublicKey public = (a : Affine) × (decoded public ≡ Some a) × (multiple 8 a ≡ neutral → ⊥)

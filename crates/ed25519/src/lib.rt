@@ -4,7 +4,7 @@
 
 ghost use Rattle.std.specs.Prelude.{◌≡◌, ◌↔◌, ◌++◌, ◌+◌, true, take, drop};
 ghost use Rattle.ed25519.specs.Signing.{pruned, public_key, secret, prefix, nonce, challenge};
-ghost use Rattle.ed25519.specs.Signing.{signature, verifies, IsOfSmallOrder};
+ghost use Rattle.ed25519.specs.Signing.{signature, verifies, IsOfSmallOrder, IsPublicKey};
 
 use edwards25519::Point;
 use field25519::Number;
@@ -115,6 +115,17 @@ pub fn is_of_small_order(public: &[u8; 32]) -> bool
     match Point::decoded(public) {
         None => false,
         Some(key) => key.has_small_order(),
+    }
+}
+
+/// Whether 32 bytes are a public key to take in: the encoding of a point that is not of small
+/// order. Under each other one nobody signs, or everybody.
+pub fn is_public_key(bytes: &[u8; 32]) -> bool
+    ensures { result ≡ true ↔ IsPublicKey bytes.now }
+{
+    match Point::decoded(bytes) {
+        None => false,
+        Some(key) => !key.has_small_order(),
     }
 }
 

@@ -9,7 +9,7 @@ use Rattle.fab_types.specs.declared.envelope.Endorsement.{Endorsement}
 use Rattle.fab_types.specs.declared.envelope.Envelope.{Envelope}
 use Rattle.policy_language.specs.GoodSets.{Names}
 use Rattle.endorsement_policy.specs.Endorsed.{is_right, right_orgs}
-use Rattle.endorsement_policy.specs.declared.rules.Organisation.{Organisation}
+use Rattle.org_keys.specs.declared.organisation.Organisation.{Organisation}
 
 -- what was found of a block, and what there is to be found
 abbrev pub found_in : Vec Names Global → List Names

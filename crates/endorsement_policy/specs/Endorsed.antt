@@ -13,14 +13,17 @@ use Rattle.fab_types.specs.declared.proposal.Proposal.TheVariants as proposal
 use Rattle.fab_types.specs.Payloads.{Payload}
 use Rattle.fab_types.specs.declared.envelope.Endorsement.{Endorsement}
 use Rattle.fab_types.specs.declared.envelope.Envelope.{Envelope}
-use Rattle.hmac_tag.specs.Tag.{tag}
+use Rattle.fab_types.specs.declared.tag.Tag.{Tag}
+use Rattle.org_keys.specs.Keys.{is_right_by}
+use Rattle.org_keys.specs.Signers.{Seeds, tag_for}
+use Rattle.org_keys.specs.declared.organisation.OrgKey.{OrgKey}
 use Rattle.fab_types.specs.Spelling.{definition_bytes, payload_bytes}
 use Rattle.ledger_model.specs.Defined.{definition_in}
 use Rattle.ledger_model.specs.Views.{Plain}
 use Rattle.policy_language.specs.GoodSets.{Name, Names, is_satisfied, needs_someone}
 use Rattle.endorsement_policy.specs.Installed.{Installed, usable_by, usable_in}
 use Rattle.policy_language.specs.declared.policy.Policy.{Policy}
-use Rattle.endorsement_policy.specs.declared.rules.Organisation.{Organisation}
+use Rattle.org_keys.specs.declared.organisation.Organisation.{Organisation}
 use Rattle.endorsement_policy.specs.declared.rules.ChaincodePolicy.{ChaincodePolicy}
 
 -- the organisations with their keys, the policies of chaincodes by the genesis, the policy of upgrades, and what every peer has installed
@@ -39,22 +42,18 @@ is_policy_of chaincode p = bytes_eq p.chaincode chaincode
 abbrev pub do_need_someone : List ChaincodePolicy → Bool
 do_need_someone ps = list_all (λ p. needs_someone p.policy) ps
 
--- what an organisation with this key puts on a payload
-abbrev pub endorsement_by : Name → List ℕ → Payload → Endorsement
-endorsement_by org key p = record { org = org; tag = tag key (payload_bytes p) }
+-- an organisation's key, if it is known
+abbrev pub key_of : List Organisation → Name → Option OrgKey
+key_of orgs name = option_map (λ o. o.key) (find (is_org name) orgs)
 
-abbrev pub key_in : Option Organisation → List ℕ
-key_in None = []
-key_in (Some o) = o.key
-
--- an organisation's key; an unknown one has the empty key
-abbrev pub key_of : List Organisation → Name → List ℕ
-key_of orgs name = key_in (find (is_org name) orgs)
+-- what an organisation puts on a payload in a state, by its key and the seeds at hand; no state changes the keys that are listed
+abbrev pub seal_of : Listed → Seeds → Plain → Name → Payload → Endorsement
+seal_of listed seeds m org p = record { org = org; tag = tag_for seeds (key_of listed.orgs org) (payload_bytes p) }
 
 -- the organisation is known, and this is its tag on those bytes
-abbrev pub is_tag_of : Option Organisation → List ℕ → List ℕ → Bool
+abbrev pub is_tag_of : Option Organisation → List ℕ → Tag → Bool
 is_tag_of None bytes claimed = false
-is_tag_of (Some o) bytes claimed = bytes_eq claimed (tag o.key bytes)
+is_tag_of (Some o) bytes claimed = is_right_by o.key bytes claimed
 
 -- the organisation that it names is known, and the tag is that organisation's on this payload
 abbrev pub is_right : List Organisation → Payload → Endorsement → Bool

@@ -1,5 +1,4 @@
 pub mod Faults
-pub mod TagKeys
 pub mod Installed
 pub mod Endorsed
 pub mod Judge

@@ -21,7 +21,6 @@ mod parallel;
 mod payloads;
 mod rules;
 mod source;
-mod tag_key;
 mod tags;
 
 pub use check::{check_plain, check_with_right_orgs, is_endorsed};
@@ -30,6 +29,5 @@ pub use fault::DefinitionFault;
 pub use installed::{Installed, ModuleId, Usable};
 pub use laws::{an_endorsed_envelope_carries_a_right_tag, usable_definitions_are_spelled};
 pub use parallel::{Gate, check_all};
-pub use rules::{ChaincodePolicy, Organisation, Rules};
-pub use tag_key::TagKey;
+pub use rules::{ChaincodePolicy, Rules};
 pub use tags::right_orgs_of_blocks;

@@ -7,17 +7,10 @@ ghost use Rattle.policy_language.specs.GoodSets.{needs_someone};
 
 use crate::evaluate::is_satisfied_by;
 use crate::installed::Installed;
-use crate::tag_key::TagKey;
 use fab_types::{Endorsement, Name, OrgName};
+use org_keys::Organisation;
 use policy_language::Policy;
 use std::marker::Model;
-
-/// An organisation and the key of its tags.
-#[derive(Drop)]
-pub struct Organisation {
-    pub name: OrgName,
-    pub key: TagKey,
-}
 
 /// A chaincode and the policy of its transactions.
 #[derive(Drop)]
@@ -132,7 +125,7 @@ impl Rules {
     pub fn organisation(&self, name: &OrgName) -> Option<&Organisation>
         ensures { option_map (λ o. o.now) result ≡ find (is_org name.now) self.now.orgs }
     {
-        self.organisations.iter().find(|o| o.is_named(name))
+        self.organisations.iter().find(|o| is_named(o, name))
     }
 
     /// The policy of this chaincode.
@@ -151,20 +144,16 @@ impl Rules {
             endorsement.now.tag }
     {
         match self.organisation(&endorsement.org) {
-            Some(organisation) => {
-                hmac_tag::check(organisation.key.as_slice(), bytes, &endorsement.tag)
-            }
+            Some(organisation) => organisation.key.is_right(bytes, &endorsement.tag),
             None => false,
         }
     }
 }
 
-impl Organisation {
-    fn is_named(&self, name: &OrgName) -> bool
-        ensures { result ≡ is_org name.now self.now }
-    {
-        self.name.as_slice() == name.as_slice()
-    }
+fn is_named(organisation: &Organisation, name: &OrgName) -> bool
+    ensures { result ≡ is_org name.now organisation.now }
+{
+    organisation.name.as_slice() == name.as_slice()
 }
 
 impl ChaincodePolicy {

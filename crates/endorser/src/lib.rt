@@ -6,6 +6,6 @@ mod endorsing;
 mod rechecking;
 mod sealing;
 
-pub use endorsing::{Endorser, endorse_payload};
+pub use endorsing::Endorser;
 pub use rechecking::recheck;
 pub use sealing::seal;

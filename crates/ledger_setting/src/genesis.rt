@@ -6,6 +6,7 @@ ghost use Rattle.fab_types.specs.declared.limits.TheConstants.{MOST_DATA_BYTES, 
 use chaincode_book::Book;
 use endorsement_policy::Rules;
 use fab_types::OrgName;
+use org_keys::Signers;
 use std::fmt::{self, Debug, Formatter, Write};
 use std::sync::Arc;
 
@@ -17,6 +18,8 @@ pub struct Genesis {
     /// The organisations with their keys, the policies of the chaincodes and that of upgrades, and
     /// what is installed.
     pub rules: Arc<Rules>,
+    /// The seeds at hand, with which peers of public keys endorse.
+    pub signers: Arc<Signers>,
     /// Each peer's organisation: 1 to 8 peers.
     pub peers: Vec<OrgName>,
     pub ghost peers_in_range: { (1 ≤ length peers.items) × (length peers.items ≤ MOST_PEERS) },
@@ -39,7 +42,7 @@ pub struct Genesis {
     pub reorder: bool,
 }
 
-/// The tags' keys are not printed.
+/// Shared keys and seeds are not printed.
 impl Debug for Genesis {
     fn fmt<W: Write>(&self, f: &mut Formatter<W>) -> fmt::Result {
         f.debug_struct("Genesis")

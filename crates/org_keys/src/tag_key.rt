@@ -1,7 +1,7 @@
 //! Keys of tags.
 
 ghost use Rattle.std.specs.Prelude.{◌≡◌, ◌↔◌, IsSome, IfSome};
-ghost use Rattle.endorsement_policy.specs.TagKeys.{IsTagKey};
+ghost use Rattle.org_keys.specs.TagKeys.{IsTagKey};
 
 use std::marker::Model;
 
@@ -14,7 +14,7 @@ pub struct TagKey {
 
 impl Model for TagKey {
     ghost use Rattle.std.specs.Prelude.{List, ℕ};
-    ghost use Rattle.endorsement_policy.specs.TagKeys.{IsTagKey};
+    ghost use Rattle.org_keys.specs.TagKeys.{IsTagKey};
 
     ghost Value = { List ℕ };
 

@@ -1,0 +1,3 @@
+pub mod TagKeys
+pub mod Keys
+pub mod Signers

@@ -1,0 +1,15 @@
+//! Keys of organisations: which tags are right under them, and the tags that a process makes.
+//!
+//! An organisation has a shared key, which everybody knows who checks its tags, or a public key of
+//! Ed25519, whose seed it keeps. The seeds that a process has at hand are its [`Signers`].
+#![tactic(auto)]
+
+mod organisation;
+mod public_key;
+mod signers;
+mod tag_key;
+
+pub use organisation::{OrgKey, Organisation};
+pub use public_key::PublicKey;
+pub use signers::Signers;
+pub use tag_key::TagKey;
