@@ -1,12 +1,18 @@
 -- The one spelling of endorsements, envelopes, headers and blocks in bytes.
-use Rattle.std.specs.Prelude.{ℕ, List, ◌++◌, length}
+use Rattle.std.specs.Prelude.{ℕ, List, ◌∷◌, ◌++◌, length}
 use Rattle.std.specs.Int.{w32, to_be_bytes}
+use Rattle.fab_types.specs.declared.tag.Tag.{Tag}
+use Rattle.fab_types.specs.declared.tag.Tag.TheVariants as tag
 use Rattle.fab_types.specs.declared.envelope.Endorsement.{Endorsement}
 use Rattle.fab_types.specs.declared.envelope.Envelope.{Envelope}
 use Rattle.fab_types.specs.declared.block.Header.{Header}
 use Rattle.fab_types.specs.declared.block.Block.{Block}
-use Rattle.fab_types.specs.Spelling.{few_bytes, many_bytes, payload_bytes}
-use Rattle.fab_types.specs.Tags.{tagged_bytes}
+use Rattle.fab_types.specs.Spelling.{short_bytes, few_bytes, many_bytes, payload_bytes}
+
+-- before a signature's name stands the byte 0, which is the length of no name
+abbrev pub tagged_bytes : List ℕ → Tag → List ℕ
+tagged_bytes org (tag.Hmac bytes) = short_bytes org ++ bytes
+tagged_bytes org (tag.Ed25519 bytes) = 0 ∷ (short_bytes org ++ bytes)
 
 abbrev pub endorsement_bytes : Endorsement → List ℕ
 endorsement_bytes e = tagged_bytes e.org e.tag

@@ -1,6 +1,5 @@
--- Tags: their bytes, how many there are, and their spelling behind an organisation's name.
-use Rattle.std.specs.Prelude.{◌≡◌, ℕ, List, ◌∷◌, ◌++◌, length}
-use Rattle.fab_types.specs.Spelling.{short_bytes}
+-- Tags: their bytes, and how many there are.
+use Rattle.std.specs.Prelude.{◌≡◌, ℕ, List, length}
 use Rattle.fab_types.specs.declared.tag.Tag.{Tag}
 use Rattle.fab_types.specs.declared.tag.Tag.TheVariants as tag
 
@@ -17,8 +16,3 @@ IsTag (tag.Ed25519 bytes) = length bytes ≡ 64
 abbrev pub tag_size : Tag → ℕ
 tag_size (tag.Hmac bytes) = 32
 tag_size (tag.Ed25519 bytes) = 65
-
--- before a signature's name stands the byte 0, which is the length of no name
-abbrev pub tagged_bytes : List ℕ → Tag → List ℕ
-tagged_bytes org (tag.Hmac bytes) = short_bytes org ++ bytes
-tagged_bytes org (tag.Ed25519 bytes) = 0 ∷ (short_bytes org ++ bytes)

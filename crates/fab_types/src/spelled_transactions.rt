@@ -110,17 +110,11 @@ impl Spelled for Endorsement {
     ghost within = { IsEndorsement };
 
     fn write(&self, out: &mut Vec<u8>) -> Result<(), AllocError> {
-        match &self.tag {
-            Tag::Hmac(bytes) => {
-                self.org.write(out)?;
-                out.extend_from_slice(bytes)
-            }
-            Tag::Ed25519(bytes) => {
-                out.push(0)?;
-                self.org.write(out)?;
-                out.extend_from_slice(bytes)
-            }
+        if let Tag::Ed25519(_) = self.tag {
+            out.push(0)?;
         }
+        self.org.write(out)?;
+        out.extend_from_slice(self.tag.as_slice())
     }
 }
 

@@ -1,7 +1,7 @@
 //! Tags: what organisations put on payloads.
 
 ghost use Rattle.std.specs.Prelude.{◌≡◌};
-ghost use Rattle.fab_types.specs.Tags.{tag_bytes};
+ghost use Rattle.fab_types.specs.Tags.{tag_bytes, IsTag};
 
 /// A tag, by its kind. It may be wrong.
 #[derive(Clone, Copy, PartialEq, Eq, Debug, Drop)]
@@ -15,7 +15,8 @@ pub enum Tag {
 impl Tag {
     /// The tag's bytes, without its kind: 32 or 64.
     pub fn as_slice(&self) -> &[u8]
-        ensures { result.now ≡ tag_bytes self.now }
+        ensures value { result.now ≡ tag_bytes self.now }
+        ensures limits { IsTag self.now }
     {
         match self {
             Tag::Hmac(bytes) => bytes,
