@@ -3,7 +3,7 @@
 use crate::failure::Failure;
 use crate::workload::{Workload, chaincode};
 use endorsement_policy::{ChaincodePolicy, Installed, Organisation, Rules, TagKey};
-use fab_types::{Endorsement, Endorsements, Envelope, OrgName, Payload};
+use fab_types::{Endorsement, Endorsements, Envelope, OrgName, Payload, Tag};
 use hmac_tag::tag;
 use policy_language::{Policies, Policy};
 use std::alloc::Global;
@@ -55,7 +55,7 @@ fn endorsements(alloc: Global, payload: &Payload) -> Result<Endorsements, Failur
 
 fn endorsement(alloc: Global, letter: u8, bytes: &[u8]) -> Result<Endorsement, Failure> {
     let org = org(alloc, letter)?;
-    let tag = tag(&secret(letter), bytes);
+    let tag = Tag::Hmac(tag(&secret(letter), bytes));
     Ok(Endorsement { org, tag })
 }
 

@@ -169,5 +169,5 @@ fn write_endorsement(answer: &mut String, endorsement: &Endorsement) -> Result<(
     answer.push_str(" e:")?;
     write_bytes(answer, endorsement.org.as_slice())?;
     answer.push('=')?;
-    write_hex(answer, &endorsement.tag)
+    write_hex(answer, endorsement.tag.as_slice())
 }
