@@ -1,5 +1,5 @@
 -- The seeds at hand, and what is put on some bytes by them.
-use Rattle.std.specs.Prelude.{ℕ, List, [], Option, Some, None, Bool, true, false, bytes_eq}
+use Rattle.std.specs.Prelude.{ℕ, List, [], Option, Some, None, is_some, Bool, true, bytes_eq}
 use Rattle.std.specs.List.{find}
 use Rattle.fab_types.specs.declared.tag.Tag.{Tag}
 use Rattle.fab_types.specs.declared.tag.Tag.TheVariants as tag
@@ -15,14 +15,10 @@ Seeds = List (List ℕ)
 abbrev pub seed_for : Seeds → List ℕ → Option (List ℕ)
 seed_for seeds public = find (λ s. bytes_eq (public_key s) public) seeds
 
-abbrev pub is_there : Option (List ℕ) → Bool
-is_there None = false
-is_there (Some seed) = true
-
 -- a shared key is; a public one where its seed is
 abbrev pub is_at_hand : Seeds → OrgKey → Bool
 is_at_hand seeds (key.Shared k) = true
-is_at_hand seeds (key.Public k) = is_there (seed_for seeds k)
+is_at_hand seeds (key.Public k) = is_some (seed_for seeds k)
 
 -- what is put where there is no key or no seed: it is nobody's
 abbrev pub nobodys : List ℕ → Tag

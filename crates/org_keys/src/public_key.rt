@@ -7,7 +7,7 @@ use std::marker::Model;
 
 /// A public key of Ed25519 (RFC 8032, section 5.1.5): the encoding of a point that is not of small
 /// order.
-#[derive(Clone, Copy, Debug, Drop)]
+#[derive(Debug, Drop)]
 pub struct PublicKey {
     bytes: [u8; 32],
 }

@@ -65,7 +65,7 @@ impl Signers {
     /// the seed of a public one. Where there is no key, or its seed is not at hand, an HMAC under
     /// the empty key, which counts for nothing. No memory is taken.
     pub fn tag(&self, key: Option<&OrgKey>, bytes: &[u8]) -> Tag
-        ensures { result ≡ tag_for self.now (option_map (λ k. k.now) key) bytes.now }
+        ensures { result ≡ tag_for self.now (option_map (λ k. k.now) key.entry) bytes.now }
     {
         match key {
             Some(OrgKey::Shared(key)) => Tag::Hmac(hmac_tag::tag(key.as_slice(), bytes)),
