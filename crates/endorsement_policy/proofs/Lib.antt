@@ -1,4 +1,5 @@
 pub mod Shares
+pub mod Sharing
 pub mod Definitions
 pub mod Sources
 pub mod Rights
