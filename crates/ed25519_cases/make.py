@@ -161,6 +161,12 @@ def small_order_case(key: bytes, note: str = "") -> None:
     case(f"small_order {key.hex()}", "small" if small else "not small", note)
 
 
+def key_case(key: bytes, note: str = "") -> None:
+    point = point_decompress(key)
+    good = point is not None and not point_equal(point_mul(8, point), (0, 1, 1, 0))
+    case(f"key {key.hex()}", "good" if good else "bad", note)
+
+
 # ---- the vectors of RFC 8032, section 7.1: seed, public key, message, signature
 
 
@@ -388,6 +394,39 @@ def small_order_cases() -> None:
             verify_case(mixed, message, commitment + s.to_bytes(32, "little"), f"key with a part of order {order}")
 
 
+# ---- keys to take in
+
+
+def key_cases() -> None:
+    points = small_points()
+    title(
+        "Public keys to take in are encodings of points that are not of small order: those of the vectors, and 200 of\n"
+        "seeds at random."
+    )
+    for vector in VECTORS:
+        key_case(bytes.fromhex(vector.public), vector.name)
+    draw = random.Random(8032)
+    for _ in range(200):
+        private = Ed25519PrivateKey.from_private_bytes(draw.randbytes(32))
+        key_case(private.public_key().public_bytes(Encoding.Raw, PublicFormat.Raw))
+    title("Bytes that are no encoding, those of small order, and sums of a key with these.")
+    for key, note in bad_encodings():
+        key_case(key, note)
+    for y in (2, 7, p - 2):
+        key_case(y.to_bytes(32, "little"), f"y = {y if y < 10 else 'p - 2'}")
+    for key, order in points:
+        key_case(key, f"order {order}")
+    first = point_decompress(bytes.fromhex(VECTORS[0].public))
+    assert first is not None
+    for key, order in points[1:]:
+        torsion = point_decompress(key)
+        assert torsion is not None
+        key_case(point_compress(point_add(first, torsion)), f"the key of TEST 1 and a point of order {order}")
+    title("200 lists of 32 bytes at random, of which about half are encodings.")
+    for _ in range(200):
+        key_case(draw.randbytes(32))
+
+
 # ---- keys and messages at random
 
 
@@ -434,6 +473,7 @@ def bad_lines() -> None:
         (f"sign {seed}", "no message"),
         (f"verify {public} {message} {signature[:-2]}", "63 bytes"),
         (f"verify {public} {message} {signature} 00", "a word more"),
+        (f"key {public} 00", "a word more"),
         (f"refuse {public}", "no verb of these"),
     ):
         case(line, "bad line", note)
@@ -444,6 +484,7 @@ def main() -> None:
     scalar_cases()
     encoding_cases()
     small_order_cases()
+    key_cases()
     random_cases()
     bad_lines()
     (HERE / "stdin").write_text("\n".join(questions) + "\n")

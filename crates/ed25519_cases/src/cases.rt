@@ -1,7 +1,7 @@
 //! Lines, and the verb that each begins with.
 
 use crate::fault::CaseFault;
-use ed25519::{is_of_small_order, public_key, sign, verify};
+use ed25519::{is_of_small_order, is_public_key, public_key, sign, verify};
 use hex::FromHex;
 use std::alloc::Global;
 
@@ -23,6 +23,7 @@ pub fn answer_case(alloc: Global, case: &str) -> Result<String, CaseFault> {
         "sign" => show_signature(alloc, &key, rest),
         "verify" => show_verified(alloc, &key, rest),
         "small_order" => show_small(alloc, &key, rest),
+        "key" => show_key(alloc, &key, rest),
         _ => Err(CaseFault::BadLine),
     }
 }
@@ -65,6 +66,15 @@ fn show_small(alloc: Global, key: &[u8; 32], rest: &str) -> Result<String, CaseF
     }
     let small = is_of_small_order(key);
     Ok(String::from_str(alloc, if small { "small" } else { "not small" })?)
+}
+
+/// Whether the bytes are a public key to take in, where no word is left.
+fn show_key(alloc: Global, key: &[u8; 32], rest: &str) -> Result<String, CaseFault> {
+    if !rest.is_empty() {
+        return Err(CaseFault::BadLine);
+    }
+    let good = is_public_key(key);
+    Ok(String::from_str(alloc, if good { "good" } else { "bad" })?)
 }
 
 /// The bytes of a word, which `-` stands for where there are none.

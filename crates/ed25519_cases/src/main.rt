@@ -10,7 +10,8 @@
 //! - `verify KEY MESSAGE SIGNATURE`: `good` where the signature is one of the message under the
 //!   public key, else `bad`;
 //! - `small_order KEY`: `small` where the key is one of the eight whose point has an order that
-//!   divides 8, else `not small`.
+//!   divides 8, else `not small`;
+//! - `key KEY`: `good` where the bytes are a point that is not of small order, else `bad`.
 #![tactic(auto)]
 
 mod cases;
