@@ -11,9 +11,11 @@ use Rattle.fab_types.specs.declared.proposal.Proposal.{Proposal}
 use Rattle.fab_types.specs.declared.proposal.Proposal.TheVariants as proposal
 use Rattle.policy_language.specs.declared.policy.Policy.{Policy}
 use Rattle.endorsement_policy.specs.declared.installed.ModuleId.{ModuleId}
-use Rattle.endorsement_policy.specs.declared.rules.Organisation.{Organisation}
+use Rattle.org_keys.specs.declared.organisation.OrgKey.{OrgKey}
+use Rattle.org_keys.specs.declared.organisation.OrgKey.TheVariants as key
+use Rattle.org_keys.specs.declared.organisation.Organisation.{Organisation}
 use Rattle.endorsement_policy.specs.declared.rules.ChaincodePolicy.{ChaincodePolicy}
-use Rattle.endorsement_policy.specs.Endorsed.{listed_policy}
+use Rattle.endorsement_policy.specs.Endorsed.{key_of, listed_policy}
 use Rattle.chaincode_book.specs.declared.book.Chaincode.{Chaincode}
 use Rattle.ledger_setting.specs.declared.genesis.Genesis.{Genesis}
 use Rattle.serde_json.specs.Data.{Data, depth, items_depth, string}
@@ -23,7 +25,7 @@ use Rattle.json_chain.specs.Texts.{pairs_json, value_json}
 use Rattle.json_chain.specs.Sets.{entry_json, range_json, read_json, seen_json, write_json}
 use Rattle.json_chain.specs.Transactions.{endorsement_json, proposal_json, transaction_json}
 use Rattle.json_chain.specs.Blocks.{block_json}
-use Rattle.json_chain.specs.Settings.{chaincode_json, module_json, policy_json, setting_json}
+use Rattle.json_chain.specs.Settings.{chaincode_json, module_json, named_json, org_json, policy_json, setting_json}
 use Rattle.json_chain.specs.Entries.{placed_write_json}
 
 items_low : {A : Type 0} (json : A → Data) (n : ℕ) → ((x : A) → depth (json x) ≤ n) → (xs : List A) → items_depth (items_of (map json xs)) ≤ n
@@ -82,6 +84,14 @@ string_low s = omega arith
 module_low : (id : ModuleId) → depth (module_json id) ≤ 1
 module_low id = omega arith
 
+named_low : (name : List ℕ) (k : Option OrgKey) → depth (named_json name k) ≤ 1
+named_low name None = omega arith
+named_low name (Some (key.Shared k)) = omega arith
+named_low name (Some (key.Public k)) = omega arith
+
+org_low : (orgs : List Organisation) (name : List ℕ) → depth (org_json orgs name) ≤ 1
+org_low orgs name = named_low name (key_of orgs name)
+
 pub setting_low : (g : Genesis) → depth (setting_json g) ≤ 3
 setting_low g =
     let book = g.book.value in
@@ -89,7 +99,7 @@ setting_low g =
       arith,
       pairs_low (chaincode_json g.rules.value.policies) 1 (chaincode_low g.rules.value.policies) book.chaincodes book.installed.modules,
       items_low module_json 1 module_low book.installed.modules,
-      items_low string 0 string_low book.installed.orgs,
+      items_low (org_json g.rules.value.orgs) 1 (org_low g.rules.value.orgs) book.installed.orgs,
       items_low string 0 string_low g.peers.items,
     )
 

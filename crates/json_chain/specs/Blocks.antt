@@ -6,7 +6,7 @@ use Rattle.fab_types.specs.declared.envelope.Envelope.{Envelope}
 use Rattle.fab_types.specs.declared.flag.Flag.{Flag}
 use Rattle.fab_types.specs.declared.block.Header.{Header}
 use Rattle.fab_types.specs.BlockSpelling.{header_bytes}
-use Rattle.endorsement_policy.specs.declared.rules.Organisation.{Organisation}
+use Rattle.org_keys.specs.declared.organisation.Organisation.{Organisation}
 use Rattle.serde_json.specs.Data.{Data, array, number, unsigned, Members, object, member, no_members, put}
 use Rattle.serde_json.specs.View.{items_of}
 use Rattle.json_chain.specs.Texts.{hex_json, pairs_json}

@@ -1,7 +1,10 @@
 -- What a ledger begins with, as JSON.
-use Rattle.std.specs.Prelude.{List, Option, Some, None, codes}
+use Rattle.std.specs.Prelude.{ℕ, List, Option, Some, None, codes}
 use Rattle.wasm_profile.specs.Numbers.{number_of}
-use Rattle.endorsement_policy.specs.Endorsed.{listed_policy}
+use Rattle.org_keys.specs.declared.organisation.OrgKey.{OrgKey}
+use Rattle.org_keys.specs.declared.organisation.OrgKey.TheVariants as key
+use Rattle.org_keys.specs.declared.organisation.Organisation.{Organisation}
+use Rattle.endorsement_policy.specs.Endorsed.{key_of, listed_policy}
 use Rattle.endorsement_policy.specs.declared.installed.ModuleId.{ModuleId}
 use Rattle.policy_language.specs.declared.policy.Policy.{Policy}
 use Rattle.endorsement_policy.specs.declared.rules.ChaincodePolicy.{ChaincodePolicy}
@@ -30,7 +33,16 @@ chaincode_json policies c id =
 abbrev pub chaincodes_json : List ChaincodePolicy → List Chaincode → List ModuleId → List Data
 chaincodes_json policies chaincodes ids = pairs_json (chaincode_json policies) chaincodes ids
 
--- all that is set but the keys of the organisations; the seats and the queue have no part in the chain
+abbrev pub named_json : List ℕ → Option OrgKey → Data
+named_json name None = string name
+named_json name (Some (key.Shared k)) = string name
+named_json name (Some (key.Public k)) = object (member (codes "name") (string name) (member (codes "public") (hex_json k) no_members))
+
+-- the organisation of this name among these: its name; or, where it has a public key, {"name":"B","public":"d75a98.."}
+abbrev pub org_json : List Organisation → List ℕ → Data
+org_json orgs name = named_json name (key_of orgs name)
+
+-- all that is set but the shared keys; the seats and the queue have no part in the chain
 abbrev pub setting_json : Genesis → Data
 setting_json g =
     let book = g.book.value in
@@ -38,7 +50,7 @@ setting_json g =
     object (member (codes "absolute") (number (unsigned g.absolute))
     (member (codes "chaincodes") (array (items_of (chaincodes_json rules.policies book.chaincodes book.installed.modules)))
     (member (codes "count") (number (unsigned g.count)) (member (codes "ledger") (number (unsigned 1))
-    (member (codes "modules") (list_json module_json book.installed.modules) (member (codes "orgs") (list_json string book.installed.orgs)
+    (member (codes "modules") (list_json module_json book.installed.modules) (member (codes "orgs") (list_json (org_json rules.orgs) book.installed.orgs)
     (member (codes "peers") (list_json string g.peers.items) (member (codes "preferred") (number (unsigned g.preferred))
     (member (codes "reorder") (boolean g.reorder) (member (codes "upgrade") (string (policy_text rules.upgrade)) no_members))))))))))
 
@@ -56,5 +68,5 @@ with_book g ms =
     let book = g.book.value in
     let rules = g.rules.value in
     put (codes "upgrade") (string (policy_text rules.upgrade)) (put (codes "peers") (list_json string g.peers.items)
-    (put (codes "orgs") (list_json string book.installed.orgs) (put (codes "modules") (list_json module_json book.installed.modules)
+    (put (codes "orgs") (list_json (org_json rules.orgs) book.installed.orgs) (put (codes "modules") (list_json module_json book.installed.modules)
     (put (codes "chaincodes") (array (items_of (chaincodes_json rules.policies book.chaincodes book.installed.modules))) ms))))

@@ -14,8 +14,9 @@ use Rattle.fab_types.specs.declared.proposal.Proposal.{Proposal}
 use Rattle.fab_types.specs.declared.proposal.Proposal.TheVariants as proposal
 use Rattle.wire.specs.Ids.{id_of}
 use Rattle.fab_types.specs.Spelling.{payload_bytes}
+use Rattle.fab_types.specs.Tags.{tag_bytes}
 use Rattle.endorsement_policy.specs.Endorsed.{is_org, is_tag_of}
-use Rattle.endorsement_policy.specs.declared.rules.Organisation.{Organisation}
+use Rattle.org_keys.specs.declared.organisation.Organisation.{Organisation}
 use Rattle.serde_json.specs.Data.{Data, boolean, number, unsigned, string, Members, object, member, no_members, put}
 use Rattle.json_chain.specs.Texts.{hex_json, list_json}
 use Rattle.json_chain.specs.Sets.{range_json, read_json, write_json}
@@ -24,7 +25,7 @@ use Rattle.json_chain.specs.Sets.{range_json, read_json, write_json}
 abbrev pub endorsement_json : List Organisation → List ℕ → Endorsement → Data
 endorsement_json orgs bytes e =
     object (member (codes "org") (string e.org) (member (codes "right") (boolean (is_tag_of (find (is_org e.org) orgs) bytes e.tag))
-    (member (codes "tag") (hex_json e.tag) no_members)))
+    (member (codes "tag") (hex_json (tag_bytes e.tag)) no_members)))
 
 abbrev pub definition_json : Definition → Data
 definition_json d =

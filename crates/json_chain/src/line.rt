@@ -32,8 +32,7 @@ fn line_of(alloc: Global, value: &Value) -> Result<String, AllocError>
     value.to_string(alloc)
 }
 
-/// What a ledger begins with, but for the keys of the organisations. The only error is want of
-/// memory.
+/// What a ledger begins with, but for the shared keys. The only error is want of memory.
 pub fn setting_line(alloc: Global, genesis: &Genesis) -> Result<String, AllocError>
     ensures { IfOk result (λ s. read (string_bytes s) ≡ Some (setting_json genesis.now)) }
 {

@@ -1,10 +1,13 @@
 //! What a ledger begins with, as JSON.
 
-ghost use Rattle.std.specs.Prelude.{◌≡◌, ◌≤◌, IfOk, OnOk, length};
+ghost use Rattle.std.specs.Prelude.{◌≡◌, ◌≤◌, Some, IfOk, OnOk, length};
 ghost use Rattle.serde_json.specs.Data.{array};
 ghost use Rattle.serde_json.specs.View.{items_of, view};
 ghost use Rattle.json_chain.specs.Members.{members_in};
-ghost use Rattle.json_chain.specs.Settings.{chaincode_json, chaincodes_json, module_json, policy_json, setting_json, with_book, with_limits};
+ghost use Rattle.json_chain.specs.Settings.{chaincode_json, chaincodes_json, module_json};
+ghost use Rattle.json_chain.specs.Settings.{named_json, org_json, policy_json, setting_json};
+ghost use Rattle.json_chain.specs.Settings.{with_book, with_limits};
+ghost use Rattle.json_chain.specs.Texts.{list_json};
 ghost use Rattle.endorsement_policy.specs.Endorsed.{listed_policy};
 
 use crate::object::Object;
@@ -12,14 +15,14 @@ use crate::texts::name_of;
 use crate::to_json::ToJson;
 use chaincode_book::Chaincode;
 use endorsement_policy::{ModuleId, Rules};
-use fab_types::Name;
+use fab_types::{Name, OrgName};
 use ledger_setting::Genesis;
+use org_keys::OrgKey;
 use policy_text::policy_text;
 use serde_json::Value;
 use std::alloc::{AllocError, Global};
 
-/// What a ledger begins with, but for the keys of the organisations. The only error is want of
-/// memory.
+/// What a ledger begins with, but for the shared keys. The only error is want of memory.
 pub(crate) fn setting_of(alloc: Global, genesis: &Genesis) -> Result<Value, AllocError>
     ensures { IfOk result (λ v. view v ≡ setting_json genesis.now) }
 {
@@ -54,12 +57,48 @@ fn put_book(alloc: Global, object: &mut Object, genesis: &Genesis) -> Result<(),
         chaincodes_of(alloc, &genesis.rules, chaincodes, ids)?,
     )?;
     object.put_list("modules", ids)?;
-    object.put_list("orgs", installed.orgs())?;
+    object.put("orgs", orgs_of(alloc, &genesis.rules, installed.orgs())?)?;
     object.put_list("peers", &genesis.peers)?;
     object.put(
         "upgrade",
         Value::String(policy_text(alloc, genesis.rules.upgrade())?),
     )
+}
+
+/// The organisations of these names.
+fn orgs_of(alloc: Global, rules: &Rules, names: &[OrgName]) -> Result<Value, AllocError>
+    ensures { IfOk result (λ v. view v ≡ list_json (org_json rules.now.orgs) names.now) }
+{
+    let mut values = Vec::new(alloc);
+    for name in names {
+        values.push(org_of(alloc, rules, name)?)?;
+    }
+    Ok(Value::Array(values))
+}
+
+/// The name of an organisation, and its public key, if it has one.
+fn org_of(alloc: Global, rules: &Rules, name: &OrgName) -> Result<Value, AllocError>
+    ensures { IfOk result (λ v. view v ≡ org_json rules.now.orgs name.now) }
+{
+    match rules.organisation(name) {
+        Some(organisation) => keyed(alloc, name, &organisation.key),
+        None => name.to_json(alloc),
+    }
+}
+
+/// A name, with this key where that is a public one.
+fn keyed(alloc: Global, name: &OrgName, key: &OrgKey) -> Result<Value, AllocError>
+    ensures { IfOk result (λ v. view v ≡ named_json name.now (Some key.now)) }
+{
+    match key {
+        OrgKey::Shared(_) => name.to_json(alloc),
+        OrgKey::Public(public) => {
+            let mut object = Object::new(alloc);
+            object.put_json("name", name)?;
+            object.put_hex("public", public.as_bytes())?;
+            Ok(object.into_value())
+        }
+    }
 }
 
 impl ToJson for ModuleId {

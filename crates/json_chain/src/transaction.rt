@@ -165,6 +165,6 @@ fn endorsement_of(
     let mut object = Object::new(alloc);
     object.put_json("org", &endorsement.org)?;
     object.put("right", Value::from(rules.is_tag(endorsement, bytes)))?;
-    object.put_hex("tag", &endorsement.tag)?;
+    object.put_hex("tag", endorsement.tag.as_slice())?;
     Ok(object.into_value())
 }
