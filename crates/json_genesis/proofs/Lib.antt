@@ -1,5 +1,6 @@
 pub mod Items
 pub mod Refusals
+pub mod NamedKeys
 pub mod Whole
 pub mod Opens
 pub mod OneGenesis

@@ -34,6 +34,7 @@ same_fields p a b h k =
     record {
       book = one.0;
       rules = same_rules a.rules.value b.rules.value orgs one.1 (one_policy those p.upgrade _ _ h.upgrade upgrade) installed;
+      signers = h.signers ∙ sym k.signers;
       peers = IsListOf-same (IsPeer those) (one_peer those) 1 8 p.peers a.peers.items b.peers.items h.peers peers;
       seats = same_number p.seats p.seats _ _ refl h.seats.0 k.seats.0;
       queue = same_number p.queue p.queue _ _ refl h.queue.0 k.queue.0;

@@ -56,6 +56,7 @@ opens p g h =
     record {
       organisations = h.organisations.0.3;
       different = h.organisations.1;
+      keys = h.organisations.2;
       known = known_peers _ h.peers.0 g.peers.items h.peers.2;
       chaincodes = rw (b.5, same_count cs) b.2.3;
       policies = rw (b.5, b.6) names;

@@ -6,7 +6,7 @@ use Rattle.policy_language.specs.Limits.{IsText}
 use Rattle.endorsement_policy.specs.declared.installed.ModuleId.{ModuleId}
 use Rattle.policy_language.specs.declared.policy.Policy.{Policy}
 use Rattle.endorsement_policy.specs.declared.rules.ChaincodePolicy.{ChaincodePolicy}
-use Rattle.endorsement_policy.specs.declared.rules.Organisation.{Organisation}
+use Rattle.org_keys.specs.declared.organisation.Organisation.{Organisation}
 use Rattle.wasm_decode.proofs.ModuleTheorem.{at_most_one}
 use Rattle.wasm_ast.specs.declared.module.Module.{Module}
 use Rattle.wasm_decode.specs.ModuleSpelling.{IsModule}
@@ -20,24 +20,16 @@ use Rattle.json_genesis.specs.declared.definition.InstalledModule.{InstalledModu
 use Rattle.json_genesis.specs.declared.refusal.GenesisRefusal.{GenesisRefusal}
 use Rattle.json_genesis.specs.Lists.{IsListOf}
 use Rattle.json_genesis.specs.Refused.{NoneIs}
-use Rattle.json_genesis.specs.Spelling.{AreOrganisations, IsBookOf, IsDefinition, IsGenesis, IsHex, IsHexModule, IsInstalled, IsOrganisation, IsPolicy, IsProfile}
+use Rattle.json_genesis.specs.Spelling.{AreOrganisations, IsBookOf, IsDefinition, IsGenesis, IsHexModule, IsInstalled, IsOrganisation, IsPolicy, IsProfile}
 use Rattle.json_genesis.specs.Spelling.{Parts}
 use Rattle.json_genesis.specs.Spelling.{are_different, book_of}
 use Rattle.json_genesis.specs.Spelling.{names_of, policies_of}
 use Rattle.json_genesis.proofs.Items.{IsListOf-same}
+use Rattle.json_genesis.proofs.NamedKeys.{one_organisation}
 use Rattle.json_genesis.proofs.Refusals.{one_profile, same_ok}
 use Rattle.json_fields.proofs.Rests.{members_in, rest, rest_of_three, first, text_in}
 
 -- ---- what data spell is one value
-
-same_members : (a b : Organisation) → a.name ≡ b.name → a.key ≡ b.key → a ≡ b
-same_members a b n k = ap (λ x. record a { name = x }) n ∙ ap (λ x. record b { key = x }) k
-
-pub one_organisation : (d : Data) (x y : Organisation) → IsOrganisation d x → IsOrganisation d y → x ≡ y
-one_organisation d x y h k =
-    let e = sym h.1 ∙ k.1 in
-    let text = ap (λ d. text_in (first (members_in d))) e in
-    same_members x y (ap (λ d. text_in (first (rest (members_in d)))) e) (same_ok _ x.key y.key (subst (λ t. IsHex t x.key) text h.2) k.2)
 
 pub one_list : (d : Data) (xs ys : List Organisation) → IsListOf IsOrganisation 1 16 d xs → IsListOf IsOrganisation 1 16 d ys → xs ≡ ys
 one_list d xs ys h k = IsListOf-same IsOrganisation one_organisation 1 16 d xs ys h k
@@ -119,12 +111,12 @@ pub NoneIs-book : (orgs : Names) (d e : Data) (cs : List Definition) (ms : List 
 NoneIs-book orgs d e cs ms c m not b spelled =
     not (subst IsBook (spelled.5 ∙ same_book orgs d e _ cs _ ms spelled.2 c spelled.3 m) spelled.4)
 
--- two organisations of one name
-pub NoneIs-different : (d : Data) (os : List Organisation) → IsListOf IsOrganisation 1 16 d os → are_different (names_of os) ≡ false
-    → (xs : List Organisation) → ¬ AreOrganisations d xs
-NoneIs-different d os h not xs spelled =
-    let same = one_list d xs os spelled.0 h in
-    let other : are_different (names_of os) ≡ true = subst (λ ys. are_different (names_of ys) ≡ true) same spelled.1 in
+-- two organisations of one name, or of one public key
+pub NoneIs-different : (of : List Organisation → List (List ℕ)) (d : Data) (os : List Organisation) → IsListOf IsOrganisation 1 16 d os
+    → are_different (of os) ≡ false → (xs : List Organisation) → IsListOf IsOrganisation 1 16 d xs → ¬ (are_different (of xs) ≡ true)
+NoneIs-different of d os h not xs listed spelled =
+    let same = one_list d xs os listed h in
+    let other : are_different (of os) ≡ true = subst (λ ys. are_different (of ys) ≡ true) same spelled in
     cc
 
 -- a part that rests on the names of the organisations

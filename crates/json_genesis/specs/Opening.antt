@@ -6,13 +6,14 @@ use Rattle.endorsement_policy.specs.declared.rules.ChaincodePolicy.{ChaincodePol
 use Rattle.chaincode_book.specs.declared.book.Chaincode.{Chaincode}
 use Rattle.ledger_setting.specs.declared.genesis.Genesis.{Genesis}
 use Rattle.json_genesis.specs.Lists.{IsWithin}
-use Rattle.json_genesis.specs.Spelling.{are_different, names_of}
+use Rattle.json_genesis.specs.Spelling.{are_different, names_of, public_keys_of}
 
--- No two organisations have one name, each peer's organisation is known, the rules have a policy for each chaincode of the book, in its order,
--- and both say the same of what is installed. That the numbers are within the ledger's limits is said by the type
+-- No two organisations have one name or one public key, each peer's organisation is known, the rules have a policy for each chaincode of the
+-- book, in its order, and both say the same of what is installed. That the numbers are within the ledger's limits is said by the type
 pub record CanOpen (g : Genesis) : Type 0 where
   pub organisations : IsWithin 1 16 (length g.rules.value.orgs)
   pub different : are_different (names_of g.rules.value.orgs) ≡ true
+  pub keys : are_different (public_keys_of g.rules.value.orgs) ≡ true
   pub known : list_all (is_among (names_of g.rules.value.orgs)) g.peers.items ≡ true
   pub chaincodes : IsWithin 1 16 (length g.book.value.chaincodes)
   pub policies : map (λ (p : ChaincodePolicy). p.chaincode) g.rules.value.policies ≡ map (λ (c : Chaincode). c.name) g.book.value.chaincodes
@@ -22,6 +23,7 @@ pub record CanOpen (g : Genesis) : Type 0 where
 pub record HoldsSame (a b : Genesis) : Type 0 where
   pub book : a.book.value ≡ b.book.value
   pub rules : a.rules.value ≡ b.rules.value
+  pub signers : a.signers.value ≡ b.signers.value
   pub peers : a.peers.items ≡ b.peers.items
   pub seats : a.seats ≡ b.seats
   pub queue : a.queue ≡ b.queue

@@ -1,6 +1,6 @@
 -- What a genesis file spells, over the data that it is as JSON. A JSON object has each of its members
 -- once, in the order of their names; so an object with exactly some fields is written out in that order.
-use Rattle.std.specs.Prelude.{◌≡◌, ◌&&◌, ℕ, Bool, true, not, List, [], ◌∷◌, ◌++◌, map, codes, Some, Ok}
+use Rattle.std.specs.Prelude.{◌≡◌, ◌&&◌, ℕ, Bool, true, not, List, [], ◌∷◌, ◌++◌, map, length, codes, Some, Ok}
 use Rattle.serde_json.specs.Data.{Data, object, member, no_members, string, boolean, number, unsigned}
 use Rattle.serde_json.specs.Read.{read}
 use Rattle.hex.specs.Hex.{decode_of}
@@ -13,10 +13,13 @@ use Rattle.wasm_decode.specs.ModuleSpelling.{IsModule}
 use Rattle.wasm_typing.specs.ModuleRules.{IsValid}
 use Rattle.policy_language.specs.GoodSets.{Names, is_among}
 use Rattle.policy_language.specs.Limits.{IsText}
-use Rattle.endorsement_policy.specs.TagKeys.{IsTagKey}
+use Rattle.ed25519.specs.Signing.{IsPublicKey}
+use Rattle.org_keys.specs.TagKeys.{IsTagKey}
+use Rattle.org_keys.specs.declared.organisation.OrgKey.{OrgKey}
+use Rattle.org_keys.specs.declared.organisation.OrgKey.TheVariants as key
+use Rattle.org_keys.specs.declared.organisation.Organisation.{Organisation}
 use Rattle.endorsement_policy.specs.declared.installed.ModuleId.{ModuleId}
 use Rattle.policy_language.specs.declared.policy.Policy.{Policy}
-use Rattle.endorsement_policy.specs.declared.rules.Organisation.{Organisation}
 use Rattle.endorsement_policy.specs.declared.rules.ChaincodePolicy.{ChaincodePolicy}
 use Rattle.chaincode_book.specs.Books.{Book, IsBook}
 use Rattle.chaincode_book.specs.declared.book.Chaincode.{Chaincode}
@@ -29,23 +32,43 @@ use Rattle.json_genesis.specs.Lists.{IsListOf, IsNumber}
 abbrev pub IsHex : List ℕ → List ℕ → Type 0
 IsHex text bytes = decode_of text ≡ Ok bytes
 
--- {"key":"4a656665","name":"A"}: the key has 1 to 128 bytes
+-- {"key":"4a656665","name":"A"}
+abbrev pub shared_object : List ℕ → List ℕ → Data
+shared_object key name = object (member (codes "key") (string key) (member (codes "name") (string name) no_members))
+
+-- {"name":"B","public":"d75a98.."}
+abbrev pub public_object : List ℕ → List ℕ → Data
+public_object name public = object (member (codes "name") (string name) (member (codes "public") (string public) no_members))
+
+-- the object has this name with a shared key of 1 to 128 bytes, or with a public key of Ed25519: 32 bytes that are a point not of small order
+abbrev pub IsNamedKey : Data → List ℕ → OrgKey → Type 0
+IsNamedKey d name (key.Shared k) = (hex : List ℕ) × (d ≡ shared_object hex name) × IsHex hex k × IsTagKey k
+IsNamedKey d name (key.Public k) = (hex : List ℕ) × (d ≡ public_object name hex) × IsHex hex k × (length k ≡ 32) × IsPublicKey k
+
 abbrev pub IsOrganisation : Data → Organisation → Type 0
-IsOrganisation d o =
-    (key : List ℕ) × (d ≡ object (member (codes "key") (string key) (member (codes "name") (string o.name) no_members)))
-    × IsHex key o.key × IsTagKey o.key × IsOrgName o.name
+IsOrganisation d o = IsNamedKey d o.name o.key × IsOrgName o.name
 
 abbrev pub names_of : List Organisation → List (List ℕ)
 names_of os = map (λ (o : Organisation). o.name) os
 
--- no name stands twice
+abbrev pub with_public : OrgKey → List (List ℕ) → List (List ℕ)
+with_public (key.Shared k) keys = keys
+with_public (key.Public k) keys = k ∷ keys
+
+-- the public keys, each as often as it stands
+abbrev pub public_keys_of : List Organisation → List (List ℕ)
+public_keys_of [] = []
+public_keys_of (o ∷ os) = with_public o.key (public_keys_of os)
+
+-- none of these stands twice
 abbrev pub are_different : List (List ℕ) → Bool
 are_different [] = true
-are_different (name ∷ names) = not (is_among names name) && are_different names
+are_different (first ∷ others) = not (is_among others first) && are_different others
 
--- organisations of different names
+-- organisations of different names and different public keys
 abbrev pub AreOrganisations : Data → List Organisation → Type 0
-AreOrganisations d os = IsListOf IsOrganisation 1 16 d os × (are_different (names_of os) ≡ true)
+AreOrganisations d os =
+    IsListOf IsOrganisation 1 16 d os × (are_different (names_of os) ≡ true) × (are_different (public_keys_of os) ≡ true)
 
 -- "A": the organisation of a peer, which is one of these
 abbrev pub IsPeer : List (List ℕ) → Data → List ℕ → Type 0
@@ -145,7 +168,7 @@ object_of p =
     (member (codes "preferred") p.preferred (member (codes "queue") p.queue (member (codes "reorder") p.reorder
     (member (codes "seats") p.seats (member (codes "upgrade") p.upgrade no_members)))))))))))
 
--- the genesis that the fields spell
+-- the genesis that the fields spell, with no seed at hand
 pub record IsGenesis (p : Parts) (g : Genesis) : Type 0 where
   pub seats : IsNumber 1 64 p.seats g.seats
   pub queue : IsNumber 1 4096 p.queue g.queue
@@ -158,6 +181,7 @@ pub record IsGenesis (p : Parts) (g : Genesis) : Type 0 where
   pub book : IsBookOf (names_of g.rules.value.orgs) p.chaincodes p.modules g.book.value g.rules.value.policies
   pub upgrade : IsPolicy (names_of g.rules.value.orgs) p.upgrade g.rules.value.upgrade
   pub installed : g.rules.value.installed ≡ g.book.value.installed
+  pub signers : g.signers.value ≡ []
 
 -- the genesis that the data of a file spells
 abbrev pub IsGenesisOf : Data → Genesis → Type 0

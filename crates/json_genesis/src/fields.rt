@@ -1,9 +1,10 @@
 //! The fields of the objects in the file.
 
-ghost use Rattle.std.specs.Prelude.{◌≡◌, ◌≢◌, ℕ, List, codes, MatchOption};
-ghost use Rattle.serde_json.specs.Data.{Data, Members, object, member, no_members, string};
+ghost use Rattle.std.specs.Prelude.{◌≡◌, ◌≢◌, ℕ, List, MatchOption};
+ghost use Rattle.serde_json.specs.Data.{Data, Members, member};
 ghost use Rattle.serde_json.specs.View.{view, members_view};
 ghost use Rattle.json_genesis.specs.Spelling.{Parts, chaincode_object, module_object, object_of};
+ghost use Rattle.json_genesis.specs.Spelling.{public_object, shared_object};
 ghost use Rattle.json_genesis.specs.Fields.{parts_of};
 
 use json_fields::{Fields, fields, is_end, take, take_text};
@@ -76,31 +77,49 @@ fn take_three<'a>(
     Some((a, b, c))
 }
 
-/// What the fields of an organisation hold.
+/// What the fields of an organisation with a shared key hold: the key in hex, and the name.
 #[derive(Clone, Copy)]
-pub(crate) struct OrganisationFields<'a> {
+pub(crate) struct SharedFields<'a> {
     pub key: &'a str,
     pub name: &'a str,
 }
 
-/// The fields of an organisation. None where one is missing, left over or no text.
-pub(crate) fn organisation_fields(value: &Value) -> Option<OrganisationFields<'_>>
+/// The fields of an organisation with a shared key. None where one is missing, left over or no
+/// text.
+pub(crate) fn shared_fields(value: &Value) -> Option<SharedFields<'_>>
     ensures { MatchOption result
-        ((key name : List ℕ) →
-        view value.now
-        ≢ object
-        (member (codes "key") (string key)
-        (member (codes "name") (string name) no_members)))
-        (λ f. view value.now
-        ≡ object
-        (member (codes "key") (string f.key.now)
-        (member (codes "name") (string f.name.now) no_members))) }
+        ((key name : List ℕ) → view value.now ≢ shared_object key name)
+        (λ f. view value.now ≡ shared_object f.key.now f.name.now) }
 {
     let mut left = fields(value)?;
     let key = take_text(&mut left, "key")?;
     let name = take_text(&mut left, "name")?;
     if is_end(&mut left) {
-        Some(OrganisationFields { key, name })
+        Some(SharedFields { key, name })
+    } else {
+        None
+    }
+}
+
+/// What the fields of an organisation with a public key hold: the name, and the key in hex.
+#[derive(Clone, Copy)]
+pub(crate) struct PublicFields<'a> {
+    pub name: &'a str,
+    pub public: &'a str,
+}
+
+/// The fields of an organisation with a public key. None where one is missing, left over or no
+/// text.
+pub(crate) fn public_fields(value: &Value) -> Option<PublicFields<'_>>
+    ensures { MatchOption result
+        ((name public : List ℕ) → view value.now ≢ public_object name public)
+        (λ f. view value.now ≡ public_object f.name.now f.public.now) }
+{
+    let mut left = fields(value)?;
+    let name = take_text(&mut left, "name")?;
+    let public = take_text(&mut left, "public")?;
+    if is_end(&mut left) {
+        Some(PublicFields { name, public })
     } else {
         None
     }

@@ -3,16 +3,19 @@
 ghost use Rattle.std.specs.Prelude.{◌≡◌, IfOk, IfErr};
 ghost use Rattle.serde_json.specs.View.{view};
 ghost use Rattle.json_genesis.specs.Refused.{NoneIs};
-ghost use Rattle.json_genesis.specs.Spelling.{AreOrganisations, are_different, names_of};
+ghost use Rattle.json_genesis.specs.Spelling.{AreOrganisations, IsOrganisation};
+ghost use Rattle.json_genesis.specs.Spelling.{are_different, names_of, public_keys_of};
+ghost use Rattle.json_genesis.specs.Spelling.{public_object, shared_object};
+ghost use Rattle.policy_language.specs.GoodSets.{is_among};
 
 use crate::each::ReadItem;
-use crate::fields::organisation_fields;
+use crate::fields::{public_fields, shared_fields};
 use crate::lists::read_list;
 use crate::numbers::bytes_of;
 use crate::refusal::GenesisRefusal;
-use endorsement_policy::{Organisation, TagKey};
 use fab_types::OrgName;
 use fab_types::limits::MOST_ORGANISATIONS;
+use org_keys::{OrgKey, Organisation, PublicKey, TagKey};
 use policy_language::is_among;
 use serde_json::Value;
 use std::alloc::{AllocError, Global};
@@ -29,20 +32,52 @@ impl ReadItem for OrganisationReader {
     ghost spells = { λ _. IsOrganisation };
 
     fn read(&self, alloc: Global, value: &Value) -> Result<Organisation, GenesisRefusal> {
-        let Some(fields) = organisation_fields(value) else {
-            return Err(GenesisRefusal::Field);
-        };
-        let Some(key) = TagKey::new(bytes_of(alloc, fields.key)?) else {
-            return Err(GenesisRefusal::Range);
-        };
-        let Some(name) = OrgName::from_slice(fields.name.as_bytes()) else {
-            return Err(GenesisRefusal::Range);
-        };
-        Ok(Organisation { name, key })
+        if let Some(fields) = shared_fields(value) {
+            return with_shared_key(alloc, fields.key, fields.name);
+        }
+        match public_fields(value) {
+            Some(fields) => with_public_key(alloc, fields.name, fields.public),
+            None => Err(GenesisRefusal::Field),
+        }
     }
 }
 
-/// The organisations that are listed, of different names, and their names.
+/// The organisation of this name whose shared key is written in hex.
+fn with_shared_key(alloc: Global, key: &str, name: &str) -> Result<Organisation, GenesisRefusal>
+    ensures ok { IfOk result (λ o. IsOrganisation (shared_object key.now name.now) o) }
+    ensures refused { IfErr result
+        (λ r. NoneIs (IsOrganisation (shared_object key.now name.now)) r) }
+{
+    let Some(key) = TagKey::new(bytes_of(alloc, key)?) else {
+        return Err(GenesisRefusal::Range);
+    };
+    let Some(name) = OrgName::from_slice(name.as_bytes()) else {
+        return Err(GenesisRefusal::Range);
+    };
+    let key = OrgKey::Shared(key);
+    Ok(Organisation { name, key })
+}
+
+/// The organisation of this name whose public key is written in hex.
+fn with_public_key(alloc: Global, name: &str, public: &str) -> Result<Organisation, GenesisRefusal>
+    ensures ok { IfOk result (λ o. IsOrganisation (public_object name.now public.now) o) }
+    ensures refused { IfErr result
+        (λ r. NoneIs (IsOrganisation (public_object name.now public.now)) r) }
+{
+    let Ok(bytes) = <[u8; 32]>::try_from(bytes_of(alloc, public)?) else {
+        return Err(GenesisRefusal::Range);
+    };
+    let Some(public) = PublicKey::new(bytes) else {
+        return Err(GenesisRefusal::Range);
+    };
+    let Some(name) = OrgName::from_slice(name.as_bytes()) else {
+        return Err(GenesisRefusal::Range);
+    };
+    let key = OrgKey::Public(public);
+    Ok(Organisation { name, key })
+}
+
+/// The organisations that are listed, of different names and public keys, and their names.
 pub(crate) fn organisations(
     alloc: Global,
     value: &Value,
@@ -54,6 +89,9 @@ pub(crate) fn organisations(
     let organisations = read_list(alloc, &OrganisationReader, value, 1, MOST_ORGANISATIONS)?;
     let orgs = names(alloc, &organisations)?;
     if !are_different(&orgs) {
+        return Err(GenesisRefusal::Names);
+    }
+    if !have_different_keys(&organisations) {
         return Err(GenesisRefusal::Names);
     }
     Ok((organisations, orgs))
@@ -77,5 +115,33 @@ fn are_different(names: &[OrgName]) -> bool
     match names {
         [] => true,
         [first, rest @ ..] => !is_among(rest, first) && are_different(rest),
+    }
+}
+
+/// Whether no two of these have one public key.
+fn have_different_keys(organisations: &[Organisation]) -> bool
+    ensures { result ≡ are_different (public_keys_of organisations.now) }
+{
+    match organisations {
+        [] => true,
+        [first, rest @ ..] => match &first.key {
+            OrgKey::Shared(_) => have_different_keys(rest),
+            OrgKey::Public(key) => !has_public_key(rest, key) && have_different_keys(rest),
+        },
+    }
+}
+
+/// Whether one of these has this public key.
+fn has_public_key(organisations: &[Organisation], key: &PublicKey) -> bool
+    ensures { result ≡ is_among (public_keys_of organisations.now) key.now }
+{
+    match organisations {
+        [] => false,
+        [first, rest @ ..] => match &first.key {
+            OrgKey::Shared(_) => has_public_key(rest, key),
+            OrgKey::Public(other) => {
+                other.as_bytes() == key.as_bytes() || has_public_key(rest, key)
+            }
+        },
     }
 }

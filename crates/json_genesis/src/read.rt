@@ -19,17 +19,19 @@ use crate::refusal::GenesisRefusal;
 use endorsement_policy::Rules;
 use fab_types::limits::{MOST_DATA_BYTES, MOST_PEERS, MOST_QUEUED, MOST_SEATS, MOST_TRANSACTIONS};
 use ledger_setting::Genesis;
+use org_keys::Signers;
 use serde_json::Value;
 use serde_json::error::Category;
 use std::alloc::Global;
 use std::sync::Arc;
 
-/// The genesis that a text spells.
+/// The genesis that a text spells, with no seed at hand.
 ///
 /// Refused where the text is not JSON (801), where a field is missing, left over or of the wrong
-/// kind or hex is not read (802), where a number, a length or a name is out of its range (803),
-/// where a module (804) or a policy (805) is refused, where a name stands twice or a peer's
-/// organisation is unknown (806), and for want of memory (9). Of several causes any may be told.
+/// kind or hex is not read (802), where a number, a length, a name or a public key is out of its
+/// range (803), where a module (804) or a policy (805) is refused, where a name or a public key
+/// stands twice or a peer's organisation is unknown (806), and for want of memory (9). Of several
+/// causes any may be told.
 pub fn read_genesis(alloc: Global, text: &str) -> Result<Genesis, GenesisRefusal>
     ensures ok { IfOk result (λ g. Spells text.now g) }
     ensures opening { IfOk result (λ g. CanOpen g) }
@@ -76,6 +78,7 @@ fn genesis_from(alloc: Global, fields: &GenesisFields<'_>) -> Result<Genesis, Ge
     Ok(Genesis {
         book: Arc::new(alloc, book)?,
         rules: Arc::new(alloc, rules)?,
+        signers: Arc::new(alloc, Signers::none(alloc))?,
         peers,
         seats,
         queue,

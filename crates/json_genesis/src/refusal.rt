@@ -17,14 +17,15 @@ pub enum GenesisRefusal {
     Json,
     /// A field is missing, left over or of the wrong kind, or hex is not read.
     Field,
-    /// A number, a list's or a key's length, or the spelling of a name is out of its range.
+    /// A number, a list's or a key's length, or the spelling of a name is out of its range, or the
+    /// bytes of a public key are no point, or one of small order.
     Range,
     /// A module is not decoded or not valid.
     Module,
     /// A policy is refused.
     Policy,
-    /// The name of an organisation or of a chaincode stands twice, or a peer's organisation is
-    /// unknown.
+    /// The name of an organisation or of a chaincode, or a public key stands twice, or a peer's
+    /// organisation is unknown.
     Names,
 }
 
