@@ -6,6 +6,7 @@ import re
 import sys
 from collections.abc import Callable
 
+import keygen
 import members
 from calling import find_pieces
 from pages import Block, Typist, blocks_of
@@ -150,9 +151,13 @@ def by_hand(report: Report, at: Setting) -> None:
     members.by_hand(report, at.tree, at.room, at.typist, blocks_of(at.tree, "docs/ROLES.md"))
 
 
+def keys(report: Report, at: Setting) -> None:
+    keygen.try_keygen(report, at.tree, at.room, at.env)
+
+
 def calling(report: Report, at: Setting) -> None:
     find_pieces(report, at.tree, blocks_of(at.tree, "docs/CALLING.md"))
 
 
 # Those that take long come first.
-PARTS: list[Callable[[Report, Setting], None]] = [roles, page, chaincode, by_hand, tutorial, readme, formats, scripts, calling]
+PARTS: list[Callable[[Report, Setting], None]] = [roles, page, chaincode, by_hand, tutorial, readme, formats, keys, scripts, calling]

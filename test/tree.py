@@ -16,7 +16,7 @@ LEFT_OUT = shutil.ignore_patterns(".git", "crates", "target", "__pycache__")
 PACKAGES = {
     "/usr/bin/clang": "clang", "/usr/bin/wasm-ld": "lld", "/usr/bin/wat2wasm": "wabt", "/usr/bin/xxd": "xxd", "/usr/bin/jq": "jq",
     "/usr/bin/etcd": "etcd-server", "/usr/bin/etcdctl": "etcd-client", "/usr/bin/chromium": "chromium",
-    "/usr/bin/cargo": "cargo", "/usr/bin/rustc": "rustc",
+    "/usr/bin/cargo": "cargo", "/usr/bin/rustc": "rustc", "/usr/bin/openssl": "openssl",
     "/usr/lib/rustlib/wasm32-unknown-unknown/lib": "libstd-rust-dev-wasm32",
 }
 # Debian's commands before others of their names, since digests are those that its compilers make.
