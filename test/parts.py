@@ -65,8 +65,10 @@ def tutorial(report: Report, at: Setting) -> None:
 
 
 def formats(report: Report, at: Setting) -> None:
-    genesis, store = "examples/assets/genesis.json", "formats.store"
-    at.run(report, "a store to show", ["./ledger", "run", genesis, "examples/assets/events.jsonl", "--store", store])
+    example, store = "examples/assets", "formats.store"
+    genesis, keys = f"{example}/genesis.json", f"{example}/example_keys/all.key"
+    made = ["./ledger", "run", genesis, f"{example}/events.jsonl", "--keys", keys, "--store", store]
+    at.run(report, "a store to show", made)
     at.type(report, blocks_of(at.tree, "docs/OUTPUT.md"), instead={"GENESIS": genesis, "STORE": store})
 
 

@@ -18,7 +18,7 @@ LEDGER = HERE.parent.parent / "ledger"
 
 def run(genesis):
     """The lines that the events print with this genesis file."""
-    command = [LEDGER, "run", genesis, HERE / "events.jsonl"]
+    command = [LEDGER, "run", genesis, HERE / "events.jsonl", "--keys", HERE / "example_keys" / "all.key"]
     return subprocess.run(command, stdout=subprocess.PIPE, text=True).stdout.splitlines()
 
 

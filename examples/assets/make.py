@@ -1,6 +1,6 @@
 #!/usr/bin/env python3
-"""Writes genesis.json and events.jsonl beside this file: three organisations that share a register of pallets, and put
-its second version in the place of the first.
+"""Writes genesis.json, events.jsonl and the key files of example_keys beside this file: three organisations that share a
+register of pallets, and put its second version in the place of the first.
 
 The versions are ../chaincode/asset_register.wasm and asset_register_2.wasm. The forged envelope is laid out here, by
 docs/FORMATS.md, since no peer hands one out.
@@ -11,9 +11,14 @@ import pathlib
 import struct
 import sys
 
-HERE = pathlib.Path(__file__).parent
-KEYS = {"Maker": b"maker's key", "Carrier": b"carrier's key", "Shop": b"shop's key"}
-PEERS = list(KEYS)
+sys.dont_write_bytecode = True
+HERE = pathlib.Path(__file__).resolve().parent
+sys.path.insert(0, str(HERE.parents[1] / "python"))
+import rfc8032
+
+PEERS = ["Maker", "Carrier", "Shop"]
+# Seeds that everybody has. Those of `./ledger keygen` come from chance.
+SEEDS = {name: hashlib.sha256(f"the seed of {name} in examples/assets, and nowhere else".encode()).digest() for name in PEERS}
 MAKER, CARRIER, SHOP = range(3)
 CHAINCODE = "assets"
 FIRST, SECOND = ((HERE / f"../chaincode/{name}.wasm").read_bytes() for name in ("asset_register", "asset_register_2"))
@@ -80,7 +85,7 @@ def forged():
     reads = short(b"\0" + CHAINCODE.encode()) + b"\0" + short(key) + b"\1" + struct.pack(">II", 1, 1)
     write = short(key) + b"\1" + value(b"Thief")
     payload = proposal + value(b"") + struct.pack(">H", 2) + reads + struct.pack(">H", 0) + struct.pack(">H", 1) + write
-    tags = [short(org.encode()) + bytes(32) for org in ("Maker", "Carrier")]
+    tags = [b"\0" + short(org.encode()) + bytes(64) for org in ("Maker", "Carrier")]
     return payload + bytes([len(tags)]) + b"".join(tags)
 
 
@@ -140,7 +145,7 @@ def use_the_second_version():
 def genesis():
     """Three organisations with one chaincode, the second version of which is installed."""
     return {
-        "orgs": [{"name": name, "key": key.hex()} for name, key in KEYS.items()],
+        "orgs": [{"name": name, "public": rfc8032.public_key(seed).hex()} for name, seed in SEEDS.items()],
         "peers": PEERS,
         "seats": 4,
         "queue": 64,
@@ -162,6 +167,14 @@ def genesis():
     }
 
 
+def write_keys(folder):
+    """Writes a key file of each organisation, and one that has all three."""
+    folder.mkdir(exist_ok=True)
+    lines = {name: seed.hex() + "\n" for name, seed in SEEDS.items()}
+    for name, text in [*lines.items(), ("all", "".join(lines.values()))]:
+        (folder / f"{name.lower()}.key").write_text(text)
+
+
 def main(words):
     if words in (["--help"], ["-h"]):
         print(__doc__)
@@ -174,6 +187,7 @@ def main(words):
     use_the_second_version()
     (HERE / "genesis.json").write_text(json.dumps(genesis(), indent=1) + "\n")
     (HERE / "events.jsonl").write_text("".join(it + "\n" for it in lines))
+    write_keys(HERE / "example_keys")
     return 0
 
 

@@ -79,7 +79,8 @@ def write_bytes(it):
 
 
 def endorsement_bytes(it):
-    return short(it["org"].encode()) + field(it, "tag")
+    tag = field(it, "tag")
+    return (b"\0" if len(tag) == 64 else b"") + short(it["org"].encode()) + tag
 
 
 def envelope_bytes(tx):
@@ -211,8 +212,17 @@ def hostile():
     return chain
 
 
+def linked(lines):
+    """The lines of a chain with the hashes that its blocks have."""
+    lines, previous = json.loads(json.dumps(lines)), "00" * 32
+    for block in lines[1:-1]:
+        block.update(previous=previous, data=digest(data_bytes(block["txs"])))
+        previous = block["hash"] = header_hash(block)
+    return lines
+
+
 def tampered(lines):
-    """The lines of a chain with six lies, and what the page is to find: the kind of each, and where."""
+    """The lines of the example's chain with six lies, and what the page is to find: the kind of each, and where."""
     lines = json.loads(json.dumps(lines))
     first, second, third, fourth = lines[1:5]
     first["txs"][0]["writes"][0]["value"] = b"Thief".hex()
@@ -221,8 +231,9 @@ def tampered(lines):
     fourth["txs"][0]["id"] = "cd" * 32
     fourth["txs"][1]["endorsements"][0].update(org="Nobody")
     lines[-1].update(audit="flags differ 2", rerun=0, end="refused 701")
-    # The header of block 3 is another now, so block 4 does not name it; the tag of nobody changes the bytes of block 4.
-    found = "data 1, flag 2.1, link 3, hash 3, link 4, data 4, id 4.0, tag 4.1".split(", ")
+    # The first value was signed by two. The header of block 3 is another now, so block 4 does not name it; the tag of nobody
+    # changes the bytes of block 4.
+    found = "data 1, signature 1.0, signature 1.0, flag 2.1, link 3, hash 3, link 4, data 4, id 4.0, tag 4.1".split(", ")
     return lines, found
 
 

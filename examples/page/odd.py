@@ -2,7 +2,7 @@
 
 Each round hands some envelopes to `./ledger run`, on the state that it printed after the last round. They claim reads,
 ranges and writes that no peer made, name keys that are kept for definitions, propose upgrades of every form, and carry
-right tags and wrong ones.
+right tags and wrong ones of both kinds: one organisation has a shared key, and two have public ones.
 """
 import hashlib
 import hmac
@@ -10,13 +10,19 @@ import json
 import pathlib
 import random
 import subprocess
+import sys
 
 import make
 
 ROOT = pathlib.Path(__file__).resolve().parent.parent.parent
+sys.path.insert(0, str(ROOT / "python"))
+import rfc8032
+
 EXAMPLE = json.loads((ROOT / "examples/assets/genesis.json").read_text())
-KEYS = {org["name"]: bytes.fromhex(org["key"]) for org in EXAMPLE["orgs"]}
-GENESIS = {**EXAMPLE, "count": 40}
+EXAMPLE_KEYS = ROOT / "examples/assets/example_keys"
+SHARED_KEY = b"maker's key"
+SEEDS = {name: bytes.fromhex((EXAMPLE_KEYS / f"{name.lower()}.key").read_text()) for name in ("Carrier", "Shop")}
+GENESIS = {**EXAMPLE, "orgs": [{"name": "Maker", "key": SHARED_KEY.hex()}, *EXAMPLE["orgs"][1:]], "peers": ["Maker"], "count": 40}
 DIGESTS = [hashlib.sha256(bytes.fromhex(it["module"])).hexdigest() for it in EXAMPLE["chaincodes"] + EXAMPLE["modules"]]
 NAMES = ["assets", "other", "third"]
 SHOWN = [b"a", b"a\0", b"ab", b"b", b"b\xff", b"c", b"\1", b"\xff"]
@@ -68,13 +74,22 @@ class Odd:
         chosen = [(key, self.chance.choice(values)) for key in sorted(keys)]
         return [{"key": key.hex(), "value": None if value is None else value.hex()} for key, value in chosen]
 
+    def tag(self, org, payload):
+        """An organisation's tag, or now and then one that is wrong, by its bytes or by its kind."""
+        other = {"Carrier": "Shop"}.get(org, "Carrier")
+        if self.often(0.95):
+            return rfc8032.sign(SEEDS[org], payload) if org in SEEDS else hmac.digest(SHARED_KEY, payload, "sha256")
+        return self.chance.choice([
+            bytes(32), bytes(64), hmac.digest(SHARED_KEY, payload, "sha256"), rfc8032.sign(SEEDS[other], payload),
+            hmac.digest(rfc8032.public_key(SEEDS[other if org not in SEEDS else org]), payload, "sha256"),
+            rfc8032.sign(SEEDS.get(org, bytes(32)), payload + b"\0")])
+
     def endorsed(self, tx):
         """The transaction with tags, of which some are wrong, of nobody or there twice."""
         payload = make.envelope_bytes({**tx, "endorsements": []})[:-1]
         tags, count = [], 8 if "upgrade" in tx else self.chance.choice([0, 1, 2, 3, 3, 4, 5, 6])
-        for org in self.chance.choices([*KEYS, "Nobody"], weights=[6, 6, 6, 1], k=count):
-            tag = hmac.new(KEYS.get(org, b""), payload, "sha256").digest()
-            tags.append({"org": org, "tag": tag.hex() if self.often(0.95) else "00" * 32})
+        for org in self.chance.choices(["Maker", "Carrier", "Shop", "Nobody"], weights=[6, 6, 6, 1], k=count):
+            tags.append({"org": org, "tag": self.tag(org, payload).hex()})
         self.made += 1
         return {**tx, "endorsements": tags}
 
