@@ -1,6 +1,7 @@
-"""ROLES.md by hand, over one node of etcd: two members, a client, and what each says where something is missing."""
+"""ROLES.md by hand, over one node of etcd: keys, two members, a client, and what each says where something is missing."""
 import contextlib
 import dataclasses
+import json
 import os
 import pathlib
 import socket
@@ -15,7 +16,7 @@ from tree import ENVIRONMENT
 
 # How long something may take to come about, and a complaint to be made, in seconds.
 PATIENCE, AT_ONCE = 60, 10
-GENESIS = "examples/assets/genesis.json"
+EXAMPLE, GENESIS = "examples/assets/genesis.json", "genesis.json"
 # What ./ledger says of the program that it runs.
 ABOUT_THE_PROGRAM = ("ledger: unproved", "ledger: sources are newer")
 
@@ -61,13 +62,14 @@ def node_of_etcd(room: pathlib.Path) -> Iterator[Node]:
 
 
 def by_hand(report: Report, tree: pathlib.Path, room: pathlib.Path, typist: Typist, blocks: list[Block]) -> None:
-    """Types what ROLES.md says of a genesis, a member and a client."""
-    (tree / "genesis.json").write_bytes((tree / GENESIS).read_bytes())
-    first, member, client = (next(it for it in blocks if it.text.startswith(word))
-                             for word in ("etcdctl put log/genesis", "examples/roles/member.py", "examples/roles/client.py"))
+    """Types what ROLES.md says of keys, a genesis, a member and a client."""
+    key, first, member, client = (next(it for it in blocks if it.text.startswith(word)) for word in
+                                  ("ledger keygen", "etcdctl put log/genesis", "examples/roles/member.py", "examples/roles/client.py"))
     typist.typed.add(member)
     with node_of_etcd(room) as node:
         env = {**node.env, "PATH": f"{tree}:{node.env['PATH']}"}
+        typist.type(report, blocks[blocks.index(key):blocks.index(first)], env=env)
+        write_genesis(report, tree, env)
         is_there = ["etcdctl", "endpoint", "health"]
         report.case("etcd is there", wait_until(lambda: run(is_there, tree, AT_ONCE, env).status == 0))
         typist.type(report, [first, Block(first.document, first.line, "", "OK")], env=env)
@@ -82,6 +84,20 @@ def by_hand(report: Report, tree: pathlib.Path, room: pathlib.Path, typist: Typi
                         instead={"ssh maker ": ""})
             follow(report, outs)
             complain(report, tree, room, env)
+
+
+def write_genesis(report: Report, tree: pathlib.Path, env: dict[str, str]) -> None:
+    """Writes a genesis file over the Maker's key, which is made, and those of the others, which are made here."""
+    genesis = json.loads((tree / EXAMPLE).read_text())
+    for org in genesis["orgs"]:
+        file = f"{org['name'].lower()}.key"
+        if not (tree / file).exists():
+            run(["ledger", "keygen", file, org["name"]], tree, PATIENCE, env)
+        ran = run(["ledger", "public", file], tree, PATIENCE, env)
+        if report.case(f"the public key of {org['name']}", ran.out.startswith("public "), ran.out + ran.err):
+            org["public"] = ran.out.split()[1]
+        report.case(f"{file} is its owner's", (tree / file).stat().st_mode & 0o777 == 0o600)
+    (tree / GENESIS).write_text(json.dumps(genesis))
 
 
 def follow(report: Report, outs: list[pathlib.Path]) -> None:
@@ -105,7 +121,7 @@ def complain(report: Report, tree: pathlib.Path, room: pathlib.Path, env: dict[s
     without = {**env, "PATH": str(bare)}
     call = [sys.executable, tree / "examples/roles/client.py"]
     member = [sys.executable, tree / "examples/roles/member.py", "Shop", GENESIS, room / "shop.store"]
-    endorser = f"{tree}/ledger endorse {GENESIS} Carrier carrier.store"
+    endorser = f"{tree}/ledger endorse {GENESIS} Carrier carrier.store --keys carrier.key"
     with socket.create_server(("127.0.0.1", 0)) as silent:
         mute = f"http://127.0.0.1:{silent.getsockname()[1]}"
         for name, command, room_ in [

@@ -10,8 +10,8 @@ import re
 from report import Report, run
 
 # The words with which a block of commands begins, beside paths (`./ledger`) and settings (`name=value`).
-COMMANDS = {"cat", "cd", "clang", "cmp", "cp", "echo", "etcd", "etcdctl", "export", "ln", "machine", "mkdir", "rt", "sed", "set",
-            "test", "wasm-objdump"}
+COMMANDS = {"cat", "cd", "clang", "cmp", "cp", "echo", "etcd", "etcdctl", "export", "ledger", "ln", "machine", "mkdir", "rt", "sed",
+            "set", "test", "wasm-objdump"}
 PATH = re.compile(r"(\./|bench/|docs/|examples/|test/|/)\S+|[A-Za-z_]+=.*")
 # How long all the commands of a page may take, in seconds.
 SECONDS = 550
