@@ -1,67 +1,103 @@
-"""Keys and signatures of Ed25519, by the program of RFC 8032, section 6.
-
-For examples and tests alone: it is slow, and the time that it takes tells of seeds.
-"""
-import functools
+"""The program of RFC 8032, section 6: Ed25519, written from its text. It is slow, and only for checks."""
 import hashlib
 
-# A point by extended coordinates (section 5.1.4).
+p = 2**255 - 19
+d = -121665 * pow(121666, p - 2, p) % p
+q = 2**252 + 27742317777372353535851937790883648493
+modp_sqrt_m1 = pow(2, (p - 1) // 4, p)
+
 Point = tuple[int, int, int, int]
 
-P = 2**255 - 19
-D = -121665 * pow(121666, P - 2, P) % P
-ORDER = 2**252 + 27742317777372353535851937790883648493
-BASE_Y = 4 * pow(5, P - 2, P) % P
-BASE_X = 15112221349535400772501151409588531511454012693041857206046113283949847762202
-BASE: Point = (BASE_X, BASE_Y, 1, BASE_X * BASE_Y % P)
+
+def sha512(s: bytes) -> bytes:
+    return hashlib.sha512(s).digest()
 
 
-def add(p: Point, q: Point) -> Point:
-    a, b = (p[1] - p[0]) * (q[1] - q[0]) % P, (p[1] + p[0]) * (q[1] + q[0]) % P
-    c, d = 2 * p[3] * q[3] * D % P, 2 * p[2] * q[2] % P
-    e, f, g, h = b - a, d - c, d + c, b + a
-    return e * f % P, g * h % P, f * g % P, e * h % P
+def sha512_modq(s: bytes) -> int:
+    return int.from_bytes(sha512(s), "little") % q
 
 
-@functools.cache
-def doubled(times: int) -> Point:
-    """The base point, doubled so many times."""
-    return add(doubled(times - 1), doubled(times - 1)) if times else BASE
+def point_add(P: Point, Q: Point) -> Point:
+    A, B = (P[1] - P[0]) * (Q[1] - Q[0]) % p, (P[1] + P[0]) * (Q[1] + Q[0]) % p
+    C, D = 2 * P[3] * Q[3] * d % p, 2 * P[2] * Q[2] % p
+    E, F, G, H = B - A, D - C, D + C, B + A
+    return (E * F % p, G * H % p, F * G % p, E * H % p)
 
 
-def multiple(s: int) -> Point:
-    """The multiple of the base point by s."""
-    sum_ = (0, 1, 1, 0)
-    for place in range(s.bit_length()):
-        if s >> place & 1:
-            sum_ = add(sum_, doubled(place))
-    return sum_
+def point_mul(s: int, P: Point) -> Point:
+    Q = (0, 1, 1, 0)
+    while s > 0:
+        if s & 1:
+            Q = point_add(Q, P)
+        P = point_add(P, P)
+        s >>= 1
+    return Q
 
 
-def compress(p: Point) -> bytes:
-    inverse = pow(p[2], P - 2, P)
-    x, y = p[0] * inverse % P, p[1] * inverse % P
+def point_equal(P: Point, Q: Point) -> bool:
+    return (P[0] * Q[2] - Q[0] * P[2]) % p == 0 and (P[1] * Q[2] - Q[1] * P[2]) % p == 0
+
+
+def recover_x(y: int, sign: int) -> int | None:
+    if y >= p:
+        return None
+    x2 = (y * y - 1) * pow(d * y * y + 1, p - 2, p) % p
+    if x2 == 0:
+        return None if sign else 0
+    x = pow(x2, (p + 3) // 8, p)
+    if (x * x - x2) % p != 0:
+        x = x * modp_sqrt_m1 % p
+    if (x * x - x2) % p != 0:
+        return None
+    return p - x if x & 1 != sign else x
+
+
+g_y = 4 * pow(5, p - 2, p) % p
+g_x = recover_x(g_y, 0)
+assert g_x is not None
+G: Point = (g_x, g_y, 1, g_x * g_y % p)
+
+
+def point_compress(P: Point) -> bytes:
+    zinv = pow(P[2], p - 2, p)
+    x, y = P[0] * zinv % p, P[1] * zinv % p
     return (y | (x & 1) << 255).to_bytes(32, "little")
 
 
-def number(data: bytes) -> int:
-    return int.from_bytes(hashlib.sha512(data).digest(), "little") % ORDER
+def point_decompress(s: bytes) -> Point | None:
+    y = int.from_bytes(s, "little")
+    sign = y >> 255
+    y &= (1 << 255) - 1
+    x = recover_x(y, sign)
+    return None if x is None else (x, y, 1, x * y % p)
 
 
-def expand(seed: bytes) -> tuple[int, bytes]:
-    digest = hashlib.sha512(seed).digest()
-    scalar = int.from_bytes(digest[:32], "little") & ((1 << 254) - 8) | 1 << 254
-    return scalar, digest[32:]
+def secret_expand(secret: bytes) -> tuple[int, bytes]:
+    h = sha512(secret)
+    a = int.from_bytes(h[:32], "little")
+    a &= (1 << 254) - 8
+    a |= 1 << 254
+    return (a, h[32:])
 
 
-@functools.cache
-def public_key(seed: bytes) -> bytes:
-    return compress(multiple(expand(seed)[0]))
+def secret_to_public(secret: bytes) -> bytes:
+    return point_compress(point_mul(secret_expand(secret)[0], G))
 
 
-def sign(seed: bytes, message: bytes) -> bytes:
-    scalar, prefix = expand(seed)
-    r = number(prefix + message)
-    point = compress(multiple(r))
-    k = number(point + public_key(seed) + message)
-    return point + ((r + k * scalar) % ORDER).to_bytes(32, "little")
+def sign(secret: bytes, msg: bytes) -> bytes:
+    a, prefix = secret_expand(secret)
+    A = point_compress(point_mul(a, G))
+    r = sha512_modq(prefix + msg)
+    Rs = point_compress(point_mul(r, G))
+    h = sha512_modq(Rs + A + msg)
+    return Rs + ((r + h * a) % q).to_bytes(32, "little")
+
+
+def verify(public: bytes, msg: bytes, signature: bytes) -> bool:
+    A = point_decompress(public)
+    R = point_decompress(signature[:32])
+    s = int.from_bytes(signature[32:], "little")
+    if A is None or R is None or s >= q:
+        return False
+    h = sha512_modq(signature[:32] + public + msg)
+    return point_equal(point_mul(s, G), point_add(R, point_mul(h, A)))

@@ -145,7 +145,7 @@ def use_the_second_version():
 def genesis():
     """Three organisations with one chaincode, the second version of which is installed."""
     return {
-        "orgs": [{"name": name, "public": rfc8032.public_key(seed).hex()} for name, seed in SEEDS.items()],
+        "orgs": [{"name": name, "public": rfc8032.secret_to_public(seed).hex()} for name, seed in SEEDS.items()],
         "peers": PEERS,
         "seats": 4,
         "queue": 64,

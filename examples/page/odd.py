@@ -81,7 +81,7 @@ class Odd:
             return rfc8032.sign(SEEDS[org], payload) if org in SEEDS else hmac.digest(SHARED_KEY, payload, "sha256")
         return self.chance.choice([
             bytes(32), bytes(64), hmac.digest(SHARED_KEY, payload, "sha256"), rfc8032.sign(SEEDS[other], payload),
-            hmac.digest(rfc8032.public_key(SEEDS[other if org not in SEEDS else org]), payload, "sha256"),
+            hmac.digest(rfc8032.secret_to_public(SEEDS[other if org not in SEEDS else org]), payload, "sha256"),
             rfc8032.sign(SEEDS.get(org, bytes(32)), payload + b"\0")])
 
     def endorsed(self, tx):
