@@ -15,6 +15,7 @@ use Rattle.ledger_model.specs.Judged.{BlockRule, AllEndorsed, AreEndorsed, block
 use Rattle.fab_types.specs.declared.block.Block.{Block}
 use Rattle.fab_types.specs.declared.envelope.Endorsement.{Endorsement}
 use Rattle.wire.specs.Ids.{id_of}
+use Rattle.org_keys.specs.Signers.{Seeds}
 use Rattle.endorsement_policy.specs.Endorsed.{Listed, is_right, is_endorsed, CarriesRight}
 use Rattle.ledger_setting.specs.Rule.{table_of}
 use Rattle.ledger_model.proofs.Judged.{flags_judged, judged_onto-append, judged_grows, judged_current, judged_endorsed}
@@ -174,7 +175,8 @@ finish_gives : (r : Rules) (w : World) (q : PeerState) (s : ℕ) (p : Payload) (
 finish_gives r w q s p x None e = absurd (cc)
 finish_gives r w q s p x (Some None) e = absurd (cc)
 finish_gives r w q s p x (Some (Some b)) e =
-    record { height = b.height; made = answered r.exec (r.seal q.org) b.proposal (state (history (chain_at r w q.height))) (chain_at r w b.height) p x e }
+    let now = state (history (chain_at r w q.height)) in
+    record { height = b.height; made = answered r.exec (r.seal (values_of now) q.org) b.proposal now (chain_at r w b.height) p x e }
 
 nothing_endorsed : (p : Payload) (x : Endorsement) → Endorsed p x ≡ Nothing → ⊥
 nothing_endorsed p x e = cc
@@ -289,10 +291,11 @@ DoCarry listed = (m : Plain) (e : Envelope) → is_endorsed listed m e ≡ true 
 
 -- the chain of a height is honest
 honest_at : (exec : Exec) → ReadsAlone exec → (listed : Listed) → DoCarry listed →
-    (capacity : ℕ) (w : World) (es : List Event) (replies : List Reply) (new : World) → AreSteps (rules_of exec listed capacity) w es replies new → (n : ℕ) →
-    IsHonest exec (table_of listed) (is_right listed.orgs) replies (chain_at (rules_of exec listed capacity) new n)
-honest_at exec alone listed carries capacity w es replies new steps n =
-    let r = rules_of exec listed capacity in
+    (seeds : Seeds) (capacity : ℕ) (w : World) (es : List Event) (replies : List Reply) (new : World) →
+    AreSteps (rules_of exec listed seeds capacity) w es replies new → (n : ℕ) →
+    IsHonest exec (table_of listed) (is_right listed.orgs) replies (chain_at (rules_of exec listed seeds capacity) new n)
+honest_at exec alone listed carries seeds capacity w es replies new steps n =
+    let r = rules_of exec listed seeds capacity in
     let blocks = new.orderer.chain in
     let chain = chain_at r new n in
     let flags = flags_judged (table_of listed) (take n blocks) in
@@ -310,13 +313,14 @@ honest_at exec alone listed carries capacity w es replies new steps n =
     }
 
 honest_if : (exec : Exec) → ReadsAlone exec → (listed : Listed) → DoCarry listed →
-    (capacity : ℕ) (w : World) (es : List Event) (replies : List Reply) (new : World) → AreSteps (rules_of exec listed capacity) w es replies new →
-    (o : Option PeerState) (chain : Chain) → option_map (λ q. chain_at (rules_of exec listed capacity) new q.height) o ≡ Some chain →
+    (seeds : Seeds) (capacity : ℕ) (w : World) (es : List Event) (replies : List Reply) (new : World) →
+    AreSteps (rules_of exec listed seeds capacity) w es replies new →
+    (o : Option PeerState) (chain : Chain) → option_map (λ q. chain_at (rules_of exec listed seeds capacity) new q.height) o ≡ Some chain →
     IsHonest exec (table_of listed) (is_right listed.orgs) replies chain
-honest_if exec alone listed carries capacity w es replies new steps None chain e = absurd (cc)
-honest_if exec alone listed carries capacity w es replies new steps (Some q) chain e =
+honest_if exec alone listed carries seeds capacity w es replies new steps None chain e = absurd (cc)
+honest_if exec alone listed carries seeds capacity w es replies new steps (Some q) chain e =
     subst (IsHonest exec (table_of listed) (is_right listed.orgs) replies) (same_Some _ _ e)
-    (honest_at exec alone listed carries capacity w es replies new steps q.height)
+    (honest_at exec alone listed carries seeds capacity w es replies new steps q.height)
 
 -- one step more
 pub steps_more : (r : Rules) (w : World) (es : List Event) (replies : List Reply) (mid : World) (e : Event) (reply : Reply) (new : World) →
@@ -497,8 +501,8 @@ run_part r orgs seats limits reorder events replies w refused i law start steps 
 
 -- the chains of a run are honest
 pub honest_of : (exec : Exec) → ReadsAlone exec → (listed : Listed) → DoCarry listed →
-    (capacity : ℕ) (orgs : List Bytes) (seats : ℕ) (limits : Limits) (reorder : Bool) (events : List Event) (replies : List Reply) (w : World)
-    (refused : Bool) → IsRun (rules_of exec listed capacity) orgs seats limits reorder events replies w refused → (peer : ℕ) (chain : Chain) →
-    chain_of (rules_of exec listed capacity) w peer ≡ Some chain → IsHonest exec (table_of listed) (is_right listed.orgs) replies chain
-honest_of exec alone listed carries capacity orgs seats limits reorder events replies w refused run peer chain is =
-    honest_if exec alone listed carries capacity (opening orgs seats limits reorder) run.done replies w run.steps (slice_get w.peers peer) chain is
+    (seeds : Seeds) (capacity : ℕ) (orgs : List Bytes) (seats : ℕ) (limits : Limits) (reorder : Bool) (events : List Event) (replies : List Reply) (w : World)
+    (refused : Bool) → IsRun (rules_of exec listed seeds capacity) orgs seats limits reorder events replies w refused → (peer : ℕ) (chain : Chain) →
+    chain_of (rules_of exec listed seeds capacity) w peer ≡ Some chain → IsHonest exec (table_of listed) (is_right listed.orgs) replies chain
+honest_of exec alone listed carries seeds capacity orgs seats limits reorder events replies w refused run peer chain is =
+    honest_if exec alone listed carries seeds capacity (opening orgs seats limits reorder) run.done replies w run.steps (slice_get w.peers peer) chain is

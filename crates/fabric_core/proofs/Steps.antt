@@ -6,9 +6,11 @@ use Rattle.std.specs.List.{AllByRecursion}
 use Rattle.fab_types.specs.Payloads.{Payload}
 use Rattle.ledger_model.specs.Chain.{Bytes, Envelope, Flag, Committed, Chain, history}
 use Rattle.ledger_model.specs.State.{state}
+use Rattle.ledger_model.specs.Views.{Plain, values_of}
 use Rattle.ledger_model.specs.Execution.{Exec}
 use Rattle.fab_types.specs.declared.block.Block.{Block}
 use Rattle.fab_types.specs.declared.envelope.Endorsement.{Endorsement}
+use Rattle.org_keys.specs.Signers.{Seeds}
 use Rattle.endorsement_policy.specs.Endorsed.{Listed}
 use Rattle.ledger_model.specs.Judged.{BlockRule, judge}
 use Rattle.std.specs.Option.{option_to_list}
@@ -53,17 +55,17 @@ begin_free p s b height free same tall =
     ap (begin_seat (peer_of p) s b.proposal) (shown_at p.seats.items s None free)
     ∙ (λ i. (IsBegun (q i), record { org = p.org; height = length p.snapshot.value; seats = r i }))
 
-pub finish_held : (exec : Exec) (seal : Bytes → Payload → Endorsement) (chain : ℕ → Chain) (p : Peer) (s : ℕ) (b : Begun) (answer : Result Payload SimRefusal)
-    (reply : Reply) → IsPeerRight chain p → slice_get p.seats.items s ≡ Some (Some b) → payload_or_refusal exec b.proposal b.snapshot.value ≡ answer →
-    finish_reply (state (history p.snapshot.value)) (seal p.org) answer ≡ reply →
+pub finish_held : (exec : Exec) (seal : Plain → Bytes → Payload → Endorsement) (chain : ℕ → Chain) (p : Peer) (s : ℕ) (b : Begun)
+    (answer : Result Payload SimRefusal) (reply : Reply) → IsPeerRight chain p → slice_get p.seats.items s ≡ Some (Some b) →
+    payload_or_refusal exec b.proposal b.snapshot.value ≡ answer →
+    finish_reply (state (history p.snapshot.value)) (seal (values_of (state (history p.snapshot.value))) p.org) answer ≡ reply →
     finish exec seal chain (peer_of p) s ≡ (reply, record { org = p.org; height = length p.snapshot.value; seats = seats_of (slice_set p.seats.items s None) })
 finish_held exec seal chain p s b answer reply right held told is =
     let of : IsFirst chain b.snapshot.value = all_get (IsSeatRight chain) p.seats.items s (Some b) right.seats held in
-    let now = state (history p.snapshot.value) in
-    let q : finish_reply (state (history (chain (length p.snapshot.value)))) (seal p.org)
-    (payload_or_refusal exec b.proposal (chain (length b.snapshot.value))) ≡ reply =
-    (λ i. finish_reply (state (history (sym right.kept i))) (seal p.org) (payload_or_refusal exec b.proposal (sym of i))) ∙
-    ap (finish_reply now (seal p.org)) told ∙ is
+    let reply_on : Chain → Result Payload SimRefusal → Reply = λ newest.
+    finish_reply (state (history newest)) (seal (values_of (state (history newest))) p.org) in
+    let q : reply_on (chain (length p.snapshot.value)) (payload_or_refusal exec b.proposal (chain (length b.snapshot.value))) ≡ reply =
+    (λ i. reply_on (sym right.kept i) (payload_or_refusal exec b.proposal (sym of i))) ∙ ap (reply_on p.snapshot.value) told ∙ is
     in
     let r : slice_set (seats_of p.seats.items) s None ≡ seats_of (slice_set p.seats.items s None) =
     sym (slice_set_map (option_map noted) p.seats.items s None) in
@@ -89,14 +91,15 @@ peer_set listed peers blocks p old new right there kept =
     all_set P peers p new right (kept chain (all_get P peers p old right there))
 
 -- a system as it is seen
-abbrev pub shown : Book → Listed → ℕ → List Peer → List Envelope → Ordering → State
-shown book listed capacity peers queue orderer = record { book = book; rules = listed; capacity = capacity; world = world_of peers queue orderer }
+abbrev pub shown : Book → Listed → Seeds → ℕ → List Peer → List Envelope → Ordering → State
+shown book listed seeds capacity peers queue orderer =
+    record { book = book; rules = listed; seeds = seeds; capacity = capacity; world = world_of peers queue orderer }
 
-pub unchanged : (book : Book) (listed : Listed) (capacity : ℕ) (peers : List Peer) (queue : List Envelope) (orderer : Ordering) (p : ℕ)
+pub unchanged : (book : Book) (listed : Listed) (seeds : Seeds) (capacity : ℕ) (peers : List Peer) (queue : List Envelope) (orderer : Ordering) (p : ℕ)
     (old new : Peer) → slice_get peers p ≡ Some old → new ≡ old →
-    shown book listed capacity (slice_set peers p new) queue orderer ≡ shown book listed capacity peers queue orderer
-unchanged book listed capacity peers queue orderer p old new there same =
-    ap (λ ps. shown book listed capacity ps queue orderer) (ap (slice_set peers p) same ∙ slice_set_same peers p old there)
+    shown book listed seeds capacity (slice_set peers p new) queue orderer ≡ shown book listed seeds capacity peers queue orderer
+unchanged book listed seeds capacity peers queue orderer p old new there same =
+    ap (λ ps. shown book listed seeds capacity ps queue orderer) (ap (slice_set peers p) same ∙ slice_set_same peers p old there)
 
 pub if_ok : {T E : Type 0} (P Q : T → Type 0) (r : Result T E) → ((x : T) → P x → Q x) → IfOk r P → IfOk r Q
 if_ok P Q (Ok x) f h = f x h

@@ -6,8 +6,9 @@ use Rattle.orderer.specs.Ordering.{Ordering}
 use Rattle.ledger_model.specs.Chain.{Envelope, Chain}
 use Rattle.ledger_model.specs.Execution.{Exec}
 use Rattle.chaincode_book.specs.Books.{Book}
-use Rattle.endorsement_policy.specs.Endorsed.{Listed}
-use Rattle.ledger_setting.specs.Rule.{table_of, seal_of}
+use Rattle.org_keys.specs.Signers.{Seeds}
+use Rattle.endorsement_policy.specs.Endorsed.{Listed, seal_of}
+use Rattle.ledger_setting.specs.Rule.{table_of}
 use Rattle.simulator.specs.Execution.{exec_of}
 use Rattle.fabric_core.specs.System.{Rules, Event, Reply, Noted, PeerState, World, IsStep, chain_of_first}
 use Rattle.fabric_core.specs.declared.peer.Begun.{Begun}
@@ -17,20 +18,21 @@ use Rattle.fabric_core.specs.declared.peer.Peer.{Peer}
 pub record State : Type 0 where
   pub book : Book
   pub rules : Listed
+  pub seeds : Seeds
   pub capacity : ℕ
   pub world : World
 
--- the rules with these chaincodes, organisations and policies, and this queue
-abbrev pub rules_of : Exec → Listed → ℕ → Rules
-rules_of exec listed capacity = record { exec = exec; rule = table_of listed; seal = seal_of listed; capacity = capacity }
+-- the rules with these chaincodes, organisations and policies, these seeds at hand, and this queue
+abbrev pub rules_of : Exec → Listed → Seeds → ℕ → Rules
+rules_of exec listed seeds capacity = record { exec = exec; rule = table_of listed; seal = seal_of listed seeds; capacity = capacity }
 
 -- a call takes a step of the abstract world: with this event, and this reply
 abbrev pub TakesStep : (old new : State) → Event → Reply → Type 0
-TakesStep old new event reply = IsStep (rules_of (exec_of old.book) old.rules old.capacity) old.world event reply new.world
+TakesStep old new event reply = IsStep (rules_of (exec_of old.book) old.rules old.seeds old.capacity) old.world event reply new.world
 
--- what every call keeps: the chaincodes, the organisations and policies, and the queue's capacity
+-- what every call keeps: the chaincodes, the organisations and policies, the seeds, and the queue's capacity
 abbrev pub KeepsSetting : (old new : State) → Type 0
-KeepsSetting old new = (new.book ≡ old.book) × (new.rules ≡ old.rules) × (new.capacity ≡ old.capacity)
+KeepsSetting old new = (new.book ≡ old.book) × (new.rules ≡ old.rules) × (new.seeds ≡ old.seeds) × (new.capacity ≡ old.capacity)
 
 abbrev pub noted : Begun → Noted
 noted b = record { proposal = b.proposal; height = length b.snapshot.value }

@@ -11,7 +11,7 @@ use Rattle.batch_cutter.specs.Division.{Limits, message, timeout}
 use Rattle.orderer.specs.Ordering.{Ordering, Takes, RunsOut}
 use Rattle.orderer.specs.declared.report.BatchReport.{BatchReport}
 use Rattle.ledger_model.specs.Chain.{Bytes, Envelope, Committed, Chain, history}
-use Rattle.ledger_model.specs.Views.{Versioned}
+use Rattle.ledger_model.specs.Views.{Plain, Versioned, values_of}
 use Rattle.ledger_model.specs.State.{state}
 use Rattle.mvcc_validate.specs.Current.{is_current}
 use Rattle.ledger_model.specs.Execution.{Exec}
@@ -29,8 +29,8 @@ use Rattle.simulator.specs.Answers.{payload_or_refusal}
 pub record Rules : Type 0 where
   pub exec : Exec
   pub rule : BlockRule
-  -- what a peer of an organisation puts on a payload
-  pub seal : Bytes → Payload → Endorsement
+  -- what, in a state, a peer of an organisation puts on a payload
+  pub seal : Plain → Bytes → Payload → Endorsement
   -- how many envelopes the queue holds
   pub capacity : ℕ
 
@@ -87,16 +87,17 @@ finish_reply now seal (Ok p) = if is_current now p then Endorsed p (seal p) else
 finish_reply now seal (Err r) = Refused r
 
 -- Finish, at a peer: the seat becomes free, whatever is replied. A payload is made on the state at the noted height. Where
--- all that it read is still so in the peer's newest state, it comes with the organisation's tag
-abbrev pub finish_seat : Exec → (Bytes → Payload → Endorsement) → (ℕ → Chain) → PeerState → ℕ → Option (Option Noted) → Reply × PeerState
+-- all that it read is still so in the peer's newest state, it comes with the organisation's tag by that state
+abbrev pub finish_seat : Exec → (Plain → Bytes → Payload → Endorsement) → (ℕ → Chain) → PeerState → ℕ → Option (Option Noted) → Reply × PeerState
 finish_seat exec seal chain peer seat None = (NoSuchSeat, peer)
 finish_seat exec seal chain peer seat (Some None) = (NothingBegun, peer)
-finish_seat exec seal chain peer seat (Some (Some noted)) = (
-  finish_reply (state (history (chain peer.height))) (seal peer.org) (payload_or_refusal exec noted.proposal (chain noted.height)),
-  record peer { seats = slice_set peer.seats seat None },
-)
+finish_seat exec seal chain peer seat (Some (Some noted)) =
+    let now = state (history (chain peer.height)) in (
+      finish_reply now (seal (values_of now) peer.org) (payload_or_refusal exec noted.proposal (chain noted.height)),
+      record peer { seats = slice_set peer.seats seat None },
+    )
 
-abbrev pub finish : Exec → (Bytes → Payload → Endorsement) → (ℕ → Chain) → PeerState → ℕ → Reply × PeerState
+abbrev pub finish : Exec → (Plain → Bytes → Payload → Endorsement) → (ℕ → Chain) → PeerState → ℕ → Reply × PeerState
 finish exec seal chain peer seat = finish_seat exec seal chain peer seat (slice_get peer.seats seat)
 
 -- Commit, at a peer: the next block, if there is one

@@ -3,10 +3,12 @@
 ghost use Rattle.std.specs.Prelude.{◌≡◌, ℕ, List, [], ◌∷◌, ◌++◌, ◌+◌, ◌<◌, length, Ok, IfOk, OnErr, None, replicate};
 ghost use Rattle.ledger_model.specs.Chain.{Chain, history};
 ghost use Rattle.ledger_model.specs.State.{state};
+ghost use Rattle.ledger_model.specs.Views.{values_of};
 ghost use Rattle.committer.specs.Fits.{Fits, blocks_of};
 ghost use Rattle.ledger_model.specs.Judged.{judge};
 ghost use Rattle.ledger_setting.specs.Judging.{IsJudged};
-ghost use Rattle.ledger_setting.specs.Rule.{table_of, seal_of};
+ghost use Rattle.ledger_setting.specs.Rule.{table_of};
+ghost use Rattle.endorsement_policy.specs.Endorsed.{seal_of};
 ghost use Rattle.simulator.specs.Answers.{payload_or_refusal};
 ghost use Rattle.simulator.specs.Execution.{exec_of};
 ghost use Rattle.fabric_core.specs.System.{IsCommitted, fresh, begin, finish_reply, finish};
@@ -15,9 +17,10 @@ ghost use Rattle.fabric_core.specs.Inside.{peer_of, IsPeerRight};
 use crate::event::Reply;
 use chaincode_book::Book;
 use endorsement_policy::{Rules, check_plain};
-use endorser::endorse_payload;
+use endorser::{recheck, seal};
 use fab_types::{Block, Flag, OrgName, Payload, Proposal};
 use ledger_setting::judge_checked;
+use org_keys::Signers;
 use seq::Seq;
 use simulator::{SimRefusal, simulate};
 use std::alloc::{AllocError, Global};
@@ -73,26 +76,6 @@ fn simulate_begun(
     }
 }
 
-/// The reply with a payload: its tag, or that it is stale.
-fn endorsed(
-    alloc: Global,
-    rules: &Rules,
-    org: &OrgName,
-    newest: &Snapshot,
-    payload: Payload,
-) -> Result<Reply, AllocError>
-    ensures { IfOk result
-        (λ reply. reply
-        ≡ finish_reply (state (history newest.now)) (seal_of rules.now org.now) (Ok payload)) }
-{
-    match endorse_payload(alloc, rules, org, newest, &payload) {
-        Ok(endorsement) => Ok(Reply::Endorsed(payload, endorsement)),
-        Err(SimRefusal::Stale) => Ok(Reply::Refused(SimRefusal::Stale)),
-        // Of memory: there is no other refusal.
-        Err(_) => Err(AllocError),
-    }
-}
-
 impl Peer {
     /// A peer without blocks, all of whose seats are free.
     pub fn new(alloc: Global, org: OrgName, seats: usize) -> Result<Peer, AllocError>
@@ -132,6 +115,31 @@ impl Peer {
         }
     }
 
+    /// The reply with a payload: with the tag of the peer's organisation, or that it is stale.
+    fn endorsed(
+        &self,
+        alloc: Global,
+        rules: &Rules,
+        signers: &Signers,
+        payload: Payload,
+    ) -> Result<Reply, AllocError>
+        ensures { IfOk result
+            (λ reply. reply
+            ≡ finish_reply (state (history self.now.snapshot.value))
+            (seal_of rules.now signers.now (values_of (state (history self.now.snapshot.value)))
+            self.now.org) (Ok payload)) }
+    {
+        match recheck(alloc, &payload, &self.snapshot) {
+            Ok(()) => {
+                let endorsement = seal(rules, signers, &self.org, &payload)?;
+                Ok(Reply::Endorsed(payload, endorsement))
+            }
+            Err(SimRefusal::Stale) => Ok(Reply::Refused(SimRefusal::Stale)),
+            // Of memory: there is no other refusal.
+            Err(_) => Err(AllocError),
+        }
+    }
+
     /// Simulates what a seat has begun, on the snapshot that it began on, and frees the seat. A
     /// payload that is current on the newest snapshot comes with the tag of the peer's
     /// organisation.
@@ -140,11 +148,12 @@ impl Peer {
         alloc: Global,
         book: &Book,
         rules: &Rules,
+        signers: &Signers,
         seat: usize,
     ) -> Result<Reply, AllocError>
         ensures step { IfOk result
             (λ reply. (chain : ℕ → Chain) → IsPeerRight chain self.old →
-            finish (exec_of book.now) (seal_of rules.now) chain (peer_of self.old) seat
+            finish (exec_of book.now) (seal_of rules.now signers.now) chain (peer_of self.old) seat
             ≡ (reply, peer_of self.new)) }
         ensures right { (chain : ℕ → Chain) → IsPeerRight chain self.old →
             IsPeerRight chain self.new }
@@ -155,7 +164,7 @@ impl Peer {
             Some(None) => Ok(Reply::NothingBegun),
             Some(Some(begun)) => {
                 let reply = match simulate_begun(alloc, book, &begun.snapshot, &begun.proposal)? {
-                    Ok(payload) => endorsed(alloc, rules, &self.org, &self.snapshot, payload)?,
+                    Ok(payload) => self.endorsed(alloc, rules, signers, payload)?,
                     Err(refusal) => Reply::Refused(refusal),
                 };
                 self.seats[seat] = None;

@@ -54,17 +54,19 @@ impl Ran {
 pub fn run(alloc: Global, genesis: &Genesis, events: &[Event]) -> Result<Ran, AllocError>
     ensures run { IfOk result
         (λ ran. IsRun
-        (rules_of (exec_of genesis.now.book.value) genesis.now.rules.value genesis.now.queue)
+        (rules_of (exec_of genesis.now.book.value) genesis.now.rules.value
+        genesis.now.signers.value genesis.now.queue)
         genesis.now.peers.items genesis.now.seats (limits_of genesis.now) genesis.now.reorder
         events.now ran.replies.items ran.system.world ran.refused) }
     ensures book { IfOk result (λ ran. ran.system.book ≡ genesis.now.book.value) }
     ensures rules { IfOk result (λ ran. ran.system.rules ≡ genesis.now.rules.value) }
+    ensures seeds { IfOk result (λ ran. ran.system.seeds ≡ genesis.now.signers.value) }
     ensures capacity { IfOk result (λ ran. ran.system.capacity ≡ genesis.now.queue) }
     ensures honest { IfOk result
         (λ ran. (peer : ℕ) (chain : Chain) →
         chain_of
         (rules_of (exec_of genesis.now.book.value) genesis.now.rules.value
-        genesis.now.queue)
+        genesis.now.signers.value genesis.now.queue)
         ran.system.world peer
         ≡ Some chain →
         IsHonest (exec_of genesis.now.book.value) (table_of genesis.now.rules.value)
@@ -73,7 +75,7 @@ pub fn run(alloc: Global, genesis: &Genesis, events: &[Event]) -> Result<Ran, Al
         (λ ran. genesis.now.reorder ≡ true → (peer : ℕ) (chain : Chain) →
         chain_of
         (rules_of (exec_of genesis.now.book.value) genesis.now.rules.value
-        genesis.now.queue)
+        genesis.now.signers.value genesis.now.queue)
         ran.system.world peer
         ≡ Some chain →
         ConflictsAreOlder chain) }
@@ -81,7 +83,7 @@ pub fn run(alloc: Global, genesis: &Genesis, events: &[Event]) -> Result<Ran, Al
         (λ ran. (peer : ℕ) (chain : Chain) (next : Block) →
         chain_of
         (rules_of (exec_of genesis.now.book.value) genesis.now.rules.value
-        genesis.now.queue)
+        genesis.now.signers.value genesis.now.queue)
         ran.system.world peer
         ≡ Some chain →
         slice_get ran.system.world.orderer.chain (length chain) ≡ Some next →

@@ -18,6 +18,7 @@ use fab_types::limits::LAST_BLOCK;
 use fab_types::{Block, Envelope, Proposal};
 use ledger_setting::Genesis;
 use orderer::{BatchReport, OrderCause, Orderer};
+use org_keys::Signers;
 use seq::Seq;
 use std::alloc::{AllocError, Global};
 use std::collections::VecDeque;
@@ -26,20 +27,21 @@ use std::marker::Model;
 use std::sync::Arc;
 use world_state::Snapshot;
 
-/// Peers, the queue, and the orderer. Contracts see the book, the
-/// rules, the queue's capacity and the abstract world.
+/// Peers, the queue, and the orderer. Contracts see the book, the rules, the seeds at hand, the
+/// queue's capacity and the abstract world.
 #[derive(Drop)]
 pub struct System {
     alloc: Global,
     book: Arc<Book>,
     rules: Arc<Rules>,
+    signers: Arc<Signers>,
     capacity: usize,
     peers: Vec<Peer>,
     queue: VecDeque<Envelope>,
     orderer: Orderer,
 }
 
-/// How many peers there are, how many envelopes wait, and the height. The tags' keys are not
+/// How many peers there are, how many envelopes wait, and the height. Shared keys and seeds are not
 /// printed.
 impl Debug for System {
     fn fmt<W: Write>(&self, f: &mut Formatter<W>) -> fmt::Result {
@@ -65,6 +67,7 @@ impl Model for System {
         record {
           book = s.book.value;
           rules = s.rules.value;
+          seeds = s.signers.value;
           capacity = s.capacity;
           world = world_of s.peers.items s.queue.items s.orderer;
         } };
@@ -94,6 +97,7 @@ impl System {
             ≡ record {
               book = genesis.now.book.value;
               rules = genesis.now.rules.value;
+              seeds = genesis.now.signers.value;
               capacity = genesis.now.queue;
               world = opening genesis.now.peers.items genesis.now.seats
                   (limits_of genesis.now) genesis.now.reorder;
@@ -108,6 +112,7 @@ impl System {
             alloc,
             book: genesis.book.clone()?,
             rules: genesis.rules.clone()?,
+            signers: genesis.signers.clone()?,
             capacity: genesis.queue,
             peers,
             queue: VecDeque::new(alloc),
@@ -142,7 +147,7 @@ impl System {
         if peer >= self.peers.len() {
             return Ok(Reply::NoSuchPeer);
         }
-        self.peers[peer].finish(self.alloc, &*self.book, &*self.rules, seat)
+        self.peers[peer].finish(self.alloc, &*self.book, &*self.rules, &*self.signers, seat)
     }
 
     fn submit(&mut self, envelope: Envelope) -> Result<Reply, AllocError>
@@ -251,7 +256,8 @@ impl System {
     /// there is no such peer. It takes no memory.
     pub fn snapshot(&self, peer: usize) -> Option<&Snapshot>
         ensures { option_map (λ s. s.now) result
-            ≡ chain_of (rules_of (exec_of self.now.book) self.now.rules self.now.capacity)
+            ≡ chain_of
+            (rules_of (exec_of self.now.book) self.now.rules self.now.seeds self.now.capacity)
             self.now.world peer }
     {
         match self.peers.get(peer) {

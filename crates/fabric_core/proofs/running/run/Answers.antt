@@ -6,7 +6,7 @@ use Rattle.ledger_model.specs.Views.{values_of}
 use Rattle.endorsement_policy.specs.Endorsed.{is_endorsed}
 use Rattle.simulator.specs.Execution.{exec_of}
 use Rattle.ledger_setting.specs.Setting.{limits_of}
-use Rattle.fabric_core.specs.System.{World, Reply, fresh_orderer, IsStep, AreSteps}
+use Rattle.fabric_core.specs.System.{Rules, World, Reply, fresh_orderer, IsStep, AreSteps}
 use Rattle.fabric_core.specs.Inside.{rules_of}
 use Rattle.fabric_core.specs.System.{opening}
 use Rattle.fabric_core.proofs.Lists.{get_here}
@@ -26,26 +26,27 @@ loop-event-preserved c =
     let events = c.args.events.now in
     let e = c.event-item.result in
     let exec = exec_of in
-    let r = rules_of (exec c.args.genesis.now.book.value) c.args.genesis.now.rules.value c.args.genesis.now.queue in
+    let r = rules_of (exec c.args.genesis.now.book.value) c.args.genesis.now.rules.value c.args.genesis.now.signers.value c.args.genesis.now.queue in
     let start = opening c.args.genesis.now.peers.items c.args.genesis.now.seats (limits_of c.args.genesis.now) c.args.genesis.now.reorder in
     let h = ok_of _ c.advance.result (sym c.is_err.ensures.value ∙ c.if-is_err.false) c.advance.ensures.step in
     let here : slice_get events i ≡ Some e = get_here events i e (omega (arith, c.loop-event-test.true)) ∙ ap Some (sym c.event-item.is) in
+    let same : rules_of (exec old.system.book) old.system.rules old.system.seeds old.system.capacity ≡ r =
+    λ j. rules_of (exec (inv.book j)) (inv.rules j) (inv.seeds j) (inv.capacity j) in
     let told : IsStep r old.system.world e h.0 new.system.world =
-    subst (λ n. IsStep (rules_of (exec c.args.genesis.now.book.value) c.args.genesis.now.rules.value n) old.system.world e h.0 new.system.world)
-    inv.capacity (subst (λ l. IsStep (rules_of (exec c.args.genesis.now.book.value) l old.system.capacity) old.system.world e h.0 new.system.world)
-    inv.rules (subst (λ b. IsStep (rules_of (exec b) old.system.rules old.system.capacity) old.system.world e h.0 new.system.world) inv.book h.1)) in
+    subst (λ (s : Rules). IsStep s old.system.world e h.0 new.system.world) same h.1 in
     let more = run_more r start old.system.world new.system.world events i e h.0 old.replies.items new.replies.items here inv.steps told h.2 in
     record {
       refused = c.advance.ensures.refused ∙ inv.refused;
       steps = more;
       book = c.advance.ensures.keeps.0 ∙ inv.book;
       rules = c.advance.ensures.keeps.1 ∙ inv.rules;
-      capacity = c.advance.ensures.keeps.2 ∙ inv.capacity;
+      seeds = c.advance.ensures.keeps.2 ∙ inv.seeds;
+      capacity = c.advance.ensures.keeps.3 ∙ inv.capacity;
     }
 
 pub returns-clause-run : goal.returns-clause-run
 returns-clause-run c =
-    let r = rules_of (exec_of c.args.genesis.now.book.value) c.args.genesis.now.rules.value c.args.genesis.now.queue in
+    let r = rules_of (exec_of c.args.genesis.now.book.value) c.args.genesis.now.rules.value c.args.genesis.now.signers.value c.args.genesis.now.queue in
     let inv = c.loop-event.invariant in
     let genesis = c.args.genesis.now in
     let events = c.args.events.now in
@@ -82,14 +83,14 @@ returns-clause-honest c peer chain is =
     in
     let carries : DoCarry genesis.rules.value = subst DoCarry c.deref-2.ensures c.an_endorsed_envelope_carries_a_right_tag.ensures
     in
-    honest_of (exec_of genesis.book.value) alone genesis.rules.value carries genesis.queue genesis.peers.items genesis.seats (limits_of genesis) genesis.reorder
-    c.args.events.now ran.replies.items ran.system.world ran.refused (returns-clause-run c) peer chain is
+    honest_of (exec_of genesis.book.value) alone genesis.rules.value carries genesis.signers.value genesis.queue genesis.peers.items genesis.seats
+    (limits_of genesis) genesis.reorder c.args.events.now ran.replies.items ran.system.world ran.refused (returns-clause-run c) peer chain is
 
 pub returns-clause-conflicts : goal.returns-clause-conflicts
 returns-clause-conflicts c on peer chain is =
     let genesis = c.args.genesis.now in
     let ran = c.loop-event-test.ran in
-    let r = rules_of (exec_of genesis.book.value) genesis.rules.value genesis.queue in
+    let r = rules_of (exec_of genesis.book.value) genesis.rules.value genesis.signers.value genesis.queue in
     let endorsed : List Placed → Envelope → Bool = λ before. is_endorsed genesis.rules.value (values_of (state before)) in
     older_run id_of endorsed r genesis.peers.items genesis.seats (limits_of genesis) genesis.reorder c.args.events.now
     ran.replies.items ran.system.world ran.refused refl (returns-clause-run c) on peer chain is
@@ -98,5 +99,5 @@ pub returns-clause-fits : goal.returns-clause-fits
 returns-clause-fits c peer chain next is there =
     let genesis = c.args.genesis.now in
     let w = c.loop-event-test.ran.system.world in
-    let r = rules_of (exec_of genesis.book.value) genesis.rules.value genesis.queue in
+    let r = rules_of (exec_of genesis.book.value) genesis.rules.value genesis.signers.value genesis.queue in
     fits_if r w (slice_get w.peers peer) chain next c.blocks-blocks.ensures.linked c.blocks-blocks.ensures.count is there

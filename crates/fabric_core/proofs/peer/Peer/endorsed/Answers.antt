@@ -1,0 +1,20 @@
+use Rattle.std.proofs.Common.{◌≡◌, ◌∙◌, Bool, true, ap, sym, subst, if◌then◌else◌}
+use Rattle.fab_types.specs.declared.envelope.Endorsement.{Endorsement}
+use Rattle.ledger_model.specs.Chain.{Chain, history}
+use Rattle.ledger_model.specs.State.{state}
+use Rattle.ledger_model.specs.Views.{values_of}
+use Rattle.mvcc_validate.specs.Current.{is_current}
+use Rattle.endorsement_policy.specs.Endorsed.{seal_of}
+use Rattle.simulator.specs.declared.refusal.SimRefusal.TheVariants as refusal
+use Rattle.fabric_core.specs.System.{Endorsed, Refused}
+use Rattle.fabric_core.proofs.peer.Peer.endorsed.Goals as goal
+
+pub returns-in-Ok : goal.returns-in-Ok
+returns-in-Ok c =
+    let p = c.args.payload in
+    let now = state (history c.args.self.now.snapshot.value) in
+    let tag = seal_of c.args.rules.now c.args.signers.now (values_of now) c.args.self.now.org p in
+    let current : is_current now p ≡ true =
+    subst (λ (newest : Chain). is_current (state (history newest)) p ≡ true) c.deref.ensures c.in-Ok.ensures.current in
+    ap (λ (x : Endorsement). Endorsed p x) (c.in_ok-endorsement-in-Ok.ensures (values_of now))
+    ∙ sym (ap (λ (b : Bool). if b then (Endorsed p tag) else (Refused refusal.Stale)) current)
