@@ -8,6 +8,6 @@ use Rattle.log_roles.specs.declared.following.Follower.{Follower}
 abbrev pub followed_chain : Follower → Chain
 followed_chain f = f.snapshot
 
--- the chaincodes, the rules and the organisation by which a follower endorses
+-- the chaincodes, the rules and the seal by which a follower endorses
 abbrev pub endorsing_of : Follower → Endorsing
 endorsing_of f = endorser.endorsing_of f.endorser

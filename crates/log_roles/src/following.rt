@@ -2,6 +2,7 @@
 
 ghost use Rattle.std.specs.Prelude.{◌≡◌, [], ◌∷◌, ◌++◌, length, OnOk, OnErr, IfErr};
 ghost use Rattle.std.specs.Arc.{arc_value};
+ghost use Rattle.endorsement_policy.specs.Endorsed.{seal_of};
 ghost use Rattle.ledger_setting.specs.Rule.{table_of};
 ghost use Rattle.simulator.specs.Answers.{Answers};
 ghost use Rattle.store_replay.specs.Lawful.{AreLawful, IsNextRefused};
@@ -11,6 +12,7 @@ use chaincode_book::Book;
 use endorsement_policy::Rules;
 use endorser::Endorser;
 use fab_types::{CommittedBlock, Endorsement, OrgName, Payload, Proposal};
+use org_keys::Signers;
 use simulator::SimRefusal;
 use std::alloc::Global;
 use std::sync::Arc;
@@ -30,15 +32,26 @@ pub struct Follower {
 }
 
 impl Follower {
-    /// An endorser of an organisation that has followed nothing. Tags of an organisation that the
-    /// rules do not list are made with the empty key and count for nothing. It takes no memory.
-    pub fn new(alloc: Global, book: Arc<Book>, rules: Arc<Rules>, org: OrgName) -> Follower
+    /// An endorser of an organisation that has followed nothing. Tags of one that the rules do not
+    /// list, or whose seed is not at hand, are made with the empty key and count for nothing. It
+    /// takes no memory.
+    pub fn new(
+        alloc: Global,
+        book: Arc<Book>,
+        rules: Arc<Rules>,
+        signers: Arc<Signers>,
+        org: OrgName,
+    ) -> Follower
         ensures chain { followed_chain result ≡ [] }
         ensures endorsing { endorsing_of result
-            ≡ record { book = arc_value book; listed = arc_value rules; org = org } }
+            ≡ record {
+              book = arc_value book;
+              listed = arc_value rules;
+              seal = λ m. seal_of (arc_value rules) (arc_value signers) m org;
+            } }
     {
         Follower {
-            endorser: Endorser::new(alloc, book, rules, org),
+            endorser: Endorser::new(alloc, book, rules, signers, org),
             snapshot: Snapshot::empty(alloc),
             alloc,
         }
