@@ -2,6 +2,7 @@
 
 ghost use Rattle.std.specs.Prelude.{◌≡◌, [], ◌++◌, IsTrue, IfOk, OnOk};
 ghost use Rattle.std.specs.Arc.{arc_value};
+ghost use Rattle.endorsement_policy.specs.Endorsed.{seal_of};
 ghost use Rattle.ledger_setting.specs.Rule.{table_of};
 ghost use Rattle.simulator.specs.Answers.{Answers};
 ghost use Rattle.store_replay.specs.Lawful.{AreLawful};
@@ -10,14 +11,15 @@ ghost use Rattle.log_store.specs.Following.{IsFollowed, bytes_read, endorses_by,
 
 use crate::refusal::StoreRefusal;
 use block_store::{CountedRead, RecordReader};
-use store_devices::Counted;
 use endorsement_policy::Rules;
 use fab_types::{CommittedBlock, Endorsement, OrgName, Payload, Proposal};
 use log_roles::Follower;
+use org_keys::Signers;
 use simulator::{Book, SimRefusal};
 use std::alloc::{AllocError, Global};
 use std::io::Read;
 use std::sync::Arc;
+use store_devices::Counted;
 use store_replay::RecommitRefusal;
 
 /// So many bytes at most are asked of the file at a time.
@@ -41,6 +43,7 @@ impl<R: Read + Drop> StoreFollower<R> {
         alloc: Global,
         book: Arc<Book>,
         rules: Arc<Rules>,
+        signers: Arc<Signers>,
         org: OrgName,
         file: R,
     ) -> Result<StoreFollower<R>, AllocError>
@@ -48,11 +51,15 @@ impl<R: Read + Drop> StoreFollower<R> {
         ensures followed { IfOk result (λ s. IsFollowed s) }
         ensures endorsing { IfOk result
             (λ s. endorses_by s
-            ≡ record { book = arc_value book; listed = arc_value rules; org = org }) }
+            ≡ record {
+              book = arc_value book;
+              listed = arc_value rules;
+              seal = λ m. seal_of (arc_value rules) (arc_value signers) m org;
+            }) }
     {
         let piece = vec![in alloc; 0u8; PIECE]?;
         Ok(StoreFollower {
-            follower: Follower::new(alloc, book, rules, org),
+            follower: Follower::new(alloc, book, rules, signers, org),
             records: RecordReader::new(alloc),
             file: Counted::new(file),
             piece,

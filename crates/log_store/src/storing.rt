@@ -13,7 +13,6 @@ ghost use Rattle.log_store.specs.Storing.{IsOfMachine, IsReceiveRefused, IsStore
 
 use crate::refusal::StoreRefusal;
 use block_store::{End, Loaded, append, load};
-use store_devices::Counted;
 use endorsement_policy::Rules;
 use fab_types::{Block, CommittedBlock};
 use log_roles::{Committer, Received};
@@ -21,6 +20,7 @@ use std::alloc::Global;
 use std::fs::OpenFile;
 use std::io::{Read, Seek, Write};
 use std::sync::Arc;
+use store_devices::Counted;
 use store_replay::recommit;
 
 /// A chain to which the blocks of a log are committed, and the file that it is stored in.
