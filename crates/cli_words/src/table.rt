@@ -15,7 +15,7 @@ pub(crate) struct Form {
 }
 
 /// All commands.
-pub(crate) const COMMANDS: [Form; 12] = [
+pub(crate) const COMMANDS: [Form; 13] = [
     Form {
         name: "check",
         words: &["MODULE"],
@@ -43,15 +43,16 @@ state, or on that after the store FILE; the nonce is 16 bytes of hex, zeros by d
     Form {
         name: "run",
         words: &["GENESIS", "EVENTS"],
-        options: &[("store", "FILE")],
+        options: &[("store", "FILE"), ("keys", "FILE")],
         does: "\
 runs the events of the file EVENTS, one JSON object a line, on the system that the
-file GENESIS opens, and writes the chain of its first peer to the store FILE",
+file GENESIS opens, and writes the chain of its first peer to the store FILE; peers
+of public keys endorse by the seeds of the key file",
     },
     Form {
         name: "threads",
         words: &["GENESIS", "CHAINCODE", "ROUNDS"],
-        options: &[],
+        options: &[("keys", "FILE")],
         does: "\
 lets each seat of the first peer endorse ROUNDS calls (1 to 1000) of CHAINCODE on a thread
 of its own while their blocks are committed, and audits the chain",
@@ -105,9 +106,17 @@ commits blocks, which come in line by line as order prints them, to the file STO
     Form {
         name: "endorse",
         words: &["GENESIS", "ORG", "STORE"],
-        options: &[],
+        options: &[("keys", "FILE")],
         does: "\
 endorses proposals, which come in line by line as JSON objects, for the organisation ORG
-on the state after the file STORE, which it reads as it grows",
+on the state after the file STORE, which it reads as it grows; one of a public key signs
+by its seed in the key file",
+    },
+    Form {
+        name: "public",
+        words: &["KEYS"],
+        options: &[],
+        does: "\
+prints the public key of each line of the key file KEYS, in hex",
     },
 ];

@@ -16,13 +16,30 @@ const MOST_COUNT: u32 = 1_000;
 #[derive(Drop)]
 pub enum Task<'a> {
     /// Tell whether the bytes of a file are a valid module of a profile.
-    Check { module: &'a str, profile: Profile },
+    Check {
+        module: &'a str,
+        profile: Profile,
+    },
     /// Tell the digest of the bytes of a file that are a valid module of a profile.
-    Digest { module: &'a str, profile: Profile },
+    Digest {
+        module: &'a str,
+        profile: Profile,
+    },
     /// Cut the blocks of a log that comes line by line, by the limits of a genesis.
-    Order { genesis: &'a str },
-    /// Do this with the chaincodes, organisations and peers of a genesis.
-    Work { genesis: &'a str, work: Work<'a> },
+    Order {
+        genesis: &'a str,
+    },
+    /// Tell the public keys of a key file.
+    Public {
+        keys: &'a str,
+    },
+    /// Do this with the chaincodes, organisations and peers of a genesis, with the seeds of a key
+    /// file at hand if there is one. Only `Run`, `Threads` and `Endorse` have one.
+    Work {
+        genesis: &'a str,
+        keys: Option<&'a str>,
+        work: Work<'a>,
+    },
 }
 
 /// What is asked for of a genesis.
@@ -126,6 +143,7 @@ fn task_of<'a>(alloc: Global, matches: &ArgMatches<'a>) -> Result<Task<'a>, Word
         "check" => check(command),
         "digest" => digest(command),
         "order" => order(command),
+        "public" => public(command),
         name => of_genesis(alloc, name, command),
     }
 }
@@ -147,15 +165,26 @@ fn order<'a>(command: &ArgMatches<'a>) -> Result<Task<'a>, WordsFault> {
     Ok(Task::Order { genesis })
 }
 
-/// What a command of this name asks for of a genesis.
+fn public<'a>(command: &ArgMatches<'a>) -> Result<Task<'a>, WordsFault> {
+    let keys = text(command, "KEYS")?;
+    Ok(Task::Public { keys })
+}
+
+/// What a command of this name asks for of a genesis. A command without the option `keys` has no
+/// key file.
 fn of_genesis<'a>(
     alloc: Global,
     name: &str,
     command: &ArgMatches<'a>,
 ) -> Result<Task<'a>, WordsFault> {
     let genesis = text(command, "GENESIS")?;
+    let keys = command.get_str("keys");
     let work = work_of(alloc, name, command)?;
-    Ok(Task::Work { genesis, work })
+    Ok(Task::Work {
+        genesis,
+        keys,
+        work,
+    })
 }
 
 /// What a command of this name asks for.
