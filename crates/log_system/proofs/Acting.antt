@@ -14,7 +14,7 @@ use Rattle.ledger_model.specs.Judged.{BlockRule, judge_onto, judged_chain}
 use Rattle.ledger_model.specs.State.{state}
 use Rattle.ledger_model.specs.Views.{values_of}
 use Rattle.ledger_model.proofs.Judged.{judged_onto-append}
-use Rattle.ledger_setting.specs.Rule.{table_of, seal_of}
+use Rattle.ledger_setting.specs.Rule.{table_of}
 use Rattle.simulator.specs.Answers.{payload_or_refusal}
 use Rattle.simulator.specs.Execution.{exec_of}
 use Rattle.simulator.specs.declared.refusal.SimRefusal.{SimRefusal}
@@ -25,7 +25,7 @@ use Rattle.fabric_core.specs.System.{Noted, PeerState, World, chain_of_first, be
 use Rattle.fabric_core.specs.declared.event.Event.TheVariants.{Begin, Finish, Commit}
 use Rattle.fabric_core.specs.declared.event.Reply.{Reply}
 use Rattle.fabric_core.specs.declared.event.Reply.TheVariants.{Begun, Committed as IsCommitted}
-use Rattle.log_system.specs.Machines.{Setting, Act, Joins, Endorses, Does, DoesEach, IsRead, unread}
+use Rattle.log_system.specs.Machines.{Setting, Act, Joins, Endorses, Does, DoesEach, IsRead, endorsing_at, unread}
 use Rattle.log_system.specs.OneSystem.{rules_by, events_of_act, replies_of_act, replies_of_acts, height_after, reply_of}
 use Rattle.log_system.proofs.Current.{finished}
 use Rattle.log_system.proofs.Stepping.{one_step, two_steps, steps_joined, among, at_among, at_seam}
@@ -98,15 +98,16 @@ begun : (others : ℕ) (org : Bytes) (chain : Chain) (p : Proposal) →
 begun others org chain p = refl
 
 ended : (s : Setting) (chains : ℕ → Chain) (others : ℕ) (org : Bytes) (chain : Chain) (p : Proposal) → chain ≡ chains (length chain) →
-    finish (exec_of s.book) (seal_of s.listed) chains (busy_at others org chain p) 0 ≡
-    (reply_of (endorsed_on (record { book = s.book; listed = s.listed; org = org }) p chain), peer_at (suc others) org chain)
+    finish (exec_of s.book) s.seal chains (busy_at others org chain p) 0 ≡
+    (reply_of (endorsed_on (endorsing_at s org) p chain), peer_at (suc others) org chain)
 ended s chains others org chain p is =
     let exec = exec_of s.book in
     let m = state (history chain) in
     let o = exec p (values_of m) in
     let free = peer_at (suc others) org chain in
-    ap {B = Reply × PeerState} (λ (d : Chain). (finish_reply (state (history d)) (seal_of s.listed org) (payload_or_refusal exec p d), free)) (sym is)
-    ∙ ap {B = Reply × PeerState} (λ (reply : Reply). (reply, free)) (finished s.listed org p m o.ending o.seen)
+    let reply_on : Chain → Reply = λ d. finish_reply (state (history d)) (s.seal (values_of (state (history d))) org) (payload_or_refusal exec p d) in
+    ap {B = Reply × PeerState} (λ (d : Chain). (reply_on d, free)) (sym is)
+    ∙ ap {B = Reply × PeerState} (λ (reply : Reply). (reply, free)) (finished (s.seal (values_of m) org) p m o.ending o.seen)
 
 -- a peer with its chain among others
 abbrev pub world_at : ℕ → Ordering → List PeerState → List PeerState → Bytes → Chain → World
@@ -139,22 +140,22 @@ joins s seats capacity log front back org chain new c is there commits made =
 answers_at : (s : Setting) (others capacity : ℕ) (log : Ordering) (front back : List PeerState) (org : Bytes) (chain : Chain) (p : Proposal) →
     IsFirstOf (table_of s.listed) log.chain chain →
     AreSteps (rules_by s capacity) (world_at (suc others) log front back org chain) (Begin (length front) 0 p ∷ Finish (length front) 0 ∷ [])
-    (Begun (length chain) ∷ reply_of (endorsed_on (record { book = s.book; listed = s.listed; org = org }) p chain) ∷ [])
+    (Begun (length chain) ∷ reply_of (endorsed_on (endorsing_at s org) p chain) ∷ [])
     (world_at (suc others) log front back org chain)
 answers_at s others capacity log front back org chain p is =
     let rule : BlockRule = table_of s.listed in
     let chains = chain_of_first rule log.chain in
     let free = peer_at (suc others) org chain in
     let busy = busy_at others org chain p in
-    let reply = reply_of (endorsed_on (record { book = s.book; listed = s.listed; org = org }) p chain) in
+    let reply = reply_of (endorsed_on (endorsing_at s org) p chain) in
     two_steps (rules_by s capacity) (among log front back free) (among log front back busy) (among log front back free) (Begin (length front) 0 p)
     (Finish (length front) 0) (Begun (length chain)) reply
     (at_among log front back free busy (λ q. begin q 0 p) (Begun (length chain)) (begun others org chain p))
-    (at_among log front back busy free (λ q. finish (exec_of s.book) (seal_of s.listed) chains q 0) reply (ended s chains others org chain p is))
+    (at_among log front back busy free (λ q. finish (exec_of s.book) s.seal chains q 0) reply (ended s chains others org chain p is))
 
 answers : (s : Setting) (seats capacity : ℕ) (log : Ordering) (front back : List PeerState) (org : Bytes) (chain new : Chain) (p : Proposal)
     (answer : Result (Payload × Endorsement) SimRefusal) → 0 < seats → IsFirstOf (table_of s.listed) log.chain chain →
-    answer ≡ endorsed_on (record { book = s.book; listed = s.listed; org = org }) p chain → new ≡ chain →
+    answer ≡ endorsed_on (endorsing_at s org) p chain → new ≡ chain →
     IsActed s seats capacity log front back org chain (Endorses p answer) new
 answers s zero capacity log front back org chain new p answer some is told same = absurd (omega arith)
 answers s (suc others) capacity log front back org chain new p answer some is told same = (

@@ -3,15 +3,15 @@ use Rattle.std.proofs.Common.{◌≡◌, Bool, true, ◌&&◌, List, [], ◌∷�
 use Rattle.std.proofs.lemmas.Bool.{eq-eqb}
 use Rattle.std.proofs.lemmas.Slice.Eq.{bytes_eq-Decides}
 use Rattle.fab_types.specs.declared.items.RangeEntry.{RangeEntry}
+use Rattle.fab_types.specs.declared.envelope.Endorsement.{Endorsement}
 use Rattle.fab_types.specs.declared.proposal.Proposal.{Proposal}
-use Rattle.ledger_model.specs.Chain.{Bytes, Version}
+use Rattle.fab_types.specs.Payloads.{Payload}
+use Rattle.ledger_model.specs.Chain.{Version}
 use Rattle.ledger_model.specs.Execution.{Ending, Unknown, NotInstalled, BadPolicy, Trapped, Spent, Status, Done, KeySeen, RangeSeen, Seen, payload_of}
 use Rattle.ledger_model.specs.Execution.{range_item, read_item}
 use Rattle.ledger_model.specs.Flags.{entries_at, ranges_current, reads_current, same_entries, same_version, version_at, version_eq}
 use Rattle.ledger_model.specs.Views.{Versioned}
 use Rattle.mvcc_validate.specs.Current.{is_current}
-use Rattle.endorsement_policy.specs.Endorsed.{Listed}
-use Rattle.ledger_setting.specs.Rule.{seal_of}
 use Rattle.simulator.specs.Answers.{done_or_refusal}
 use Rattle.log_roles.specs.Following.{sealed_by}
 use Rattle.fabric_core.specs.System.{finish_reply}
@@ -43,13 +43,13 @@ current_self : (p : Proposal) (m : Versioned) (s : Seen) → is_current m (paylo
 current_self p m s = both _ _ (reads_self m s.reads) (ranges_self m s.ranges)
 
 -- what a finish replies on the state of its begin is what was simulated
-pub finished : (listed : Listed) (org : Bytes) (p : Proposal) (m : Versioned) (ending : Ending) (s : Seen) →
-    finish_reply m (seal_of listed org) (done_or_refusal ending (payload_of p m s)) ≡
-    reply_of (sealed_by listed org (done_or_refusal ending (payload_of p m s)))
-finished listed org p m Done s = rw (current_self p m s) refl
-finished listed org p m Unknown s = refl
-finished listed org p m NotInstalled s = refl
-finished listed org p m BadPolicy s = refl
-finished listed org p m (Trapped kind used) s = refl
-finished listed org p m Spent s = refl
-finished listed org p m (Status n) s = refl
+pub finished : (seal : Payload → Endorsement) (p : Proposal) (m : Versioned) (ending : Ending) (s : Seen) →
+    finish_reply m seal (done_or_refusal ending (payload_of p m s)) ≡
+    reply_of (sealed_by seal (done_or_refusal ending (payload_of p m s)))
+finished seal p m Done s = rw (current_self p m s) refl
+finished seal p m Unknown s = refl
+finished seal p m NotInstalled s = refl
+finished seal p m BadPolicy s = refl
+finished seal p m (Trapped kind used) s = refl
+finished seal p m Spent s = refl
+finished seal p m (Status n) s = refl

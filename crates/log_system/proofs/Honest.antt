@@ -17,7 +17,7 @@ use Rattle.ledger_model.specs.Views.{Plain, values_of}
 use Rattle.ledger_model.proofs.Judged.{flags_judged, judged_current, judged_endorsed}
 use Rattle.ledger_model.proofs.Reruns.{reruns_and_map, reruns_same}
 use Rattle.endorsement_policy.specs.Endorsed.{CarriesRight, Listed, is_endorsed, is_right}
-use Rattle.ledger_setting.specs.Rule.{table_of, seal_of}
+use Rattle.ledger_setting.specs.Rule.{table_of}
 use Rattle.simulator.specs.Answers.{done_or_refusal}
 use Rattle.simulator.specs.Execution.{exec_of}
 use Rattle.simulator.specs.declared.refusal.SimRefusal.{SimRefusal}
@@ -25,7 +25,7 @@ use Rattle.log_orderer.specs.Log.{ReadsEach}
 use Rattle.log_roles.specs.Following.{endorsed_on, sealed_by}
 use Rattle.fabric_core.specs.declared.event.Reply.{Reply}
 use Rattle.fabric_core.specs.Headline.{IsAmong, IsGenuine, IsHonest, IsUnforged}
-use Rattle.log_system.specs.Machines.{Act, Endorses, AreMachines, Does, DoesEach, Machine, Setting, unread}
+use Rattle.log_system.specs.Machines.{Act, Endorses, AreMachines, Does, DoesEach, Machine, Setting, endorsing_at, unread}
 use Rattle.log_system.specs.OneSystem.{IsAnswered, replies_of_machines}
 use Rattle.log_system.proofs.Acting.{IsBehind, IsFirstOf, acted}
 use Rattle.log_system.proofs.Among.{none_among, same_some}
@@ -38,15 +38,15 @@ ok_same : {X : Type 0} (a b : X) → (let r : Result X SimRefusal = Ok a in r) �
 ok_same a b e = cc
 
 made_on : (s : Setting) (org : Bytes) (q : Proposal) (begun chain : Chain) (p : Payload) (x : Endorsement) → (IsPrefix begun chain ⊎ IsPrefix chain begun) →
-    Ok (p, x) ≡ endorsed_on (record { book = s.book; listed = s.listed; org = org }) q begun → IsHandedOut (exec_of s.book) chain p
+    Ok (p, x) ≡ endorsed_on (endorsing_at s org) q begun → IsHandedOut (exec_of s.book) chain p
 made_on s org q begun chain p x joined told =
     let exec = exec_of s.book in
     let m = state (history begun) in
     let o = exec q (values_of m) in
     let made = payload_of q m o.seen in
-    elim o.ending as (λ y. o.ending ≡ y → Ok (p, x) ≡ sealed_by s.listed org (done_or_refusal y made) → IsHandedOut exec chain p) [
+    elim o.ending as (λ y. o.ending ≡ y → Ok (p, x) ≡ sealed_by (s.seal (values_of m) org) (done_or_refusal y made) → IsHandedOut exec chain p) [
       | Done ↦ λ d f.
-          let same = ok_same (p, x) (made, seal_of s.listed org made) f in
+          let same = ok_same (p, x) (made, s.seal (values_of m) org made) f in
           subst (IsHandedOut exec chain) (sym (ap (λ (t : Payload × Endorsement). t.0) same))
           (record { begun = begun; joined = joined; done = d; payload = refl })
       | Unknown ↦ λ d f. absurd (cc)
@@ -63,7 +63,7 @@ module _ (behind : IsBehind) (s : Setting) (lines : List (List ℕ)) (told : Lis
   answered_on : (org : Bytes) (chain new : Chain) (acts : List Act) (q : Proposal) (answer : Result (Payload × Endorsement) SimRefusal) →
       IsFirstOf (table_of s.listed) log.chain chain → DoesEach s lines org chain acts new → (i : ℕ) → slice_get acts i ≡ Some (Endorses q answer) →
       (begun : Chain) × IsFirstOf (table_of s.listed) log.chain begun ×
-      (answer ≡ endorsed_on (record { book = s.book; listed = s.listed; org = org }) q begun)
+      (answer ≡ endorsed_on (endorsing_at s org) q begun)
   answered_on org chain new [] q answer is does i e = none_among (Endorses q answer) (i, e)
   answered_on org chain new (act ∷ acts) q answer is does zero e =
       let here = subst (λ (a : Act). Does s lines org chain a does.0) (same_some act (Endorses q answer) e) does.1 in

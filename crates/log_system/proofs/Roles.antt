@@ -23,7 +23,7 @@ use Rattle.log_roles.specs.Committing.{Receives}
 use Rattle.log_roles.specs.Following.{endorsed_on}
 use Rattle.log_roles.specs.declared.receiving.Received.TheVariants as received
 use Rattle.log_system.proofs.Firsts.{log_linked}
-use Rattle.log_system.specs.Machines.{Does, Endorses, IsRead, Joins, Setting, unread}
+use Rattle.log_system.specs.Machines.{Does, Endorses, IsRead, Joins, Setting, endorsing_at, unread}
 
 -- ---- a block of the log that fits is the next one
 
@@ -104,7 +104,7 @@ answer_is wanted (Err (refusal.Status n)) enough told = sym told
 answer_is wanted (Err refusal.Stale) enough told = sym told
 
 pub endorser_acts : (s : Setting) (lines : List (List ℕ)) (org : Bytes) (chain : Chain) (p : Proposal) (result : Result (Payload × Endorsement) SimRefusal) →
-    result ≢ Err refusal.Memory → Answers (endorsed_on (record { book = s.book; listed = s.listed; org = org }) p chain) result →
+    result ≢ Err refusal.Memory → Answers (endorsed_on (endorsing_at s org) p chain) result →
     Does s lines org chain (Endorses p result) chain
 endorser_acts s lines org chain p result enough told =
-    (answer_is (endorsed_on (record { book = s.book; listed = s.listed; org = org }) p chain) result enough told, refl)
+    (answer_is (endorsed_on (endorsing_at s org) p chain) result enough told, refl)

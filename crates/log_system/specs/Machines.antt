@@ -9,21 +9,28 @@ use Rattle.batch_cutter.specs.Division.{Limits}
 use Rattle.orderer.specs.Ordering.{Ordering}
 use Rattle.orderer.specs.declared.report.BatchReport.{BatchReport}
 use Rattle.ledger_model.specs.Chain.{Bytes, Committed, Chain}
+use Rattle.ledger_model.specs.Views.{Plain}
 use Rattle.endorsement_policy.specs.Endorsed.{Listed}
 use Rattle.ledger_setting.specs.Rule.{table_of}
 use Rattle.chaincode_book.specs.Books.{Book}
 use Rattle.simulator.specs.declared.refusal.SimRefusal.{SimRefusal}
 use Rattle.log_orderer.specs.Log.{ReadsEach}
 use Rattle.log_roles.specs.Committing.{Commits}
-use Rattle.log_roles.specs.Following.{endorsed_on}
+use Rattle.log_roles.specs.Following.{Endorsing, endorsed_on}
 use Rattle.fabric_core.specs.System.{fresh_orderer}
 
--- what the genesis fixes, which is one on all machines
+-- what is one on all machines: what the genesis fixes, and what each organisation puts on a payload
 pub record Setting : Type 0 where
   pub book : Book
   pub listed : Listed
+  -- in a state; a machine has its own organisation's seed alone, and goes by this there alone
+  pub seal : Plain → Bytes → Payload → Endorsement
   pub limits : Limits
   pub reorder : Bool
+
+-- by what a machine of an organisation endorses
+abbrev pub endorsing_at : Setting → Bytes → Endorsing
+endorsing_at s org = record { book = s.book; listed = s.listed; seal = λ m. s.seal m org }
 
 -- who has read nothing of the log
 abbrev pub unread : Setting → Ordering
@@ -52,7 +59,7 @@ abbrev pub Does : Setting → List (List ℕ) → Bytes → Chain → Act → Ch
 Does s lines org chain (Joins c) new =
     IsRead s lines (length chain) c.block × Commits (table_of s.listed) chain (c.block ∷ []) new × (new ≡ chain ++ c ∷ [])
 Does s lines org chain (Endorses p answer) new =
-    (answer ≡ endorsed_on (record { book = s.book; listed = s.listed; org = org }) p chain) × (new ≡ chain)
+    (answer ≡ endorsed_on (endorsing_at s org) p chain) × (new ≡ chain)
 
 -- one act after another
 abbrev pub DoesEach : Setting → List (List ℕ) → Bytes → Chain → List Act → Chain → Type 0

@@ -13,6 +13,7 @@ use Rattle.orderer.specs.declared.report.BatchReport.{BatchReport}
 use Rattle.ledger_model.specs.Chain.{Bytes}
 use Rattle.simulator.specs.Execution.{exec_of}
 use Rattle.simulator.specs.declared.refusal.SimRefusal.{SimRefusal}
+use Rattle.ledger_setting.specs.Rule.{table_of}
 use Rattle.log_orderer.specs.Lines.{IsMark}
 use Rattle.fabric_core.specs.System.{Rules, PeerState, World, chain_of}
 use Rattle.fabric_core.specs.declared.event.Event.{Event}
@@ -20,7 +21,6 @@ use Rattle.fabric_core.specs.declared.event.Event.TheVariants.{Begin, Finish, Su
 use Rattle.fabric_core.specs.declared.event.Reply.{Reply}
 use Rattle.fabric_core.specs.declared.event.Reply.TheVariants.{Begun, Refused, Endorsed, Queued, Nothing, Ordered, Cut, Committed as IsCommitted}
 use Rattle.fabric_core.specs.Headline.{IsAmong, IsRun}
-use Rattle.fabric_core.specs.Inside.{rules_of}
 use Rattle.log_system.specs.Machines.{Setting, Act, Joins, Endorses, Machine}
 
 -- ---- the log
@@ -90,7 +90,7 @@ replies_of_machines machines = flat_map (λ m. replies_of_acts 0 m.acts) machine
 
 -- the system's rules by the setting, with a queue of this capacity
 abbrev pub rules_by : Setting → ℕ → Rules
-rules_by s capacity = rules_of (exec_of s.book) s.listed capacity
+rules_by s capacity = record { exec = exec_of s.book; rule = table_of s.listed; seal = s.seal; capacity = capacity }
 
 abbrev pub orgs_of : List Machine → List Bytes
 orgs_of machines = map (λ m. m.org) machines

@@ -12,6 +12,7 @@ ghost use Rattle.orderer.specs.declared.report.BatchReport.{BatchReport};
 ghost use Rattle.log_orderer.specs.Log.{ReadsEach};
 ghost use Rattle.ledger_model.specs.Chain.{Bytes, Chain, Committed};
 ghost use Rattle.ledger_model.specs.Serial.{IsPrefix};
+ghost use Rattle.ledger_model.specs.Views.{Plain};
 ghost use Rattle.committer.specs.Fits.{Fits, blocks_of};
 ghost use Rattle.endorsement_policy.specs.Endorsed.{is_right};
 ghost use Rattle.ledger_setting.specs.Rule.{table_of};
@@ -25,14 +26,14 @@ ghost use Rattle.log_roles.specs.Following.{endorsed_on};
 ghost use Rattle.log_roles.specs.declared.receiving.Received.TheVariants as received;
 ghost use Rattle.fabric_core.specs.System.{chain_of_first};
 ghost use Rattle.fabric_core.specs.Headline.{ConflictsAreOlder, IsAmong, IsHonest};
-ghost use Rattle.log_system.specs.Machines.{AreMachines, Does, IsRead, Machine, Setting, unread};
-ghost use Rattle.log_system.specs.Machines.{Endorses, Joins};
+ghost use Rattle.log_system.specs.Machines.{AreMachines, Does, IsRead, Machine, Setting};
+ghost use Rattle.log_system.specs.Machines.{Endorses, Joins, endorsing_at, unread};
 ghost use Rattle.log_system.specs.OneSystem.{IsOneSystem, replies_of_machines};
 
 use chaincode_book::Book;
 use endorsement_policy::{Rules, an_endorsed_envelope_carries_a_right_tag};
-use orderer::ordering_laws;
 use log_orderer::log_laws;
+use orderer::ordering_laws;
 use simulator::reads_alone;
 
 /// Machines that go by one genesis, and of which each has read a beginning of one list of lines,
@@ -71,9 +72,7 @@ pub fn roles_act()
     ensures endorser { (setting : Setting) (lines : List (List ℕ)) (org : Bytes) (chain : Chain)
         (p : Proposal) (result : Result (Payload × Endorsement) SimRefusal) →
         result ≢ Err refusal.Memory →
-        Answers
-        (endorsed_on (record { book = setting.book; listed = setting.listed; org = org }) p chain)
-        result →
+        Answers (endorsed_on (endorsing_at setting org) p chain) result →
         Does setting lines org chain (Endorses p result) chain }
 {
     log_laws();
@@ -107,20 +106,31 @@ pub fn machines_follow_the_log()
     log_laws();
 }
 
-/// Each machine's chain is honest, where what was handed out is what the machines answered: its
-/// flags are the table's, and where each VALID transaction has a right tag that a machine answered
-/// for this very payload, as they have where no tag was forged, it is serial.
+/// Each machine's chain is honest, whatever organisations put on payloads, where what was handed
+/// out is what the machines answered: its flags are the table's, and where each VALID transaction
+/// has a right tag that a machine answered for this very payload, as they have where no tag was
+/// forged, it is serial.
 pub fn machines_are_honest(book: &Book, rules: &Rules)
-    ensures { (limits : Limits) (reorder : Bool) (lines : List (List ℕ))
-        (answers : List (Option (List BatchReport))) (log : Ordering) (machines : List Machine)
-        (m : Machine) →
+    ensures { (seal : Plain → Bytes → Payload → Endorsement) (limits : Limits) (reorder : Bool)
+        (lines : List (List ℕ)) (answers : List (Option (List BatchReport))) (log : Ordering)
+        (machines : List Machine) (m : Machine) →
         ReadsEach
         (unread
-        (record { book = book.now; listed = rules.now; limits = limits; reorder = reorder }))
-        lines answers log →
+        (record {
+          book = book.now;
+          listed = rules.now;
+          seal = seal;
+          limits = limits;
+          reorder = reorder;
+        })) lines answers log →
         AreMachines
-        (record { book = book.now; listed = rules.now; limits = limits; reorder = reorder })
-        lines machines →
+        (record {
+          book = book.now;
+          listed = rules.now;
+          seal = seal;
+          limits = limits;
+          reorder = reorder;
+        }) lines machines →
         IsAmong m machines →
         IsHonest (exec_of book.now) (table_of rules.now) (is_right rules.now.orgs)
         (replies_of_machines machines) m.chain }
