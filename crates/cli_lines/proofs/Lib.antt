@@ -1,1 +1,2 @@
+pub mod KeyFiles
 pub mod Silence

@@ -6,11 +6,11 @@ use crate::files::FileFault;
 use block_store::End;
 use committer::CommitRefusal;
 use json_genesis::GenesisRefusal;
-use wasm_file::ModuleRefusal;
 use simulator::SimRefusal;
 use std::alloc::{AllocError, AllocFailed};
 use std::fmt::{self, Display, Formatter, Write};
 use std::io::{self, ErrorKind};
+use wasm_file::ModuleRefusal;
 
 /// Why a task was not done, or ended with a difference.
 #[derive(Clone, Copy, Debug, PartialEq, Eq)]
@@ -25,6 +25,10 @@ pub enum Failure {
     Module(ModuleRefusal),
     /// The file is no genesis.
     Genesis(GenesisRefusal),
+    /// The file is no key file.
+    KeyFile,
+    /// An organisation that is to endorse has a public key, and its seed is not at hand.
+    NoSecret,
     /// A simulation gave no payload.
     Simulation(SimRefusal),
     /// A seat on a thread of its own got no place at its peer.
@@ -58,6 +62,8 @@ impl Display for Failure {
             Failure::File => write!(f, "refused 703"),
             Failure::Module(refusal) => write!(f, "{refusal}"),
             Failure::Genesis(refusal) => write!(f, "{refusal}"),
+            Failure::KeyFile => write!(f, "refused 809"),
+            Failure::NoSecret => write!(f, "refused 808"),
             Failure::Simulation(refusal) => write!(f, "{refusal}"),
             Failure::NoPlace => write!(f, "refused 431"),
             Failure::NoEntry => write!(f, "refused 432"),

@@ -1,13 +1,15 @@
 //! What every command of the ledger's program stands on: the files that it is given, the lines that
 //! it prints, and why it ends with a failure.
 //!
-//! [`Files`] is where files are read and written, and [`genesis_in`] reads what a system begins
-//! with. [`Printer`] is where lines are printed: contracts see of it how many texts were printed,
-//! and whether one could not be. [`Failure`] says why a command was not done.
+//! [`Files`] is where files are read and written, [`genesis_in`] reads what a system begins with, and
+//! [`signers_in`] the seeds at hand. [`Printer`] is where lines are printed: contracts see of it how
+//! many texts were printed, and whether one could not be. [`Failure`] says why a command was not
+//! done.
 #![tactic(auto)]
 
 mod failure;
 mod files;
+mod keys;
 mod lines;
 mod opening;
 mod printer;
@@ -15,6 +17,7 @@ mod verdict;
 
 pub use failure::Failure;
 pub use files::{FileFault, Files, Target, read_all, read_at_most};
+pub use keys::{can_seal, keys_in, need_secret, need_secrets, signers_in};
 pub use lines::{hex_of, id_of, print_committed, print_payload, version_of};
 pub use opening::genesis_in;
 pub use printer::Printer;

@@ -1,0 +1,117 @@
+//! The seeds of a key file, and who can endorse with them.
+
+ghost use Rattle.std.specs.Prelude.{◌≡◌, true, false, Ok, Err, IfErr, IfOk, IfSome};
+ghost use Rattle.key_file.specs.KeyFiles.{IsKeyFile};
+ghost use Rattle.cli_lines.specs.Sealing.{can_seal};
+ghost use Rattle.cli_lines.specs.Told.{IsSilent};
+ghost use Rattle.cli_lines.specs.declared.failure.Failure.TheVariants.{NoSecret};
+
+use crate::failure::Failure;
+use crate::files::{Files, read_at_most};
+use ed25519::SigningKey;
+use endorsement_policy::Rules;
+use fab_types::OrgName;
+use key_file::{KeyFault, read_keys};
+use ledger_setting::Genesis;
+use org_keys::Signers;
+use std::alloc::{AllocError, Global};
+
+/// A key file has at most 1,040 bytes. One byte more is read, so that a longer file is told apart.
+const MOST_READ: u64 = 1_041;
+
+/// The keys of the seeds in the key file of this name.
+///
+/// Refused where the file cannot be read (703), where it is no key file (809), which is said in
+/// words too, and for want of memory (9).
+pub fn keys_in<F: Files>(
+    alloc: Global,
+    files: &mut F,
+    name: &str,
+) -> Result<Vec<SigningKey>, Failure>
+    ensures spelled { IfOk result
+        (λ keys. IfSome (F.bytes files.old name.now) (λ bytes. IsKeyFile bytes keys.items)) }
+    ensures silent { IfErr result IsSilent }
+{
+    let bytes = read_at_most(alloc, files, name, MOST_READ)?;
+    match read_keys(alloc, &bytes) {
+        Ok(keys) => Ok(keys),
+        Err(KeyFault::Memory) => Err(Failure::Memory),
+        Err(KeyFault::Malformed) => {
+            remark_malformed(alloc, files, name)?;
+            Err(Failure::KeyFile)
+        }
+    }
+}
+
+/// The seeds in the key file of this name. Refused as `keys_in` is.
+pub fn signers_in<F: Files>(alloc: Global, files: &mut F, name: &str) -> Result<Signers, Failure>
+    ensures spelled { IfOk result
+        (λ seeds. IfSome (F.bytes files.old name.now) (λ bytes. IsKeyFile bytes seeds)) }
+    ensures silent { IfErr result IsSilent }
+{
+    Ok(Signers::new(keys_in(alloc, files, name)?))
+}
+
+/// Says what a key file is.
+fn remark_malformed<F: Files>(alloc: Global, files: &mut F, name: &str) -> Result<(), AllocError> {
+    let line = format!(in alloc;
+        "{name} is no key file: it has 1 to 16 lines, each of 64 hex digits"
+    )?;
+    files.remark(&line);
+    Ok(())
+}
+
+/// Whether the secret of an organisation is at hand: its key is a shared one, or its seed is among
+/// these. One that is not listed has none, and lacks none.
+pub fn can_seal(rules: &Rules, signers: &Signers, org: &OrgName) -> bool
+    ensures { result ≡ can_seal rules.now signers.now org.now }
+{
+    match rules.organisation(org) {
+        Some(organisation) => signers.has(&organisation.key),
+        None => true,
+    }
+}
+
+/// Refused where the secret of an organisation is not at hand (808), which is said in words too, and
+/// for want of memory (9).
+pub fn need_secret<F: Files>(
+    alloc: Global,
+    files: &mut F,
+    genesis: &Genesis,
+    org: &OrgName,
+) -> Result<(), Failure>
+    ensures ok { result ≡ Ok tt
+        → can_seal genesis.now.rules.value genesis.now.signers.value org.now ≡ true }
+    ensures refused { result ≡ Err NoSecret
+        → can_seal genesis.now.rules.value genesis.now.signers.value org.now ≡ false }
+    ensures silent { IfErr result IsSilent }
+{
+    if can_seal(&genesis.rules, &genesis.signers, org) {
+        return Ok(());
+    }
+    remark_missing(alloc, files, org)?;
+    Err(Failure::NoSecret)
+}
+
+/// Refused as `need_secret` is of the first of these organisations that lacks its secret.
+pub fn need_secrets<F: Files>(
+    alloc: Global,
+    files: &mut F,
+    genesis: &Genesis,
+    orgs: &[OrgName],
+) -> Result<(), Failure>
+    ensures silent { IfErr result IsSilent }
+{
+    for org in orgs {
+        need_secret(alloc, files, genesis, org)?;
+    }
+    Ok(())
+}
+
+/// Says whose seed is missing, and where it is looked for.
+fn remark_missing<F: Files>(alloc: Global, files: &mut F, org: &OrgName) -> Result<(), AllocError> {
+    let org = String::from_utf8_lossy(alloc, org.as_slice())?;
+    let line = format!(in alloc; "no seed of {org} is at hand: name its key file by --keys")?;
+    files.remark(&line);
+    Ok(())
+}
