@@ -9,10 +9,10 @@ ghost use Rattle.cli_show.specs.Spans.{within};
 
 use crate::lines::print_line;
 use crate::span::Span;
-use json_chain::{block_line, setting_line};
+use cli_lines::{Failure, Printer};
 use endorsement_policy::Rules;
 use fab_types::CommittedBlock;
-use cli_lines::{Failure, Printer};
+use json_chain::{block_line, setting_line};
 use ledger_setting::Genesis;
 use std::alloc::Global;
 use std::io::Write;

@@ -7,10 +7,10 @@ ghost use Rattle.cli_show.specs.Modules.{IsChecked, IsDigested, IsNoModule};
 
 use crate::lines::print_line;
 use cli_lines::{Failure, Files, Printer, read_at_most};
-use wasm_file::{ModuleRefusal, defined_functions};
 use sha2::{Digest, Sha256};
 use std::alloc::Global;
 use std::io::Write;
+use wasm_file::{ModuleRefusal, defined_functions};
 use wasm_profile::Profile;
 
 /// A module has at most 262,144 bytes. One byte more is read, so that a longer file is told apart.

@@ -10,10 +10,10 @@ ghost use Rattle.cli_show.specs.Lines.{HasLines, entries_json};
 
 use crate::earlier::first_blocks;
 use crate::lines::print_line;
-use json_chain::entry_line;
+use cli_lines::{Failure, Printer};
 use committer::CommitRefusal;
 use fab_types::{Key, Value, Version};
-use cli_lines::{Failure, Printer};
+use json_chain::entry_line;
 use std::alloc::Global;
 use std::io::Write;
 use world_state::Snapshot;

@@ -6,9 +6,9 @@ ghost use Rattle.cli_show.specs.Findings.{EndsBy, Finds, is_good};
 
 use crate::lines::print_line;
 use block_store::End;
-use json_chain::{Finding, ending_line};
-use fabric_core::{Audit, audit};
 use cli_lines::{Failure, Printer};
+use fabric_core::{Audit, audit};
+use json_chain::{Finding, ending_line};
 use ledger_setting::Genesis;
 use std::alloc::{AllocError, Global};
 use std::io::Write;

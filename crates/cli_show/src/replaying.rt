@@ -3,10 +3,10 @@
 ghost use Rattle.std.specs.Prelude.{IfErr};
 ghost use Rattle.cli_lines.specs.Told.{IsSilent};
 
-use store_devices::Counted;
 use cli_lines::{Failure, Files};
 use ledger_setting::Genesis;
 use std::alloc::Global;
+use store_devices::Counted;
 use store_replay::{Replayed, replay_store};
 
 /// The chain of a store, committed again. Refused where the file cannot be opened, and for want of

@@ -4,8 +4,8 @@ ghost use Rattle.cli_lines.specs.Told.{Tells};
 
 use crate::replaying::replayed;
 use block_store::End;
-use fab_types::Proposal;
 use cli_lines::{Failure, Files, Printer, print_payload};
+use fab_types::Proposal;
 use ledger_setting::Genesis;
 use std::alloc::Global;
 use std::io::Write;

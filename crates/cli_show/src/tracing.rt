@@ -2,10 +2,10 @@
 
 ghost use Rattle.cli_lines.specs.Told.{Tells};
 
+use cli_lines::{Failure, Printer};
 use fab_types::Call;
 use host_api::{PlainMap, Recorder};
 use interp::{Host, Outcome};
-use cli_lines::{Failure, Printer};
 use ledger_setting::Genesis;
 use simulator::{Chaincode, SimRefusal};
 use std::alloc::Global;

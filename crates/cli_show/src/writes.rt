@@ -7,9 +7,9 @@ ghost use Rattle.ledger_model.specs.Chain.{history, transactions_from};
 ghost use Rattle.cli_show.specs.Lines.{HasLines, write_json, writes_json};
 
 use crate::lines::print_line;
-use json_chain::{Placed, write_line};
-use fab_types::{CommittedBlock, Key};
 use cli_lines::{Failure, Printer};
+use fab_types::{CommittedBlock, Key};
+use json_chain::{Placed, write_line};
 use std::alloc::Global;
 use std::io::Write;
 use world_state::Snapshot;
