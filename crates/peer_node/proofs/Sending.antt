@@ -22,7 +22,8 @@ use Rattle.wasm_ast.proofs.module.Export.TheSendSync as exported
 use Rattle.wasm_ast.proofs.host_call.HostCall.TheSendSync as host_call
 use Rattle.wasm_translate.proofs.translation.FlatText.TheSendSync as flat_code
 use Rattle.endorsement_policy.proofs.installed.Installed.TheSendSync as installed
-use Rattle.endorsement_policy.proofs.rules.Organisation.TheSendSync as organisation
+use Rattle.org_keys.proofs.organisation.Organisation.TheSendSync as organisation
+use Rattle.org_keys.proofs.signers.Signers.TheSendSync as signers
 use Rattle.snapshot_cell.proofs.reader.Reader.TheSendSync as reader
 use Rattle.wasm_ast.proofs.body.Body.TheLaws.TheKnot as code_knot
 use Rattle.policy_language.proofs.policy.Policies.TheLaws.TheKnot as policy_knot
@@ -182,7 +183,18 @@ sync_rules : IsSync rules_type.the_row
 sync_rules = search (sendable, crosses, organisation.the_sync, sync_chaincode_policy, sync_policy_field, installed.the_sync) depth 30
 
 send_endorser_field : IsSend (endorser_type.the_field).row
-send_endorser_field = search (sendable, crosses, org_name.the_send, send_book, sync_book, send_rules, sync_rules) depth 30
+send_endorser_field =
+    search (
+      sendable,
+      crosses,
+      org_name.the_send,
+      send_book,
+      sync_book,
+      send_rules,
+      sync_rules,
+      signers.the_send,
+      signers.the_sync,
+    ) depth 30
 
 pub send_seat_field : IsSend (seat_type.the_field).row
 send_seat_field = search (sendable, crosses, reader.the_field_send, send_endorser_field) depth 30

@@ -1,6 +1,7 @@
 -- What a clause sees of a seat, and what its calls answer.
-use Rattle.std.specs.Prelude.{◌≡◌, ◌⊎◌, true, false, [], Result, Ok, Err, IsOk, IsSome}
+use Rattle.std.specs.Prelude.{◌≡◌, ◌⊎◌, false, [], Result, Ok, Err, IsOk, IsSome}
 use mathlib.Core.List.{IsPrefix}
+use Rattle.std.specs.Arc.{arc_value}
 use Rattle.logbook.specs.Pages.{Book as PeerId}
 use Rattle.fab_types.specs.declared.proposal.Proposal.{Proposal}
 use Rattle.fab_types.specs.Payloads.{Payload}
@@ -9,15 +10,15 @@ use Rattle.ledger_model.specs.Chain.{Bytes, Chain, history}
 use Rattle.ledger_model.specs.State.{state, state_at}
 use Rattle.mvcc_validate.specs.Current.{is_current}
 use Rattle.endorser.specs.Rechecks.{IsRecheckRefused}
-use Rattle.chaincode_book.specs.Books.{Book}
 use Rattle.simulator.specs.declared.refusal.SimRefusal.{SimRefusal}
 use Rattle.simulator.specs.declared.refusal.SimRefusal.TheVariants.{UnknownChaincode, NotInstalled, BadPolicy, Trapped, Spent, Status, Stale, Memory}
-use Rattle.endorsement_policy.specs.Endorsed.{Listed}
+use Rattle.endorsement_policy.specs.Endorsed.{seal_of}
+use Rattle.ledger_setting.specs.declared.genesis.Genesis.{Genesis}
 use Rattle.snapshot_cell.specs.Seats as cell
 use Rattle.snapshot_cell.specs.declared.refusal.TakeRefusal.{TakeRefusal}
 use Rattle.snapshot_cell.specs.declared.refusal.TakeRefusal.TheVariants as take
 use Rattle.endorser.specs.Endorsing as endorser
-pub use Rattle.endorser.specs.Endorsing.{Endorsing, simulated_on, tag_of, IsEndorsed}
+pub use Rattle.endorser.specs.Endorsing.{Endorsing, simulated_on, IsEndorsed}
 use Rattle.peer_node.specs.declared.seat.Seat.{Seat}
 use Rattle.peer_node.specs.declared.refusal.FinishRefusal.{FinishRefusal}
 use Rattle.peer_node.specs.declared.refusal.FinishRefusal.TheVariants.{Simulation, NoEntry}
@@ -35,17 +36,18 @@ peer_of s = cell.cell_of_reader s.reader
 abbrev pub endorsing_of : Seat → Endorsing
 endorsing_of s = endorser.endorsing_of s.endorser
 
--- what it endorses by is these chaincodes, these rules and this organisation
-abbrev pub Serves : Book → Listed → Bytes → Endorsing → Type 0
-Serves book listed org e = (e.book ≡ book) × (e.listed ≡ listed) × (e.org ≡ org)
+-- what an organisation endorses by, by the chaincodes, the rules and the seeds of a genesis
+abbrev pub endorsing_for : Genesis → Bytes → Endorsing
+endorsing_for g org =
+    record { book = arc_value g.book; listed = arc_value g.rules; seal = λ m. seal_of (arc_value g.rules) (arc_value g.signers) m org }
 
--- a seat of this peer that has seen these whole blocks
-abbrev pub IsSeatBehind : Book → Listed → Bytes → PeerId → Chain → Seat → Type 0
-IsSeatBehind book listed org peer chain s = (peer_of s ≡ peer) × (seen_chain s ≡ chain) × Serves book listed org (endorsing_of s)
+-- a seat of this peer that endorses by this and has seen these whole blocks
+abbrev pub IsSeatBehind : Endorsing → PeerId → Chain → Seat → Type 0
+IsSeatBehind e peer chain s = (peer_of s ≡ peer) × (seen_chain s ≡ chain) × (endorsing_of s ≡ e)
 
--- a seat of this peer that has seen nothing
-abbrev pub IsSeat : Book → Listed → Bytes → PeerId → Seat → Type 0
-IsSeat book listed org peer s = IsSeatBehind book listed org peer [] s
+-- a seat of this peer that endorses by this and has seen nothing
+abbrev pub IsSeat : Endorsing → PeerId → Seat → Type 0
+IsSeat e peer s = IsSeatBehind e peer [] s
 
 -- What a refusal says of what was begun on the list `first`: the simulation came to it; or it gave a payload of which something that was read is
 -- not as it was after a second list, which begins with all that was seen before and is what is seen afterwards. For want of memory a second list is
@@ -62,12 +64,11 @@ IsFinishRefused e p first before after Spent = (simulated_on e p first ≡ Err S
 IsFinishRefused e p first before after (Status n) = (simulated_on e p first ≡ Err (Status n)) × (after ≡ before)
 
 -- What was begun on the list `first` is endorsed where the simulation gave a payload, and all that it read is as it was after a second list, which
--- begins with all that was seen before and is what is seen afterwards. Where the cell gave no entry the simulation had given a payload, and nothing was
--- seen
+-- begins with all that was seen before and is what is seen afterwards; it is sealed in the state after that. Where the cell gave no entry the simulation
+-- had given a payload, and nothing was seen
 abbrev pub FinishesBy : Endorsing → Proposal → (first before after : Chain) → Result (Payload × Endorsement) FinishRefusal → Type 0
 FinishesBy e p first before after (Ok answer) =
-    (simulated_on e p first ≡ Ok answer.0) × IsPrefix before after × (is_current (state (history after)) answer.0 ≡ true) ×
-    (answer.1 ≡ tag_of e.listed e.org answer.0)
+    (simulated_on e p first ≡ Ok answer.0) × IsPrefix before after × IsEndorsed e after answer.0 answer.1
 FinishesBy e p first before after (Err (Simulation r)) = IsFinishRefused e p first before after r
 FinishesBy e p first before after (Err NoEntry) = IsOk (simulated_on e p first) × (after ≡ before)
 

@@ -11,7 +11,7 @@ ghost use Rattle.store_replay.specs.Lawful.{AreLawful};
 ghost use Rattle.snapshot_cell.specs.Seats.{EachBegins};
 ghost use Rattle.peer_node.specs.Refusals.{IsReopenRefused};
 ghost use Rattle.endorser.specs.Endorsing.{endorsing_of};
-ghost use Rattle.peer_node.specs.Seats.{IsSeat, IsSeatBehind, Serves};
+ghost use Rattle.peer_node.specs.Seats.{IsSeat, IsSeatBehind, endorsing_for};
 ghost use Rattle.peer_node.specs.Writers.{published_chain, peer_of_writer, rules_of};
 
 use crate::refusal::ReopenRefusal;
@@ -55,8 +55,8 @@ impl Gate for NoGate {
 
 impl Peer {
     /// A peer of an organisation, without blocks, and so many seats, at least 1 and below 2^32.
-    /// Tags of an organisation that the genesis does not list are made with the empty key and count
-    /// for nothing.
+    /// Tags of one that the genesis does not list, or whose seed is not at hand, are made with the
+    /// empty key and count for nothing.
     ///
     /// Refused where a seat got no place in the cell (431), and for want of memory (9). The cell
     /// has as many places as seats are asked for, but no contract of `left_right` says that one is
@@ -74,10 +74,7 @@ impl Peer {
             (arc_value (rules_of t.0) ≡ arc_value genesis.now.rules)) }
         ensures length { IfOk result (λ t. length t.1.items ≡ seats) }
         ensures seats { IfOk result
-            (λ t. All
-            (IsSeat (arc_value genesis.now.book) (arc_value genesis.now.rules) org.now
-            (peer_of_writer t.0))
-            t.1.items) }
+            (λ t. All (IsSeat (endorsing_for genesis.now org.now) (peer_of_writer t.0)) t.1.items) }
     {
         open_with(rt, alloc, genesis, org, seats, Snapshot::empty(alloc))
     }
@@ -107,8 +104,8 @@ impl Peer {
         ensures length { IfOk result (λ t. length t.1.items ≡ seats) }
         ensures seats { IfOk result
             (λ t. All
-            (IsSeatBehind (arc_value genesis.now.book) (arc_value genesis.now.rules) org.now
-            (peer_of_writer t.0) loaded.blocks.items)
+            (IsSeatBehind (endorsing_for genesis.now org.now) (peer_of_writer t.0)
+            loaded.blocks.items)
             t.1.items) }
         ensures refused { IfErr result
             (λ refusal. IsReopenRefused (table_of (arc_value genesis.now.rules)) loaded.blocks.items
@@ -136,8 +133,7 @@ fn open_with<R: Wait>(
     ensures length { IfOk result (λ t. length t.1.items ≡ seats) }
     ensures seats { IfOk result
         (λ t. All
-        (IsSeatBehind (arc_value genesis.now.book) (arc_value genesis.now.rules) org.now
-        (peer_of_writer t.0) first)
+        (IsSeatBehind (endorsing_for genesis.now org.now) (peer_of_writer t.0) first)
         t.1.items) }
 {
     let rules = Arc::try_clone(&genesis.rules)?;
@@ -229,14 +225,13 @@ impl PeerWriter {
 
 /// What a seat of an organisation endorses by.
 fn endorser(alloc: Global, genesis: &Genesis, org: &OrgName) -> Result<Endorser, AllocError>
-    ensures { IfOk result
-        (λ e. Serves (arc_value genesis.now.book) (arc_value genesis.now.rules) org.now
-        (endorsing_of e)) }
+    ensures { IfOk result (λ e. endorsing_of e ≡ endorsing_for genesis.now org.now) }
 {
     let org = org.clone()?;
+    let signers = Arc::try_clone(&genesis.signers)?;
     let rules = Arc::try_clone(&genesis.rules)?;
     let book = Arc::try_clone(&genesis.book)?;
-    Ok(Endorser::new(alloc, book, rules, org))
+    Ok(Endorser::new(alloc, book, rules, signers, org))
 }
 
 /// A seat on each reader.
@@ -249,10 +244,7 @@ fn seats_of(
     ensures length { IfOk result (λ v. length v.items ≡ length readers.items) }
     ensures each { IfOk result
         (λ v. (peer : PeerId) (chain : Chain) → EachBegins peer chain readers.items →
-        All
-        (IsSeatBehind (arc_value genesis.now.book) (arc_value genesis.now.rules) org.now
-        peer chain)
-        v.items) }
+        All (IsSeatBehind (endorsing_for genesis.now org.now) peer chain) v.items) }
 {
     let mut seats = Vec::with_capacity(alloc, readers.len())?;
     for _seat in 0..readers.len() {
