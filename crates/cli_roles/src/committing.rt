@@ -6,12 +6,12 @@ ghost use Rattle.log_store.specs.Storing.{IsStored};
 
 use crate::ending::end;
 use crate::input::InputLines;
-use fab_types::Block;
-use log_store::StoredChain;
-use hex::FromHexError;
 use cli_lines::{Failure, Files, Printer, print_committed};
+use fab_types::Block;
+use hex::FromHexError;
 use ledger_setting::Genesis;
 use log_roles::Received;
+use log_store::StoredChain;
 use std::alloc::{AllocError, Global};
 use std::fs::OpenFile;
 use std::io::{Read, Seek, Write};

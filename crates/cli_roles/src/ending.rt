@@ -2,8 +2,8 @@
 
 ghost use Rattle.cli_lines.specs.Told.{IsMore, Says};
 
-use log_store::StoreRefusal;
 use cli_lines::{Failure, Printer};
+use log_store::StoreRefusal;
 use std::io::Write;
 
 /// Prints why a filter ends.

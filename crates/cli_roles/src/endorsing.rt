@@ -6,11 +6,11 @@ ghost use Rattle.log_store.specs.Following.{IsFollowed};
 
 use crate::ending::end;
 use crate::input::InputLines;
-use json_events::{BadLine, read_proposal};
+use cli_lines::{Failure, Files, Printer, need_secret};
 use fab_types::{Endorsement, OrgName, Payload, Proposal, Spelled};
-use log_store::StoreFollower;
-use cli_lines::{Failure, Files, Printer};
+use json_events::{BadLine, read_proposal};
 use ledger_setting::Genesis;
+use log_store::StoreFollower;
 use simulator::SimRefusal;
 use std::alloc::{AllocError, Global};
 use std::io::{Read, Write};
@@ -20,7 +20,8 @@ use std::io::{Read, Write};
 ///
 /// The store is read on before each line is answered. The answer is `endorsed` with the bytes of the
 /// payload and of the endorsement in hex, the refusal of the simulation, or `bad line` and its
-/// number where the line spells no proposal. A store that is refused ends it.
+/// number where the line spells no proposal. A store that is refused ends it. It is refused before
+/// the first line where the organisation's secret is not at hand (808).
 pub fn endorse<F: Files, W: Write>(
     alloc: Global,
     files: &mut F,
@@ -38,6 +39,7 @@ pub fn endorse<F: Files, W: Write>(
     let Some(file) = files.open(store) else {
         return Err(Failure::File);
     };
+    need_secret(alloc, files, genesis, org)?;
     let mut lines = InputLines::new(alloc, files.input())?;
     endorse_after(alloc, genesis, org, file, &mut lines, out)
 }
@@ -67,7 +69,8 @@ fn follower_of<S: Read + Drop>(
     ensures followed { IfOk result (λ f. IsFollowed f) }
 {
     let rules = genesis.rules.clone()?;
-    StoreFollower::new(alloc, genesis.book.clone()?, rules, org, file)
+    let signers = genesis.signers.clone()?;
+    StoreFollower::new(alloc, genesis.book.clone()?, rules, signers, org, file)
 }
 
 /// Answers each line.

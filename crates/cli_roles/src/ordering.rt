@@ -8,8 +8,8 @@ use crate::input::InputLines;
 use crate::marks::{
     index_and_mark, is_of_mark, leaves_genesis_open, names_another_genesis, seen_in,
 };
-use fab_types::Block;
 use cli_lines::{Failure, Files, Printer};
+use fab_types::Block;
 use ledger_setting::Genesis;
 use log_orderer::{LineReport, LogBatch, Replica};
 use std::alloc::Global;
