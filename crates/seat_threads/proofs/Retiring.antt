@@ -5,7 +5,6 @@ use Rattle.fab_types.specs.declared.envelope.Envelope.{Envelope}
 use Rattle.ledger_model.specs.Chain.{Bytes}
 use Rattle.intake.specs.Seats.{intake_of_sender, number, put}
 use Rattle.endorser.specs.Endorsing.{Endorsing}
-use Rattle.peer_node.specs.Seats.{endorsing_of, Serves}
 use Rattle.seat_threads.specs.declared.worker.Worker.{Worker}
 use Rattle.seat_threads.specs.Rounds.{Outcome, CameTo, envelopes_in, counts_of}
 use Rattle.seat_threads.specs.Work.{Task, Works, IsWorkerOf, puts_of}
@@ -13,7 +12,7 @@ use Rattle.seat_threads.specs.Work.{Task, Works, IsWorkerOf, puts_of}
 pub record HasEnded (task : Task) (intake : TableId) (seat : ℕ) (w : Worker) : Type 0 where
   pub intake_is : intake_of_sender w.sender ≡ intake
   pub outcomes : List Outcome
-  pub came : (e : Endorsing) × Serves task.book task.listed task.org e × CameTo e task.chaincode seat task.rounds outcomes
+  pub came : CameTo task.endorsing task.chaincode seat task.rounds outcomes
   pub sender : number w.sender ≡ seat
   pub sent : put w.sender ≡ envelopes_in outcomes
   pub counted : w.counts ≡ counts_of outcomes
@@ -21,15 +20,15 @@ pub record HasEnded (task : Task) (intake : TableId) (seat : ℕ) (w : Worker) :
 pub has_ended : (task : Task) (intake : TableId) (seat rounds : ℕ) (old new : Worker) → IsWorkerOf task intake seat old → rounds ≡ task.rounds →
     Works rounds old new → HasEnded task intake seat new
 has_ended task intake seat rounds old new is all work =
-    let e = endorsing_of old.seat in
     let outcomes = work.2.0 in
-    let called = subst (λ (c : Bytes). CameTo e c old.number rounds outcomes) is.chaincode work.2.1 in
-    let seated = subst (λ (n : ℕ). CameTo e task.chaincode n rounds outcomes) is.seat_is called in
-    let came = subst (λ (n : ℕ). CameTo e task.chaincode seat n outcomes) all seated in
+    let endorsed = subst (λ (e : Endorsing). CameTo e old.chaincode old.number rounds outcomes) is.endorser work.2.1 in
+    let called = subst (λ (c : Bytes). CameTo task.endorsing c old.number rounds outcomes) is.chaincode endorsed in
+    let seated = subst (λ (n : ℕ). CameTo task.endorsing task.chaincode n rounds outcomes) is.seat_is called in
+    let came = subst (λ (n : ℕ). CameTo task.endorsing task.chaincode seat n outcomes) all seated in
     record {
       intake_is = work.0 ∙ is.intake_is;
       outcomes = outcomes;
-      came = (e, is.endorser, came);
+      came = came;
       sender = work.1 ∙ is.sender;
       sent = work.2.2 ∙ ap (λ (es : List Envelope). es ++ envelopes_in outcomes) is.fresh;
       counted = work.2.3;

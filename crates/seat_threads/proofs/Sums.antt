@@ -59,4 +59,4 @@ totalled task seat [] all = omega arith
 totalled task seat (outcomes ∷ others) all =
     let one = counted outcomes in
     let rest = totalled task (seat + 1) others all.1 in
-    omega (arith, summed (counts_of outcomes) (total_of others), one, all.0.2.0, rest, suc-mul (length others) task.rounds)
+    omega (arith, summed (counts_of outcomes) (total_of others), one, all.0.0, rest, suc-mul (length others) task.rounds)

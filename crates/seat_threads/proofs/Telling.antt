@@ -37,7 +37,7 @@ pub told : (task : Task) (n : ℕ) (counts : Counts) (v : View) (d : Desk) (reor
     → HasRetired task n counts [] v.known → v.senders ≡ n → NoneMissing v → WasCut (envelopes_got v.got) d.orderer d.missing → d.orderer.reorder ≡ reorder →
     d.orderer.limits ≡ limits → counts_told r ≡ counts → r.missing ≡ d.missing →
     AreLinked [] d.orderer.chain × (r.blocks ≡ length d.orderer.chain)
-    × AuditSays (exec_of task.book) (judged_chain (table_of task.listed) d.orderer.chain) r.audit →
+    × AuditSays (exec_of task.endorsing.book) (judged_chain (table_of task.endorsing.listed) d.orderer.chain) r.audit →
     TellsOfSeats task n reorder limits r
 told task n counts v d reorder limits r few short h senders none cut reorder_is limits_are same missing chain =
     let got_all = all_got v.got 0 h.outcomes

@@ -1,6 +1,5 @@
 -- What is reported of seats at work.
 use Rattle.std.specs.Prelude.{◌≡◌, ℕ, ◌<◌, ◌≤◌, ◌+◌, Bool, List, [], ◌∷◌, length, slice_index_or}
-use Rattle.std.specs.Arc.{arc_value}
 use Rattle.fab_types.specs.declared.envelope.Envelope.{Envelope}
 use Rattle.batch_cutter.specs.Division.{Limits}
 use Rattle.wire.specs.Links.{AreLinked}
@@ -14,6 +13,7 @@ use Rattle.ledger_model.specs.Judged.{judged_chain}
 use Rattle.ledger_setting.specs.declared.genesis.Genesis.{Genesis}
 use Rattle.ledger_setting.specs.Rule.{table_of}
 use Rattle.fabric_core.specs.Audit.{AuditSays}
+use Rattle.peer_node.specs.Seats.{endorsing_for}
 use Rattle.seat_threads.specs.declared.counts.Counts.{Counts}
 use Rattle.seat_threads.specs.declared.refusal.SeatsRefusal.{SeatsRefusal}
 use Rattle.seat_threads.specs.declared.refusal.SeatsRefusal.TheVariants.{Memory, NoPlace, NoEntry}
@@ -25,9 +25,7 @@ use Rattle.seat_threads.specs.Work.{Task, AllCameTo, total_of}
 -- what the seats of the genesis's first peer do
 abbrev pub task_of : Genesis → (chaincode : Bytes) → (rounds : ℕ) → Task
 task_of g chaincode rounds = record {
-  book = arc_value g.book;
-  listed = arc_value g.rules;
-  org = slice_index_or g.peers.items 0 [];
+  endorsing = endorsing_for g (slice_index_or g.peers.items 0 []);
   chaincode = chaincode;
   rounds = rounds;
 }
@@ -62,7 +60,7 @@ pub record TellsOfSeats (task : Task) (seats : ℕ) (reorder : Bool) (limits : L
   pub cut : AreCut ordered now
   pub linked : AreLinked [] now.chain
   pub blocks : r.blocks ≡ length now.chain
-  pub audited : AuditSays (exec_of task.book) (judged_chain (table_of task.listed) now.chain) r.audit
+  pub audited : AuditSays (exec_of task.endorsing.book) (judged_chain (table_of task.endorsing.listed) now.chain) r.audit
 
 -- Where each refusal comes. Of want of memory, and of places in the cell, nothing is said
 abbrev pub IsSeatsRefused : Task → ℕ → SeatsRefusal → Type 0

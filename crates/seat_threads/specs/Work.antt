@@ -4,22 +4,18 @@ use Rattle.std.specs.declared.thread.PromisedHandle.{PromisedHandle}
 use Rattle.atomic_table.specs.Seated.{TableId}
 use Rattle.fab_types.specs.declared.envelope.Envelope.{Envelope}
 use Rattle.ledger_model.specs.Chain.{Bytes}
-use Rattle.chaincode_book.specs.Books.{Book}
-use Rattle.endorsement_policy.specs.Endorsed.{Listed}
 use Rattle.intake.specs.declared.sender.SenderSeat.{SenderSeat}
 use Rattle.intake.specs.Seats.{intake_of_sender, number, put}
 use Rattle.endorser.specs.Endorsing.{Endorsing}
-use Rattle.peer_node.specs.Seats.{endorsing_of, Serves}
+use Rattle.peer_node.specs.Seats.{endorsing_of}
 use Rattle.seat_threads.specs.declared.counts.Counts.{Counts}
 use Rattle.seat_threads.specs.declared.worker.Worker.{Worker}
 use Rattle.seat_threads.specs.declared.crew.Rounds.{Rounds}
 use Rattle.seat_threads.specs.Rounds.{Outcome, CameTo, envelopes_in, counts_of, no_rounds, sum_of}
 
--- the chaincodes, the rules and the organisation by which the seats endorse, the chaincode that they call, and in how many rounds
+-- what the seats endorse by, the chaincode that they call, and in how many rounds
 pub record Task : Type 0 where
-  pub book : Book
-  pub listed : Listed
-  pub org : Bytes
+  pub endorsing : Endorsing
   pub chaincode : Bytes
   pub rounds : ℕ
 
@@ -27,7 +23,7 @@ pub record Task : Type 0 where
 abbrev pub AllCameTo : Task → ℕ → List (List Outcome) → Type 0
 AllCameTo task seat [] = Unit {0}
 AllCameTo task seat (outcomes ∷ others) =
-    ((e : Endorsing) × Serves task.book task.listed task.org e × CameTo e task.chaincode seat task.rounds outcomes) × AllCameTo task (seat + 1) others
+    CameTo task.endorsing task.chaincode seat task.rounds outcomes × AllCameTo task (seat + 1) others
 
 abbrev pub total_of : List (List Outcome) → Counts
 total_of [] = no_rounds
@@ -52,7 +48,7 @@ pub record IsWorkerOf (task : Task) (intake : TableId) (seat : ℕ) (w : Worker)
   pub fresh : put w.sender ≡ []
   pub seat_is : w.number ≡ seat
   pub chaincode : w.chaincode ≡ task.chaincode
-  pub endorser : Serves task.book task.listed task.org (endorsing_of w.seat)
+  pub endorser : endorsing_of w.seat ≡ task.endorsing
 
 -- the fresh senders of an intake, each at the place of its number
 abbrev pub AreSenders : TableId → List SenderSeat → Type 0

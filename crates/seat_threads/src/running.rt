@@ -10,7 +10,7 @@ ghost use Rattle.intake.specs.Mail.{receiver};
 ghost use Rattle.intake.specs.Seats.{intake_of_receiver, knows};
 ghost use Rattle.ledger_setting.specs.Rule.{table_of};
 ghost use Rattle.ledger_setting.specs.Setting.{limits_of};
-ghost use Rattle.peer_node.specs.Seats.{endorsing_of, Serves};
+ghost use Rattle.peer_node.specs.Seats.{endorsing_of};
 ghost use Rattle.peer_node.specs.Writers.{rules_of};
 ghost use Rattle.fabric_core.specs.Audit.{AuditSays};
 ghost use Rattle.seat_threads.specs.Desks.{IsInStep, IsAtWork};
@@ -146,7 +146,7 @@ fn workers(
     ensures length { IfOk result (λ v. length v.items ≡ length senders.items) }
     ensures each { IfOk result
         (λ v. (task : Task) (intake : TableId) → task.chaincode ≡ chaincode.now →
-        All (λ s. Serves task.book task.listed task.org (endorsing_of s)) seats.items →
+        All (λ s. endorsing_of s ≡ task.endorsing) seats.items →
         AreSenders intake senders.items →
         AreWorkersOf task intake (length senders.items) v.items) }
 {
@@ -189,8 +189,8 @@ fn at_work<R: Threads + Wait + Sync + Send + Copy + 'static>(
         (λ r. r.endorsed + r.refused ≡ length workers.old.items * rounds) }
     ensures tells { IfOk result
         (λ r. (task : Task) → rounds ≡ task.rounds →
-        task.book ≡ arc_value genesis.now.book →
-        task.listed ≡ arc_value (rules_of desk.old.writer) →
+        task.endorsing.book ≡ arc_value genesis.now.book →
+        task.endorsing.listed ≡ arc_value (rules_of desk.old.writer) →
         AreWorkersOf task (intake_of_receiver desk.old.receiver) (length workers.old.items)
         workers.old.items →
         TellsOfSeats task (length workers.old.items) desk.old.orderer.reorder

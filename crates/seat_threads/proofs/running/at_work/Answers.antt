@@ -68,7 +68,7 @@ returns-clause-tells g c =
     let chain = h.1.1.1 in
     let by_rules = subst (λ (l : Listed). AuditSays (exec_of (arc_value c.args.genesis.now.book)) (judged_chain (table_of l) desk.orderer.chain) r.audit)
     (ap arc_value rules ∙ sym listed) chain.2 in
-    let audited = subst (λ (b : Book). AuditSays (exec_of b) (judged_chain (table_of task.listed) desk.orderer.chain) r.audit) (sym book) by_rules in
+    let audited = subst (λ (b : Book). AuditSays (exec_of b) (judged_chain (table_of task.endorsing.listed) desk.orderer.chain) r.audit) (sym book) by_rules in
     told task seats counts v desk _ _ r c.requires.count short all senders rest.none (tick.cut (envelopes_got v.got) rest.work.2 h.1.0) reorder limits h.0
     h.1.1.0 (chain.0, chain.1, audited))
     (both_ok _ _ c.reported.result reported.counted

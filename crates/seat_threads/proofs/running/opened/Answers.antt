@@ -1,10 +1,9 @@
-use Rattle.std.proofs.Common.{◌≡◌, [], ℕ, refl, sym, ◌∙◌, subst}
+use Rattle.std.proofs.Common.{◌≡◌, [], ℕ, refl, sym, ◌∙◌, ap, subst}
 use Rattle.std.specs.Prelude.{slice_index_or}
-use Rattle.std.specs.Arc.{arc_value}
 use Rattle.std.proofs.lemmas.List.Elements.{All-weaker}
 use Rattle.intake.specs.declared.receiver.ReceiverSeat.{ReceiverSeat}
 use Rattle.intake.specs.Seats.{intake_of_receiver}
-use Rattle.peer_node.specs.Seats.{endorsing_of, Serves, IsSeat}
+use Rattle.peer_node.specs.Seats.{endorsing_of, endorsing_for, IsSeat}
 use Rattle.peer_node.specs.Writers.{peer_of_writer}
 use Rattle.seat_threads.specs.Reports.{task_of}
 use Rattle.seat_threads.specs.Work.{AreWorkersOf}
@@ -18,8 +17,8 @@ returns-in-Ok-clause-workers g c = λ rounds.
     let intake = intake_of_receiver c.in_ok-senders.receiver in
     let org : c.index.result.now ≡ slice_index_or genesis.peers.items 0 [] =
     c.index.ensures ∙ first_of_some genesis.peers.items c.index.result.now [] genesis.peers_in_range.0 in
-    let serves = All-weaker (IsSeat (arc_value genesis.book) (arc_value genesis.rules) c.index.result.now (peer_of_writer c.in_ok-writer.writer))
-    (λ s. Serves task.book task.listed task.org (endorsing_of s)) (λ s h. (h.2.0, h.2.1, h.2.2 ∙ org)) c.in_ok-writer.seats.items c.in_ok-writer.ensures.seats in
+    let serves = All-weaker (IsSeat (endorsing_for genesis c.index.result.now) (peer_of_writer c.in_ok-writer.writer))
+    (λ s. endorsing_of s ≡ task.endorsing) (λ s h. h.2 ∙ ap (endorsing_for genesis) org) c.in_ok-writer.seats.items c.in_ok-writer.ensures.seats in
     let each = c.in-Ok.ensures.each task intake refl serves
     (λ seat s at. let fresh = c.in_ok-senders.ensures.seats seat s at in (fresh.0, fresh.3, fresh.4)) in
     subst (λ (r : ReceiverSeat). AreWorkersOf task (intake_of_receiver r) genesis.seats c.in-Ok.workers.items) (sym c.new-desk.ensures.same.0)

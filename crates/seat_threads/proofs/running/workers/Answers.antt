@@ -4,7 +4,7 @@ use Rattle.atomic_table.specs.Seated.{TableId}
 use Rattle.intake.specs.declared.sender.SenderSeat.{SenderSeat}
 use Rattle.intake.specs.Seats.{intake_of_sender, number, put}
 use Rattle.peer_node.specs.declared.seat.Seat.{Seat}
-use Rattle.peer_node.specs.Seats.{endorsing_of, Serves}
+use Rattle.peer_node.specs.Seats.{endorsing_of}
 use Rattle.seat_threads.specs.declared.worker.Worker.{Worker}
 use Rattle.seat_threads.specs.Work.{Task, IsWorkerOf}
 use Rattle.seat_threads.proofs.Places.{taken, pushed_to}
@@ -29,7 +29,7 @@ loop-worker-preserved c = (
       let seats = length c.args.senders.items in
       let workers = c.loop-worker.workers.items in
       let both = inv.4 task intake called serves fresh in
-      let IsServing : Seat → Type 0 = λ s. Serves task.book task.listed task.org (endorsing_of s) in
+      let IsServing : Seat → Type 0 = λ s. endorsing_of s ≡ task.endorsing in
       let seat = All-pop IsServing _ _ (Some c.take_last-seat.result) c.take_last-seat.ensures.items both.0 in
       let sender = taken (IsFreshAt intake) c.loop-worker.senders.items _ c.take_last-sender.result c.take_last-sender.ensures.items both.1 in
       let left = length c.take_last-sender.new.self.items in

@@ -40,7 +40,7 @@ plus-counts-requires g c =
     let most = bounded joined task.rounds few c.requires.each.1 in
     let before : rounds_in c.loop-joined.counts ≡ joined * task.rounds =
     ap rounds_in both.1.3 ∙ (totalled task _ both.1.0 both.1.2 ∙ ap (λ (k : ℕ). k * task.rounds) both.1.1) in
-    let here : rounds_in c.join-worker.result.counts ≡ task.rounds = ap rounds_in ended.counted ∙ (counted ended.outcomes ∙ ended.came.2.0) in
+    let here : rounds_in c.join-worker.result.counts ≡ task.rounds = ap rounds_in ended.counted ∙ (counted ended.outcomes ∙ ended.came.0) in
     omega (arith, most, before, here)
 
 pub loop-joined-preserved : goal.loop-joined-preserved
