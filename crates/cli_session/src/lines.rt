@@ -5,9 +5,9 @@ ghost use Rattle.std.specs.Io.KnownBytes.{Appends};
 ghost use Rattle.cli_lines.specs.Told.{Tells};
 ghost use Rattle.cli_session.specs.Replies.{refusal_line};
 
+use cli_lines::{Failure, Printer, hex_of, print_committed, version_of};
 use fab_types::{Key, Value, Version};
 use fabric_core::Reply;
-use cli_lines::{Failure, Printer, hex_of, print_committed, version_of};
 use orderer::BatchReport;
 use std::alloc::{AllocError, Global};
 use std::io::Write;

@@ -7,10 +7,10 @@ use crate::lines::{print_begun, print_state, print_step};
 use crate::placing::place_of;
 use crate::reading::{Next, next_line};
 use crate::storing::write_store;
-use json_events::{Action, BadLine, Bindings, read_event};
+use cli_lines::{Failure, Files, Printer, Target, id_of, need_secrets, print_audit};
 use fab_types::{Endorsement, Payload, Proposal};
 use fabric_core::{Event, Reply, System, audit};
-use cli_lines::{Failure, Files, Printer, Target, id_of, print_audit};
+use json_events::{Action, BadLine, Bindings, read_event};
 use ledger_setting::Genesis;
 use std::alloc::{AllocError, Global};
 use std::io::{BufRead, BufReader, Write};
@@ -40,7 +40,8 @@ pub struct RunFiles<'a> {
 /// store if there is one.
 ///
 /// The file is read as the run goes. A line that stands for nothing ends the run, and then no store
-/// is written. The store's name is looked at before the first line is read: refused (703) where its
+/// is written. The run is refused before the file is opened where a peer's secret is not at hand
+/// (808). The store's name is looked at before the first line is read: refused (703) where its
 /// file is one that the run reads, and where another one has it. The run has the file for itself
 /// alone until it ends.
 pub fn run<F: Files, W: Write>(
@@ -52,6 +53,7 @@ pub fn run<F: Files, W: Write>(
 ) -> Result<(), Failure>
     ensures tells { Tells out.old out.new result }
 {
+    need_secrets(alloc, files, genesis, &genesis.peers)?;
     let Some(events) = files.open(names.events) else {
         return Err(Failure::File);
     };

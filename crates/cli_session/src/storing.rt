@@ -5,12 +5,12 @@ ghost use Rattle.cli_lines.specs.Told.{IsSilent};
 
 use crate::placing::part_of;
 use block_store::{AppendFault, append};
-use store_devices::Counted;
-use fab_types::CommittedBlock;
 use cli_lines::{Failure, Files, Target};
+use fab_types::CommittedBlock;
 use std::alloc::Global;
 use std::io::Write;
 use std::sync::Arc;
+use store_devices::Counted;
 use world_state::Snapshot;
 
 /// Writes a chain as a store.
