@@ -3,11 +3,11 @@
 ghost use Rattle.std.specs.Prelude.{◌≤◌};
 
 use block_store::{AppendFault, End, RecordReader, append, load};
-use store_devices::Counted;
 use fab_types::{Block, CommittedBlock, Flag};
 use std::alloc::{AllocError, Global};
 use std::io::{self, Read, Write};
 use std::test::Fail;
+use store_devices::Counted;
 use wire::decode_block;
 
 /// The bytes of a block of one transaction, but for its number.

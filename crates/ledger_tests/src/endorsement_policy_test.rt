@@ -2,12 +2,15 @@
 
 ghost use Rattle.std.specs.Prelude.{◌≤◌};
 
+use crate::samples::{PUBLIC, SEED, shared_key};
+use ed25519::sign;
 use endorsement_policy::{
-    ChaincodePolicy, Gate, Installed, ModuleId, Organisation, Rules, TagKey, check_all,
-    check_plain, check_with_right_orgs, right_orgs_of_blocks, satisfied,
+    ChaincodePolicy, Gate, Installed, ModuleId, Rules, check_all, check_plain,
+    check_with_right_orgs, right_orgs_of_blocks, satisfied,
 };
-use fab_types::{Envelope, Name, OrgName};
+use fab_types::{Endorsement, Endorsements, Envelope, Name, OrgName, Tag};
 use hmac_tag::{check, tag};
+use org_keys::{OrgKey, Organisation, PublicKey};
 use policy_language::{OrgSet, Policies, Policy, parse};
 use std::alloc::{AllocError, Global};
 use std::sync::atomic::{AtomicBool, AtomicUsize, Ordering};
@@ -51,7 +54,7 @@ fn secret(letter: u8) -> [u8; 3] {
 }
 
 fn organisation(alloc: Global, letter: u8) -> Option<Organisation> {
-    let key = TagKey::new(secret(letter).to_vec(alloc).ok()?)?;
+    let key = shared_key(alloc, &secret(letter))?;
     let name = org(alloc, letter)?;
     Some(Organisation { name, key })
 }
@@ -320,6 +323,59 @@ fn workers_are_right<R: Threads + Sync>(rt: &R, alloc: Global) -> Option<bool> {
     are_right(rt, alloc, &rules, &Snapshot::empty(alloc), &all).ok()
 }
 
+/// The same, but for C, which has a public key.
+fn rules_with_a_public_key(alloc: Global) -> Option<Rules> {
+    let mut organisations = organisations(alloc)?;
+    organisations.pop()?;
+    let name = org(alloc, b'C')?;
+    let key = OrgKey::Public(PublicKey::new(PUBLIC)?);
+    organisations.push(Organisation { name, key }).ok()?;
+    let (policy, upgrade) = (two_of_three(alloc), two_of_three(alloc));
+    rules_of(alloc, Some(organisations), policy, upgrade)?
+}
+
+/// The call with endorsements by A under its own key, and by a name with this tag.
+fn envelope_with(alloc: Global, name: u8, tag: Tag) -> Option<Envelope> {
+    let call = decode_envelope(alloc, &CALL).ok()?;
+    let first = call.endorsements.as_slice().first()?.clone().ok()?;
+    let org = org(alloc, name)?;
+    let second = Endorsement { org, tag };
+    let endorsements = Endorsements::new(vec![in alloc; first, second].ok()?)?;
+    Some(Envelope {
+        payload: call.payload,
+        endorsements,
+    })
+}
+
+/// C's signature; one of another seed; C's, by the name of B; an HMAC under C's public key, which
+/// everybody knows; and so on again.
+fn add_signed(alloc: Global, envelopes: &mut Vec<Envelope>, count: usize) -> Option<()> {
+    let payload = &CALL[..PAYLOAD];
+    let signed = Tag::Ed25519(sign(&SEED, payload));
+    let other = Tag::Ed25519(sign(&PUBLIC, payload));
+    let keyed = Tag::Hmac(tag(&PUBLIC, payload));
+    for index in 0..count {
+        let (name, tag) = [(b'C', signed), (b'C', other), (b'B', signed), (b'C', keyed)][index % 4];
+        envelopes.push(envelope_with(alloc, name, tag)?).ok()?;
+    }
+    Some(())
+}
+
+fn are_same_with_signatures<R: Threads + Sync>(rt: &R, alloc: Global) -> Option<bool> {
+    let mut all = Vec::new(alloc);
+    add_signed(alloc, &mut all, 33)?;
+    let (rules, snapshot) = (rules_with_a_public_key(alloc)?, Snapshot::empty(alloc));
+    let are_same = are_same(rt, alloc, &rules, &snapshot, &all).ok()?;
+    Some(are_same && are_same_by_tags(rt, alloc, &rules, &snapshot, &all).ok()?)
+}
+
+#[test]
+fn workers_check_signatures_as_one_thread(rt: HostRuntime) -> Result<(), Fail> {
+    let are_same = are_same_with_signatures(&rt, rt.alloc());
+    assert!(rt; are_same == Some(true));
+    Ok(())
+}
+
 #[test]
 fn workers_answer_as_one_thread(rt: HostRuntime) -> Result<(), Fail> {
     let are_right = workers_are_right(&rt, rt.alloc());
@@ -327,10 +383,18 @@ fn workers_answer_as_one_thread(rt: HostRuntime) -> Result<(), Fail> {
     Ok(())
 }
 
+/// Whether this is B's key.
+fn is_key_of_b(key: &OrgKey) -> bool {
+    match key {
+        OrgKey::Shared(key) => key.as_slice() == secret(b'B').as_slice(),
+        OrgKey::Public(_) => false,
+    }
+}
+
 /// Whether these rules know B and its key, and the policy of `kv`, and not D.
 fn is_of_three(rules: &Rules, b: &OrgName, d: &OrgName, kv: &Name) -> bool {
     let known = match rules.organisation(b) {
-        Some(organisation) => organisation.key.as_slice() == secret(b'B').as_slice(),
+        Some(organisation) => is_key_of_b(&organisation.key),
         None => false,
     };
     known

@@ -5,8 +5,9 @@ ghost use Rattle.snapshot_cell.specs.Seats.{cell_of_told};
 ghost use Rattle.peer_node.specs.Seats.{peer_of};
 ghost use Rattle.peer_node.specs.Writers.{peer_of_writer};
 
-use crate::samples::{GET_PUT_A, Setup, opening};
-use fab_types::{Key, Proposal};
+use crate::samples::{GET_PUT_A, Setup, endorsed, opening, signers, signing_genesis, transaction};
+use fab_types::{Envelope, Flag, Key, Proposal};
+use ledger_setting::Genesis;
 use orderer::Orderer;
 use peer_node::{Peer, PeerWriter, Seat, Told};
 use std::alloc::Global;
@@ -166,5 +167,69 @@ fn what_was_told_is_read(rt: HostRuntime) -> Result<(), Fail> {
         refused: 405,
     };
     assert!(rt; seen == (Some(expected), 4));
+    Ok(())
+}
+
+/// The transaction that a seat hands out.
+fn handed_out(alloc: Global, seats: &mut [Seat], proposal: &Proposal) -> Result<Envelope, Fail> {
+    let Some(seat) = seats.first_mut() else {
+        return Err("a seat".into());
+    };
+    match seat.endorse(proposal) {
+        Ok((payload, endorsement)) => endorsed(alloc, payload, endorsement),
+        Err(_) => Err("an endorsement".into()),
+    }
+}
+
+/// The flag of a transaction that a peer commits as block 1.
+fn committed_flag<R: Threads + Wait + Sync>(
+    rt: &R,
+    alloc: Global,
+    writer: &mut PeerWriter,
+    envelope: Envelope,
+) -> Option<Flag> {
+    let mut chain = Orderer::new(alloc, 1, 1000, 1000, false);
+    chain.accept(envelope).ok()?;
+    commit(rt, writer, &chain, 1)?;
+    writer.newest().last()?.flags().first().copied()
+}
+
+/// The flag of a call that the first seat endorses, and the peer commits.
+fn flag_of<R: Threads + Wait + Sync>(
+    rt: &R,
+    alloc: Global,
+    writer: &mut PeerWriter,
+    seats: &mut [Seat],
+    proposal: &Proposal,
+) -> Result<Option<Flag>, Fail> {
+    let envelope = handed_out(alloc, seats, proposal)?;
+    Ok(committed_flag(rt, alloc, writer, envelope))
+}
+
+/// The same of a peer that opens with this genesis.
+fn flag_by<R: Threads + Wait + Sync>(
+    rt: &R,
+    alloc: Global,
+    genesis: &Genesis,
+    proposal: &Proposal,
+) -> Result<Option<Flag>, Fail> {
+    let Some(org) = genesis.peers.first() else {
+        return Err("a peer".into());
+    };
+    let Ok((mut writer, mut seats)) = Peer::open(rt, alloc, genesis, org, 1) else {
+        return Err("a peer".into());
+    };
+    let flag = flag_of(rt, alloc, &mut writer, &mut seats, proposal);
+    writer.close(rt);
+    flag
+}
+
+#[test]
+fn a_seat_signs(rt: HostRuntime) -> Result<(), Fail> {
+    let alloc = rt.alloc();
+    let genesis = signing_genesis(alloc, signers(alloc)?)?;
+    let call = transaction(alloc, 50, b'k')?;
+    let flag = flag_by(&rt, alloc, &genesis, call.payload.proposal())?;
+    assert!(rt; flag == Some(Flag::Valid));
     Ok(())
 }

@@ -3,7 +3,6 @@
 use crate::peer_node_test::commit;
 use crate::samples::{GET_PUT_A, Setup, opening};
 use block_store::{append, load};
-use store_devices::Counted;
 use fab_types::{Block, CommittedBlock, Flag, Key, Value, Version};
 use orderer::Orderer;
 use peer_node::{Peer, PeerWriter, ReopenRefusal};
@@ -11,6 +10,7 @@ use std::alloc::{AllocError, Global};
 use std::sync::{Arc, Wait};
 use std::test::Fail;
 use std::thread::Threads;
+use store_devices::Counted;
 use store_replay::RecommitRefusal;
 use world_state::Snapshot;
 

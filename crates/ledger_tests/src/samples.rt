@@ -1,11 +1,14 @@
 //! Transactions, a genesis and chains that several tests look at or are made of.
 
-use fab_types::Envelope;
-use json_genesis::read_genesis;
+use ed25519::SigningKey;
+use fab_types::{Endorsement, Endorsements, Envelope, Payload};
 use hmac_tag::tag;
+use json_genesis::read_genesis;
 use ledger_setting::Genesis;
 use orderer::Orderer;
-use std::alloc::Global;
+use org_keys::{OrgKey, Signers, TagKey};
+use std::alloc::{AllocError, Global};
+use std::sync::Arc;
 use std::test::Fail;
 use wire::decode_envelope;
 
@@ -56,6 +59,48 @@ const KEY: usize = 35;
 const TAG: usize = 43;
 
 const PAYLOAD: usize = 40;
+
+/// The seed and the public key of TEST 1 of RFC 8032, section 7.1.
+pub const SEED: [u8; 32] =
+    *b"\x9d\x61\xb1\x9d\xef\xfd\x5a\x60\xba\x84\x4a\xf4\x92\xec\x2c\xc4\x44\x49\xc5\x69\x7b\x32\x69\x19\x70\x3b\xac\x03\x1c\xae\x7f\x60";
+
+pub const PUBLIC: [u8; 32] =
+    *b"\xd7\x5a\x98\x01\x82\xb1\x0a\xb7\xd5\x4b\xfe\xd3\xc9\x64\x07\x3a\x0e\xe1\x72\xf3\xda\xa6\x23\x25\xaf\x02\x1a\x68\xf7\x07\x51\x1a";
+
+/// The fields of A's shared key, and of that public one.
+const KEY_FIELD: &str = "\"key\":\"4a656665\"";
+
+const PUBLIC_FIELD: &str =
+    "\"public\":\"d75a980182b10ab7d54bfed3c964073a0ee172f3daa62325af021a68f707511a\"";
+
+/// The shared key of these bytes.
+pub fn shared_key(alloc: Global, bytes: &[u8]) -> Option<OrgKey> {
+    Some(OrgKey::Shared(TagKey::new(bytes.to_vec(alloc).ok()?)?))
+}
+
+/// That seed.
+pub fn signers(alloc: Global) -> Result<Signers, AllocError> {
+    Ok(Signers::new(vec![in alloc; SigningKey::new(&SEED)]?))
+}
+
+/// What `GET_PUT_A` spells, but for A's key, which is that public one. These seeds are at hand.
+pub fn signing_genesis(alloc: Global, signers: Signers) -> Result<Genesis, Fail> {
+    let text = GET_PUT_A.replace(alloc, KEY_FIELD, PUBLIC_FIELD)?;
+    let mut genesis = genesis(alloc, &text)?;
+    genesis.signers = Arc::new(alloc, signers)?;
+    Ok(genesis)
+}
+
+/// A payload with this endorsement alone.
+pub fn endorsed(alloc: Global, payload: Payload, first: Endorsement) -> Result<Envelope, Fail> {
+    match Endorsements::new(vec![in alloc; first]?) {
+        Some(endorsements) => Ok(Envelope {
+            payload,
+            endorsements,
+        }),
+        None => Err("an endorsement".into()),
+    }
+}
 
 /// What a text spells.
 pub fn genesis(alloc: Global, text: &str) -> Result<Genesis, Fail> {
