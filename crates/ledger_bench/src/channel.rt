@@ -1,7 +1,7 @@
 //! An orderer, and a peer that commits each block at once.
 
 use crate::failure::Failure;
-use crate::members::{rules, transaction};
+use crate::members::{TagKind, rules, transaction};
 use crate::workload::Workload;
 use committer::commit_on;
 use endorsement_policy::{Rules, check_plain};
@@ -26,7 +26,7 @@ impl Channel {
     /// A channel without blocks, for transactions over so many keys.
     pub fn new(alloc: Global, keys: u32, reorder: bool) -> Result<Channel, Failure> {
         Ok(Channel {
-            rules: rules(alloc)?,
+            rules: rules(alloc, TagKind::Hmac)?,
             workload: Workload::new(keys, 0),
             orderer: Orderer::new(alloc, BATCH, 524_288, 524_288, reorder),
             snapshot: Snapshot::empty(alloc),
@@ -46,7 +46,7 @@ impl Channel {
     /// Orders a batch of transactions that are made on the newest state.
     fn submit_batch(&mut self, alloc: Global) -> Result<(), Failure> {
         for _ in 0..BATCH {
-            let envelope = transaction(alloc, &mut self.workload, &self.snapshot)?;
+            let envelope = transaction(alloc, &mut self.workload, &self.snapshot, TagKind::Hmac)?;
             submit(&mut self.orderer, envelope)?;
         }
         Ok(())

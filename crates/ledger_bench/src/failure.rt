@@ -1,11 +1,11 @@
 //! Why nothing was measured.
 
 use committer::CommitRefusal;
-use wasm_file::ModuleRefusal;
 use orderer::OrderCause;
 use simulator::SimRefusal;
 use std::alloc::{AllocError, AllocFailed};
 use std::fmt::{self, Display, Formatter, Write};
+use wasm_file::ModuleRefusal;
 
 /// Why nothing was measured.
 #[derive(Clone, Copy)]

@@ -49,7 +49,7 @@ use std::time::Clock;
 use std::{env, fs};
 
 const USAGE: &str = "usage: ledger_bench simulate|flags MODULE COUNT
-       ledger_bench check|blocks WORKERS COUNT
+       ledger_bench check|blocks|signed WORKERS COUNT
        ledger_bench order|commit COUNT
        ledger_bench plan|valid|state KEYS COUNT
        ledger_bench read BLOCKS COUNT
@@ -87,6 +87,9 @@ fn carry_out<R: Files + Threads + Wait + Clock + Sync>(
         }
         Task::Blocks { workers, count } => {
             parts::check(rt, alloc, workers as usize, count, true)
+        }
+        Task::Signed { workers, count } => {
+            parts::check_signed(rt, alloc, workers as usize, count)
         }
         Task::Order { count } => parts::order(alloc, count),
         Task::Commit { count } => parts::commit(alloc, count),

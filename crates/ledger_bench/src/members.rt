@@ -2,23 +2,32 @@
 
 use crate::failure::Failure;
 use crate::workload::{Workload, chaincode};
-use endorsement_policy::{ChaincodePolicy, Installed, Organisation, Rules, TagKey};
+use ed25519::{public_key, sign};
+use endorsement_policy::{ChaincodePolicy, Installed, Rules};
 use fab_types::{Endorsement, Endorsements, Envelope, OrgName, Payload, Tag};
 use hmac_tag::tag;
+use org_keys::{OrgKey, Organisation, PublicKey, TagKey};
 use policy_language::{Policies, Policy};
 use std::alloc::Global;
 use world_state::Snapshot;
 
-/// How many bytes two endorsements of organisations with names of one letter take behind a payload.
+/// The kind of all tags: HMACs under shared keys, or signatures.
+#[derive(Clone, Copy)]
+pub enum TagKind {
+    Hmac,
+    Ed25519,
+}
+
+/// How many bytes two HMACs of organisations with names of one letter take behind a payload.
 const ENDORSEMENTS_SIZE: usize = 1 + 2 * 34;
 
-/// How many bytes a tag hashes beside those of the payload: two padded keys and the inner hash.
+/// How many bytes an HMAC hashes beside those of the payload: two padded keys and the inner hash.
 const TAG_SIZE: u64 = 64 + 64 + 32;
 
 /// The rules of the organisations. Nothing is installed.
-pub fn rules(alloc: Global) -> Result<Rules, Failure> {
+pub fn rules(alloc: Global, kind: TagKind) -> Result<Rules, Failure> {
     Rules::new(
-        organisations(alloc)?,
+        organisations(alloc, kind)?,
         policies(alloc)?,
         two_of_three(alloc)?,
         Installed::new(Vec::new(alloc), Vec::new(alloc)),
@@ -26,36 +35,45 @@ pub fn rules(alloc: Global) -> Result<Rules, Failure> {
     .ok_or(Failure::Limit)
 }
 
-/// The next transaction of a workload, made on this state, with two right tags.
+/// The next transaction of a workload, made on this state, with two right tags of a kind.
 pub fn transaction(
     alloc: Global,
     workload: &mut Workload,
     snapshot: &Snapshot,
+    kind: TagKind,
 ) -> Result<Envelope, Failure> {
     let payload = workload.payload(alloc, snapshot)?;
-    let endorsements = endorsements(alloc, &payload)?;
+    let endorsements = endorsements(alloc, &payload, kind)?;
     Ok(Envelope {
         payload,
         endorsements,
     })
 }
 
-/// How many bytes a check of both tags hashes.
+/// How many bytes a check of two HMACs hashes.
 pub fn tagged_bytes(envelope: &Envelope) -> u64 {
     let payload = envelope.size().saturating_sub(ENDORSEMENTS_SIZE);
     (payload as u64).saturating_add(TAG_SIZE).saturating_mul(2)
 }
 
-fn endorsements(alloc: Global, payload: &Payload) -> Result<Endorsements, Failure> {
+fn endorsements(alloc: Global, payload: &Payload, kind: TagKind) -> Result<Endorsements, Failure> {
     let bytes = payload.bytes();
-    let first = endorsement(alloc, b'A', bytes)?;
-    let second = endorsement(alloc, b'B', bytes)?;
+    let first = endorsement(alloc, b'A', bytes, kind)?;
+    let second = endorsement(alloc, b'B', bytes, kind)?;
     Endorsements::new(vec![in alloc; first, second]?).ok_or(Failure::Limit)
 }
 
-fn endorsement(alloc: Global, letter: u8, bytes: &[u8]) -> Result<Endorsement, Failure> {
+fn endorsement(
+    alloc: Global,
+    letter: u8,
+    bytes: &[u8],
+    kind: TagKind,
+) -> Result<Endorsement, Failure> {
     let org = org(alloc, letter)?;
-    let tag = Tag::Hmac(tag(&secret(letter), bytes));
+    let tag = match kind {
+        TagKind::Hmac => Tag::Hmac(tag(&secret(letter), bytes)),
+        TagKind::Ed25519 => Tag::Ed25519(sign(&secret(letter), bytes)),
+    };
     Ok(Endorsement { org, tag })
 }
 
@@ -74,17 +92,30 @@ fn two_of_three(alloc: Global) -> Result<Policy, Failure> {
     Ok(Policy::OutOf(2, leaves))
 }
 
-fn organisations(alloc: Global) -> Result<Vec<Organisation>, Failure> {
-    let first = organisation(alloc, b'A')?;
-    let second = organisation(alloc, b'B')?;
-    let third = organisation(alloc, b'C')?;
+fn organisations(alloc: Global, kind: TagKind) -> Result<Vec<Organisation>, Failure> {
+    let first = organisation(alloc, b'A', kind)?;
+    let second = organisation(alloc, b'B', kind)?;
+    let third = organisation(alloc, b'C', kind)?;
     Ok(vec![in alloc; first, second, third]?)
 }
 
-fn organisation(alloc: Global, letter: u8) -> Result<Organisation, Failure> {
-    let key = TagKey::new(secret(letter).to_vec(alloc)?).ok_or(Failure::Limit)?;
+fn organisation(alloc: Global, letter: u8, kind: TagKind) -> Result<Organisation, Failure> {
+    let key = match kind {
+        TagKind::Hmac => shared_key(alloc, letter)?,
+        TagKind::Ed25519 => public_key_of(letter)?,
+    };
     let name = org(alloc, letter)?;
     Ok(Organisation { name, key })
+}
+
+fn shared_key(alloc: Global, letter: u8) -> Result<OrgKey, Failure> {
+    let key = TagKey::new(secret(letter).to_vec(alloc)?).ok_or(Failure::Limit)?;
+    Ok(OrgKey::Shared(key))
+}
+
+fn public_key_of(letter: u8) -> Result<OrgKey, Failure> {
+    let key = PublicKey::new(public_key(&secret(letter))).ok_or(Failure::Limit)?;
+    Ok(OrgKey::Public(key))
 }
 
 /// The organisation of this letter.
@@ -92,7 +123,7 @@ pub fn org(alloc: Global, letter: u8) -> Result<OrgName, Failure> {
     OrgName::new(vec![in alloc; letter]?).ok_or(Failure::Limit)
 }
 
-/// The bytes of an organisation's key.
+/// The bytes of an organisation's shared key, or its seed.
 fn secret(letter: u8) -> [u8; 32] {
     [letter; 32]
 }

@@ -6,10 +6,9 @@ ghost use Rattle.endorsement_policy.specs.Endorsed.{right_orgs};
 use crate::channel::{BATCH, Channel, submit};
 use crate::done::Done;
 use crate::failure::Failure;
-use crate::members::{rules, tagged_bytes, transaction};
+use crate::members::{TagKind, rules, tagged_bytes, transaction};
 use crate::workload::Workload;
 use block_store::{End, Loaded};
-use store_devices::Counted;
 use endorsement_policy::{Gate, Rules, check_all, check_with_right_orgs, right_orgs_of_blocks};
 use fab_types::{Block, Envelope};
 use orderer::Orderer;
@@ -18,6 +17,7 @@ use reorder::reorder;
 use std::alloc::Global;
 use std::io::Read;
 use std::thread::Threads;
+use store_devices::Counted;
 use world_state::Snapshot;
 
 /// Over so many keys there are few conflicts.
@@ -50,12 +50,27 @@ pub fn check<R: Threads + Sync>(
     if workers == 0 || workers > 16 {
         return Err(Failure::Limit);
     }
-    let checked = Checked::new(alloc)?;
+    let checked = Checked::new(alloc, TagKind::Hmac)?;
     if at_once {
         checked.at_once(rt, alloc, workers, count)
     } else {
         checked.one_by_one(rt, alloc, workers, count)
     }
+}
+
+/// Checks so many blocks of signed transactions, their tags at once by 1 to 16 workers.
+pub fn check_signed<R: Threads + Sync>(
+    rt: &R,
+    alloc: Global,
+    workers: usize,
+    count: u32,
+) -> Result<Done, Failure> {
+    if workers == 0 || workers > 16 {
+        return Err(Failure::Limit);
+    }
+    let checked = Checked::new(alloc, TagKind::Ed25519)?;
+    checked.at_once(rt, alloc, workers, count)?;
+    Ok(Done::Count(u64::from(count).saturating_mul(BATCH as u64)))
 }
 
 /// A batch of transactions that is checked, and what it is checked by.
@@ -67,11 +82,11 @@ struct Checked {
 }
 
 impl Checked {
-    /// A batch on the empty state.
-    fn new(alloc: Global) -> Result<Checked, Failure> {
+    /// A batch with tags of a kind, on the empty state.
+    fn new(alloc: Global, kind: TagKind) -> Result<Checked, Failure> {
         Ok(Checked {
-            rules: rules(alloc)?,
-            batch: batch(alloc, KEYS)?,
+            rules: rules(alloc, kind)?,
+            batch: batch(alloc, KEYS, kind)?,
             snapshot: Snapshot::empty(alloc),
         })
     }
@@ -160,7 +175,8 @@ pub fn order(alloc: Global, count: u32) -> Result<Done, Failure> {
 /// An envelope of 1,024 bytes.
 fn long_envelope(alloc: Global) -> Result<Envelope, Failure> {
     let snapshot = Snapshot::empty(alloc);
-    transaction(alloc, &mut Workload::new(KEYS, ARGUMENT), &snapshot)
+    let mut workload = Workload::new(KEYS, ARGUMENT);
+    transaction(alloc, &mut workload, &snapshot, TagKind::Hmac)
 }
 
 /// Orders so many copies of an envelope.
@@ -189,7 +205,7 @@ fn commit_rounds(alloc: Global, channel: &mut Channel, rounds: u32) -> Result<Do
 
 /// Plans a batch over so many keys so many times.
 pub fn plan(alloc: Global, keys: u32, count: u32) -> Result<Done, Failure> {
-    let batch = batch(alloc, keys)?;
+    let batch = batch(alloc, keys, TagKind::Hmac)?;
     plan_again(alloc, &batch, count)
 }
 
@@ -234,23 +250,24 @@ fn blocks_of(loaded: &Loaded) -> Result<Done, Failure> {
     }
 }
 
-/// A batch over so many keys, made on the empty state.
-fn batch(alloc: Global, keys: u32) -> Result<Vec<Envelope>, Failure> {
+/// A batch over so many keys with tags of a kind, made on the empty state.
+fn batch(alloc: Global, keys: u32, kind: TagKind) -> Result<Vec<Envelope>, Failure> {
     let mut batch = Vec::new(alloc);
-    fill(alloc, keys, &Snapshot::empty(alloc), &mut batch)?;
+    fill(alloc, keys, kind, &Snapshot::empty(alloc), &mut batch)?;
     Ok(batch)
 }
 
-/// Puts a batch over so many keys, made on this state, into a vector.
+/// Puts a batch over so many keys with tags of a kind, made on this state, into a vector.
 fn fill(
     alloc: Global,
     keys: u32,
+    kind: TagKind,
     snapshot: &Snapshot,
     batch: &mut Vec<Envelope>,
 ) -> Result<(), Failure> {
     let mut workload = Workload::new(keys, 0);
     for _ in 0..BATCH {
-        let envelope = transaction(alloc, &mut workload, snapshot)?;
+        let envelope = transaction(alloc, &mut workload, snapshot, kind)?;
         batch.push(envelope)?;
     }
     Ok(())

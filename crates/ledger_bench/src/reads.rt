@@ -3,11 +3,12 @@
 use crate::channel::Channel;
 use crate::done::Done;
 use crate::failure::Failure;
-use crate::members::{org, rules};
+use crate::members::{TagKind, org, rules};
 use crate::workload::key;
 use endorsement_policy::Installed;
 use fab_types::{Block, Key};
 use ledger_setting::Genesis;
+use org_keys::Signers;
 use peer_node::{Peer, PeerWriter, Seat};
 use simulator::Book;
 use std::alloc::Global;
@@ -77,11 +78,13 @@ fn last_of(mut seats: Vec<Seat>) -> Option<Seat> {
 /// A genesis without chaincodes.
 fn genesis(alloc: Global) -> Result<Genesis, Failure> {
     let peers = vec![in alloc; org(alloc, b'A')?]?;
-    let rules = Arc::new(alloc, rules(alloc)?)?;
+    let rules = Arc::new(alloc, rules(alloc, TagKind::Hmac)?)?;
+    let signers = Arc::new(alloc, Signers::none(alloc))?;
     let book = empty_book(alloc)?;
     Ok(Genesis {
         book,
         rules,
+        signers,
         peers,
         seats: 1,
         queue: 1,

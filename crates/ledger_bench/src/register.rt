@@ -7,9 +7,9 @@ use crate::done::Done;
 use crate::failure::Failure;
 use endorsement_policy::{Installed, ModuleId};
 use fab_types::{Block, BlockData, Call, Flag, Name, Payload, Proposal, Value};
-use wasm_file::valid_module;
 use simulator::{Book, Chaincode, simulate};
 use std::alloc::Global;
+use wasm_file::valid_module;
 use wasm_profile::Profile;
 use world_state::Snapshot;
 

@@ -11,6 +11,8 @@ pub enum Task<'a> {
     Check { workers: u32, count: u32 },
     /// Check so many batches as blocks, their tags at once by so many workers.
     Blocks { workers: u32, count: u32 },
+    /// Check so many blocks of signed transactions, their tags at once by so many workers.
+    Signed { workers: u32, count: u32 },
     /// Order so many envelopes.
     Order { count: u32 },
     /// Check and commit so many blocks.
@@ -74,6 +76,10 @@ fn of_numbers(kind: &str, first: u32, count: u32) -> Option<Task<'static>> {
             count,
         }),
         "blocks" => Some(Task::Blocks {
+            workers: first,
+            count,
+        }),
+        "signed" => Some(Task::Signed {
             workers: first,
             count,
         }),
