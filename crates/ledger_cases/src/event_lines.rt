@@ -1,8 +1,8 @@
 //! Cases `event TEXT`: what a line of an events file asks for.
 
 use crate::texts::{write_characters, write_definition, write_hex};
-use json_events::{Action, BadLine, read_event};
 use fab_types::Proposal;
+use json_events::{Action, BadLine, read_event};
 use std::alloc::{AllocError, Global};
 
 /// The answer of a case.

@@ -33,11 +33,15 @@
 //!
 //! - `policy NAMES TEXT`: `policy` where the text spells one over the organisations of these names,
 //!   or its fault; `satisfied NAMES NAMES TEXT`: whether the organisations named second satisfy it;
-//! - `endorsed NAMES TAGS TEXT`: whether an envelope with these tags is endorsed, each `NAME/KEY`:
-//!   by name, under the key of another, which is its name. The text is the policy of calls and of
-//!   upgrades, and of modules one is installed, of profile 1, whose digest has the byte 7. The
-//!   envelope's transaction calls `kv` and reads its definition as absent; ` | WORDS` behind the
-//!   text is another one, and ` / CHAIN` behind these a chain by whose state it is judged.
+//! - `endorsed NAMES TAGS TEXT`: whether an envelope with these tags is endorsed. An organisation's
+//!   shared key is its name; one with a `!` behind its name has a public key, whose seed is the
+//!   name with zeros behind it. A tag is the name that it comes under, a sign, and the name of
+//!   whose key makes it: `/` for an HMAC under the name, `!` for a signature by the seed, `~` for
+//!   that one with a bit of its last byte turned, `?` for an HMAC under the seed's public key. The
+//!   text is the policy of calls and of upgrades, and of modules one is installed, of profile 1,
+//!   whose digest has the byte 7. The envelope's transaction calls `kv` and reads its definition as
+//!   absent; ` | WORDS` behind the text is another one, and ` / CHAIN` behind these a chain by
+//!   whose state it is judged.
 //!
 //! `event TEXT` tells what a line of an events file asks for, with bytes in hex and `-` for none,
 //! and `genesis TEXT` what the genesis has that the text spells, or why it spells none.
@@ -79,6 +83,7 @@ mod policies;
 mod runs;
 mod simulations;
 mod steps;
+mod tags;
 mod texts;
 mod transactions;
 

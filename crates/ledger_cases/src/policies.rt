@@ -3,12 +3,10 @@
 use crate::bytes::split_word;
 use crate::chains::judge_chain;
 use crate::fault::CaseFault;
+use crate::tags::{endorsements_of, organisations_of, orgs_of};
 use crate::transactions::{chaincode_name, payload_of};
-use endorsement_policy::{
-    ChaincodePolicy, Installed, ModuleId, Organisation, Rules, TagKey, is_endorsed, satisfied,
-};
-use fab_types::{Endorsement, Endorsements, Envelope, OrgName, Payload};
-use hmac_tag::tag;
+use endorsement_policy::{ChaincodePolicy, Installed, ModuleId, Rules, is_endorsed, satisfied};
+use fab_types::Envelope;
 use policy_language::{OrgSet, Policy, PolicyFault, parse};
 use std::alloc::Global;
 use wasm_profile::Profile;
@@ -101,23 +99,6 @@ fn endorsed_by(
     Ok(format!(in alloc; "{endorsed}")?)
 }
 
-/// The words between commas. `-` is none.
-fn words_of(list: &str) -> &str {
-    if list == "-" { "" } else { list }
-}
-
-fn org_of(alloc: Global, name: &str) -> Result<OrgName, CaseFault> {
-    OrgName::new(name.as_bytes().to_vec(alloc)?).ok_or(CaseFault::BadLine)
-}
-
-fn orgs_of(alloc: Global, list: &str) -> Result<Vec<OrgName>, CaseFault> {
-    let mut orgs = Vec::new(alloc);
-    for name in words_of(list).split_terminator(',') {
-        orgs.push(org_of(alloc, name)?)?;
-    }
-    Ok(orgs)
-}
-
 fn policy_of(alloc: Global, known: &str, text: &str) -> Result<Policy, CaseFault> {
     let orgs = orgs_of(alloc, known)?;
     match parse(alloc, text, &orgs) {
@@ -126,7 +107,7 @@ fn policy_of(alloc: Global, known: &str, text: &str) -> Result<Policy, CaseFault
     }
 }
 
-/// The organisations with their names as keys, the policy of calls and of upgrades, and a module.
+/// The organisations with their keys, the policy of calls and of upgrades, and a module.
 fn rules_of(alloc: Global, known: &str, text: &str) -> Result<Rules, CaseFault> {
     let organisations = organisations_of(alloc, known)?;
     let installed = installed(alloc, known)?;
@@ -151,20 +132,6 @@ fn installed(alloc: Global, known: &str) -> Result<Installed, CaseFault> {
     Ok(Installed::new(vec![in alloc; id]?, orgs_of(alloc, known)?))
 }
 
-fn organisations_of(alloc: Global, known: &str) -> Result<Vec<Organisation>, CaseFault> {
-    let mut organisations = Vec::new(alloc);
-    for name in words_of(known).split_terminator(',') {
-        organisations.push(organisation_of(alloc, name)?)?;
-    }
-    Ok(organisations)
-}
-
-fn organisation_of(alloc: Global, word: &str) -> Result<Organisation, CaseFault> {
-    let name = org_of(alloc, word)?;
-    let key = TagKey::new(word.as_bytes().to_vec(alloc)?).ok_or(CaseFault::BadLine)?;
-    Ok(Organisation { name, key })
-}
-
 /// The transaction of these words, with these tags.
 fn envelope_of(alloc: Global, tags: &str, words: &str) -> Result<Envelope, CaseFault> {
     let payload = payload_of(alloc, [0; 16], words)?;
@@ -173,25 +140,4 @@ fn envelope_of(alloc: Global, tags: &str, words: &str) -> Result<Envelope, CaseF
         payload,
         endorsements,
     })
-}
-
-fn endorsements_of(
-    alloc: Global,
-    payload: &Payload,
-    tags: &str,
-) -> Result<Endorsements, CaseFault> {
-    let bytes = payload.bytes();
-    let mut items = Vec::new(alloc);
-    for word in words_of(tags).split_terminator(',') {
-        items.push(endorsement_of(alloc, bytes, word)?)?;
-    }
-    Endorsements::new(items).ok_or(CaseFault::BadLine)
-}
-
-/// The tag of bytes that `NAME/KEY` asks for.
-fn endorsement_of(alloc: Global, bytes: &[u8], word: &str) -> Result<Endorsement, CaseFault> {
-    let (name, key) = word.split_once('/').ok_or(CaseFault::BadLine)?;
-    let org = org_of(alloc, name)?;
-    let tag = tag(key.as_bytes(), bytes);
-    Ok(Endorsement { org, tag })
 }

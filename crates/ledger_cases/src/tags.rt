@@ -1,0 +1,103 @@
+//! Organisations of cases, with keys that are made of their names, and their tags.
+
+use crate::fault::CaseFault;
+use ed25519::{public_key, sign};
+use fab_types::{Endorsement, Endorsements, OrgName, Payload, Tag};
+use hmac_tag::tag;
+use org_keys::{OrgKey, Organisation, PublicKey, TagKey};
+use std::alloc::Global;
+
+/// The words between commas. `-` is none.
+fn words_of(list: &str) -> &str {
+    if list == "-" { "" } else { list }
+}
+
+/// The names of the organisations that a word lists, of either kind.
+pub fn orgs_of(alloc: Global, list: &str) -> Result<Vec<OrgName>, CaseFault> {
+    let mut orgs = Vec::new(alloc);
+    for word in words_of(list).split_terminator(',') {
+        orgs.push(org_of(alloc, split_kind(word).0)?)?;
+    }
+    Ok(orgs)
+}
+
+fn org_of(alloc: Global, name: &str) -> Result<OrgName, CaseFault> {
+    OrgName::new(name.as_bytes().to_vec(alloc)?).ok_or(CaseFault::BadLine)
+}
+
+/// A name, and whether a `!` stands behind it, which gives its organisation a public key.
+fn split_kind(word: &str) -> (&str, bool) {
+    match word.strip_suffix('!') {
+        Some(name) => (name, true),
+        None => (word, false),
+    }
+}
+
+/// The organisations that a word lists, with their keys.
+pub fn organisations_of(alloc: Global, list: &str) -> Result<Vec<Organisation>, CaseFault> {
+    let mut organisations = Vec::new(alloc);
+    for word in words_of(list).split_terminator(',') {
+        organisations.push(organisation_of(alloc, word)?)?;
+    }
+    Ok(organisations)
+}
+
+fn organisation_of(alloc: Global, word: &str) -> Result<Organisation, CaseFault> {
+    let (text, is_signed) = split_kind(word);
+    let key = if is_signed {
+        OrgKey::Public(PublicKey::new(public_key(&seed_of(text)?)).ok_or(CaseFault::BadLine)?)
+    } else {
+        OrgKey::Shared(TagKey::new(text.as_bytes().to_vec(alloc)?).ok_or(CaseFault::BadLine)?)
+    };
+    let name = org_of(alloc, text)?;
+    Ok(Organisation { name, key })
+}
+
+/// The seed of an organisation: its name, with zeros behind it.
+fn seed_of(name: &str) -> Result<[u8; 32], CaseFault> {
+    let bytes = name.as_bytes();
+    let mut seed = [0; 32];
+    if bytes.len() > seed.len() {
+        return Err(CaseFault::BadLine);
+    }
+    seed[..bytes.len()].copy_from_slice(bytes);
+    Ok(seed)
+}
+
+/// The endorsements of a payload that a word lists.
+pub fn endorsements_of(
+    alloc: Global,
+    payload: &Payload,
+    tags: &str,
+) -> Result<Endorsements, CaseFault> {
+    let bytes = payload.bytes();
+    let mut items = Vec::new(alloc);
+    for word in words_of(tags).split_terminator(',') {
+        items.push(endorsement_of(alloc, bytes, word)?)?;
+    }
+    Endorsements::new(items).ok_or(CaseFault::BadLine)
+}
+
+/// The endorsement by who stands before the sign in a word, with the tag of who stands behind it.
+fn endorsement_of(alloc: Global, bytes: &[u8], word: &str) -> Result<Endorsement, CaseFault> {
+    let (name, tag) = if let Some((name, key)) = word.split_once('/') {
+        (name, Tag::Hmac(tag(key.as_bytes(), bytes)))
+    } else if let Some((name, signer)) = word.split_once('?') {
+        (name, Tag::Hmac(tag(&public_key(&seed_of(signer)?), bytes)))
+    } else if let Some((name, signer)) = word.split_once('!') {
+        (name, Tag::Ed25519(sign(&seed_of(signer)?, bytes)))
+    } else if let Some((name, signer)) = word.split_once('~') {
+        (name, Tag::Ed25519(turned(sign(&seed_of(signer)?, bytes))))
+    } else {
+        return Err(CaseFault::BadLine);
+    };
+    let org = org_of(alloc, name)?;
+    Ok(Endorsement { org, tag })
+}
+
+/// A signature with the lowest bit of its last byte turned.
+fn turned(signature: [u8; 64]) -> [u8; 64] {
+    let mut turned = signature;
+    turned[63] ^= 1;
+    turned
+}
