@@ -1,7 +1,8 @@
 #!/usr/bin/env python3
 """Writes orders*, sizes*, names*, ends.json, scans.jsonl, stranger.jsonl, bytes.jsonl, upgrades*, versions.jsonl,
-predicted.jsonl, profiles*, seatless.json, nobody.json, doubled.json, look.json, extend.wasm and stores beside this file:
-events with envelopes, genesis files, modules and stores that are laid out here, by docs/FORMATS.md.
+predicted.jsonl, profiles*, seatless.json, nobody.json, doubled.json, look.json, extend.wasm, signed*, alone*, second.json,
+forged.jsonl, key files and stores beside this file: events with envelopes, genesis files, modules and stores that are laid
+out here, by docs/FORMATS.md.
 
 older.store is not among them: the program wrote it when calls did not read their definitions yet. It has the blocks of
 whole.store but for these reads.
@@ -11,8 +12,12 @@ import hmac
 import json
 import pathlib
 import struct
+import sys
 
 HERE = pathlib.Path(__file__).parent
+sys.path.insert(0, str(HERE.resolve().parents[2] / "python"))
+import rfc8032
+
 KEYS = {"A": b"Jefe", "B": b"B"}
 PUT_A, GET_PUT_A = (
     bytes.fromhex(json.loads((HERE / name).read_text())["chaincodes"][0]["module"]) for name in ("put.json", "get.json")
@@ -75,7 +80,7 @@ def installed(code, profile=1):
     return {"module": code.hex(), "profile": profile}
 
 
-def genesis(name, policy="'A'", more=(), modules=(), upgrade=None, **limits):
+def genesis(name, policy="'A'", more=(), modules=(), upgrade=None, fuel=400, **others):
     """Two peers, a chaincode `kv` that puts `1` at `a`, more chaincodes by their names and modules, and modules as they
     are listed. The policy is that of upgrades too, where these are given no other."""
     chaincodes = [("kv", PUT_A, 1), *more]
@@ -84,9 +89,9 @@ def genesis(name, policy="'A'", more=(), modules=(), upgrade=None, **limits):
         "peers": list(KEYS),
         "seats": 2,
         **LIMITS,
-        **limits,
+        **others,
         "chaincodes": [
-            {"name": called, "policy": policy, "fuel": 400, **installed(code, profile)}
+            {"name": called, "policy": policy, "fuel": fuel, **installed(code, profile)}
             for called, code, profile in chaincodes
         ],
         "modules": list(modules),
@@ -339,9 +344,9 @@ genesis("look.json", more=[("look", LOOK, 1)], seats=4)
 # Stores of two blocks that each put `1` at `a`.
 
 
-def record(number, link, flag=0, data_hash=None):
-    """A block as it is stored, behind a header with this hash, and the hash of its own header."""
-    one = envelope(call(number, writes=puts(b"a")))
+def record(number, link, flag=0, data_hash=None, one=None):
+    """A block of one envelope as it is stored, behind a header with this hash, and the hash of its own header."""
+    one = one or envelope(call(number, writes=puts(b"a")))
     data = struct.pack(">HI", 1, len(one)) + one
     header = struct.pack(">I", number) + link + (data_hash or hashlib.sha256(data).digest())
     stored = struct.pack(">I", len(header + data)) + header + data + bytes([flag])
@@ -448,3 +453,68 @@ def proposal(begun):
 calls = [proposal(begin(0, at, chaincode=name)) for at, name in enumerate(("kv", "trap", "status", "zero", "none"))]
 calls += [proposal(upgrade(0, 6, PUT_A)), proposal(upgrade(0, 7, b"another module")), begin(0, 1), "{}", "", calls[0]]
 write("proposals.jsonl", calls)
+
+# Public keys: those of the seeds of RFC 8032, section 7.1, tests 1 and 2. B has the first, A a shared key.
+SEEDS = [
+    bytes.fromhex("9d61b19deffd5a60ba844af492ec2cc44449c5697b326919703bac031cae7f60"),
+    bytes.fromhex("4ccd089b28ff96da9db6c346ec114e0f5b8a319f35aba624da8cf6ed4fb8a6fb"),
+]
+PUBLIC = [rfc8032.secret_to_public(seed) for seed in SEEDS]
+B_SIGNS = {"name": "B", "public": PUBLIC[0].hex()}
+genesis("signed.json", policy="AND('A','B')", orgs=[{"name": "A", "key": KEYS["A"].hex()}, B_SIGNS], peers=["B", "A"])
+genesis("alone.json", policy="'B'", orgs=[B_SIGNS], peers=["B"], fuel=71)
+genesis("second.json", orgs=[{"name": "A", "key": KEYS["A"].hex()}, B_SIGNS])
+
+# Key files: both seeds, in digits of either case; the second alone; and what is none: a digit less, no line, a last line
+# without its end, a line's end of another system, a blank line, and a line more than 16.
+BOTH = [SEEDS[0].hex(), SEEDS[1].hex().upper()]
+write("signed.keys", BOTH)
+write("other.keys", BOTH[1:])
+write("short.keys", [BOTH[0][:-1]])
+write("empty.keys", [])
+(HERE / "open.keys").write_text("\n".join(BOTH))
+(HERE / "returns.keys").write_text("".join(f"{line}\r\n" for line in BOTH))
+write("blank.keys", [*BOTH, ""])
+write("sixteen.keys", [SEEDS[0].hex()] * 16)
+write("seventeen.keys", [SEEDS[0].hex()] * 17)
+
+# Both peers endorse a call, B by a signature and A by an HMAC; then each endorses one alone.
+both = [begin(0, 1), finish(0, "e1"), begin(1, 1), finish(1, "e2"), *use("e2", "e1")]
+both += submitted(begin(0, 2)) + submitted(begin(1, 3), 1)
+write("signed.jsonl", both + [event("commit", peer=0)] * 3 + [event("commit", peer=1)])
+write("alone.jsonl", [begin(0, 0), finish(0, "e1"), *use("e1"), event("commit", peer=0)])
+
+
+def tag_of(org, tag):
+    """An endorsement by these bytes: an HMAC, or a signature behind a byte 0."""
+    return (b"" if len(tag) == 32 else b"\0") + short(org.encode()) + tag
+
+
+def turned(tag):
+    return tag[:-1] + bytes([tag[-1] ^ 1])
+
+
+# Envelopes with A's HMAC, and with what claims to be of B: its signature, one by another seed, one whose last bit is turned,
+# the HMAC under the public key; then one by B's seed that claims to be of A, beside B's own.
+forged = []
+for nonce in range(1, 6):
+    data = call(nonce, writes=puts(b"a"))
+    shared, signature = hmac.digest(KEYS["A"], data, "sha256"), rfc8032.sign(SEEDS[0], data)
+    wrong = [
+        signature,
+        rfc8032.sign(SEEDS[1], data),
+        turned(signature),
+        hmac.digest(PUBLIC[0], data, "sha256"),
+        signature,
+    ][nonce - 1]
+    one = data + b"\2" + tag_of("A", signature if nonce == 5 else shared) + tag_of("B", wrong)
+    forged += [event("submit", hex=one.hex()), event("take"), event("commit", peer=0)]
+write("forged.jsonl", forged)
+
+# A store of one block with both tags, and that block for `commit`; the same envelope as a line of a log.
+data = call(1, writes=puts(b"a"))
+one = data + b"\2" + tag_of("A", hmac.digest(KEYS["A"], data, "sha256")) + tag_of("B", rfc8032.sign(SEEDS[0], data))
+stored, _ = record(1, NO_LINK, one=one)
+(HERE / "signed.store").write_bytes(stored)
+blocks("signed.txt", f"1 {block(stored)}")
+write("signed.log", log([one.hex(), one[:-1].hex()]))

@@ -16,6 +16,9 @@ import sys
 import tempfile
 
 HERE = pathlib.Path(__file__).parent
+sys.path.insert(0, str(HERE.resolve().parents[2] / "python"))
+import rfc8032
+
 VALID, UNENDORSED = 0, 1
 # Stores whose flags are others by the rules than those that they hold, and genesis files by which no call is endorsed.
 FORGED = {"differs.store", "differs-unlinked.store", "unlinked-differs.store"}
@@ -73,7 +76,10 @@ class Bytes:
         return {**tx, "nonce": self.take(16).hex()}
 
     def endorsement(self):
-        return {"org": self.name(), "tag": self.take(32).hex()}
+        org = self.name()
+        if not org:
+            return {"org": self.name(), "tag": self.take(64).hex()}
+        return {"org": org, "tag": self.take(32).hex()}
 
     def envelope(self, keys):
         begin = self.at
@@ -86,8 +92,15 @@ class Bytes:
         payload = self.data[begin : self.at]
         tx["endorsements"] = self.list(1, self.endorsement)
         for it in tx["endorsements"]:
-            it["right"] = it["org"] in keys and hmac.digest(keys[it["org"]], payload, "sha256").hex() == it["tag"]
+            it["right"] = it["org"] in keys and is_right(keys[it["org"]], payload, bytes.fromhex(it["tag"]))
         return tx
+
+
+def is_right(org, payload, tag):
+    """Whether a tag is right under the key of an organisation, as a genesis file lists it."""
+    if "public" in org:
+        return len(tag) == 64 and rfc8032.verify(bytes.fromhex(org["public"]), payload, tag)
+    return hmac.digest(bytes.fromhex(org["key"]), payload, "sha256") == tag
 
 
 def block_of(record, keys):
@@ -155,7 +168,7 @@ def setting_of(genesis):
     ]
     limits = {name: genesis[name] for name in ("peers", "count", "preferred", "absolute", "reorder")}
     modules = [installed(it) for it in [*genesis["chaincodes"], *genesis["modules"]]]
-    orgs = [it["name"] for it in genesis["orgs"]]
+    orgs = [{"name": it["name"], "public": it["public"]} if "public" in it else it["name"] for it in genesis["orgs"]]
     upgrade = genesis["upgrade"].replace(" ", "")
     return {"ledger": 1, "orgs": orgs, "chaincodes": chaincodes, "modules": modules, "upgrade": upgrade, **limits}
 
@@ -181,7 +194,7 @@ def shown(words, folder):
     command, genesis_name, store_name, *rest = words
     options = dict(zip(rest[::2], rest[1::2]))
     genesis = json.loads((folder / genesis_name).read_text())
-    keys = {it["name"]: bytes.fromhex(it["key"]) for it in genesis["orgs"]}
+    keys = {it["name"]: it for it in genesis["orgs"]}
     blocks, found = chain_of((folder / store_name).read_bytes(), genesis_name, store_name, keys)
     if command == "show":
         first, last = int(options.get("--from", 1)), int(options.get("--to", 65535))

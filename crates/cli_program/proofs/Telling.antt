@@ -1,5 +1,5 @@
 -- What was told stays so.
-use Rattle.std.proofs.Common.{◌⊎◌, inl, inr, arith}
+use Rattle.std.proofs.Common.{inl, inr, arith}
 use Rattle.cli_lines.specs.Told.{Told, IsMore, IsTold}
 
 pub still_told : (before mid after : Told) → IsTold before mid → IsMore mid after → IsTold before after

@@ -6,15 +6,14 @@ ghost use Rattle.cli_lines.specs.Texts.{last_line};
 ghost use Rattle.cli_lines.specs.Told.{IsMore, IsTold, Says, Tells, Told};
 
 use crate::opening::{opened, order_log};
+use crate::public::public;
 use crate::threading::threads;
 use cli_lines::{Failure, Files, Printer};
 use cli_roles::{commit, endorse};
 use cli_session::{RunFiles, run};
-use ledger_setting::Genesis;
-use cli_show::{
-    Asked, Shown, Simulated, Span, audit, check, digest, show, simulate, state, trace,
-};
+use cli_show::{Asked, Shown, Simulated, Span, audit, check, digest, show, simulate, state, trace};
 use cli_words::{Task, Usage, WordsFault, Work, parse};
+use ledger_setting::Genesis;
 use std::alloc::Global;
 use std::io::Write;
 use std::sync::Wait;
@@ -103,24 +102,33 @@ fn carry_out<R: Threads + Wait + Sync + Send + Copy + 'static, F: Files, W: Writ
         Ok(Task::Check { module, profile }) => check(alloc, files, module, profile, out),
         Ok(Task::Digest { module, profile }) => digest(alloc, files, module, profile, out),
         Ok(Task::Order { genesis }) => order_log(alloc, files, genesis, out),
-        Ok(Task::Work { genesis, work }) => { with_genesis(rt, alloc, files, genesis, &work, out) }
+        Ok(Task::Public { keys }) => public(alloc, files, keys, out),
+        Ok(
+            Task::Work {
+                genesis,
+                keys,
+                work,
+            },
+        ) => with_genesis(rt, alloc, files, genesis, keys, &work, out),
         Err(WordsFault::Memory) => Err(Failure::Memory),
         Err(WordsFault::Usage) => Err(Failure::Usage),
     }
 }
 
-/// Does what is asked for of the genesis in the file of this name.
+/// Does what is asked for of the genesis in the file of this name, with the seeds of a key file at
+/// hand if there is one.
 fn with_genesis<R: Threads + Wait + Sync + Send + Copy + 'static, F: Files, W: Write>(
     rt: &R,
     alloc: Global,
     files: &mut F,
     name: &str,
+    keys: Option<&str>,
     work: &Work<'_>,
     out: &mut Printer<'_, W>,
 ) -> Result<(), Failure>
     ensures tells { Tells out.old out.new result }
 {
-    let genesis = opened(alloc, files, name)?;
+    let genesis = opened(alloc, files, name, keys)?;
     do_work(rt, alloc, files, name, &genesis, work, out)
 }
 
@@ -152,7 +160,9 @@ fn do_work<R: Threads + Wait + Sync + Send + Copy + 'static, F: Files, W: Write>
             };
             run(alloc, files, genesis, &names, out)
         }
-        Work::Threads { chaincode, rounds } => threads(rt, alloc, genesis, chaincode, *rounds, out),
+        Work::Threads { chaincode, rounds } => {
+            threads(rt, alloc, files, genesis, chaincode, *rounds, out)
+        }
         Work::Audit { store } => audit(alloc, files, genesis, store, out),
         Work::Show { store, from, to } => {
             let span = Span {

@@ -3,15 +3,16 @@
 //! The commands, and what each does, stand in the table of `cli_words`.
 //!
 //! [`program`] takes the words of the command line, the files by [`Files`], and where lines are
-//! printed. It starts threads for `threads` alone, which is here; the others do their work in
-//! `cli_session`, `cli_show` and `cli_roles`.
+//! printed. It starts threads for `threads` alone, which is here, as `public` is; the others do
+//! their work in `cli_session`, `cli_show` and `cli_roles`.
 #![tactic(auto)]
 
 mod commands;
 mod disk;
 mod opening;
+mod public;
 mod threading;
 
+pub use cli_lines::{Files, Printer};
 pub use commands::program;
 pub use disk::Disk;
-pub use cli_lines::{Files, Printer};

@@ -2,8 +2,8 @@
 
 ghost use Rattle.cli_lines.specs.Told.{Tells};
 
+use cli_lines::{Failure, Files, Printer, need_secrets, print_audit};
 use fab_types::Name;
-use cli_lines::{Failure, Printer, print_audit};
 use ledger_setting::Genesis;
 use seat_threads::{Report, SeatsRefusal, run_seats};
 use std::alloc::Global;
@@ -14,9 +14,11 @@ use std::thread::Threads;
 /// Lets each seat of the first peer endorse and submit so many calls of a chaincode on a thread of
 /// its own, and prints how many were endorsed and refused, how many of the endorsed ones the
 /// orderer refused, if any, how many blocks came of them, and what the audit of the chain says.
-pub fn threads<R: Threads + Wait + Sync + Send + Copy + 'static, W: Write>(
+/// Refused first where the peer's secret is not at hand (808).
+pub fn threads<R: Threads + Wait + Sync + Send + Copy + 'static, F: Files, W: Write>(
     rt: &R,
     alloc: Global,
+    files: &mut F,
     genesis: &Genesis,
     chaincode: &Name,
     rounds: u32,
@@ -24,6 +26,7 @@ pub fn threads<R: Threads + Wait + Sync + Send + Copy + 'static, W: Write>(
 ) -> Result<(), Failure>
     ensures tells { Tells out.old out.new result }
 {
+    need_secrets(alloc, files, genesis, &genesis.peers[..1])?;
     match run_seats(rt, alloc, genesis, chaincode, rounds) {
         Ok(report) => print_report(report, out),
         Err(SeatsRefusal::Memory) => Err(Failure::Memory),
