@@ -8,6 +8,7 @@ from collections.abc import Callable
 
 import keygen
 import members
+import networks
 from calling import find_pieces
 from pages import Block, Typist, blocks_of
 from report import Report, run
@@ -157,9 +158,14 @@ def keys(report: Report, at: Setting) -> None:
     keygen.try_keygen(report, at.tree, at.room, at.env)
 
 
+def network(report: Report, at: Setting) -> None:
+    networks.try_networks(report, at.tree, at.room, at.env)
+
+
 def calling(report: Report, at: Setting) -> None:
     find_pieces(report, at.tree, blocks_of(at.tree, "docs/CALLING.md"))
 
 
 # Those that take long come first.
-PARTS: list[Callable[[Report, Setting], None]] = [roles, page, chaincode, by_hand, tutorial, readme, formats, keys, scripts, calling]
+PARTS: list[Callable[[Report, Setting], None]] = [roles, page, chaincode, by_hand, tutorial, readme, formats, network, keys, scripts,
+                                                  calling]
