@@ -85,7 +85,10 @@ class Table:
         return value
 
     def path(self, name: str, what: str) -> pathlib.Path:
-        return self.folder / self.text(name, what)
+        value = self.text(name, what)
+        if "\0" in value:
+            raise self.mistake(f"{name} has to be {what}, and no file's has the character 0")
+        return self.folder / value
 
     def number(self, name: str, most: int, usual: int) -> int:
         value = self.fields.get(name, usual)
@@ -194,7 +197,7 @@ def place(before: str) -> str:
 
 
 def reason(error: Exception) -> str:
-    """Why a file cannot be read. A name with the byte 0 in it is no file's."""
+    """Why a file cannot be read, or none can have its name."""
     return str(error.strerror) if isinstance(error, OSError) else "there is no such name"
 
 
@@ -221,7 +224,7 @@ def organisation(name: str, table: Table) -> dict[str, str]:
         return {"name": name, "key": table.hex("key", "{1,128}", "hex of 1 to 128 bytes")}
     if "public" in table.fields:
         return {"name": name, "public": table.hex("public", "{32}", "hex of 32 bytes, as ./ledger public prints it of a key file")}
-    return {"name": name, "keys": table.text("keys", KEYS)}
+    return {"name": name, "keys": str(table.path("keys", KEYS))}
 
 
 def peers(network: Table, orgs: list[str]) -> list[str]:
