@@ -29,48 +29,48 @@ module _ (n : ℕ) (c : Committed) (k : ℕ) (is : IsRecord n c) (short : k < le
   abbrev len : List ℕ
   len = to_be_bytes w32 (length (block_bytes c.block))
 
-  abbrev marks : List ℕ
-  marks = map flag_number c.flags
+  abbrev numbers : List ℕ
+  numbers = map flag_number c.flags
 
   abbrev digest : List ℕ
   digest = sha256 (digest_input c)
 
   in_block : 4 ≤ k → k - 4 < length (block_bytes c.block) → IsBeginning n (take k (record_bytes c))
   in_block some few =
-      let tail = block_bytes c.block ++ (marks ++ digest) in
+      let tail = block_bytes c.block ++ (numbers ++ digest) in
       inr (inl (record {
         len = length (block_bytes c.block);
         part = take (k - 4) tail;
         is_length = block_length c.block is.block.block;
-        bytes_are = ap (take k) (four len (block_bytes c.block) marks digest) ∙ take_behind len tail k some;
+        bytes_are = ap (take k) (four len (block_bytes c.block) numbers digest) ∙ take_behind len tail k some;
         short = omega (arith, few, length-take (k - 4) tail);
       }))
 
   behind_block : 4 ≤ k → length (block_bytes c.block) ≤ k - 4 → IsBeginning n (take k (record_bytes c))
   behind_block some many =
-      let tail = marks ++ digest in
+      let tail = numbers ++ digest in
       let front = framed_bytes c.block in
       let front_len = length-append len (block_bytes c.block) in
-      let marks_len = length-map c.flags flag_number in
+      let numbers_len = length-map c.flags flag_number in
       let one_each = is.flags in
       let digest_len = length-sha256 (digest_input c) in
       inr (inr (record {
         block = c.block;
         part = take (k - length front) tail;
         is_block = is.block;
-        bytes_are = ap (take k) (append_assoc front marks digest) ∙ take_behind front tail k (omega (arith, some, many, front_len));
+        bytes_are = ap (take k) (append_assoc front numbers digest) ∙ take_behind front tail k (omega (arith, some, many, front_len));
         short = omega (
           arith,
           some,
           many,
           short,
           front_len,
-          marks_len,
+          numbers_len,
           one_each,
           digest_len,
           length-take (k - length front) tail,
           length-append (digest_input c) digest,
-          length-append front marks,
+          length-append front numbers,
         );
       }))
 

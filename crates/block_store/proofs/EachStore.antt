@@ -21,7 +21,7 @@ use Rattle.block_store.specs.Store.{Loads, AreFlags, IsLength, IsBeginning, IsDa
 use Rattle.block_store.specs.declared.end.End.{End}
 use Rattle.block_store.specs.declared.end.End.TheVariants.{Clean, Torn, Damaged}
 use Rattle.block_store.proofs.Beginnings.{less_or_not}
-use Rattle.block_store.proofs.Fronts.{take_fits, length_split, marks_len, digest_len, split}
+use Rattle.block_store.proofs.Fronts.{take_fits, length_split, numbers_len, digest_len, split}
 use Rattle.block_store.proofs.OneAnswer.{flag_of}
 
 -- ---- what can be told
@@ -58,12 +58,12 @@ flag_there (suc (suc (suc zero))) h = refl
 flag_there (suc (suc (suc (suc zero)))) h = refl
 flag_there (suc (suc (suc (suc (suc m))))) h = absurd (omega (arith, h))
 
-flags_or_not : (marks : List ℕ) → (map flag_number (map flag_of marks) ≡ marks) ⊎ (¬ AreFlags marks)
+flags_or_not : (numbers : List ℕ) → (map flag_number (map flag_of numbers) ≡ numbers) ⊎ (¬ AreFlags numbers)
 flags_or_not [] = inl refl
-flags_or_not (m ∷ marks) =
+flags_or_not (m ∷ numbers) =
     elim (less_or_not 4 m) [
       | inl big ↦ inr (λ h. let small = h 0 0 (omega arith) in absurd (omega (arith, big, small)))
-      | inr small ↦ elim (flags_or_not marks) [
+      | inr small ↦ elim (flags_or_not numbers) [
         | inl more ↦ inl (ap₂ (λ (a : ℕ) (l : List ℕ). a ∷ l) (flag_there m small) more)
         | inr none ↦ inr (λ h. none (λ k d l. h (suc k) d (omega (arith, l))))
       ]
@@ -96,8 +96,8 @@ Front n bytes = IsBeginning n bytes ⊎ (IsDamaged n bytes ⊎ HasRecord n bytes
 
 module _ (n : ℕ) (b : Block) (bytes rest : List ℕ) (is : IsBlockAt n b) (are : bytes ≡ framed_bytes b ++ rest) (enough : length b.envelopes + 32 ≤ length rest)
   where
-    abbrev marks : List ℕ
-    marks = take (length b.envelopes) rest
+    abbrev numbers : List ℕ
+    numbers = take (length b.envelopes) rest
 
     abbrev after : List ℕ
     after = drop (length b.envelopes) rest
@@ -108,39 +108,48 @@ module _ (n : ℕ) (b : Block) (bytes rest : List ℕ) (is : IsBlockAt n b) (are
     abbrev left : List ℕ
     left = drop 32 after
 
-    one_each : length marks ≡ length b.envelopes
-    one_each = marks_len n b bytes rest b.envelopes is are refl enough marks after digest left refl refl refl refl
+    one_each : length numbers ≡ length b.envelopes
+    one_each = numbers_len n b bytes rest b.envelopes is are refl enough numbers after digest left refl refl refl refl
 
     digest_fits : length digest ≡ 32
-    digest_fits = digest_len n b bytes rest b.envelopes is are refl enough marks after digest left refl refl refl refl
+    digest_fits = digest_len n b bytes rest b.envelopes is are refl enough numbers after digest left refl refl refl refl
 
-    parts : bytes ≡ framed_bytes b ++ marks ++ digest ++ left
-    parts = split n b bytes rest b.envelopes is are refl enough marks after digest left refl refl refl refl ∙
-        sym (append_assoc (framed_bytes b ++ marks) digest left)
+    parts : bytes ≡ framed_bytes b ++ numbers ++ digest ++ left
+    parts = split n b bytes rest b.envelopes is are refl enough numbers after digest left refl refl refl refl ∙
+        sym (append_assoc (framed_bytes b ++ numbers) digest left)
 
-    bad : ((¬ AreFlags marks) ⊎ (digest ≢ sha256 (framed_bytes b ++ marks))) → IsDamaged n bytes
-    bad h = inr (inr (record
-        { block = b; marks = marks; digest = digest; rest = left; is_block = is; one_each = one_each; digest_len = digest_fits; bad = h; bytes_are = parts }))
+    bad : ((¬ AreFlags numbers) ⊎ (digest ≢ sha256 (framed_bytes b ++ numbers))) → IsDamaged n bytes
+    bad h = inr (inr (record {
+      block = b;
+      numbers = numbers;
+      digest = digest;
+      rest = left;
+      is_block = is;
+      one_each = one_each;
+      digest_len = digest_fits;
+      bad = h;
+      bytes_are = parts;
+    }))
 
     abbrev committed_of : Committed
-    committed_of = record { block = b; flags = map flag_of marks }
+    committed_of = record { block = b; flags = map flag_of numbers }
 
-    good : map flag_number (map flag_of marks) ≡ marks → digest ≡ sha256 (framed_bytes b ++ marks) → HasRecord n bytes
+    good : map flag_number (map flag_of numbers) ≡ numbers → digest ≡ sha256 (framed_bytes b ++ numbers) → HasRecord n bytes
     good flags same =
-        let before : digest_input committed_of ≡ framed_bytes b ++ marks = ap (λ (l : List ℕ). framed_bytes b ++ l) flags in
-        let all : record_bytes committed_of ≡ framed_bytes b ++ marks ++ digest = ap₂ (λ (x y : List ℕ). x ++ y) before (ap sha256 before ∙ sym same) in
+        let before : digest_input committed_of ≡ framed_bytes b ++ numbers = ap (λ (l : List ℕ). framed_bytes b ++ l) flags in
+        let all : record_bytes committed_of ≡ framed_bytes b ++ numbers ++ digest = ap₂ (λ (x y : List ℕ). x ++ y) before (ap sha256 before ∙ sym same) in
         record {
           committed = committed_of;
           rest = left;
-          is_record = record { block = is; flags = length-map marks flag_of ∙ one_each };
+          is_record = record { block = is; flags = length-map numbers flag_of ∙ one_each };
           bytes_are = parts ∙ ap (λ (l : List ℕ). l ++ left) (sym all);
         }
 
     sealed_front : Front n bytes
     sealed_front =
-        elim (flags_or_not marks) [
+        elim (flags_or_not numbers) [
           | inr none ↦ inr (inl (bad (inl none)))
-          | inl flags ↦ elim (same_or_not digest (sha256 (framed_bytes b ++ marks)))
+          | inl flags ↦ elim (same_or_not digest (sha256 (framed_bytes b ++ numbers)))
               [ inl same ↦ inr (inr (good flags same)) | inr other ↦ inr (inl (bad (inr other))) ]
         ]
 

@@ -33,13 +33,13 @@ four a b c d = simp append_assoc
 
 module _ (n : ℕ) (b : Block) (bytes rest : List ℕ) (envelopes : List Envelope) (is_block : IsBlockAt n b) (bytes_are : bytes ≡ framed_bytes b ++ rest)
     (same : envelopes ≡ b.envelopes) (enough : length envelopes + 32 ≤ length rest)
-    (marks after digest left : List ℕ) (m : marks ≡ take (length envelopes) rest) (a : after ≡ drop (length envelopes) rest) (d : digest ≡ take 32 after)
+    (numbers after digest left : List ℕ) (m : numbers ≡ take (length envelopes) rest) (a : after ≡ drop (length envelopes) rest) (d : digest ≡ take 32 after)
     (l : left ≡ drop 32 after) where
   front : List ℕ
-  front = framed_bytes b ++ marks
+  front = framed_bytes b ++ numbers
 
-  pub marks_len : length marks ≡ length b.envelopes
-  marks_len = ap length m ∙ omega (arith, length-take (length envelopes) rest, enough) ∙ ap length same
+  pub numbers_len : length numbers ≡ length b.envelopes
+  numbers_len = ap length m ∙ omega (arith, length-take (length envelopes) rest, enough) ∙ ap length same
 
   after_len : 32 ≤ length after
   after_len = let e = ap length a in omega (arith, length-drop (length envelopes) rest, enough, e)
@@ -47,36 +47,37 @@ module _ (n : ℕ) (b : Block) (bytes rest : List ℕ) (envelopes : List Envelop
   pub digest_len : length digest ≡ 32
   digest_len = let h = after_len in ap length d ∙ omega (arith, length-take 32 after, h)
 
-  pub split : bytes ≡ (framed_bytes b ++ marks) ++ (digest ++ left)
+  pub split : bytes ≡ (framed_bytes b ++ numbers) ++ (digest ++ left)
   split =
       let tail : after ≡ digest ++ left = sym (take-append-drop 32 after) ∙ ap₂ (λ (x y : List ℕ). x ++ y) (sym d) (sym l) in
-      let rest_is : rest ≡ marks ++ (digest ++ left) = sym (take-append-drop (length envelopes) rest) ∙ ap₂ (λ (x y : List ℕ). x ++ y) (sym m) (sym a ∙ tail) in
-      bytes_are ∙ ap (λ (r : List ℕ). framed_bytes b ++ r) rest_is ∙ four (framed_bytes b) marks digest left
+      let rest_is : rest ≡ numbers ++ (digest ++ left) =
+      sym (take-append-drop (length envelopes) rest) ∙ ap₂ (λ (x y : List ℕ). x ++ y) (sym m) (sym a ∙ tail) in
+      bytes_are ∙ ap (λ (r : List ℕ). framed_bytes b ++ r) rest_is ∙ four (framed_bytes b) numbers digest left
 
-  taken_is : length bytes - length left ≡ length (framed_bytes b ++ marks) + 32
+  taken_is : length bytes - length left ≡ length (framed_bytes b ++ numbers) + 32
   taken_is =
       let all = ap length split in
       let h = digest_len in
-      omega (arith, all, h, length-append (framed_bytes b ++ marks) (digest ++ left), length-append digest left)
+      omega (arith, all, h, length-append (framed_bytes b ++ numbers) (digest ++ left), length-append digest left)
 
-  before_is : take ((length bytes - length left) - 32) bytes ≡ framed_bytes b ++ marks
+  before_is : take ((length bytes - length left) - 32) bytes ≡ framed_bytes b ++ numbers
   before_is =
       let t = taken_is in
-      let k : (length bytes - length left) - 32 ≡ length (framed_bytes b ++ marks) = omega (arith, t) in
-      ap (λ (x : ℕ). take x bytes) k ∙ ap (λ (x : List ℕ). take (length (framed_bytes b ++ marks)) x) split ∙
-      take_at (framed_bytes b ++ marks) (digest ++ left) (length (framed_bytes b ++ marks)) refl
+      let k : (length bytes - length left) - 32 ≡ length (framed_bytes b ++ numbers) = omega (arith, t) in
+      ap (λ (x : ℕ). take x bytes) k ∙ ap (λ (x : List ℕ). take (length (framed_bytes b ++ numbers)) x) split ∙
+      take_at (framed_bytes b ++ numbers) (digest ++ left) (length (framed_bytes b ++ numbers)) refl
 
   dropped : drop (length bytes - length left) bytes ≡ left
   dropped =
-      let f = framed_bytes b ++ marks in
+      let f = framed_bytes b ++ numbers in
       let h = digest_len in
       let len : length (f ++ digest) ≡ length bytes - length left = omega (arith, length-append f digest, h) ∙ sym taken_is in
       ap (λ (x : List ℕ). drop (length bytes - length left) x) (split ∙ sym (append_assoc f digest left)) ∙
       drop_at (f ++ digest) left (length bytes - length left) len
 
-  whole_of : (c : Committed) → Seals b (take ((length bytes - length left) - 32) bytes) marks digest (Some c) → IsWhole n bytes c (length bytes - length left)
+  whole_of : (c : Committed) → Seals b (take ((length bytes - length left) - 32) bytes) numbers digest (Some c) → IsWhole n bytes c (length bytes - length left)
   whole_of c h =
-      let f = framed_bytes b ++ marks in
+      let f = framed_bytes b ++ numbers in
       let digested_is : digest_input c ≡ f = ap₂ (λ (x : Block) (y : List ℕ). framed_bytes x ++ y) h.0 h.1 in
       let digest_is : digest ≡ sha256 (digest_input c) = h.2 ∙ ap sha256 (before_is ∙ sym digested_is) in
       let record_is : record_bytes c ≡ f ++ digest = ap₂ (λ (x y : List ℕ). x ++ y) digested_is (sym digest_is) in
@@ -90,23 +91,23 @@ module _ (n : ℕ) (b : Block) (bytes rest : List ℕ) (envelopes : List Envelop
         bytes_are = split ∙ sym (append_assoc f digest left) ∙ ap₂ (λ (x y : List ℕ). x ++ y) (sym record_is) (sym dropped);
       }
 
-  pub whole_front : (o : Option Committed) (c : Committed) → o ≡ Some c → Seals b (take ((length bytes - length left) - 32) bytes) marks digest o →
+  pub whole_front : (o : Option Committed) (c : Committed) → o ≡ Some c → Seals b (take ((length bytes - length left) - 32) bytes) numbers digest o →
       IsWhole n bytes c (length bytes - length left)
-  whole_front o c e h = whole_of c (subst (λ (o : Option Committed). Seals b (take ((length bytes - length left) - 32) bytes) marks digest o) e h)
+  whole_front o c e h = whole_of c (subst (λ (o : Option Committed). Seals b (take ((length bytes - length left) - 32) bytes) numbers digest o) e h)
 
-  bad_of : Seals b (take ((length bytes - length left) - 32) bytes) marks digest None → HasBadEnd n bytes
+  bad_of : Seals b (take ((length bytes - length left) - 32) bytes) numbers digest None → HasBadEnd n bytes
   bad_of h =
       record {
         block = b;
-        marks = marks;
+        numbers = numbers;
         digest = digest;
         rest = left;
         is_block = is_block;
-        one_each = marks_len;
+        one_each = numbers_len;
         digest_len = digest_len;
-        bad = subst (λ (x : List ℕ). (¬ AreFlags marks) ⊎ (digest ≢ sha256 x)) before_is h;
-        bytes_are = split ∙ sym (append_assoc (framed_bytes b ++ marks) digest left);
+        bad = subst (λ (x : List ℕ). (¬ AreFlags numbers) ⊎ (digest ≢ sha256 x)) before_is h;
+        bytes_are = split ∙ sym (append_assoc (framed_bytes b ++ numbers) digest left);
       }
 
-  pub bad_front : (o : Option Committed) → o ≡ None → Seals b (take ((length bytes - length left) - 32) bytes) marks digest o → IsDamaged n bytes
-  bad_front o e h = inr (inr (bad_of (subst (λ (o : Option Committed). Seals b (take ((length bytes - length left) - 32) bytes) marks digest o) e h)))
+  pub bad_front : (o : Option Committed) → o ≡ None → Seals b (take ((length bytes - length left) - 32) bytes) numbers digest o → IsDamaged n bytes
+  bad_front o e h = inr (inr (bad_of (subst (λ (o : Option Committed). Seals b (take ((length bytes - length left) - 32) bytes) numbers digest o) e h)))

@@ -83,19 +83,20 @@ module _ (n : ℕ) (bytes : List ℕ) (b : Block) (tail : List ℕ) (is : IsBloc
 
 -- ---- bytes with the flags and the digest behind the block
 
-too_short : (part marks digest rest : List ℕ) (count : ℕ) → part ≡ marks ++ (digest ++ rest) → length marks ≡ count → length digest ≡ 32 →
+too_short : (part numbers digest rest : List ℕ) (count : ℕ) → part ≡ numbers ++ (digest ++ rest) → length numbers ≡ count → length digest ≡ 32 →
     length part < count + 32 → ⊥
-too_short part marks digest rest count e m d short =
+too_short part numbers digest rest count e m d short =
     let all = ap length e in
-    absurd (omega (arith, all, m, d, short, length-append marks (digest ++ rest), length-append digest rest))
+    absurd (omega (arith, all, m, d, short, length-append numbers (digest ++ rest), length-append digest rest))
 
-sealed_is_whole : (n : ℕ) (bytes : List ℕ) (b : Block) (marks digest rest : List ℕ) → IsBlockAt n b → bytes ≡ framed_bytes b ++ (marks ++ (digest ++ rest)) →
-    length marks ≡ length b.envelopes → length digest ≡ 32 → IsBeginning n bytes → ⊥
-sealed_is_whole n bytes b marks digest rest is are m d (inl h) = has_length n bytes b (marks ++ (digest ++ rest)) is are h
-sealed_is_whole n bytes b marks digest rest is are m d (inr (inl h)) = is_whole n bytes b (marks ++ (digest ++ rest)) is are h
-sealed_is_whole n bytes b marks digest rest is are m d (inr (inr h)) =
-    let same = same_block n bytes b (marks ++ (digest ++ rest)) is are h.block h.part h.is_block h.bytes_are in
-    too_short h.part marks digest rest (length h.block.envelopes) (sym same.1) (m ∙ ap (λ (x : Block). length x.envelopes) same.0) d h.short
+sealed_is_whole : (n : ℕ) (bytes : List ℕ) (b : Block) (numbers digest rest : List ℕ) → IsBlockAt n b →
+    bytes ≡ framed_bytes b ++ (numbers ++ (digest ++ rest)) →
+    length numbers ≡ length b.envelopes → length digest ≡ 32 → IsBeginning n bytes → ⊥
+sealed_is_whole n bytes b numbers digest rest is are m d (inl h) = has_length n bytes b (numbers ++ (digest ++ rest)) is are h
+sealed_is_whole n bytes b numbers digest rest is are m d (inr (inl h)) = is_whole n bytes b (numbers ++ (digest ++ rest)) is are h
+sealed_is_whole n bytes b numbers digest rest is are m d (inr (inr h)) =
+    let same = same_block n bytes b (numbers ++ (digest ++ rest)) is are h.block h.part h.is_block h.bytes_are in
+    too_short h.part numbers digest rest (length h.block.envelopes) (sym same.1) (m ∙ ap (λ (x : Block). length x.envelopes) same.0) d h.short
 
 pub four : (a b c d : List ℕ) → a ++ b ++ c ++ d ≡ a ++ (b ++ (c ++ d))
 four a b c d = simp append_assoc
@@ -106,27 +107,27 @@ abbrev sealing : Committed → List ℕ
 sealing c = sha256 (digest_input c)
 
 module _ (n : ℕ) (bytes : List ℕ) (c : Committed) (rest : List ℕ) (is : IsRecord n c) (are : bytes ≡ record_bytes c ++ rest) where
-  abbrev marks : List ℕ
-  marks = map flag_number c.flags
+  abbrev numbers : List ℕ
+  numbers = map flag_number c.flags
 
   abbrev behind : List ℕ
-  behind = marks ++ (sealing c ++ rest)
+  behind = numbers ++ (sealing c ++ rest)
 
   split : bytes ≡ framed_bytes c.block ++ behind
-  split = are ∙ four (framed_bytes c.block) marks (sealing c) rest
+  split = are ∙ four (framed_bytes c.block) numbers (sealing c) rest
 
-  one_each : length marks ≡ length c.block.envelopes
+  one_each : length numbers ≡ length c.block.envelopes
   one_each = length-map c.flags flag_number ∙ is.flags
 
   not_beginning : IsBeginning n bytes → ⊥
-  not_beginning = sealed_is_whole n bytes c.block marks (sealing c) rest is.block split one_each (length-sha256 (digest_input c))
+  not_beginning = sealed_is_whole n bytes c.block numbers (sealing c) rest is.block split one_each (length-sha256 (digest_input c))
 
   same_parts : (b : Block) (others digest left : List ℕ) → IsBlockAt n b → length others ≡ length b.envelopes → length digest ≡ 32 →
       bytes ≡ framed_bytes b ++ (others ++ (digest ++ left))
-      → (c.block ≡ b) × (marks ≡ others) × (sealing c ≡ digest) × (rest ≡ left)
+      → (c.block ≡ b) × (numbers ≡ others) × (sealing c ≡ digest) × (rest ≡ left)
   same_parts b others digest left k len d e =
       let same = same_block n bytes c.block behind is.block split b (others ++ (digest ++ left)) k e in
-      let flags = same_front marks others (sealing c ++ rest) (digest ++ left) (one_each ∙ ap (λ (x : Block). length x.envelopes) same.0 ∙ sym len) same.1 in
+      let flags = same_front numbers others (sealing c ++ rest) (digest ++ left) (one_each ∙ ap (λ (x : Block). length x.envelopes) same.0 ∙ sym len) same.1 in
       let ends = same_front (sealing c) digest rest left (length-sha256 (digest_input c) ∙ sym d) flags.1 in
       (same.0, flags.0, ends.0, ends.1)
 
@@ -144,8 +145,8 @@ not_damaged : (n : ℕ) (bytes : List ℕ) (c : Committed) (rest : List ℕ) →
 not_damaged n bytes c rest is are (inl h) = has_right_length n bytes c.block (behind n bytes c rest is are) is.block (split n bytes c rest is are) h
 not_damaged n bytes c rest is are (inr (inl h)) = is_spelled n bytes c.block (behind n bytes c rest is are) is.block (split n bytes c rest is are) h
 not_damaged n bytes c rest is are (inr (inr h)) =
-    let same = same_parts n bytes c rest is are h.block h.marks h.digest h.rest h.is_block h.one_each h.digest_len
-    (h.bytes_are ∙ four (framed_bytes h.block) h.marks h.digest h.rest) in
+    let same = same_parts n bytes c rest is are h.block h.numbers h.digest h.rest h.is_block h.one_each h.digest_len
+    (h.bytes_are ∙ four (framed_bytes h.block) h.numbers h.digest h.rest) in
     elim h.bad [
       | inl wrong ↦ wrong (subst AreFlags same.1 (are_flags c.flags))
       | inr other ↦ other (sym same.2 ∙ ap₂ (λ (x : Block) (y : List ℕ). sha256 (framed_bytes x ++ y)) same.0 same.1)
@@ -198,7 +199,7 @@ begins_or_damaged n bytes (inr (inl h)) (inr (inl k)) =
 begins_or_damaged n bytes (inr (inr h)) (inl k) = has_right_length n bytes h.block h.part h.is_block h.bytes_are k
 begins_or_damaged n bytes (inr (inr h)) (inr (inl k)) = is_spelled n bytes h.block h.part h.is_block h.bytes_are k
 begins_or_damaged n bytes h (inr (inr k)) =
-    sealed_is_whole n bytes k.block k.marks k.digest k.rest k.is_block (k.bytes_are ∙ four (framed_bytes k.block) k.marks k.digest k.rest) k.one_each
+    sealed_is_whole n bytes k.block k.numbers k.digest k.rest k.is_block (k.bytes_are ∙ four (framed_bytes k.block) k.numbers k.digest k.rest) k.one_each
     k.digest_len h
 
 nothing_begins : (n : ℕ) → IsBeginning n []

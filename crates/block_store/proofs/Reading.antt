@@ -287,14 +287,14 @@ damaged_longer n bytes more (inr (inl h)) =
 damaged_longer n bytes more (inr (inr h)) =
     inr (inr (record {
       block = h.block;
-      marks = h.marks;
+      numbers = h.numbers;
       digest = h.digest;
       rest = h.rest ++ more;
       is_block = h.is_block;
       one_each = h.one_each;
       digest_len = h.digest_len;
       bad = h.bad;
-      bytes_are = ap (λ (t : List ℕ). t ++ more) h.bytes_are ∙ append_assoc (framed_bytes h.block ++ h.marks ++ h.digest) h.rest more;
+      bytes_are = ap (λ (t : List ℕ). t ++ more) h.bytes_are ∙ append_assoc (framed_bytes h.block ++ h.numbers ++ h.digest) h.rest more;
     }))
 
 stays_damaged : (n : ℕ) (bytes more : List ℕ) (cs : List Committed) (p : Progress) → p.is_damaged ≡ true → Reads n bytes cs p → Reads n (bytes ++ more) cs p

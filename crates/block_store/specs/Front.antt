@@ -27,7 +27,7 @@ abbrev pub Spells : ℕ → List ℕ → Option Block → Type 0
 Spells n text None = (b : Block) → IsBlockAt n b → block_bytes b ≢ text
 Spells n text (Some b) = IsBlockAt n b × (block_bytes b ≡ text)
 
--- the block with the flags that the marks are, or that a mark is none or the digest is another
+-- the block with the flags that the numbers are, or that a number is none or the digest is another
 abbrev pub Seals : Block → List ℕ → List ℕ → List ℕ → Option Committed → Type 0
-Seals b before marks digest None = (¬ AreFlags marks) ⊎ (digest ≢ sha256 before)
-Seals b before marks digest (Some c) = (c.block ≡ b) × (map flag_number c.flags ≡ marks) × (digest ≡ sha256 before) × (length c.flags ≡ length b.envelopes)
+Seals b before numbers digest None = (¬ AreFlags numbers) ⊎ (digest ≢ sha256 before)
+Seals b before numbers digest (Some c) = (c.block ≡ b) × (map flag_number c.flags ≡ numbers) × (digest ≡ sha256 before) × (length c.flags ≡ length b.envelopes)

@@ -62,19 +62,19 @@ pub record HasNoBlock (n : ℕ) (bytes : List ℕ) : Type 0 where
   pub bytes_are : bytes ≡ to_be_bytes w32 (length text) ++ text ++ rest
 
 abbrev pub AreFlags : List ℕ → Type 0
-AreFlags marks = All (λ m. m ≤ 4) marks
+AreFlags numbers = All (λ m. m ≤ 4) numbers
 
 -- all of the record is there, and a flag is above 4 or the digest is another
 pub record HasBadEnd (n : ℕ) (bytes : List ℕ) : Type 0 where
   pub block : Block
-  pub marks : List ℕ
+  pub numbers : List ℕ
   pub digest : List ℕ
   pub rest : List ℕ
   pub is_block : IsBlockAt n block
-  pub one_each : length marks ≡ length block.envelopes
+  pub one_each : length numbers ≡ length block.envelopes
   pub digest_len : length digest ≡ 32
-  pub bad : (¬ AreFlags marks) ⊎ (digest ≢ sha256 (framed_bytes block ++ marks))
-  pub bytes_are : bytes ≡ framed_bytes block ++ marks ++ digest ++ rest
+  pub bad : (¬ AreFlags numbers) ⊎ (digest ≢ sha256 (framed_bytes block ++ numbers))
+  pub bytes_are : bytes ≡ framed_bytes block ++ numbers ++ digest ++ rest
 
 abbrev pub IsDamaged : ℕ → List ℕ → Type 0
 IsDamaged n bytes = HasNoLength bytes ⊎ (HasNoBlock n bytes ⊎ HasBadEnd n bytes)

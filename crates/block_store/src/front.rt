@@ -5,7 +5,7 @@ ghost use Rattle.std.specs.Int.{w32, to_be_bytes};
 ghost use Rattle.block_store.specs.Record.{framed_bytes, IsBlockAt};
 ghost use Rattle.block_store.specs.Front.{IsFront, Seals, Spells};
 
-use crate::mark::flags_of;
+use crate::flag_numbers::flags_of;
 use fab_types::{Block, CommittedBlock};
 use sha2::{Digest, Sha256};
 use std::alloc::{AllocError, Global};
@@ -65,17 +65,17 @@ fn sealed(
     alloc: Global,
     block: Block,
     before: &[u8],
-    marks: &[u8],
+    numbers: &[u8],
     digest: &[u8],
 ) -> Result<Option<CommittedBlock>, AllocError>
-    requires { length marks.now ≡ length block.envelopes }
-    ensures { IfOk result (λ o. Seals block before.now marks.now digest.now o) }
+    requires { length numbers.now ≡ length block.envelopes }
+    ensures { IfOk result (λ o. Seals block before.now numbers.now digest.now o) }
 {
     let right = Sha256::digest(before);
     if digest != right.as_slice() {
         return Ok(None);
     }
-    let Some(flags) = flags_of(alloc, marks)? else {
+    let Some(flags) = flags_of(alloc, numbers)? else {
         return Ok(None);
     };
     Ok(Some(CommittedBlock::new(block, flags)))
@@ -97,11 +97,11 @@ fn behind(
     if rest.len() < count + 32 {
         return Ok(Front::Beginning(bytes.len() - rest.len() + count + 32));
     }
-    let (marks, rest) = rest.split_at(count);
+    let (numbers, rest) = rest.split_at(count);
     let (digest, rest) = rest.split_at(32);
     let taken = bytes.len() - rest.len();
     let before = &bytes[..taken - 32];
-    match sealed(alloc, block, before, marks, digest)? {
+    match sealed(alloc, block, before, numbers, digest)? {
         Some(record) => Ok(Front::Whole(record, taken)),
         None => Ok(Front::Damaged),
     }

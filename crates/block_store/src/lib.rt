@@ -10,10 +10,10 @@
 mod appending;
 mod device;
 mod end;
+mod flag_numbers;
 mod front;
 mod laws;
 mod loading;
-mod mark;
 mod record_reader;
 mod records;
 

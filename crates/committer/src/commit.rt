@@ -11,7 +11,7 @@ ghost use Rattle.committer.specs.Fits.{blocks_of, Fits, IsNext, IsRefused};
 use crate::refusal::CommitRefusal;
 use fab_types::Block;
 use fab_types::limits::LAST_BLOCK;
-use mvcc_validate::mark;
+use mvcc_validate::flag_block;
 use std::alloc::{AllocError, Global};
 use wire::{data_hash, next_link};
 use world_state::{Judged, Snapshot};
@@ -92,7 +92,7 @@ pub fn judge_told(
         (λ refusal. IsRefused refusal (blocks_of snapshot.now) block.now) }
 {
     check_fits(alloc, snapshot, block)?;
-    Ok(mark(alloc, snapshot, block, endorsed)?)
+    Ok(flag_block(alloc, snapshot, block, endorsed)?)
 }
 
 /// The snapshot after one block more, with the flags of its transactions. `snapshot` stays as it

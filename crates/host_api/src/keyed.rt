@@ -19,7 +19,7 @@ pub fn search<T: Keyed>(items: &[T], key: &[u8]) -> Result<usize, usize>
     }
 }
 
-// How many of the first items have a key before these bytes.
+/// How many of the first items have a key before these bytes.
 fn count_before<T: Keyed>(items: &[T], key: &[u8]) -> usize
     requires { are_ascending (map T.key_of items.now) ≡ true }
     ensures { result ≡ place_of T.key_of key.now items.now }

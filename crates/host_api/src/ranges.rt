@@ -51,7 +51,7 @@ pub fn range_reply(
     HostAnswer::Value(len)
 }
 
-// The length of the reply.
+/// The length of the reply.
 fn reply_len(entries: &[(&Key, &(Value, Version))]) -> u32
     requires { length entries.now ≤ MOST_RANGE_ENTRIES }
     ensures { result ≡ length (reply_range_bytes (map key_and_value (map deref_pair entries.now))) }
@@ -63,7 +63,7 @@ fn reply_len(entries: &[(&Key, &(Value, Version))]) -> u32
     len
 }
 
-// Writes the reply from a place on.
+/// Writes the reply from a place on.
 fn write_entries(entries: &[(&Key, &(Value, Version))], at: usize, memory: &mut [u8])
     requires count { length entries.now ≤ MOST_RANGE_ENTRIES }
     requires room { at + length (reply_range_bytes (map key_and_value (map deref_pair entries.now)))
@@ -79,7 +79,7 @@ fn write_entries(entries: &[(&Key, &(Value, Version))], at: usize, memory: &mut 
     }
 }
 
-// Writes an entry from a place on, and answers the place after it.
+/// Writes an entry from a place on, and answers the place after it.
 fn write_entry(key: &[u8], value: &[u8], at: usize, memory: &mut [u8]) -> usize
     requires key { length key.now ≤ MOST_KEY_BYTES }
     requires value { length value.now ≤ MOST_VALUE_BYTES }

@@ -4,7 +4,7 @@ use Rattle.fab_types.specs.Size.{envelope_size}
 use Rattle.fab_types.specs.declared.block.Block.{Block}
 use Rattle.fab_types.specs.declared.envelope.Envelope.{Envelope}
 use Rattle.batch_cutter.specs.Division.{IsBatch, IsDivision, Limits, Mark, message, timeout}
-use Rattle.orderer.specs.Arranged.{plans_of}
+use Rattle.orderer.specs.Arranged.{arranges_by}
 use Rattle.orderer.specs.Blocks.{AddsEach}
 use Rattle.orderer.specs.Ordering.{Ordering, Takes, RunsOut, IsTooLarge}
 use Rattle.orderer.specs.declared.report.BatchReport.{BatchReport}
@@ -37,7 +37,7 @@ alone old batches pending none cut =
 idle_taken : (old new : Ordering) (reports : List BatchReport) → old.pending ≡ [] → Takes old timeout reports new → (reports ≡ []) × (new ≡ old)
 idle_taken old new reports none takes =
     let cut = alone old takes.batches new.pending none takes.cut in
-    let added = subst (λ (bs : List (List Envelope)). AddsEach (plans_of old.reorder) old.chain bs reports new.chain) cut.0 takes.added in
+    let added = subst (λ (bs : List (List Envelope)). AddsEach (arranges_by old.reorder) old.chain bs reports new.chain) cut.0 takes.added in
     (added.0, same_ordering new old takes.reorder takes.limits (cut.1 ∙ sym none) added.1)
 
 no_first : (first others : List (List Envelope)) → first ++ others ≡ [] → first ≡ []
@@ -48,7 +48,7 @@ idle_room : (old : Ordering) → old.pending ≡ [] → length old.chain ≤ 655
 idle_room old none room out =
     let cut = alone old (out.first ++ out.others) out.pending none out.cut in
     let first = no_first out.first out.others cut.0 in
-    let added = subst (λ (bs : List (List Envelope)). AddsEach (plans_of old.reorder) old.chain bs out.reports out.chain) first out.added in
+    let added = subst (λ (bs : List (List Envelope)). AddsEach (arranges_by old.reorder) old.chain bs out.reports out.chain) first out.added in
     omega (arith, room, out.past, ap (λ (blocks : List Block). length blocks) added.1)
 
 idle_refused : (old : Ordering) → old.pending ≡ [] → length old.chain ≤ 65535 → (IsTooLarge old.limits timeout ⊎ RunsOut old timeout) → ⊥

@@ -16,11 +16,11 @@ use Rattle.reorder.specs.Edges.{apart, edge_of}
 use Rattle.reorder.specs.Plan.{IsIn, IsPlanned, all_but, waits, without}
 use Rattle.reorder.specs.Stale.{is_stale, stale}
 use Rattle.reorder.proofs.Plans.{part_within, picked, planned_once, planned_whole}
-use Rattle.orderer.specs.Arranged.{IsArranged, abort_at, aborts, is_among, plans_of}
+use Rattle.orderer.specs.Arranged.{IsArranged, abort_at, aborts, has_place, arranges_by}
 use Rattle.orderer.specs.Blocks.{Adds}
-use Rattle.orderer.specs.Plans.{envelopes_at}
-use Rattle.orderer.specs.declared.plan.AbortCause.{AbortCause}
-use Rattle.orderer.specs.declared.plan.AbortCause.TheVariants.{Outdated, Conflict}
+use Rattle.orderer.specs.Places.{envelopes_at}
+use Rattle.orderer.specs.declared.arrangement.AbortCause.{AbortCause}
+use Rattle.orderer.specs.declared.arrangement.AbortCause.TheVariants.{Outdated, Conflict}
 use Rattle.orderer.specs.declared.report.BatchReport.{BatchReport}
 use Rattle.orderer.proofs.Cutting.{all_joined}
 use Rattle.orderer.proofs.Picking.{all_picked, range_more}
@@ -88,22 +88,22 @@ picked_counted batch (place ∷ order) =
 
 -- ---- who is picked, and who is gone
 
-some_times : (place : ℕ) (places : List ℕ) → is_among places place ≡ true → 1 ≤ times place places
+some_times : (place : ℕ) (places : List ℕ) → has_place places place ≡ true → 1 ≤ times place places
 some_times place [] is = cc
 some_times place (first ∷ places) is =
     let split = sum_by-cons (λ x. one_if (eqb x place)) first places in
     elim (eqb first place) as (λ b. eqb first place ≡ b → 1 ≤ times place (first ∷ places)) [
       | true ↦ λ same. omega (arith, split, ap one_if same)
-      | false ↦ λ other. let rest : is_among places place ≡ true = rw other at is in omega (arith, split, some_times place places rest)
+      | false ↦ λ other. let rest : has_place places place ≡ true = rw other at is in omega (arith, split, some_times place places rest)
     ] refl
 
-no_times : (place : ℕ) (places : List ℕ) → is_among places place ≡ false → times place places ≡ 0
+no_times : (place : ℕ) (places : List ℕ) → has_place places place ≡ false → times place places ≡ 0
 no_times place [] is = refl
 no_times place (first ∷ places) is =
     let split = sum_by-cons (λ x. one_if (eqb x place)) first places in
     elim (eqb first place) as (λ b. eqb first place ≡ b → times place (first ∷ places) ≡ 0) [
       | true ↦ λ same. let never : true ≡ false = rw same at is in cc
-      | false ↦ λ other. let rest : is_among places place ≡ false = rw other at is in omega (arith, split, ap one_if other, no_times place places rest)
+      | false ↦ λ other. let rest : has_place places place ≡ false = rw other at is in omega (arith, split, ap one_if other, no_times place places rest)
     ] refl
 
 set_waits : (left : List Bool) (i k : ℕ) (same : Bool) → eqb i k ≡ same → waits (set left i false) k ≡ (not same && waits left k)
@@ -118,25 +118,25 @@ with_gone true false waiting = refl
 with_gone false true waiting = refl
 with_gone false false waiting = refl
 
-gone_wait : (gone : List ℕ) (left : List Bool) (k : ℕ) → waits (without gone left) k ≡ (not (is_among gone k) && waits left k)
+gone_wait : (gone : List ℕ) (left : List Bool) (k : ℕ) → waits (without gone left) k ≡ (not (has_place gone k) && waits left k)
 gone_wait [] left k = refl
 gone_wait (i ∷ gone) left k =
     gone_wait gone (set left i false) k
-    ∙ ap (λ (b : Bool). not (is_among gone k) && b) (set_waits left i k (eqb i k) refl)
-    ∙ with_gone (eqb i k) (is_among gone k) (waits left k)
+    ∙ ap (λ (b : Bool). not (has_place gone k) && b) (set_waits left i k (eqb i k) refl)
+    ∙ with_gone (eqb i k) (has_place gone k) (waits left k)
 
 and_true : (test : Bool) → (test && true) ≡ test
 and_true true = refl
 and_true false = refl
 
-others_wait : (gone : List ℕ) (n k : ℕ) → k < n → waits (all_but gone n) k ≡ not (is_among gone k)
+others_wait : (gone : List ℕ) (n k : ℕ) → k < n → waits (all_but gone n) k ≡ not (has_place gone k)
 others_wait gone n k within =
     gone_wait gone (replicate n true) k
-    ∙ ap (λ (b : Bool). not (is_among gone k) && b) (get_or-replicate n k true false within)
-    ∙ and_true (not (is_among gone k))
+    ∙ ap (λ (b : Bool). not (has_place gone k) && b) (get_or-replicate n k true false within)
+    ∙ and_true (not (has_place gone k))
 
 -- each place is in the order or aborted, and not both
-one_each : (outdated order dropped : List ℕ) (place : ℕ) (gone among : Bool) → is_among outdated place ≡ gone → is_among dropped place ≡ among →
+one_each : (outdated order dropped : List ℕ) (place : ℕ) (gone among : Bool) → has_place outdated place ≡ gone → has_place dropped place ≡ among →
     times place order + times place dropped ≡ one_if (not gone) → times place order + length (abort_at outdated dropped place) ≡ 1
 one_each outdated order dropped place true among is drop once =
     let aborted : length (abort_at outdated dropped place) ≡ 1 = rw is refl in omega (arith, once, aborted)
@@ -167,7 +167,7 @@ counted_to batch order dropped (suc n) most planned =
     let once = planned_once all (edge_of batch) (all_but gone all) order dropped planned n in
     let split = sum_by-append (λ x. one_if (eqb x n)) order dropped in
     let part = ap one_if (others_wait gone all n (omega (arith, most))) in
-    let each = one_each gone order dropped n (is_among gone n) (is_among dropped n) refl refl (sym split ∙ once ∙ part) in
+    let each = one_each gone order dropped n (has_place gone n) (has_place dropped n) refl refl (sym split ∙ once ∙ part) in
     omega (arith, below_more n order, aborts_more gone dropped n, each, counted_to batch order dropped n (omega (arith, most)) planned)
 
 -- ---- places
@@ -179,7 +179,7 @@ part_below false true place count within = (within, tt)
 part_below false false place count within = tt
 
 abort_below : (outdated dropped : List ℕ) (place count : ℕ) → place < count → ArePlacesBelow count (abort_at outdated dropped place)
-abort_below outdated dropped place count within = part_below (is_among outdated place) (is_among dropped place) place count within
+abort_below outdated dropped place count within = part_below (has_place outdated place) (has_place dropped place) place count within
 
 aborts_below : (outdated dropped : List ℕ) (from n count : ℕ) → from + n ≤ count → ArePlacesBelow count (aborts outdated dropped (range_with_len from n))
 aborts_below outdated dropped from zero count most = tt
@@ -193,22 +193,22 @@ aborts_below outdated dropped from (suc n) count most =
 abbrev pub IsSized : List Envelope → BatchReport → Type 0
 IsSized batch report = (size_of report ≡ length batch) × ArePlacesBelow (length batch) report.aborted
 
-sized : (reorder : Bool) (batch : List Envelope) (order : List ℕ) (report : BatchReport) → plans_of reorder batch order report.aborted →
+sized : (reorder : Bool) (batch : List Envelope) (order : List ℕ) (report : BatchReport) → arranges_by reorder batch order report.aborted →
     report.count ≡ length (envelopes_at batch order) → IsSized batch report
-sized true batch order report plan count =
+sized true batch order report arranged count =
     let n = length batch in
-    let whole = counted_to batch order plan.dropped n (omega arith) plan.planned in (
-      omega (arith, whole, count, picked_counted batch order, ap length plan.aborts_are),
-      subst (ArePlacesBelow n) (sym plan.aborts_are) (aborts_below (stale batch) plan.dropped 0 n n (omega arith)),
+    let whole = counted_to batch order arranged.dropped n (omega arith) arranged.planned in (
+      omega (arith, whole, count, picked_counted batch order, ap length arranged.aborts_are),
+      subst (ArePlacesBelow n) (sym arranged.aborts_are) (aborts_below (stale batch) arranged.dropped 0 n n (omega arith)),
     )
-sized false batch order report plan count = (
-  omega (arith, count, ap (λ places. length (envelopes_at batch places)) plan.0, ap length (all_picked batch), ap length plan.1),
-  subst (ArePlacesBelow (length batch)) (sym plan.1) tt,
+sized false batch order report arranged count = (
+  omega (arith, count, ap (λ places. length (envelopes_at batch places)) arranged.0, ap length (all_picked batch), ap length arranged.1),
+  subst (ArePlacesBelow (length batch)) (sym arranged.1) tt,
 )
 
-pub adds_sized : (reorder : Bool) (old new : List Block) (batch : List Envelope) (report : BatchReport) → Adds (plans_of reorder) old batch report new →
+pub adds_sized : (reorder : Bool) (old new : List Block) (batch : List Envelope) (report : BatchReport) → Adds (arranges_by reorder) old batch report new →
     IsSized batch report
-adds_sized reorder old new batch report adds = sized reorder batch adds.order report adds.planned adds.count
+adds_sized reorder old new batch report adds = sized reorder batch adds.order report adds.arranged adds.count
 
 -- ---- an envelope alone
 
@@ -224,15 +224,16 @@ only_first : (gone : List ℕ) (k : ℕ) → waits (all_but gone 1) k ≡ true �
 only_first gone k waiting = let less = part_within gone 1 k waiting in inl (omega (arith, less))
 
 alone_planned : (e : Envelope) (order : List ℕ) (aborted : List (ℕ × AbortCause)) → IsArranged (e ∷ []) order aborted → aborted ≡ []
-alone_planned e order aborted plan =
+alone_planned e order aborted arranged =
     let gone = stale (e ∷ []) in
-    let none = planned_whole 1 (edge_of (e ∷ [])) (all_but gone 1) order plan.dropped (no_loop (e ∷ [])) plan.planned (0 ∷ []) (tt, tt) (only_first gone) in
-    plan.aborts_are ∙ (λ i. aborts (alone_fresh e i) (none i) (0 ∷ []))
+    let none = planned_whole 1 (edge_of (e ∷ [])) (all_but gone 1) order arranged.dropped (no_loop (e ∷ [])) arranged.planned (0 ∷ []) (tt, tt)
+    (only_first gone) in
+    arranged.aborts_are ∙ (λ i. aborts (alone_fresh e i) (none i) (0 ∷ []))
 
-loses_none : (reorder : Bool) (e : Envelope) (order : List ℕ) (aborted : List (ℕ × AbortCause)) → plans_of reorder (e ∷ []) order aborted → aborted ≡ []
-loses_none true e order aborted plan = alone_planned e order aborted plan
-loses_none false e order aborted plan = plan.1
+loses_none : (reorder : Bool) (e : Envelope) (order : List ℕ) (aborted : List (ℕ × AbortCause)) → arranges_by reorder (e ∷ []) order aborted → aborted ≡ []
+loses_none true e order aborted arranged = alone_planned e order aborted arranged
+loses_none false e order aborted arranged = arranged.1
 
-pub alone_loses_none : (reorder : Bool) (old new : List Block) (e : Envelope) (report : BatchReport) → Adds (plans_of reorder) old (e ∷ []) report new →
+pub alone_loses_none : (reorder : Bool) (old new : List Block) (e : Envelope) (report : BatchReport) → Adds (arranges_by reorder) old (e ∷ []) report new →
     report.aborted ≡ []
-alone_loses_none reorder old new e report adds = loses_none reorder e adds.order report.aborted adds.planned
+alone_loses_none reorder old new e report adds = loses_none reorder e adds.order report.aborted adds.arranged

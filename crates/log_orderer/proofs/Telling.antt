@@ -8,9 +8,9 @@ use Rattle.fab_types.specs.declared.block.Block.{Block}
 use Rattle.fab_types.specs.declared.envelope.Envelope.{Envelope}
 use Rattle.batch_cutter.specs.Division.{concatenate}
 use Rattle.wire.specs.Ids.{id_of}
-use Rattle.orderer.specs.Arranged.{plans_of}
+use Rattle.orderer.specs.Arranged.{arranges_by}
 use Rattle.orderer.specs.Blocks.{Adds, AddsEach}
-use Rattle.orderer.specs.declared.plan.AbortCause.{AbortCause}
+use Rattle.orderer.specs.declared.arrangement.AbortCause.{AbortCause}
 use Rattle.orderer.specs.declared.report.BatchReport.{BatchReport}
 use Rattle.log_orderer.specs.Cutting.{AreAt, AreCut, AreFront, ArePlacesBelow, HaveRoom, IsCut, IsFront, size_of}
 use Rattle.log_orderer.specs.Ids.{ids_of}
@@ -77,7 +77,7 @@ ahead batch others pending size same =
 
 -- before they are cut their ids stand at the front of those that wait
 pub all_front : (reorder : Bool) (old new : List Block) (cut : List (List Envelope)) (pending : List Envelope) (reports : List BatchReport) →
-    AddsEach (plans_of reorder) old cut reports new → AreFront reports (ids_of (concatenate cut ++ pending))
+    AddsEach (arranges_by reorder) old cut reports new → AreFront reports (ids_of (concatenate cut ++ pending))
 all_front reorder old new [] pending reports adds =
     subst (λ (rs : List BatchReport). AreFront rs (ids_of pending)) (sym adds.0) tt
 all_front reorder old new (batch ∷ cut) pending reports adds =
@@ -99,7 +99,7 @@ all_front reorder old new (batch ∷ cut) pending reports adds =
 
 -- once they are cut the ids are told of their members, and the others wait on
 pub all_told : (reorder : Bool) (old new : List Block) (cut : List (List Envelope)) (pending : List Envelope) (reports : List BatchReport)
-    (batches : List LogBatch) (left : List (List ℕ)) → AddsEach (plans_of reorder) old cut reports new →
+    (batches : List LogBatch) (left : List (List ℕ)) → AddsEach (arranges_by reorder) old cut reports new →
     AreCut reports (ids_of (concatenate cut ++ pending)) batches left →
     AllZip IsNamed cut batches × (left ≡ ids_of pending) × (reports_of batches ≡ reports)
 all_told reorder old new [] pending reports batches left adds are =
@@ -126,7 +126,7 @@ room_first report ids room front fits = omega (arith, front.0, fits)
 
 -- room for as many ids as wait is enough, and there are two reports at most
 pub few_fit : (reorder : Bool) (old new : List Block) (cut : List (List Envelope)) (reports : List BatchReport) (ids : List (List ℕ)) (room : ℕ) →
-    AreFew cut → AddsEach (plans_of reorder) old cut reports new → AreFront reports ids → length ids ≤ room →
+    AreFew cut → AddsEach (arranges_by reorder) old cut reports new → AreFront reports ids → length ids ≤ room →
     (length reports ≤ 2) × HaveRoom reports room
 few_fit reorder old new [] reports ids room few adds front fits =
     rw adds.0 (omega arith, tt)
@@ -140,7 +140,7 @@ few_fit reorder old new (first ∷ second ∷ []) reports ids room few adds fron
     adds.3 ∙ ap (λ (rs : List BatchReport). adds.0 ∷ rs) (later.3 ∙ ap (λ (rs : List BatchReport). later.0 ∷ rs) later.5.0) in
     let here = subst (λ (rs : List BatchReport). AreFront rs ids) are front in
     let none = alone_loses_none reorder adds.2 later.2 few.0 later.0
-    (subst (λ (es : List Envelope). Adds (plans_of reorder) adds.2 es later.0 later.2) few.1 later.4) in
+    (subst (λ (es : List Envelope). Adds (arranges_by reorder) adds.2 es later.0 later.2) few.1 later.4) in
     subst (λ (rs : List BatchReport). (length rs ≤ 2) × HaveRoom rs room) (sym are)
     (omega arith, (room_first adds.0 ids room here.0 fits, (omega (arith, ap length none), tt)))
 few_fit reorder old new (first ∷ second ∷ third ∷ others) reports ids room few adds front fits = absurd few

@@ -44,11 +44,11 @@ IsMarkSkipped TooLarge old mark = IsTooLarge old.limits mark
 IsMarkSkipped NoNumber old mark = RunsOut old mark
 IsMarkSkipped _ old mark = ⊥
 
--- what comes of a mark
-abbrev pub Marks : Ordering → Mark Envelope → LineReport → Ordering → Type 0
-Marks old mark (Accepted id batches) new = TakesMark old mark (reports_of batches) new
-Marks old mark (Ticked batch) new = TakesMark old mark (reports_of (option_to_list batch)) new
-Marks old mark (Skipped skip) new = IsMarkSkipped skip old mark × (new ≡ old)
+-- how a mark is answered
+abbrev pub AnswersMark : Ordering → Mark Envelope → LineReport → Ordering → Type 0
+AnswersMark old mark (Accepted id batches) new = TakesMark old mark (reports_of batches) new
+AnswersMark old mark (Ticked batch) new = TakesMark old mark (reports_of (option_to_list batch)) new
+AnswersMark old mark (Skipped skip) new = IsMarkSkipped skip old mark × (new ≡ old)
 
 -- the skip of a refusal; none for want of memory
 abbrev pub IsSkipOf : OrderCause → LineReport → Type 0

@@ -1,7 +1,7 @@
 -- What is known on the way of cutting batches off the ids that wait.
 use Rattle.std.specs.Prelude.{◌≡◌, ℕ, ◌+◌, ◌<◌, ◌≤◌, List, [], ◌∷◌, length, map, take, drop, Some}
 use Rattle.std.specs.List.{slice_get, AllByRecursion}
-use Rattle.orderer.specs.declared.plan.AbortCause.{AbortCause}
+use Rattle.orderer.specs.declared.arrangement.AbortCause.{AbortCause}
 use Rattle.orderer.specs.declared.report.BatchReport.{BatchReport}
 use Rattle.log_orderer.specs.declared.batch.LogBatch.{LogBatch}
 

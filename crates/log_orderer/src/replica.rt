@@ -6,7 +6,7 @@ ghost use Rattle.batch_cutter.specs.Division.{message, timeout};
 ghost use Rattle.orderer.specs.Blocks.{from_number};
 ghost use Rattle.orderer.specs.Ordering.{AreLimits};
 ghost use Rattle.orderer.specs.declared.report.OrderCause.TheVariants.{Memory};
-ghost use Rattle.log_orderer.specs.Asking.{IsSkipOf, Marks};
+ghost use Rattle.log_orderer.specs.Asking.{IsSkipOf, AnswersMark};
 ghost use Rattle.log_orderer.specs.Ids.{ids_of};
 ghost use Rattle.log_orderer.specs.Lines.{IsMark};
 ghost use Rattle.log_orderer.specs.Log.{Reads};
@@ -121,7 +121,8 @@ impl Replica {
 
     /// Takes an envelope, or skips it.
     fn accept(&mut self, envelope: Envelope) -> Result<LineReport, AllocError>
-        ensures marks { IfOk result (λ report. Marks self.old (message envelope) report self.new) }
+        ensures answers { IfOk result
+            (λ report. AnswersMark self.old (message envelope) report self.new) }
         ensures ids { IfOk result (λ report. (line : List ℕ) → IsMark line (message envelope) →
             TellsIds report self.old line) }
         ensures unchanged { OnErr result (self.new ≡ self.old) }
@@ -139,7 +140,8 @@ impl Replica {
 
     /// Cuts what waits, or skips the tick.
     fn tick(&mut self) -> Result<LineReport, AllocError>
-        ensures marks { IfOk result (λ report. Marks self.old timeout report self.new) }
+        ensures answers { IfOk result
+            (λ report. AnswersMark self.old timeout report self.new) }
         ensures ids { IfOk result (λ report. (line : List ℕ) → IsMark line timeout →
             TellsIds report self.old line) }
         ensures unchanged { OnErr result (self.new ≡ self.old) }

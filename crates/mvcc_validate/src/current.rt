@@ -5,7 +5,7 @@ ghost use Rattle.ledger_model.specs.Chain.{history};
 ghost use Rattle.ledger_model.specs.State.{state};
 ghost use Rattle.mvcc_validate.specs.Current.{is_current};
 
-use crate::overlay::Written;
+use crate::overlay::Overlay;
 use crate::phantoms::are_ranges_current;
 use crate::reads::are_reads_current;
 use fab_types::Payload;
@@ -18,7 +18,7 @@ use world_state::Snapshot;
 pub fn is_current(alloc: Global, snapshot: &Snapshot, payload: &Payload) -> Result<bool, AllocError>
     ensures { IfOk result (λ b. b ≡ is_current (state (history snapshot.now)) payload.now) }
 {
-    let written: Written = BTreeMap::new(alloc);
+    let written: Overlay = BTreeMap::new(alloc);
     if !are_reads_current(snapshot, &written, payload.reads().as_slice()) {
         return Ok(false);
     }

@@ -9,7 +9,7 @@ ghost use Rattle.world_state.specs.Ids.{ids_of};
 ghost use Rattle.world_state.specs.Judging.{IsOf};
 ghost use Rattle.mvcc_validate.specs.Overlay.{AreNewIds, IsOver};
 
-use crate::overlay::{Written, put_writes};
+use crate::overlay::{Overlay, put_writes};
 use crate::phantoms::are_ranges_current;
 use crate::reads::are_reads_current;
 use fab_types::{Block, Flag, Payload, Version};
@@ -54,7 +54,7 @@ struct Transaction<'a> {
 fn flag_of(
     alloc: Global,
     snapshot: &Snapshot,
-    written: &Written,
+    written: &Overlay,
     next: &Transaction<'_>,
 ) -> Result<Flag, AllocError>
     ensures { IfOk result
@@ -93,7 +93,7 @@ fn flag_of(
 /// - `Valid`.
 ///
 /// The error is of memory.
-pub fn mark(
+pub fn flag_block(
     alloc: Global,
     snapshot: &Snapshot,
     block: &Block,
@@ -111,7 +111,7 @@ pub fn mark(
     Ok(Judged { flags, ids })
 }
 
-/// The flags of `mark`, where nothing is put on the snapshot.
+/// The flags of `flag_block`, where nothing is put on the snapshot.
 pub fn flags(
     alloc: Global,
     snapshot: &Snapshot,
@@ -124,7 +124,7 @@ pub fn flags(
         ≡ flags_told id_of (history snapshot.now) block.now.header.number 0 block.now.envelopes
         endorsed.now) }
 {
-    let Judged { flags, ids: _ } = mark(alloc, snapshot, block, endorsed)?;
+    let Judged { flags, ids: _ } = flag_block(alloc, snapshot, block, endorsed)?;
     Ok(flags)
 }
 
@@ -146,7 +146,7 @@ fn flags_with_ids(
     let number = block.header.number.get();
     let envelopes = block.envelopes.as_slice();
     let mut seen: TxIds = BTreeSet::new(alloc);
-    let mut written: Written = BTreeMap::new(alloc);
+    let mut written: Overlay = BTreeMap::new(alloc);
     let mut flags = Vec::new(alloc);
     for (place, envelope) in envelopes.iter().enumerate() {
         let payload = &envelope.payload;

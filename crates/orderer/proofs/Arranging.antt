@@ -1,4 +1,4 @@
--- A batch has one plan, its places are the batch's, and the survivors stand in a legal order.
+-- A batch has one arrangement, its places are the batch's, and the survivors stand in a legal order.
 use Rattle.std.proofs.Common.{◌≡◌, ℕ, zero, suc, ◌+◌, ◌<◌, ◌≤◌, ◌++◌, ◌&&◌, not, Bool, true, false, cond, eqb, ltb, List, [], ◌∷◌, Some, None, length, refl}
 use Rattle.std.proofs.Common.{sym, ap, subst, ◌∙◌, arith}
 use Rattle.std.specs.Prelude.{if◌then◌else◌}
@@ -16,21 +16,22 @@ use Rattle.reorder.specs.Plan.{IsPlanned, AllAfter, all_but, waits}
 use Rattle.reorder.specs.Edges.{apart, both_there, edge_of}
 use Rattle.reorder.specs.Stale.{indices, is_stale, stale}
 use Rattle.reorder.proofs.Plans.{planned_one, planned_once, planned_legal, part_within}
-use Rattle.orderer.specs.declared.plan.AbortCause.{AbortCause}
-use Rattle.orderer.specs.declared.plan.AbortCause.TheVariants.{Outdated, Conflict}
+use Rattle.orderer.specs.declared.arrangement.AbortCause.{AbortCause}
+use Rattle.orderer.specs.declared.arrangement.AbortCause.TheVariants.{Outdated, Conflict}
 use Rattle.orderer.specs.declared.report.BatchReport.{BatchReport}
-use Rattle.orderer.specs.Plans.{envelopes_at, ArePlaces}
-use Rattle.orderer.specs.Arranged.{is_among, abort_at, aborts, IsArranged, plans_of}
+use Rattle.orderer.specs.Places.{envelopes_at, ArePlaces}
+use Rattle.orderer.specs.Arranged.{has_place, abort_at, aborts, IsArranged, arranges_by}
 use Rattle.orderer.proofs.Picking.{range_more}
 use Rattle.orderer.specs.Blocks.{AddsEach, AreLegal, next_block, with_batch}
 use Rattle.orderer.proofs.Cutting.{all_joined}
 
-pub one_plan : (reorder : Bool) (batch : List Envelope) (order others : List ℕ) (aborted left : List (ℕ × AbortCause)) → plans_of reorder batch order aborted →
-    plans_of reorder batch others left → (order ≡ others) × (aborted ≡ left)
-one_plan true batch order others aborted left a b =
+pub one_arrangement : (reorder : Bool) (batch : List Envelope) (order others : List ℕ) (aborted left : List (ℕ × AbortCause)) →
+    arranges_by reorder batch order aborted →
+    arranges_by reorder batch others left → (order ≡ others) × (aborted ≡ left)
+one_arrangement true batch order others aborted left a b =
     let same = planned_one (length batch) (edge_of batch) (all_but (stale batch) (length batch)) order others a.dropped b.dropped a.planned b.planned in
     (same.0, a.aborts_are ∙ ap (λ (d : List ℕ). aborts (stale batch) d (indices batch)) same.1 ∙ sym b.aborts_are)
-one_plan false batch order others aborted left a b = (a.0 ∙ sym b.0, a.1 ∙ sym b.1)
+one_arrangement false batch order others aborted left a b = (a.0 ∙ sym b.0, a.1 ∙ sym b.1)
 
 -- ---- places
 
@@ -161,12 +162,12 @@ with_batch_legal old (e ∷ es) are legal = push_one (λ (b : Block). IsLegal []
 
 -- blocks of arranged batches are of legal order
 pub takes_legal : (old : List Block) (batches : List (List Envelope)) (reports : List BatchReport) (new : List Block) →
-    AddsEach (plans_of true) old batches reports new → AreLegal old → AreLegal new
+    AddsEach (arranges_by true) old batches reports new → AreLegal old → AreLegal new
 takes_legal old [] reports new adds are = subst AreLegal (sym adds.1) are
 takes_legal old (batch ∷ batches) reports new adds are =
     let a = adds.4 in
     let next : AreLegal adds.2 =
-    subst AreLegal (sym a.chain) (with_batch_legal old (envelopes_at batch a.order) are (arranged_legal batch a.order adds.0.aborted a.planned)) in
+    subst AreLegal (sym a.chain) (with_batch_legal old (envelopes_at batch a.order) are (arranged_legal batch a.order adds.0.aborted a.arranged)) in
     takes_legal adds.2 batches adds.1 new adds.5 next
 
 -- ---- why each is aborted
@@ -179,20 +180,20 @@ aborts_more outdated dropped n =
     ∙ flat_map-append (abort_at outdated dropped) (range_with_len 0 n) (n ∷ [])
     ∙ ap (λ (xs : List (ℕ × AbortCause)). aborts outdated dropped (range_with_len 0 n) ++ xs) (append-nil (abort_at outdated dropped n))
 
-pub outdated_more : (outdated dropped : List ℕ) (n : ℕ) → is_among outdated n ≡ true →
+pub outdated_more : (outdated dropped : List ℕ) (n : ℕ) → has_place outdated n ≡ true →
     aborts outdated dropped (range_with_len 0 (n + 1)) ≡ aborts outdated dropped (range_with_len 0 n) ++ (n, Outdated) ∷ []
 outdated_more outdated dropped n is =
     aborts_more outdated dropped n
     ∙ ap (λ (b : Bool). aborts outdated dropped (range_with_len 0 n) ++
-    (if b then (n, Outdated) ∷ [] else if is_among dropped n then (n, Conflict) ∷ [] else [])) is
+    (if b then (n, Outdated) ∷ [] else if has_place dropped n then (n, Conflict) ∷ [] else [])) is
 
-pub dropped_more : (outdated dropped : List ℕ) (n : ℕ) → is_among outdated n ≡ false → is_among dropped n ≡ true →
+pub dropped_more : (outdated dropped : List ℕ) (n : ℕ) → has_place outdated n ≡ false → has_place dropped n ≡ true →
     aborts outdated dropped (range_with_len 0 (n + 1)) ≡ aborts outdated dropped (range_with_len 0 n) ++ (n, Conflict) ∷ []
 dropped_more outdated dropped n other is =
     aborts_more outdated dropped n
     ∙ (λ i. aborts outdated dropped (range_with_len 0 n) ++ (if other i then (n, Outdated) ∷ [] else if is i then (n, Conflict) ∷ [] else []))
 
-pub none_more : (outdated dropped : List ℕ) (n : ℕ) → is_among outdated n ≡ false → is_among dropped n ≡ false →
+pub none_more : (outdated dropped : List ℕ) (n : ℕ) → has_place outdated n ≡ false → has_place dropped n ≡ false →
     aborts outdated dropped (range_with_len 0 (n + 1)) ≡ aborts outdated dropped (range_with_len 0 n)
 none_more outdated dropped n other is =
     aborts_more outdated dropped n

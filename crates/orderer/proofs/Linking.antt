@@ -3,9 +3,9 @@ use Rattle.std.proofs.Common.{◌≡◌, ℕ, zero, suc, ◌++◌, List, [], ◌
 use Rattle.std.proofs.lemmas.List.{append-nil, length-append}
 use Rattle.fab_types.specs.declared.envelope.Envelope.{Envelope}
 use Rattle.fab_types.specs.declared.block.Block.{Block}
-use Rattle.orderer.specs.Plans.{envelopes_at}
+use Rattle.orderer.specs.Places.{envelopes_at}
 use Rattle.orderer.specs.Blocks.{Adds, AddsEach, AreNumbered, AreLinked, next_block, next_header, with_batch}
-use Rattle.orderer.specs.declared.plan.AbortCause.{AbortCause}
+use Rattle.orderer.specs.declared.arrangement.AbortCause.{AbortCause}
 use Rattle.orderer.specs.declared.report.BatchReport.{BatchReport}
 
 linked_more : (before blocks : List Block) (es : List Envelope) → AreLinked before blocks → AreLinked before (blocks ++ next_block (before ++ blocks) es ∷ [])
@@ -20,15 +20,15 @@ with_batch_linked : (old : List Block) (es : List Envelope) → AreLinked [] old
 with_batch_linked old [] are = are
 with_batch_linked old (e ∷ es) are = linked_more [] old (e ∷ es) are
 
-pub adds_linked : (plans : List Envelope → List ℕ → List (ℕ × AbortCause) → Type 0) (old : List Block) (batch : List Envelope) (report : BatchReport)
-    (new : List Block) → Adds plans old batch report new → AreLinked [] old → AreLinked [] new
-adds_linked plans old batch report new adds are = subst (AreLinked []) (sym adds.chain) (with_batch_linked old (envelopes_at batch adds.order) are)
+pub adds_linked : (arranges : List Envelope → List ℕ → List (ℕ × AbortCause) → Type 0) (old : List Block) (batch : List Envelope) (report : BatchReport)
+    (new : List Block) → Adds arranges old batch report new → AreLinked [] old → AreLinked [] new
+adds_linked arranges old batch report new adds are = subst (AreLinked []) (sym adds.chain) (with_batch_linked old (envelopes_at batch adds.order) are)
 
-pub each_linked : (plans : List Envelope → List ℕ → List (ℕ × AbortCause) → Type 0) (old : List Block) (batches : List (List Envelope))
-    (reports : List BatchReport) (new : List Block) → AddsEach plans old batches reports new → AreLinked [] old → AreLinked [] new
-each_linked plans old [] reports new adds are = subst (AreLinked []) (sym adds.1) are
-each_linked plans old (batch ∷ batches) reports new adds are =
-    each_linked plans adds.2 batches adds.1 new adds.5 (adds_linked plans old batch adds.0 adds.2 adds.4 are)
+pub each_linked : (arranges : List Envelope → List ℕ → List (ℕ × AbortCause) → Type 0) (old : List Block) (batches : List (List Envelope))
+    (reports : List BatchReport) (new : List Block) → AddsEach arranges old batches reports new → AreLinked [] old → AreLinked [] new
+each_linked arranges old [] reports new adds are = subst (AreLinked []) (sym adds.1) are
+each_linked arranges old (batch ∷ batches) reports new adds are =
+    each_linked arranges adds.2 batches adds.1 new adds.5 (adds_linked arranges old batch adds.0 adds.2 adds.4 are)
 
 -- linked blocks are numbered
 pub linked_numbered : (before blocks : List Block) → AreLinked before blocks → AreNumbered (suc (length before)) blocks

@@ -12,7 +12,7 @@ use Rattle.std.proofs.lemmas.Bool.{eqb-true, eqb-false, ltb-true, ltb-false, lt-
 use Rattle.fab_types.specs.Data.{IsBlockData}
 use Rattle.fab_types.specs.Size.{envelope_size}
 use Rattle.fab_types.specs.declared.envelope.Envelope.{Envelope}
-use Rattle.orderer.specs.Plans.{envelopes_at, ArePlaces}
+use Rattle.orderer.specs.Places.{envelopes_at, ArePlaces}
 
 shift : {A : Type 0} (f : ℕ → List A) (k n : ℕ) → flat_map f (range_with_len (suc k) n) ≡ flat_map (λ i. f (suc i)) (range_with_len k n)
 shift f k zero = refl

@@ -3,9 +3,9 @@ use Rattle.std.proofs.Common.{◌≡◌, ℕ, ◌≤◌, ◌++◌, List, [], ◌
 use Rattle.std.proofs.lemmas.List.{length-append}
 use Rattle.fab_types.specs.declared.envelope.Envelope.{Envelope}
 use Rattle.fab_types.specs.declared.block.Block.{Block}
-use Rattle.orderer.specs.Plans.{envelopes_at}
+use Rattle.orderer.specs.Places.{envelopes_at}
 use Rattle.orderer.specs.Adding.{IsBatchRefused}
-use Rattle.orderer.specs.declared.plan.AbortCause.{AbortCause}
+use Rattle.orderer.specs.declared.arrangement.AbortCause.{AbortCause}
 use Rattle.orderer.specs.declared.report.BatchReport.{BatchReport}
 use Rattle.orderer.specs.declared.report.OrderCause.TheVariants.{NoNumber}
 use Rattle.orderer.specs.Blocks.{next_block, next_number, with_batch, number_of}
@@ -19,15 +19,15 @@ something chain [] some = absurd omega (arith, some)
 something chain (e ∷ es) some = (refl, refl)
 
 -- a batch that needs a block after the last number
-pub needs_one : (plans : List Envelope → List ℕ → List (ℕ × AbortCause) → Type 0) (old : List Block) (batch : List Envelope) (order : List ℕ)
+pub needs_one : (arranges : List Envelope → List ℕ → List (ℕ × AbortCause) → Type 0) (old : List Block) (batch : List Envelope) (order : List ℕ)
     (aborted : List (ℕ × AbortCause))
-    → plans batch order aborted → 1 ≤ length (envelopes_at batch order) → length old ≡ 65535 → IsBatchRefused plans NoNumber old batch
-needs_one plans old batch order aborted planned some full =
+    → arranges batch order aborted → 1 ≤ length (envelopes_at batch order) → length old ≡ 65535 → IsBatchRefused arranges NoNumber old batch
+needs_one arranges old batch order aborted arranged some full =
     let es = envelopes_at batch order in
     let report : BatchReport = record { block = number_of old es; count = length es; aborted = aborted } in
     let block = something old es some in (
       report,
       with_batch old es,
-      (record { order = order; planned = planned; chain = refl; number = refl; count = refl }),
+      (record { order = order; arranged = arranged; chain = refl; number = refl; count = refl }),
       omega (arith, full, ap length block.0, length-append old (next_block old es ∷ [])),
     )

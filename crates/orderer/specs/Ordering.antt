@@ -5,7 +5,7 @@ use Rattle.fab_types.specs.declared.envelope.Envelope.{Envelope}
 use Rattle.fab_types.specs.declared.block.Block.{Block}
 use Rattle.batch_cutter.specs.Division.{Limits, Mark, message, timeout, IsDivision}
 use Rattle.orderer.specs.Blocks.{AddsEach}
-use Rattle.orderer.specs.Arranged.{plans_of}
+use Rattle.orderer.specs.Arranged.{arranges_by}
 use Rattle.orderer.specs.declared.report.BatchReport.{BatchReport}
 use Rattle.orderer.specs.declared.report.OrderCause.{OrderCause}
 use Rattle.orderer.specs.declared.report.OrderCause.TheVariants.{TooLarge, NoNumber, Memory}
@@ -29,13 +29,13 @@ pub record IsOrdered (marks : List (Mark Envelope)) (now : Ordering) : Type 0 wh
   pub batches : List (List Envelope)
   pub reports : List BatchReport
   pub cut : IsDivision envelope_size now.limits marks batches now.pending
-  pub made : AddsEach (plans_of now.reorder) [] batches reports now.chain
+  pub made : AddsEach (arranges_by now.reorder) [] batches reports now.chain
 
 -- one mark more: what waited is cut with it, and the new batches are put at the end and reported
 pub record Takes (old : Ordering) (mark : Mark Envelope) (reports : List BatchReport) (new : Ordering) : Type 0 where
   pub batches : List (List Envelope)
   pub cut : IsDivision envelope_size old.limits (map message old.pending ++ mark ∷ []) batches new.pending
-  pub added : AddsEach (plans_of old.reorder) old.chain batches reports new.chain
+  pub added : AddsEach (arranges_by old.reorder) old.chain batches reports new.chain
   pub limits : new.limits ≡ old.limits
   pub reorder : new.reorder ≡ old.reorder
 
@@ -47,7 +47,7 @@ pub record RunsOut (old : Ordering) (mark : Mark Envelope) : Type 0 where
   pub cut : IsDivision envelope_size old.limits (map message old.pending ++ mark ∷ []) (first ++ others) pending
   pub reports : List BatchReport
   pub chain : List Block
-  pub added : AddsEach (plans_of old.reorder) old.chain first reports chain
+  pub added : AddsEach (arranges_by old.reorder) old.chain first reports chain
   pub past : 65535 < length chain
 
 -- a message above the absolute size is too large; a timeout never is

@@ -4,12 +4,12 @@ ghost use Rattle.std.specs.Prelude.{◌≡◌, suc, ◌≤◌, [], ◌∷◌, �
 ghost use Rattle.std.specs.List.{AllByRecursion};
 ghost use Rattle.fab_types.specs.Data.{IsBlockData};
 ghost use Rattle.batch_cutter.specs.Offers.{batches};
-ghost use Rattle.orderer.specs.Plans.{envelopes_at};
-ghost use Rattle.orderer.specs.Arranged.{plans_of};
+ghost use Rattle.orderer.specs.Places.{envelopes_at};
+ghost use Rattle.orderer.specs.Arranged.{arranges_by};
 ghost use Rattle.orderer.specs.Blocks.{Adds, AddsEach, next_block, next_number};
 ghost use Rattle.orderer.specs.Adding.{BeginsWith, IsBatchRefused, IsCutRefused};
 
-use crate::plan::plan_of;
+use crate::arrangement::arrangement_of;
 use crate::report::{BatchReport, OrderCause};
 use batch_cutter::Cut;
 use fab_types::limits::LAST_BLOCK;
@@ -78,8 +78,8 @@ fn next_number(count: usize) -> Option<BlockNumber>
     BlockNumber::new(count as u32 + 1)
 }
 
-/// Plans a batch, and puts a block of what survives at the end of the chain, if anything does. On a
-/// refusal the chain is as it was.
+/// Arranges a batch, and puts a block of what survives at the end of the chain, if anything
+/// does. On a refusal the chain is as it was.
 pub(crate) fn add_batch(
     alloc: Global,
     reorder: bool,
@@ -89,15 +89,15 @@ pub(crate) fn add_batch(
     requires blocks { length blocks.old.items ≤ LAST_BLOCK }
     requires batch { IsBlockData batch.now }
     ensures added { IfOk result
-        (λ report. Adds (plans_of reorder) blocks.old.items batch.now report blocks.new.items) }
+        (λ report. Adds (arranges_by reorder) blocks.old.items batch.now report blocks.new.items) }
     ensures number { OnOk result (length blocks.new.items ≤ LAST_BLOCK) }
     ensures unchanged { OnErr result (blocks.new.items ≡ blocks.old.items) }
     ensures refused { IfErr result
-        (λ cause. IsBatchRefused (plans_of reorder) cause blocks.old.items batch.now) }
+        (λ cause. IsBatchRefused (arranges_by reorder) cause blocks.old.items batch.now) }
 {
-    let plan = plan_of(alloc, reorder, batch)?;
-    let survivors = pick(alloc, batch, &plan.order)?;
-    let aborted = Seq::new(plan.aborted);
+    let arrangement = arrangement_of(alloc, reorder, batch)?;
+    let survivors = pick(alloc, batch, &arrangement.order)?;
+    let aborted = Seq::new(arrangement.aborted);
     if survivors.is_empty() {
         return Ok(BatchReport {
             block: None,
@@ -127,12 +127,12 @@ fn add_each(
     requires blocks { length blocks.old.items ≤ LAST_BLOCK }
     requires batches { AllByRecursion IsBlockData (batches cut.now) }
     ensures added { IfOk result
-        (λ reports. AddsEach (plans_of reorder) blocks.old.items (batches cut.now) reports.items
+        (λ reports. AddsEach (arranges_by reorder) blocks.old.items (batches cut.now) reports.items
         blocks.new.items) }
     ensures number { OnOk result (length blocks.new.items ≤ LAST_BLOCK) }
     ensures begins { BeginsWith blocks.old.items blocks.new.items }
     ensures refused { IfErr result
-        (λ cause. IsCutRefused (plans_of reorder) cause blocks.old.items (batches cut.now)) }
+        (λ cause. IsCutRefused (arranges_by reorder) cause blocks.old.items (batches cut.now)) }
 {
     let mut reports = Vec::new(alloc);
     match cut {
@@ -158,12 +158,12 @@ pub(crate) fn add_cut(
     requires blocks { length blocks.old.items ≤ LAST_BLOCK }
     requires batches { AllByRecursion IsBlockData (batches cut.now) }
     ensures added { IfOk result
-        (λ reports. AddsEach (plans_of reorder) blocks.old.items (batches cut.now) reports.items
+        (λ reports. AddsEach (arranges_by reorder) blocks.old.items (batches cut.now) reports.items
         blocks.new.items) }
     ensures number { OnOk result (length blocks.new.items ≤ LAST_BLOCK) }
     ensures unchanged { OnErr result (blocks.new.items ≡ blocks.old.items) }
     ensures refused { IfErr result
-        (λ cause. IsCutRefused (plans_of reorder) cause blocks.old.items (batches cut.now)) }
+        (λ cause. IsCutRefused (arranges_by reorder) cause blocks.old.items (batches cut.now)) }
 {
     let before = blocks.len();
     let added = add_each(alloc, reorder, blocks, cut);

@@ -2,13 +2,13 @@
 //! for, and makes a chain of blocks of them, each linked to the one before by its hash.
 #![tactic(auto)]
 
+mod arrangement;
 mod chain;
 mod laws;
 mod orderer;
-mod plan;
 mod report;
 
+pub use arrangement::AbortCause;
 pub use laws::ordering_laws;
 pub use orderer::Orderer;
-pub use plan::AbortCause;
 pub use report::{BatchReport, OrderCause, OrderRefusal};

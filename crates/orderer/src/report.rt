@@ -4,7 +4,7 @@ ghost use Rattle.std.specs.Prelude.{◌≡◌};
 ghost use Rattle.orderer.specs.declared.report.OrderCause.TheVariants.{Memory};
 ghost use Rattle.orderer.specs.Numbers.{cause_number};
 
-use crate::plan::AbortCause;
+use crate::arrangement::AbortCause;
 use batch_cutter::Cause;
 use fab_types::Envelope;
 use seq::Seq;

@@ -6,21 +6,21 @@ ghost use Rattle.std.specs.List.Sorted.{IsPermutation, IsSortedByKey, IsPartitio
 ghost use Rattle.std.specs.Ordering.{is_lt, is_le};
 ghost use Rattle.fab_types.specs.Order.{key_cmp, is_within};
 ghost use Rattle.fab_types.specs.Touched.{same_key, sees};
-ghost use Rattle.reorder.specs.Written.{written_by, written_from, as_pair, key_of, AreStarts, hits};
+ghost use Rattle.reorder.specs.KeyWrites.{written_by, written_from, as_pair, key_of, AreStarts, hits};
 
 use fab_types::{Envelope, Key, Payload, RangeItem, ReadItem, WriteItem};
 use std::alloc::{AllocError, Global};
 
 /// A key that a transaction writes.
 #[derive(Drop)]
-pub struct Written<'a> {
+pub struct KeyWrite<'a> {
     pub key: &'a Key,
     pub writer: usize,
 }
 
 /// Adds the writes of one transaction.
 fn add_writes<'a>(
-    index: &mut Vec<Written<'a>>,
+    index: &mut Vec<KeyWrite<'a>>,
     writes: &'a [WriteItem],
     writer: usize,
 ) -> Result<(), AllocError>
@@ -29,7 +29,7 @@ fn add_writes<'a>(
         ≡ map as_pair index.old.items ++ written_by writer writes.now) }
 {
     for write in writes {
-        index.push(Written {
+        index.push(KeyWrite {
             key: &write.key,
             writer,
         })?;
@@ -38,7 +38,7 @@ fn add_writes<'a>(
 }
 
 /// The writes of a batch, in key order.
-pub fn writes_of<'a>(alloc: Global, batch: &'a [Envelope]) -> Result<Vec<Written<'a>>, AllocError>
+pub fn writes_of<'a>(alloc: Global, batch: &'a [Envelope]) -> Result<Vec<KeyWrite<'a>>, AllocError>
     ensures all { IfOk result
         (λ v. IsPermutation (written_from 0 batch.now) (map as_pair v.items)) }
     ensures sorted { IfOk result (λ v. IsSortedByKey key_of key_cmp v.items) }
@@ -53,7 +53,7 @@ pub fn writes_of<'a>(alloc: Global, batch: &'a [Envelope]) -> Result<Vec<Written
 }
 
 /// Where the keys from a bound on begin.
-fn first_from(index: &[Written<'_>], bound: &[u8]) -> usize
+fn first_from(index: &[KeyWrite<'_>], bound: &[u8]) -> usize
     requires { IsSortedByKey key_of key_cmp index.now }
     ensures within { result ≤ length index.now }
     ensures point { IsPartitionPoint (λ w. is_lt (key_cmp w.key.now bound.now) ≡ true)
@@ -63,7 +63,7 @@ fn first_from(index: &[Written<'_>], bound: &[u8]) -> usize
 }
 
 /// Where the writes of a key end: behind those of all keys up to it.
-fn end_of(index: &[Written<'_>], key: &Key) -> usize
+fn end_of(index: &[KeyWrite<'_>], key: &Key) -> usize
     requires { IsSortedByKey key_of key_cmp index.now }
     ensures within { result ≤ length index.now }
     ensures point { IsPartitionPoint (λ w. is_le (key_cmp w.key.now key.now) ≡ true)
@@ -73,7 +73,7 @@ fn end_of(index: &[Written<'_>], key: &Key) -> usize
 }
 
 /// For each write, where the writes of its key begin.
-pub fn starts_of(alloc: Global, index: &[Written<'_>]) -> Result<Vec<usize>, AllocError>
+pub fn starts_of(alloc: Global, index: &[KeyWrite<'_>]) -> Result<Vec<usize>, AllocError>
     requires { IsSortedByKey key_of key_cmp index.now }
     ensures { IfOk result (λ v. AreStarts index.now v.items) }
 {
@@ -88,8 +88,8 @@ pub fn starts_of(alloc: Global, index: &[Written<'_>]) -> Result<Vec<usize>, All
     Ok(starts)
 }
 
-/// Marks the writers of a stretch.
-fn mark(row: &mut [bool], stretch: &[Written<'_>])
+/// Sets the cells of the writers of a stretch.
+fn set_writers(row: &mut [bool], stretch: &[KeyWrite<'_>])
     requires { All (λ w. w.writer < length row.old) stretch.now }
     ensures { (j : ℕ) →
         slice_index_or row.new j false
@@ -100,8 +100,8 @@ fn mark(row: &mut [bool], stretch: &[Written<'_>])
     }
 }
 
-/// Marks the writers of a key. The last write up to the key tells whether the key is written.
-fn mark_key(row: &mut [bool], index: &[Written<'_>], starts: &[usize], key: &Key)
+/// Sets the cells of a key's writers. The last write up to the key tells whether it is written.
+fn set_for_key(row: &mut [bool], index: &[KeyWrite<'_>], starts: &[usize], key: &Key)
     requires inside { All (λ w. w.writer < length row.old) index.now }
     requires sorted { IsSortedByKey key_of key_cmp index.now }
     requires starts { AreStarts index.now starts.now }
@@ -116,12 +116,12 @@ fn mark_key(row: &mut [bool], index: &[Written<'_>], starts: &[usize], key: &Key
     let last = &index[end - 1];
     if last.key.cmp(key).is_eq() {
         let start = starts[end - 1];
-        mark(row, &index[start..end]);
+        set_writers(row, &index[start..end]);
     }
 }
 
-/// Marks the writers of the keys that a range holds.
-fn mark_range(row: &mut [bool], index: &[Written<'_>], range: &RangeItem)
+/// Sets the cells of the writers of the keys that a range holds.
+fn set_for_range(row: &mut [bool], index: &[KeyWrite<'_>], range: &RangeItem)
     requires inside { All (λ w. w.writer < length row.old) index.now }
     requires sorted { IsSortedByKey key_of key_cmp index.now }
     ensures { (j : ℕ) →
@@ -137,12 +137,12 @@ fn mark_range(row: &mut [bool], index: &[Written<'_>], range: &RangeItem)
         first_from(index, bound)
     };
     if first < end {
-        mark(row, &index[first..end]);
+        set_writers(row, &index[first..end]);
     }
 }
 
-/// Marks the writers of the keys that were read.
-fn mark_reads(row: &mut [bool], index: &[Written<'_>], starts: &[usize], reads: &[ReadItem])
+/// Sets the cells of the writers of the keys that were read.
+fn set_for_reads(row: &mut [bool], index: &[KeyWrite<'_>], starts: &[usize], reads: &[ReadItem])
     requires inside { All (λ w. w.writer < length row.old) index.now }
     requires sorted { IsSortedByKey key_of key_cmp index.now }
     requires starts { AreStarts index.now starts.now }
@@ -152,12 +152,12 @@ fn mark_reads(row: &mut [bool], index: &[Written<'_>], starts: &[usize], reads: 
         (λ k. list_any (λ r. same_key r.key k) reads.now) index.now j) }
 {
     for read in reads {
-        mark_key(row, index, starts, &read.key);
+        set_for_key(row, index, starts, &read.key);
     }
 }
 
-/// Marks the writers of the keys that the ranges hold.
-fn mark_ranges(row: &mut [bool], index: &[Written<'_>], ranges: &[RangeItem])
+/// Sets the cells of the writers of the keys that the ranges hold.
+fn set_for_ranges(row: &mut [bool], index: &[KeyWrite<'_>], ranges: &[RangeItem])
     requires inside { All (λ w. w.writer < length row.old) index.now }
     requires sorted { IsSortedByKey key_of key_cmp index.now }
     ensures { (j : ℕ) →
@@ -166,19 +166,19 @@ fn mark_ranges(row: &mut [bool], index: &[Written<'_>], ranges: &[RangeItem])
         (λ k. list_any (λ r. is_within r.start r.end k) ranges.now) index.now j) }
 {
     for range in ranges {
-        mark_range(row, index, range);
+        set_for_range(row, index, range);
     }
 }
 
 /// The writes of a batch, in key order, and for each where those of its key begin.
 #[derive(Clone, Copy)]
 pub struct Index<'a> {
-    pub writes: &'a [Written<'a>],
+    pub writes: &'a [KeyWrite<'a>],
     pub starts: &'a [usize],
 }
 
-/// Marks the other transactions of which one sees a write.
-pub fn mark_row(row: &mut [bool], index: &Index<'_>, payload: &Payload, from: usize)
+/// Sets the cells of the other transactions of which one sees a write.
+pub fn set_row(row: &mut [bool], index: &Index<'_>, payload: &Payload, from: usize)
     requires inside { All (λ w. w.writer < length row.old) index.now.writes.now }
     requires sorted { IsSortedByKey key_of key_cmp index.now.writes.now }
     requires starts { AreStarts index.now.writes.now index.now.starts.now }
@@ -188,7 +188,7 @@ pub fn mark_row(row: &mut [bool], index: &Index<'_>, payload: &Payload, from: us
         ≡ (not (from == j) &&
         (slice_index_or row.old j false || hits (sees payload.now) index.now.writes.now j)) }
 {
-    mark_reads(row, index.writes, index.starts, payload.reads().as_slice());
-    mark_ranges(row, index.writes, payload.ranges().as_slice());
+    set_for_reads(row, index.writes, index.starts, payload.reads().as_slice());
+    set_for_ranges(row, index.writes, payload.ranges().as_slice());
     row[from] = false;
 }

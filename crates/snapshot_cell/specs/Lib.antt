@@ -1,5 +1,5 @@
 pub mod Rules
 pub mod Lists
-pub mod Marks
+pub mod Knowing
 pub mod Seats
 pub mod Numbers

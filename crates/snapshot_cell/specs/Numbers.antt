@@ -10,5 +10,5 @@ open_number opening.NoPlace = 431
 open_number opening.Memory = 9
 
 abbrev pub take_number : TakeRefusal → ℕ
-take_number taking.NoEntry = 432
+take_number taking.NotEntered = 432
 take_number taking.Memory = 9

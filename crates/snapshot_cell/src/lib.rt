@@ -7,7 +7,7 @@
 
 mod history;
 mod kept;
-mod mark;
+mod knowledge;
 mod opening;
 mod reader;
 mod refusal;

@@ -4,12 +4,12 @@ ghost use Rattle.std.specs.Prelude.{◌≡◌, ◌<◌, ◌≤◌, ◌^◌, [], 
 ghost use Rattle.std.specs.Arc.{arc_value};
 ghost use Rattle.left_right.specs.Sides.{view};
 ghost use Rattle.world_state.specs.Shared.{blocks_in};
-ghost use Rattle.snapshot_cell.specs.Marks.{mark_of};
+ghost use Rattle.snapshot_cell.specs.Knowing.{knowing};
 ghost use Rattle.snapshot_cell.specs.Seats.{seen_list, published_list, cell_of_reader, cell_of_writer, EachBegins};
 
 use crate::history::{Front, History};
 use crate::kept::{Kept, Learns, Next, Sees, Tells, Tie};
-use crate::mark::Mark;
+use crate::knowledge::Knowledge;
 use crate::reader::Reader;
 use crate::refusal::OpenRefusal;
 use crate::writer::Writer;
@@ -80,12 +80,12 @@ fn known<R: Wait>(
     snapshot: Arc<Snapshot>,
     front: &Front,
     seats: usize,
-) -> Result<writer::Writer<Kept, Next, Mark, Tie>, AllocError>
+) -> Result<writer::Writer<Kept, Next, Knowledge, Tie>, AllocError>
     requires whole { front.now.seen.log ≡ arc_value snapshot }
     requires seats { (0 < seats) × (seats < 2 ^ 32) }
     ensures shows { IfOk result (λ w. arc_value w.desk.shown.value.snapshot ≡ front.now.seen.log) }
     ensures same { IfOk result (λ w. w.desk.shown.value.front.seen.book ≡ front.now.seen.book) }
-    ensures knows { IfOk result (λ w. view w.desk.place ≡ mark_of front.now.seen.book) }
+    ensures knows { IfOk result (λ w. view w.desk.place ≡ knowing front.now.seen.book) }
 {
     let one = Kept {
         snapshot: Arc::try_clone(&snapshot)?,
@@ -97,7 +97,7 @@ fn known<R: Wait>(
         front: front.again(),
         whole: true,
     };
-    let inner: writer::Writer<Kept, Next, Mark, Tie> = writer::Writer::new(
+    let inner: writer::Writer<Kept, Next, Knowledge, Tie> = writer::Writer::new(
         alloc, one, other, seats,
     )?;
     let (inner, shown) = inner.publish_as::<Sees, R>(rt);
@@ -111,12 +111,12 @@ fn known<R: Wait>(
 /// Makes seats that know the history of the copies.
 fn fill(
     readers: &mut Vec<Reader>,
-    inner: &mut writer::Writer<Kept, Next, Mark, Tie>,
+    inner: &mut writer::Writer<Kept, Next, Knowledge, Tie>,
     front: &Front,
     seats: usize,
 ) -> Result<(), OpenRefusal>
     requires empty { readers.old.items ≡ [] }
-    requires knows { view inner.old.desk.place ≡ mark_of front.now.seen.book }
+    requires knows { view inner.old.desk.place ≡ knowing front.now.seen.book }
     ensures seats { IfOk result
         (λ _. (length readers.new.items ≡ seats) ×
         EachBegins front.now.seen.book front.now.seen.log readers.new.items) }
@@ -135,10 +135,10 @@ fn fill(
 
 /// A seat that knows the history of the copies.
 fn seat(
-    inner: &mut writer::Writer<Kept, Next, Mark, Tie>,
+    inner: &mut writer::Writer<Kept, Next, Knowledge, Tie>,
     front: &Front,
 ) -> Result<Reader, AllocError>
-    requires { view inner.old.desk.place ≡ mark_of front.now.seen.book }
+    requires { view inner.old.desk.place ≡ knowing front.now.seen.book }
     ensures seat { IfOk result
         (λ r. (cell_of_reader r ≡ front.now.seen.book) × (seen_list r ≡ front.now.seen.log)) }
     ensures knows { view inner.new.desk.place ≡ view inner.old.desk.place }

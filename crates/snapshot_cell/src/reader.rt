@@ -5,11 +5,11 @@ ghost use Rattle.std.specs.Option.{ForSome};
 ghost use Rattle.std.specs.Arc.{arc_value};
 ghost use mathlib.Core.List.{IsPrefix};
 ghost use Rattle.left_right.specs.Sides.{view};
-ghost use Rattle.snapshot_cell.specs.Marks.{mark_of};
+ghost use Rattle.snapshot_cell.specs.Knowing.{knowing};
 
 use crate::history::Front;
 use crate::kept::{Kept, Sees, Tie};
-use crate::mark::Mark;
+use crate::knowledge::Knowledge;
 use crate::refusal::TakeRefusal;
 use crate::writer::Told;
 use left_right::reader;
@@ -20,9 +20,9 @@ use world_state::Snapshot;
 /// and which cell it is of; both are changed by its methods alone.
 #[derive(Drop)]
 pub struct Reader {
-    pub(crate) inner: Option<reader::Reader<Kept, Mark, Tie>>,
+    pub(crate) inner: Option<reader::Reader<Kept, Knowledge, Tie>>,
     pub(crate) front: Front,
-    pub ghost knows: { ForSome inner (λ r. view r.place ≡ mark_of front.seen.book) },
+    pub ghost knows: { ForSome inner (λ r. view r.place ≡ knowing front.seen.book) },
 }
 
 impl Reader {
@@ -32,7 +32,7 @@ impl Reader {
     /// The newest snapshot. Its blocks begin with all that this seat has seen or was told of, and
     /// are what it has seen afterwards. A refusal leaves what it has seen as it was.
     ///
-    /// Refused where the cell gave no entry, as after its writer's end (432), and where one more
+    /// Refused where the cell was not entered, as after its writer's end (432), and where one more
     /// owner of the snapshot was refused (9).
     pub fn take(&mut self) -> Result<Arc<Snapshot>, TakeRefusal>
         ensures taken { IfOk result
@@ -42,7 +42,7 @@ impl Reader {
         ensures same { cell_of_reader self.new ≡ cell_of_reader self.old }
     {
         let Some(reader) = self.inner.take() else {
-            return Err(TakeRefusal::NoEntry);
+            return Err(TakeRefusal::NotEntered);
         };
         match reader.enter_as::<Sees>() {
             Ok(reading) => {
@@ -52,7 +52,7 @@ impl Reader {
             }
             Err(reader) => {
                 self.inner = Some(reader);
-                Err(TakeRefusal::NoEntry)
+                Err(TakeRefusal::NotEntered)
             }
         }
     }
@@ -82,7 +82,7 @@ fn look(front: &mut Front, kept: &Kept) -> Result<Arc<Snapshot>, TakeRefusal>
     ensures same { front.new.seen.book ≡ front.old.seen.book }
 {
     if !kept.whole || !front.begins(&kept.front) {
-        return Err(TakeRefusal::NoEntry);
+        return Err(TakeRefusal::NotEntered);
     }
     let snapshot = Arc::try_clone(&kept.snapshot)?;
     *front = kept.front.again();

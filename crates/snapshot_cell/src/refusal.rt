@@ -19,8 +19,8 @@ pub enum OpenRefusal {
 /// Why a seat took no snapshot.
 #[derive(Clone, Copy, Debug, Drop, PartialEq, Eq)]
 pub enum TakeRefusal {
-    /// The cell gave no entry, as after its writer's end.
-    NoEntry = 432,
+    /// The cell was not entered, as after its writer's end.
+    NotEntered = 432,
     /// A growth of memory, or one more owner of the snapshot, was refused.
     Memory = 9,
 }

@@ -5,7 +5,7 @@ ghost use Rattle.std.specs.Arc.{arc_value};
 
 use crate::history::{Front, History};
 use crate::kept::{Kept, Next, Sees, Tie};
-use crate::mark::Mark;
+use crate::knowledge::Knowledge;
 use core::mem::replace_with;
 use left_right::writer;
 use std::alloc::{AllocError, Global};
@@ -15,7 +15,7 @@ use world_state::Snapshot;
 /// The writer. Contracts see the list of whole blocks that it published (`published_list`), and
 /// which cell it is of; the list is changed by `publish` alone. It is ended by `close`.
 pub struct Writer {
-    pub(crate) inner: writer::Writer<Kept, Next, Mark, Tie>,
+    pub(crate) inner: writer::Writer<Kept, Next, Knowledge, Tie>,
     pub(crate) front: Front,
     pub(crate) history: Arc<History>,
     pub(crate) alloc: Global,
@@ -78,7 +78,7 @@ impl Writer {
         })
     }
 
-    /// Ends the cell: the seats get no entry from now on.
+    /// Ends the cell: the seats enter it no more from now on.
     pub fn close<R: Wait>(self, rt: &R) {
         let Writer {
             inner,
@@ -93,9 +93,9 @@ impl Writer {
 /// Shows readers what the last operation has.
 fn show<R: Wait>(
     rt: &R,
-    inner: writer::Writer<Kept, Next, Mark, Tie>,
+    inner: writer::Writer<Kept, Next, Knowledge, Tie>,
 ) -> (
-    writer::Writer<Kept, Next, Mark, Tie>,
+    writer::Writer<Kept, Next, Knowledge, Tie>,
     Result<(), AllocError>,
 )
     requires { (xs : List Next) × (op : Next) ×
@@ -113,7 +113,7 @@ fn show<R: Wait>(
 /// Shows readers, by this writer, what its last operation has.
 fn turn<R: Wait>(
     rt: &R,
-    inner: &mut writer::Writer<Kept, Next, Mark, Tie>,
+    inner: &mut writer::Writer<Kept, Next, Knowledge, Tie>,
 ) -> Result<(), AllocError>
     requires { (xs : List Next) × (op : Next) ×
         (drop inner.old.behind inner.old.log.items ≡ xs ++ op ∷ []) ×

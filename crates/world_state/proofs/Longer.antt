@@ -2,7 +2,7 @@
 use Rattle.std.proofs.Common.{◌≡◌, ◌≤◌, ◌+◌, ◌||◌, List, [], ◌∷◌, ◌++◌, length, length-append, ap, ◌∙◌, arith}
 use Rattle.ledger_model.specs.Chain.{Bytes, Version, Committed, Chain}
 use Rattle.world_state.specs.Writing.{as_state, put_block}
-use Rattle.world_state.specs.Ids.{is_known, is_one_of, ids_of}
+use Rattle.world_state.specs.Ids.{is_known, has_id, ids_of}
 use Rattle.world_state.specs.Inside.{IsRight}
 use Rattle.world_state.proofs.Blocks.{state_more}
 use Rattle.world_state.proofs.Known.{ids_more}
@@ -10,7 +10,7 @@ use Rattle.world_state.proofs.Known.{ids_more}
 pub right_more : (chain : Chain) (c : Committed) (old new : List (Bytes × (Bytes × Version))) (known longer : List Bytes) → IsRight chain old known →
     c.block.header.number ≡ length chain + 1 → c.block.header.number ≤ 65535 → length c.flags ≡ length c.block.envelopes →
     as_state new ≡ put_block (as_state old) c.block.header.number 0 c.block.envelopes c.flags →
-    ((q : Bytes) → is_known longer q ≡ (is_known known q || is_one_of (ids_of c.block.envelopes) q)) → IsRight (chain ++ c ∷ []) new longer
+    ((q : Bytes) → is_known longer q ≡ (is_known known q || has_id (ids_of c.block.envelopes) q)) → IsRight (chain ++ c ∷ []) new longer
 right_more chain c old new known longer right number limit each made ids = record {
   map =
       made

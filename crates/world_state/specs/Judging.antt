@@ -11,5 +11,5 @@ pub record IsOf (block : Block) (judged : Judged) : Type 0 where
   pub ids : judged.ids.items ≡ ids_of block.envelopes
 
 -- the block with these flags, as a chain has it
-abbrev pub marked : Block → Judged → Committed
-marked block judged = record { block = block; flags = judged.flags.items }
+abbrev pub flagged : Block → Judged → Committed
+flagged block judged = record { block = block; flags = judged.flags.items }

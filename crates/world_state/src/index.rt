@@ -3,7 +3,7 @@
 ghost use Rattle.std.specs.Prelude.{◌≡◌, ◌||◌, OnOk, bytes_eq};
 ghost use Rattle.std.specs.Map.{keys_of};
 ghost use Rattle.ledger_model.specs.Chain.{Bytes};
-ghost use Rattle.world_state.specs.Ids.{is_known, is_one_of};
+ghost use Rattle.world_state.specs.Ids.{is_known, has_id};
 
 use persist_map::PMap;
 use std::alloc::AllocError;
@@ -33,7 +33,7 @@ pub fn index_all(known: &mut IdIndex, ids: &[[u8; 32]]) -> Result<(), AllocError
     ensures { OnOk result
         ((sought : Bytes) →
         is_known (keys_of known.new.entries) sought
-        ≡ (is_known (keys_of known.old.entries) sought || is_one_of ids.now sought)) }
+        ≡ (is_known (keys_of known.old.entries) sought || has_id ids.now sought)) }
 {
     for id in ids {
         index(known, *id)?;

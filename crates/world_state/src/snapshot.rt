@@ -10,8 +10,8 @@ ghost use Rattle.ledger_model.specs.Views.{key_cmp, first, entries_within};
 ghost use Rattle.ledger_model.specs.State.{state, state_at};
 ghost use Rattle.wire.specs.Ids.{id_of};
 ghost use Rattle.ledger_model.specs.Flags.{stands_in};
-ghost use Rattle.world_state.specs.Ids.{is_known, is_one_of};
-ghost use Rattle.world_state.specs.Judging.{IsOf, marked};
+ghost use Rattle.world_state.specs.Ids.{is_known, has_id};
+ghost use Rattle.world_state.specs.Judging.{IsOf, flagged};
 ghost use Rattle.world_state.specs.Shared.{blocks_in};
 ghost use Rattle.world_state.specs.Writing.{as_state, put_block};
 
@@ -70,7 +70,7 @@ fn after_block(
     ensures ids { IfOk result
         (λ t. (sought : Bytes) →
         is_known (keys_of t.1.entries) sought
-        ≡ (is_known (keys_of known.now.entries) sought || is_one_of ids.now sought)) }
+        ≡ (is_known (keys_of known.now.entries) sought || has_id ids.now sought)) }
 {
     let mut map = map.clone()?;
     let mut known = known.clone()?;
@@ -206,7 +206,7 @@ impl Snapshot {
     ) -> Result<Snapshot, AllocError>
         requires next { block.header.number ≡ length self.now + 1 }
         requires judged { IsOf block judged }
-        ensures { IfOk result (λ s. s ≡ self.now ++ marked block judged ∷ []) }
+        ensures { IfOk result (λ s. s ≡ self.now ++ flagged block judged ∷ []) }
     {
         let Judged { flags, ids } = judged;
         let (map, ids) = after_block(&self.map, &self.ids, &block, &flags, &ids)?;
@@ -220,7 +220,7 @@ impl Snapshot {
     pub fn extend(&mut self, alloc: Global, block: Block, judged: Judged) -> Result<(), AllocError>
         requires next { block.header.number ≡ length self.old + 1 }
         requires judged { IsOf block judged }
-        ensures extended { OnOk result (self.new ≡ self.old ++ marked block judged ∷ []) }
+        ensures extended { OnOk result (self.new ≡ self.old ++ flagged block judged ∷ []) }
         ensures unchanged { OnErr result (self.new ≡ self.old) }
     {
         let Judged { flags, ids } = judged;

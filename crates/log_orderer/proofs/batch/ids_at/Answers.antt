@@ -1,5 +1,5 @@
 use Rattle.std.proofs.Common.{length, arith}
-use Rattle.orderer.specs.declared.plan.AbortCause.TheVariants.{Outdated}
+use Rattle.orderer.specs.declared.arrangement.AbortCause.TheVariants.{Outdated}
 use Rattle.log_orderer.proofs.Telling.{at_more, place_below}
 use Rattle.log_orderer.proofs.batch.ids_at.Goals as goal
 

@@ -4,7 +4,7 @@ use Rattle.std.specs.Option.{option_to_list}
 use Rattle.std.proofs.lemmas.List.{append-nil}
 use Rattle.std.proofs.lemmas.Option.{slice_get-get_or, slice_get_past}
 use Rattle.fab_types.specs.declared.envelope.Envelope.{Envelope}
-use Rattle.orderer.specs.Plans.{envelopes_at}
+use Rattle.orderer.specs.Places.{envelopes_at}
 use Rattle.orderer.proofs.Picking.{picked_more}
 use Rattle.orderer.proofs.chain.pick.Goals.{in-Some+in_ok-clone+in_ok-push, in_default}
 use Rattle.orderer.proofs.chain.pick.Goals as goal

@@ -2,7 +2,7 @@ use Rattle.std.proofs.Common.{rules}
 use Rattle.std.specs.Ordering.{is_le}
 use Rattle.std.proofs.lemmas.List.Sorted.{IsPartitionPoint-from_clause}
 use Rattle.fab_types.specs.Order.{key_cmp}
-use Rattle.reorder.specs.Written.{key_of}
+use Rattle.reorder.specs.KeyWrites.{key_of}
 use Rattle.reorder.proofs.Tables.{le_parted}
 use Rattle.reorder.proofs.writes.end_of.Goals as goal
 

@@ -2,8 +2,8 @@ use Rattle.std.proofs.Common.{◌≡◌, ℕ, ◌+◌, ◌≤◌, true, false, i
 use Rattle.std.specs.Ordering.{is_ne}
 use Rattle.std.proofs.lemmas.List.{length_push}
 use Rattle.fab_types.specs.Order.{key_cmp}
-use Rattle.reorder.specs.declared.writes.Written.{Written}
-use Rattle.reorder.specs.Written.{IsFirstFrom}
+use Rattle.reorder.specs.declared.writes.KeyWrite.{KeyWrite}
+use Rattle.reorder.specs.KeyWrites.{IsFirstFrom}
 use Rattle.reorder.proofs.Edging.{push_item}
 use Rattle.reorder.proofs.Starts.{IsRun, run_none, run_goes_on, run_begins, run_first, equal_if_not_ne, apart_if_ne}
 use Rattle.reorder.proofs.writes.starts_of.Goals as goal
@@ -26,7 +26,7 @@ loop-i-preserved c =
     let first = c.index-index-start.result in
     let next = c.index-index-i.result in
     let test : is_ne (key_cmp first.key.now next.key.now) ≡ c.is_ne.result =
-    ap (λ (w : Written). is_ne (key_cmp w.key.now next.key.now)) c.index-index-start.is ∙ sym (ap is_ne c.cmp.ensures) ∙ sym c.is_ne.ensures
+    ap (λ (w : KeyWrite). is_ne (key_cmp w.key.now next.key.now)) c.index-index-start.is ∙ sym (ap is_ne c.cmp.ensures) ∙ sym c.is_ne.ensures
     in
     let runs : (start ≤ l.i) × IsRun index start (l.i + 1) = elim c.if-is_ne.branch [
       | then-is_ne w ↦
@@ -48,7 +48,7 @@ loop-i-preserved c =
     ] in
     let starts = l.starts.items in
     let upto = push_item (λ k s. s ≤ k) starts start 0 l.i v.long v.upto runs.0 in
-    let firsts = push_item (λ k s. (d : Written) → IsFirstFrom (get_or index k d).key.now index s) starts start 0 l.i v.long v.first
+    let firsts = push_item (λ k s. (d : KeyWrite) → IsFirstFrom (get_or index k d).key.now index s) starts start 0 l.i v.long v.first
     (λ d. run_first index start l.i d runs.0 runs.1) in
     record {
       long = ap length c.in_ok-push.ensures.items ∙ length_push starts start ∙ ap (λ (n : ℕ). n + 1) v.long;

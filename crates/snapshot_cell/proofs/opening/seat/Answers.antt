@@ -1,4 +1,4 @@
-use Rattle.snapshot_cell.proofs.Marks.{admits, forks, merges}
+use Rattle.snapshot_cell.proofs.Knowing.{admits, forks, merges}
 use Rattle.snapshot_cell.proofs.opening.seat.Goals as goal
 
 pub reader-requires : goal.reader-requires

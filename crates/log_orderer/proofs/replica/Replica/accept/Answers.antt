@@ -70,7 +70,7 @@ returns-in-Ok c =
     let told = told_of old new (message e) reports takes more batches left parted c.cut_each-batches.ensures in
     let named = named_of old new (message e) reports takes batches told.0 in
     rw (← c.self.view_is) (record {
-      marks = (
+      answers = (
         subst (λ (rs : List BatchReport). Takes old (message e) rs new) (sym told.2) takes,
         λ large. omega (arith, large, c.in-Ok.ensures.size),
         c.in-Ok.ensures.numbers,

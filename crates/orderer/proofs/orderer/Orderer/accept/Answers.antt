@@ -2,7 +2,7 @@ use Rattle.std.proofs.Common.{refl, sym, subst, arith}
 use Rattle.batch_cutter.specs.Division.{message}
 use Rattle.batch_cutter.specs.Offers.{batches}
 use Rattle.orderer.specs.Ordering.{Ordering, AreLimits}
-use Rattle.orderer.specs.Arranged.{plans_of}
+use Rattle.orderer.specs.Arranged.{arranges_by}
 use Rattle.orderer.proofs.Cutting.{offered_fit}
 use Rattle.orderer.proofs.Linking.{each_linked}
 use Rattle.orderer.proofs.Refusing.{mark_refused}
@@ -20,7 +20,7 @@ pub invariant_of-self-in-Ok-add_cut : goal.invariant_of-self-in-Ok-add_cut
 invariant_of-self-in-Ok-add_cut c = (
   subst AreLimits (sym c.in-Ok.ensures.cut.limits) c.self.invariant.0,
   c.in-Ok-add_cut.ensures.number,
-  each_linked (plans_of c.self.inside.reorder) c.self.inside.blocks.items (batches c.in-Ok.cut) c.in-Ok-add_cut.reports.items c.add_cut.new.blocks.items
+  each_linked (arranges_by c.self.inside.reorder) c.self.inside.blocks.items (batches c.in-Ok.cut) c.in-Ok-add_cut.reports.items c.add_cut.new.blocks.items
       c.in-Ok-add_cut.ensures.added c.self.invariant.2,
 )
 
@@ -28,7 +28,7 @@ pub invariant_of-self-in-Ok-add_cut-2 : goal.invariant_of-self-in-Ok-add_cut-2
 invariant_of-self-in-Ok-add_cut-2 c = (
   subst AreLimits (sym c.in-Ok.ensures.cut.limits) c.self.invariant.0,
   c.in-Ok-add_cut.ensures.number,
-  each_linked (plans_of c.self.inside.reorder) c.self.inside.blocks.items (batches c.in-Ok.cut) c.in-Ok-add_cut.reports.items c.add_cut.new.blocks.items
+  each_linked (arranges_by c.self.inside.reorder) c.self.inside.blocks.items (batches c.in-Ok.cut) c.in-Ok-add_cut.reports.items c.add_cut.new.blocks.items
       c.in-Ok-add_cut.ensures.added c.self.invariant.2,
 )
 

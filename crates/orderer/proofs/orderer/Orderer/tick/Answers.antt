@@ -5,7 +5,7 @@ use Rattle.fab_types.specs.Data.{IsBlockData}
 use Rattle.fab_types.specs.Size.{envelope_size}
 use Rattle.orderer.specs.Blocks.{Adds}
 use Rattle.orderer.specs.Ordering.{Ordering, AreLimits}
-use Rattle.orderer.specs.Arranged.{plans_of}
+use Rattle.orderer.specs.Arranged.{arranges_by}
 use Rattle.orderer.proofs.Cutting.{timed_fit}
 use Rattle.orderer.proofs.Linking.{adds_linked}
 use Rattle.orderer.proofs.Refusing.{mark_refused, first_refused}
@@ -24,7 +24,8 @@ pub invariant_of-self-in-Ok-1 : goal.invariant_of-self-in-Ok-1
 invariant_of-self-in-Ok-1 c = (
   subst AreLimits (sym c.timeout.ensures.limits) c.self.invariant.0,
   c.in-Ok.ensures.number,
-  adds_linked (plans_of c.self.inside.reorder) c.self.inside.blocks.items c.deref.result.now c.in-Ok.report c.add_batch.new.blocks.items c.in-Ok.ensures.added
+  adds_linked (arranges_by c.self.inside.reorder) c.self.inside.blocks.items c.deref.result.now c.in-Ok.report c.add_batch.new.blocks.items
+      c.in-Ok.ensures.added
       c.self.invariant.2,
 )
 
@@ -34,10 +35,10 @@ returns-in-Ok-clause-taken c =
     let pending = c.timeout.new.self.pending in
     let old = c.self.inside.blocks.items in
     let new = c.add_batch.new.blocks.items in
-    let plans = plans_of c.self.inside.reorder in
+    let arranges = arranges_by c.self.inside.reorder in
     let cut = subst (λ r. IsDivision envelope_size cutter.limits (map message cutter.pending ++ timeout ∷ []) (batch_of r) pending) c.in-Some.is
     c.timeout.ensures.divides in
-    let adds = subst (λ es. Adds plans old es c.in-Ok.report new) c.deref.ensures.value c.in-Ok.ensures.added in
+    let adds = subst (λ es. Adds arranges old es c.in-Ok.report new) c.deref.ensures.value c.in-Ok.ensures.added in
     rw (← c.self.view_is) (record {
       batches = c.in-Some.batch.items ∷ [];
       cut = cut;
@@ -51,8 +52,8 @@ returns-in-Err-clause-refused c =
     let inside = c.self.inside in
     let pending = c.timeout.new.self.pending in
     let old : Ordering = record { reorder = inside.reorder; limits = inside.cutter.limits; pending = inside.cutter.pending; chain = inside.blocks.items } in
-    let plans = plans_of inside.reorder in
+    let arranges = arranges_by inside.reorder in
     let cut = subst (λ r. IsDivision envelope_size old.limits (map message old.pending ++ timeout ∷ []) (batch_of r) pending) c.in-Some.is
     c.timeout.ensures.divides in
-    let why = first_refused plans c.in-Err.cause old.chain c.deref.result.now c.in-Some.batch.items [] c.deref.ensures.value c.in-Err.ensures.refused in
+    let why = first_refused arranges c.in-Err.cause old.chain c.deref.result.now c.in-Some.batch.items [] c.deref.ensures.value c.in-Err.ensures.refused in
     rw (← c.self.view_is) (mark_refused c.in-Err.cause old timeout (c.in-Some.batch.items ∷ []) pending (λ none. none) cut why)

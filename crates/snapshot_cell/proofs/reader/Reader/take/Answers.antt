@@ -1,5 +1,5 @@
 use Rattle.std.proofs.Common.{refl}
-use Rattle.snapshot_cell.proofs.Marks.{turns}
+use Rattle.snapshot_cell.proofs.Knowing.{turns}
 use Rattle.snapshot_cell.proofs.reader.Reader.take.Goals as goal
 
 pub enter_as-requires : goal.enter_as-requires

@@ -2,7 +2,7 @@ use Rattle.std.proofs.Common.{◌≡◌, ◌∙◌, ap, sym, ◌+◌, length, ar
 use Rattle.std.specs.Map.{keys_of}
 use Rattle.ledger_model.specs.Chain.{Committed, Chain}
 use Rattle.world_state.specs.Writing.{as_state, put_block}
-use Rattle.world_state.specs.Ids.{is_known, is_one_of}
+use Rattle.world_state.specs.Ids.{is_known, has_id}
 use Rattle.world_state.specs.Inside.{IsRight}
 use Rattle.world_state.specs.Shared.{blocks_in}
 use Rattle.world_state.proofs.Blocks.{blocks_pushed}
@@ -21,4 +21,4 @@ invariant_of-self-2 c =
     subst (λ (bs : Chain). IsRight bs c.in_ok-map.map.entries (keys_of c.in_ok-map.ids.entries)) (sym pushed)
     (right_more chain new s.map.entries _ (keys_of s.ids.entries) _ c.self.invariant number c.in_ok-map.ensures.limits c.requires.judged.one_each
     (c.in_ok-map.ensures.map ∙ (λ i. put_block (as_state s.map.entries) b.header.number 0 b.envelopes (c.deref.ensures.value i)))
-    (λ q. c.in_ok-map.ensures.ids q ∙ ap (λ ids. is_known (keys_of s.ids.entries) q || is_one_of ids q) (c.deref-2.ensures.value ∙ c.requires.judged.ids)))
+    (λ q. c.in_ok-map.ensures.ids q ∙ ap (λ ids. is_known (keys_of s.ids.entries) q || has_id ids q) (c.deref-2.ensures.value ∙ c.requires.judged.ids)))

@@ -2,7 +2,7 @@ use Rattle.std.proofs.Common.{◌≡◌, ◌∙◌, ap, sym, ◌+◌, length, ar
 use Rattle.std.specs.Map.{keys_of}
 use Rattle.ledger_model.specs.Chain.{Committed, Chain}
 use Rattle.world_state.specs.Writing.{as_state, put_block}
-use Rattle.world_state.specs.Ids.{is_known, is_one_of}
+use Rattle.world_state.specs.Ids.{is_known, has_id}
 use Rattle.world_state.specs.Inside.{IsRight}
 use Rattle.world_state.specs.Shared.{blocks_in}
 use Rattle.world_state.proofs.Longer.{right_more}
@@ -20,7 +20,7 @@ invariant_of-result c =
     c.requires.judged.one_each
     (c.in_ok-map.ensures.map ∙
     (λ i. put_block (as_state c.self.inside.map.entries) b.header.number 0 b.envelopes (c.deref.ensures.value i)))
-    (λ q. c.in_ok-map.ensures.ids q ∙ ap (λ ids. is_known (keys_of c.self.inside.ids.entries) q || is_one_of ids q) (c.deref-2.ensures.value ∙ c.requires.judged.ids)))
+    (λ q. c.in_ok-map.ensures.ids q ∙ ap (λ ids. is_known (keys_of c.self.inside.ids.entries) q || has_id ids q) (c.deref-2.ensures.value ∙ c.requires.judged.ids)))
 
 pub returns : goal.returns
 returns c =
