@@ -110,6 +110,9 @@ impl Clone for PolicyText {
 pub struct Definition {
     /// By which profile the module is read.
     pub profile: Profile,
+    /// Whether the module may be any that has the digest and the profile. Else it is one that the
+    /// genesis file installs.
+    pub is_open: bool,
     /// The SHA-256 of the module's bytes.
     pub digest: [u8; 32],
     /// What a call may spend.
@@ -126,6 +129,7 @@ impl Clone for Definition {
     fn clone(&self) -> Result<Definition, AllocError> {
         Ok(Definition {
             profile: self.profile,
+            is_open: self.is_open,
             digest: self.digest,
             fuel: self.fuel,
             policy: self.policy.clone()?,

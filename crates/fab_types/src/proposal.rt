@@ -1,9 +1,10 @@
-//! What clients propose: calls and upgrades.
+//! What clients propose: calls, upgrades and amendments.
 
 ghost use Rattle.std.specs.Prelude.{◌≡◌};
-ghost use Rattle.fab_types.specs.Proposals.{chaincode_of, nonce_of};
+ghost use Rattle.fab_types.specs.Proposals.{nonce_of};
 
 use crate::definition::Definition;
+use crate::membership::Membership;
 use crate::name::Name;
 use crate::value::Value;
 use std::alloc::AllocError;
@@ -50,24 +51,34 @@ impl Clone for Upgrade {
     }
 }
 
+/// The next membership.
+#[derive(Debug, Drop)]
+pub struct Amend {
+    pub membership: Membership,
+    /// What tells two proposals of the same membership apart.
+    pub nonce: [u8; 16],
+}
+
+impl Clone for Amend {
+    ghost is_clone = { λ a b. b ≡ a };
+
+    fn clone(&self) -> Result<Amend, AllocError> {
+        Ok(Amend {
+            membership: self.membership.clone()?,
+            nonce: self.nonce,
+        })
+    }
+}
+
 /// What a client asks for.
 #[derive(Debug, Drop)]
 pub enum Proposal {
     Call(Call),
     Upgrade(Upgrade),
+    Amend(Amend),
 }
 
 impl Proposal {
-    /// The chaincode that is called or upgraded.
-    pub fn chaincode(&self) -> &Name
-        ensures { result.now ≡ chaincode_of self.now }
-    {
-        match self {
-            Proposal::Call(call) => &call.chaincode,
-            Proposal::Upgrade(upgrade) => &upgrade.chaincode,
-        }
-    }
-
     /// What tells two proposals of the same apart.
     pub fn nonce(&self) -> [u8; 16]
         ensures { result ≡ nonce_of self.now }
@@ -75,6 +86,7 @@ impl Proposal {
         match self {
             Proposal::Call(call) => call.nonce,
             Proposal::Upgrade(upgrade) => upgrade.nonce,
+            Proposal::Amend(amend) => amend.nonce,
         }
     }
 }
@@ -86,6 +98,7 @@ impl Clone for Proposal {
         match self {
             Proposal::Call(call) => Ok(Proposal::Call(call.clone()?)),
             Proposal::Upgrade(upgrade) => Ok(Proposal::Upgrade(upgrade.clone()?)),
+            Proposal::Amend(amend) => Ok(Proposal::Amend(amend.clone()?)),
         }
     }
 }

@@ -1,35 +1,22 @@
 //! The bytes of definitions, proposals, payloads, envelopes and headers.
 
-ghost use Rattle.std.specs.Prelude.{◌≤◌, [], ◌∷◌, length};
+ghost use Rattle.std.specs.Prelude.{◌≡◌, ◌≤◌, length};
 ghost use Rattle.std.specs.Int.{to_be_bytes, w32};
 ghost use Rattle.std.specs.List.{AllByRecursion};
 ghost use Rattle.fab_types.specs.Limits.{IsFuel};
-ghost use Rattle.fab_types.specs.Spelling.{call_bytes, definition_bytes, few_bytes, payload_bytes, proposal_bytes, upgrade_bytes};
+ghost use Rattle.fab_types.specs.Spelling.{amend_bytes, call_bytes, definition_bytes, few_bytes, form_of, payload_bytes, proposal_bytes, upgrade_bytes};
 ghost use Rattle.fab_types.specs.BlockSpelling.{endorsement_bytes, envelope_bytes, header_bytes};
-ghost use Rattle.fab_types.specs.Within.{IsCall, IsDefinition, IsPayload, IsProposal, IsUpgrade};
+ghost use Rattle.fab_types.specs.Within.{IsAmend, IsCall, IsDefinition, IsPayload, IsProposal, IsUpgrade};
 ghost use Rattle.fab_types.specs.BlockWithin.{IsEndorsement, IsEnvelope, IsHeader};
-ghost use Rattle.wasm_profile.specs.Numbers.{number_of};
 
 use crate::block::Header;
 use crate::definition::{Definition, Fuel};
 use crate::envelope::{Endorsement, Endorsements, Envelope};
 use crate::payload::Payload;
-use crate::proposal::{Call, Proposal, Upgrade};
+use crate::proposal::{Amend, Call, Proposal, Upgrade};
 use crate::spelled::{Spelled, write_few};
 use crate::tag::Tag;
 use std::alloc::AllocError;
-use wasm_profile::Profile;
-
-impl Spelled for Profile {
-    ghost spelling = { λ p. number_of p ∷ [] };
-
-    ghost within = { λ p. Unit {0} };
-
-    fn write(&self, out: &mut Vec<u8>) -> Result<(), AllocError> {
-        out.push(self.number())?;
-        Ok(())
-    }
-}
 
 impl Spelled for Fuel {
     ghost spelling = { to_be_bytes w32 };
@@ -41,13 +28,25 @@ impl Spelled for Fuel {
     }
 }
 
+/// The first byte of a definition: its profile's number, and 16 more where it is open.
+fn form_of(definition: &Definition) -> u8
+    ensures { result ≡ form_of definition.now }
+{
+    let profile = definition.profile.number();
+    if definition.is_open {
+        16 + profile
+    } else {
+        profile
+    }
+}
+
 impl Spelled for Definition {
     ghost spelling = { definition_bytes };
 
     ghost within = { IsDefinition };
 
     fn write(&self, out: &mut Vec<u8>) -> Result<(), AllocError> {
-        self.profile.write(out)?;
+        out.push(form_of(self))?;
         out.extend_from_slice(&self.digest)?;
         self.fuel.write(out)?;
         self.policy.write(out)
@@ -78,6 +77,17 @@ impl Spelled for Upgrade {
     }
 }
 
+impl Spelled for Amend {
+    ghost spelling = { amend_bytes };
+
+    ghost within = { IsAmend };
+
+    fn write(&self, out: &mut Vec<u8>) -> Result<(), AllocError> {
+        self.membership.write(out)?;
+        out.extend_from_slice(&self.nonce)
+    }
+}
+
 impl Spelled for Proposal {
     ghost spelling = { proposal_bytes };
 
@@ -89,6 +99,10 @@ impl Spelled for Proposal {
             Proposal::Upgrade(upgrade) => {
                 out.push(0)?;
                 upgrade.write(out)
+            }
+            Proposal::Amend(amend) => {
+                out.push(128)?;
+                amend.write(out)
             }
         }
     }
