@@ -1,13 +1,14 @@
 //! The chaincodes that can be called, and the modules that are installed.
 
-ghost use Rattle.std.specs.Prelude.{◌≡◌, ◌↔◌, IsSome, IfSome, true, map, option_map, slice_get};
+ghost use Rattle.std.specs.Prelude.{◌≡◌, ◌≤◌, ◌↔◌, length, IsSome, IfSome, true, map, option_map, slice_get};
 ghost use Rattle.std.specs.List.{list_all, list_any, AllByRecursion};
 ghost use Rattle.wasm_typing.specs.ModuleRules.{IsValid};
-ghost use Rattle.chaincode_book.specs.Books.{IsBook, AreValid, chaincode_at, is_named, has_fuel, have_own_names, modules_of};
+ghost use Rattle.endorsement_policy.specs.Installed.{is_id};
+ghost use Rattle.chaincode_book.specs.Books.{IsBook, AreValid, chaincode_at, is_named, has_fuel, have_own_names, held_of, installed_module, module_at_hand, modules_of};
 
-use endorsement_policy::Installed;
+use endorsement_policy::{Installed, ModuleId};
 use fab_types::Name;
-use fab_types::limits::{MOST_CHAINCODES, MOST_FUEL, MOST_MODULES};
+use fab_types::limits::{MOST_CHAINCODES, MOST_FUEL, MOST_HELD, MOST_MODULES};
 use std::marker::Model;
 use wasm_validate::ValidModule;
 
@@ -20,30 +21,46 @@ pub struct Chaincode {
     pub fuel: u64,
 }
 
+/// A module that a process has at hand beside those that the genesis installs.
+#[derive(Drop)]
+pub struct Held {
+    pub id: ModuleId,
+    pub module: ValidModule,
+}
+
 /// Up to 16 chaincodes of different names, each with a fuel of 1 to 10,000,000, and up to 16
-/// modules more. All these modules are installed, those of the chaincodes first.
+/// modules more. All these modules are installed, those of the chaincodes first. Up to 64 modules
+/// may be at hand beside them.
 #[derive(Drop)]
 pub struct Book {
     chaincodes: Vec<Chaincode>,
     modules: Vec<ValidModule>,
     installed: Installed,
+    held: Vec<Held>,
 }
 
 impl Model for Book {
     ghost use Rattle.std.specs.Coded.{codes};
     ghost use Rattle.chaincode_book.specs.contracts.book.Chaincode as chaincode;
+    ghost use Rattle.chaincode_book.specs.contracts.book.Held as held_row;
     ghost use Rattle.wasm_ast.specs.contracts.module.Module as wasm;
     ghost use Rattle.chaincode_book.specs.Books.{Book, IsBook, AreValid};
 
     ghost Value = { Book };
 
-    ghost coded = { Prim.hlevel (codes, chaincode.the_row.coded, wasm.the_row.coded) };
+    ghost coded = { Prim.hlevel (
+      codes,
+      chaincode.the_row.coded,
+      held_row.the_row.coded,
+      wasm.the_row.coded,
+    ) };
 
     ghost view = { λ b.
         record {
           chaincodes = b.chaincodes.items;
           modules = b.modules.items;
           installed = b.installed;
+          held = b.held.items;
         } };
 
     ghost invariant = { λ b.
@@ -52,18 +69,20 @@ impl Model for Book {
           chaincodes = b.chaincodes.items;
           modules = b.modules.items;
           installed = b.installed;
+          held = b.held.items;
         } in
         IsBook book × AreValid book };
 }
 
 impl Book {
-    /// The book of these chaincodes and modules. None if there are more than 16 of either, if two
-    /// chaincodes have the same name, if a fuel is out of its range or if there is not one id for
-    /// each module.
+    /// The book of these chaincodes and modules, and of those that are at hand beside them. None if
+    /// there are more than 16 of either or more than 64 at hand, if two chaincodes have the same
+    /// name, if a fuel is out of its range or if there is not one id for each installed module.
     pub fn new(
         chaincodes: Vec<Chaincode>,
         modules: Vec<ValidModule>,
         installed: Installed,
+        held: Vec<Held>,
     ) -> Option<Book>
         ensures accepted { IsSome result
             ↔ IsBook
@@ -71,6 +90,7 @@ impl Book {
               chaincodes = chaincodes.items;
               modules = modules.items;
               installed = installed;
+              held = held.items;
             }) }
         ensures value { IfSome result
             (λ b. b
@@ -78,13 +98,16 @@ impl Book {
               chaincodes = chaincodes.items;
               modules = modules.items;
               installed = installed;
+              held = held.items;
             }) }
     {
         show_valid(&modules);
+        show_held_valid(&held);
         if chaincodes.len() > MOST_CHAINCODES
             || !have_fuel(&chaincodes)
             || !have_own_names(&chaincodes)
             || modules.len() > MOST_MODULES
+            || held.len() > MOST_HELD
             || installed.modules().len() != chaincodes.len() + modules.len()
         {
             return None;
@@ -93,7 +116,22 @@ impl Book {
             chaincodes,
             modules,
             installed,
+            held,
         })
+    }
+
+    /// The same book with these modules at hand in the place of what was beside those that are
+    /// installed. None if there are more than 64.
+    pub fn holding(self, held: Vec<Held>) -> Option<Book>
+        ensures accepted { IsSome result ↔ (length held.items ≤ 64) }
+        ensures value { IfSome result (λ b. b ≡ record {
+          chaincodes = self.chaincodes;
+          modules = self.modules;
+          installed = self.installed;
+          held = held.items;
+        }) }
+    {
+        Book::new(self.chaincodes, self.modules, self.installed, held)
     }
 
     /// The chaincodes, in the order in which they were given. The module of each is valid.
@@ -135,6 +173,49 @@ impl Book {
             Some(chaincode) => Some(&chaincode.module),
             None => self.modules.get(place - self.chaincodes.len()),
         }
+    }
+
+    /// The modules that are at hand beside those that are installed. Each is valid.
+    pub fn held(&self) -> &[Held]
+        ensures value { result.now ≡ self.now.held }
+        ensures limits { length self.now.held ≤ 64 }
+    {
+        &self.held
+    }
+
+    /// The first module at hand of an id, those that are installed before the others.
+    pub fn at_hand(&self, id: &ModuleId) -> Option<&ValidModule>
+        ensures { option_map (λ m. m.now) result ≡ module_at_hand self.now id.now }
+    {
+        if let Some(module) = self.installed_module(id) {
+            return Some(module);
+        }
+        let held = self.held_of(id)?;
+        Some(&held.module)
+    }
+
+    /// The first of an id among those that are at hand beside the installed ones.
+    fn held_of(&self, id: &ModuleId) -> Option<&Held>
+        ensures { option_map (λ h. h.now) result ≡ held_of self.now.held id.now }
+    {
+        self.held.iter().find(|h| h.is_of(id))
+    }
+
+    /// The first installed module of an id.
+    fn installed_module(&self, id: &ModuleId) -> Option<&ValidModule>
+        ensures { option_map (λ m. m.now) result ≡ installed_module self.now id.now }
+    {
+        let place = self.installed.place(id)?;
+        self.module_at(place)
+    }
+}
+
+impl Held {
+    /// Whether the module has this id.
+    fn is_of(&self, id: &ModuleId) -> bool
+        ensures { result ≡ is_id id.now self.now.id }
+    {
+        self.id == *id
     }
 }
 
@@ -182,5 +263,15 @@ fn show_valid(modules: &[ValidModule])
     if let [first, rest @ ..] = modules {
         let _valid = first.module();
         show_valid(rest);
+    }
+}
+
+/// The same of modules that are at hand.
+fn show_held_valid(held: &[Held])
+    ensures { AllByRecursion (λ h. IsValid h.module) held.now }
+{
+    if let [first, rest @ ..] = held {
+        let _valid = first.module.module();
+        show_held_valid(rest);
     }
 }

@@ -1,4 +1,5 @@
-//! What a genesis installs: the chaincodes that it defines, and more modules.
+//! What a genesis installs, the chaincodes that it defines and more modules, and what else is at
+//! hand.
 //!
 //! `specs/Books.antt` has the rules of a book. It stands below the simulator, so that who reads,
 //! keeps or prints a genesis does not wait for the machine.
@@ -6,4 +7,4 @@
 
 mod book;
 
-pub use book::{Book, Chaincode};
+pub use book::{Book, Chaincode, Held};

@@ -1,7 +1,7 @@
 -- What a definition that can be used comes to.
-use Rattle.std.proofs.Common.{◌≡◌, ℕ, true, eqb, List, Option, Some, None, Result, Ok, Err, option_map, slice_get, get_or, ◌&&◌, refl, ap, subst}
+use Rattle.std.proofs.Common.{◌≡◌, ℕ, Bool, true, false, cond, eqb, List, Option, Some, None, Result, Ok, Err, option_map, slice_get, get_or, ◌&&◌, refl, ap, subst}
 use Rattle.std.proofs.Common.{◌∙◌}
-use Rattle.std.specs.Prelude.{bytes_eq}
+use Rattle.std.specs.Prelude.{◌||◌, bytes_eq, is_some, not}
 use Rattle.std.specs.Result.{result_ok}
 use Rattle.std.proofs.lemmas.Bool.{and_parts}
 use Rattle.std.proofs.lemmas.List.Quantifiers.{position-Some}
@@ -21,21 +21,25 @@ use Rattle.wire.proofs.Codec.{whole_known, whole_read}
 use Rattle.wire.proofs.DefinitionLaws.{definition}
 use Rattle.policy_language.specs.GoodSets.{needs_someone}
 use Rattle.endorsement_policy.specs.Endorsed.{defined_policy}
-use Rattle.endorsement_policy.specs.Installed.{Installed, place_of, used_at, usable_by, usable_in}
+use Rattle.endorsement_policy.specs.Installed.{Installed, IsPlaced, id_of, names_for, names_known, place_for, place_of, used_at, usable_by, usable_in}
 use Rattle.policy_language.specs.Limits.{IsText}
 use Rattle.policy_language.specs.Reading.{policy_in_text}
 use Rattle.endorsement_policy.specs.declared.installed.ModuleId.{ModuleId}
+use Rattle.endorsement_policy.specs.declared.installed.ModulePlace.{ModulePlace}
+use Rattle.endorsement_policy.specs.declared.installed.ModulePlace.TheVariants as at
 use Rattle.endorsement_policy.specs.declared.installed.Usable.{Usable}
 use Rattle.policy_language.specs.declared.policy.Policy.{Policy}
-use Rattle.policy_language.proofs.Whole.{strictly, text_needs, whole_found}
+use Rattle.policy_language.specs.Names.{names_in_text}
+use Rattle.policy_language.proofs.Named.{own_names}
+use Rattle.policy_language.proofs.Whole.{same, strictly, text_needs, whole_found}
 
 -- what a usable definition was made of
-pub record Used (place : Option ℕ) (fuel : ℕ) (policy : Option Policy) (u : Usable) : Type 0 where
+pub record Used (place : Option ModulePlace) (fuel : ℕ) (policy : Option Policy) (u : Usable) : Type 0 where
   pub place_is : place ≡ Some u.place
   pub fuel_is : u.fuel ≡ fuel
   pub policy_is : policy ≡ Some u.policy
 
-pub used : (place : Option ℕ) (fuel : ℕ) (policy : Option Policy) (u : Usable) → used_at place fuel policy ≡ Ok u → Used place fuel policy u
+pub used : (place : Option ModulePlace) (fuel : ℕ) (policy : Option Policy) (u : Usable) → used_at place fuel policy ≡ Ok u → Used place fuel policy u
 used None fuel policy u e = absurd cc
 used (Some place) fuel None u e = absurd cc
 used (Some place) fuel (Some policy) u e =
@@ -55,7 +59,7 @@ same_profile SignExtension Core1 e = absurd cc
 same_profile SignExtension SignExtension e = refl
 
 -- what was found first stands there
-pub found_at : (modules : List ModuleId) (id : ModuleId) (place : ℕ) → place_of modules id.digest id.profile ≡ Some place → slice_get modules place ≡ Some id
+found_at : (modules : List ModuleId) (id : ModuleId) (place : ℕ) → place_of modules id.digest id.profile ≡ Some place → slice_get modules place ≡ Some id
 found_at modules id place e =
     let h = position-Some (λ m. bytes_eq m.digest id.digest && eqb (number_of m.profile) (number_of id.profile)) modules place id e in
     let m = get_or modules place id in
@@ -64,6 +68,19 @@ found_at modules id place e =
     let profile = same_profile m.profile id.profile both.1 in
     let same : m ≡ id = λ i. record { digest = digest i; profile = profile i } in
     slice_get-get_or modules place id h.0 ∙ ap Some same
+
+-- the module that a definition means stands there
+placed_at : (i : Installed) (d : Definition) (place : ModulePlace) → place_for i d ≡ Some place → IsPlaced i d place
+placed_at i d place e = by_kind d.is_open refl e
+  where
+    by_place : (o : Option ℕ) → place_of i.modules d.digest d.profile ≡ o → d.is_open ≡ false → option_map at.Installed o ≡ Some place → IsPlaced i d place
+    by_place None is closed f = absurd cc
+    by_place (Some n) is closed f = subst (IsPlaced i d) (same_Some (at.Installed n) place f) (closed, found_at i.modules (id_of d) n is)
+
+    by_kind : (b : Bool) → d.is_open ≡ b →
+        cond b (Some (at.Named (id_of d))) (option_map at.Installed (place_of i.modules d.digest d.profile)) ≡ Some place → IsPlaced i d place
+    by_kind true is f = subst (IsPlaced i d) (same_Some (at.Named (id_of d)) place f) (is, refl)
+    by_kind false is f = by_place (place_of i.modules d.digest d.profile) refl is f
 
 module _ (i : Installed) (bytes : List ℕ) (u : Usable) where
   -- the definition that the bytes spell
@@ -90,19 +107,36 @@ defined_needs i bytes p e = by_usable (usable_in i bytes) refl e
     by_usable None is f = absurd cc
     by_usable (Some u) is f =
         let s = read i bytes u is in
-        let h = used (place_of i.modules s.0.digest s.0.profile) s.0.fuel (policy_in_text i.orgs s.0.policy) u s.2 in
-        text_needs i.orgs s.0.policy p (h.policy_is ∙ f)
+        let h = used (place_for i s.0) s.0.fuel (policy_in_text (names_for i s.0) s.0.policy) u s.2 in
+        text_needs (names_for i s.0) s.0.policy p (h.policy_is ∙ f)
 
 module _ (i : Installed) (d : Definition) (u : Usable) (is : usable_by i d ≡ Ok u) where
-  parts : Used (place_of i.modules d.digest d.profile) d.fuel (policy_in_text i.orgs d.policy) u
-  parts = used (place_of i.modules d.digest d.profile) d.fuel (policy_in_text i.orgs d.policy) u is
+  parts : Used (place_for i d) d.fuel (policy_in_text (names_for i d) d.policy) u
+  parts = used (place_for i d) d.fuel (policy_in_text (names_for i d) d.policy) u is
 
-  pub spelled : IsPolicyText d.policy → IsText i.orgs u.policy d.policy
-  spelled limits = whole_found i.orgs d.policy u.policy limits.1 parts.policy_is
+  pub spelled : IsPolicyText d.policy → IsText (names_for i d) u.policy d.policy
+  spelled limits = whole_found (names_for i d) d.policy u.policy limits.1 parts.policy_is
 
-  pub placed : (slice_get i.modules u.place ≡ Some (record { digest = d.digest; profile = d.profile })) × (u.fuel ≡ d.fuel)
-  placed = (found_at i.modules (record { digest = d.digest; profile = d.profile }) u.place parts.place_is, parts.fuel_is)
+  -- where its names are known, it is a policy of the organisations
+  pub of_known : IsPolicyText d.policy → names_known i d ≡ true → IsText i.orgs u.policy d.policy
+  of_known limits = by_kind d.is_open (spelled limits)
+    where
+      by_found : (o : Option Policy) → policy_in_text i.orgs d.policy ≡ o → IsText (names_in_text d.policy) u.policy d.policy → is_some o ≡ true →
+          IsText i.orgs u.policy d.policy
+      by_found None is h known = absurd cc
+      by_found (Some p) is h known =
+          let k = whole_found i.orgs d.policy p limits.1 is in
+          let same_policy = same (names_in_text d.policy) d.policy p u.policy (own_names i.orgs p d.policy k) h in
+          subst (λ (q : Policy). IsText i.orgs q d.policy) same_policy k
 
-pub made : (i : Installed) (d : Definition) (place : ℕ) (p : Policy) → place_of i.modules d.digest d.profile ≡ Some place → IsText i.orgs p d.policy →
+      by_kind : (b : Bool) → IsText (cond b (names_in_text d.policy) i.orgs) u.policy d.policy →
+          (not b || is_some (policy_in_text i.orgs d.policy)) ≡ true → IsText i.orgs u.policy d.policy
+      by_kind true h known = by_found (policy_in_text i.orgs d.policy) refl h known
+      by_kind false h known = h
+
+  pub placed : IsPlaced i d u.place × (u.fuel ≡ d.fuel)
+  placed = (placed_at i d u.place parts.place_is, parts.fuel_is)
+
+pub made : (i : Installed) (d : Definition) (place : ModulePlace) (p : Policy) → place_for i d ≡ Some place → IsText (names_for i d) p d.policy →
     usable_by i d ≡ Ok (record { place = place; fuel = d.fuel; policy = p })
-made i d place p e h = rw (e, strictly i.orgs d.policy p h) refl
+made i d place p e h = rw (e, strictly (names_for i d) d.policy p h) refl

@@ -53,11 +53,17 @@ more_blocks {A} {B} {C} g f done blocks i block next here is same so_far =
     ap (λ (l : List C). l ++ rest) (map_push g done next) ∙ append_assoc (map g done) (g next ∷ []) rest
     ∙ ap (λ (c : C). map g done ++ c ∷ rest) (same ∙ ap f is) ∙ sym (ap (λ (l : List A). map g done ++ map f l) (drop_more blocks i block here)) ∙ so_far
 
--- the blocks of two workers behind one another
+-- the parts of two workers behind one another
+pub both_halves : {A C : Type 0} (f : A → C) (low high all : List C) (front back xs : List A) → low ≡ map f front → high ≡ map f back → all ≡ low ++ high →
+    xs ≡ front ++ back → all ≡ map f xs
+both_halves f low high all front back xs first second made parts =
+    made ∙ ap₂ ◌++◌ first second ∙ sym (map-append f front back) ∙ sym (ap (map f) parts)
+
+-- and of blocks
 pub both_parts : {A B C : Type 0} (g : B → C) (f : A → C) (low high all : List B) (front back blocks : List A) → map g low ≡ map f front →
     map g high ≡ map f back → all ≡ low ++ high → blocks ≡ front ++ back → map g all ≡ map f blocks
 both_parts g f low high all front back blocks first second made parts =
-    ap (map g) made ∙ map-append g low high ∙ ap₂ ◌++◌ first second ∙ sym (map-append f front back) ∙ sym (ap (map f) parts)
+    both_halves f (map g low) (map g high) (map g all) front back blocks first second (ap (map g) made ∙ map-append g low high) parts
 
 -- what is known of the block at a place
 module _ {A B C : Type 0} (g : B → C) (f : A → C) (all : List B) (blocks : List A) (same : map g all ≡ map f blocks) where

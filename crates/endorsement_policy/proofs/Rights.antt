@@ -14,7 +14,7 @@ use Rattle.ledger_model.specs.Chain.{Bytes}
 use Rattle.ledger_model.specs.Defined.{definition_by}
 use Rattle.ledger_model.specs.Views.{Plain}
 use Rattle.policy_language.specs.GoodSets.{Name, Names, is_satisfied, needs_someone}
-use Rattle.endorsement_policy.specs.Installed.{usable_by}
+use Rattle.endorsement_policy.specs.Installed.{names_known, usable_by}
 use Rattle.policy_language.specs.declared.policy.Policy.{Policy}
 use Rattle.endorsement_policy.specs.declared.rules.ChaincodePolicy.{ChaincodePolicy}
 use Rattle.endorsement_policy.specs.Endorsed.{Listed, do_need_someone, is_policy_of, is_right, right_orgs, is_met_by, listed_policy}
@@ -87,7 +87,9 @@ by_someone (proposal.Call c) r m e need upgrade met =
     (both (reads_own e.payload && names_no_other e.payload) (is_met_by (right_orgs r.orgs e) (policy_in r m c.chaincode)) met).1
 by_someone (proposal.Upgrade u) r m e need upgrade met =
     met_by_someone (Some r.upgrade) (right_orgs r.orgs e) (λ p is. subst (λ (z : Policy). needs_someone z ≡ true) (same_Some r.upgrade p is) upgrade)
-    (both (is_upgrade_payload u e.payload && is_ok (usable_by r.installed u.definition)) (is_satisfied r.upgrade (right_orgs r.orgs e)) met).1
+    (both (is_upgrade_payload u e.payload && is_ok (usable_by r.installed u.definition) && names_known r.installed u.definition)
+    (is_satisfied r.upgrade (right_orgs r.orgs e)) met).1
+by_someone (proposal.Amend a) r m e need upgrade met = absurd cc
 
 pub carries : (r : Listed) (m : Plain) (e : Envelope) → do_need_someone r.policies ≡ true → needs_someone r.upgrade ≡ true → is_endorsed r m e ≡ true →
     CarriesRight r.orgs e

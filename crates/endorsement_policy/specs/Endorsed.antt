@@ -3,7 +3,7 @@ use Rattle.std.specs.Prelude.{◌≡◌, ℕ, List, [], ◌∷◌, Option, Some,
 use Rattle.std.specs.List.{find, filter, list_all, list_any}
 use Rattle.std.specs.Result.{is_ok}
 use Rattle.fab_types.specs.Order.{is_shown}
-use Rattle.fab_types.specs.Proposals.{chaincode_of, definition_key}
+use Rattle.fab_types.specs.Proposals.{definition_key, own_key}
 use Rattle.fab_types.specs.declared.items.ReadItem.{ReadItem}
 use Rattle.fab_types.specs.declared.items.WriteItem.{WriteItem}
 use Rattle.fab_types.specs.declared.proposal.Call.{Call}
@@ -21,7 +21,7 @@ use Rattle.fab_types.specs.Spelling.{definition_bytes, payload_bytes}
 use Rattle.ledger_model.specs.Defined.{definition_in}
 use Rattle.ledger_model.specs.Views.{Plain}
 use Rattle.policy_language.specs.GoodSets.{Name, Names, is_satisfied, needs_someone}
-use Rattle.endorsement_policy.specs.Installed.{Installed, usable_by, usable_in}
+use Rattle.endorsement_policy.specs.Installed.{Installed, names_known, usable_by, usable_in}
 use Rattle.policy_language.specs.declared.policy.Policy.{Policy}
 use Rattle.org_keys.specs.declared.organisation.Organisation.{Organisation}
 use Rattle.endorsement_policy.specs.declared.rules.ChaincodePolicy.{ChaincodePolicy}
@@ -80,17 +80,13 @@ defined_policy i bytes = option_map (λ u. u.policy) (usable_in i bytes)
 abbrev pub policy_in : Listed → Plain → Name → Option Policy
 policy_in r m name = definition_in (listed_policy r.policies) (defined_policy r.installed) m name
 
--- the key of the definition of the chaincode that is called or upgraded
-abbrev pub own_key : Payload → List ℕ
-own_key p = definition_key (chaincode_of p.proposal)
-
--- that key is read
+-- the key that its proposal is about is read
 abbrev pub reads_own : Payload → Bool
-reads_own p = list_any (λ r. bytes_eq r.key (own_key p)) p.reads
+reads_own p = list_any (λ r. bytes_eq r.key (own_key p.proposal)) p.reads
 
 -- each other key that is read is shown
 abbrev pub reads_no_other : Payload → Bool
-reads_no_other p = list_all (λ r. bytes_eq r.key (own_key p) || is_shown r.key) p.reads
+reads_no_other p = list_all (λ r. bytes_eq r.key (own_key p.proposal) || is_shown r.key) p.reads
 
 -- each key that is written is shown
 abbrev pub writes_shown : Payload → Bool
@@ -132,11 +128,14 @@ is_call_endorsed r m c e =
 -- an upgrade to a definition that can be used falls under the policy of upgrades, whatever the chaincode's own policy is
 abbrev pub is_upgrade_endorsed : Listed → Upgrade → Envelope → Bool
 is_upgrade_endorsed r u e =
-    is_upgrade_payload u e.payload && is_ok (usable_by r.installed u.definition) && is_satisfied r.upgrade (right_orgs r.orgs e)
+    is_upgrade_payload u e.payload && is_ok (usable_by r.installed u.definition) && names_known r.installed u.definition
+    && is_satisfied r.upgrade (right_orgs r.orgs e)
 
+-- no amendment is endorsed yet: who the members are is what the genesis says
 abbrev pub is_endorsed_as : Proposal → Listed → Plain → Envelope → Bool
 is_endorsed_as (proposal.Call c) r m e = is_call_endorsed r m c e
 is_endorsed_as (proposal.Upgrade u) r m e = is_upgrade_endorsed r u e
+is_endorsed_as (proposal.Amend a) r m e = false
 
 -- in a state, under what is listed, the organisations of which the envelope carries a right tag suffice
 abbrev pub is_endorsed : Listed → Plain → Envelope → Bool

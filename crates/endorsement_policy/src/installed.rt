@@ -1,12 +1,13 @@
 //! What every peer has installed, and which definitions can be used with it.
 
-ghost use Rattle.std.specs.Prelude.{◌≡◌, IfOk};
+ghost use Rattle.std.specs.Prelude.{◌≡◌, ◌&&◌, IfOk};
 ghost use Rattle.std.specs.Result.{is_ok};
-ghost use Rattle.endorsement_policy.specs.Installed.{place_of, usable_by, usable_in};
+ghost use Rattle.endorsement_policy.specs.Installed.{id_of, names_for, names_known, place_for, place_of, usable_by, usable_in};
+ghost use Rattle.policy_language.specs.Reading.{policy_in_text};
 
 use crate::fault::DefinitionFault;
 use fab_types::{Definition, Fuel, OrgName};
-use policy_language::{Policy, policy_in_text};
+use policy_language::{Policy, names_in_text, policy_in_text};
 use std::alloc::{AllocError, Global};
 use std::marker::Model;
 use wasm_profile::Profile;
@@ -19,6 +20,27 @@ pub struct ModuleId {
     pub digest: [u8; 32],
     /// By which profile the bytes are read.
     pub profile: Profile,
+}
+
+impl ModuleId {
+    /// What the module of a definition is known by.
+    pub fn of(definition: &Definition) -> ModuleId
+        ensures { result ≡ id_of definition.now }
+    {
+        ModuleId {
+            digest: definition.digest,
+            profile: definition.profile,
+        }
+    }
+}
+
+/// Which module a definition means.
+#[derive(Clone, Copy, PartialEq, Eq, Debug, Drop)]
+pub enum ModulePlace {
+    /// The one at this place among those that are installed.
+    Installed(usize),
+    /// Whichever is at hand under this id.
+    Named(ModuleId),
 }
 
 /// The ids of the modules, and the organisations whose names a policy may have.
@@ -39,8 +61,8 @@ impl Model for Installed {
 /// How a definition is used.
 #[derive(Drop)]
 pub struct Usable {
-    /// Where its module stands among those that are installed.
-    pub place: usize,
+    /// Which module it means.
+    pub place: ModulePlace,
     /// What a call may spend.
     pub fuel: Fuel,
     /// Whose endorsements a transaction needs.
@@ -68,13 +90,11 @@ impl Installed {
         &self.orgs
     }
 
-    /// Where the first module of this digest and this profile stands.
-    fn place(&self, digest: &[u8; 32], profile: Profile) -> Option<usize>
-        ensures { result ≡ place_of self.now.modules digest.now profile }
+    /// Where the first installed module of this id stands.
+    pub fn place(&self, id: &ModuleId) -> Option<usize>
+        ensures { result ≡ place_of self.now.modules id.now.digest id.now.profile }
     {
-        self.modules
-            .iter()
-            .position(|m| m.digest == *digest && m.profile == profile)
+        self.modules.iter().position(|m| m == id)
     }
 
     /// How a definition is used, or why it cannot be. The only error is want of memory.
@@ -85,11 +105,10 @@ impl Installed {
     ) -> Result<Result<Usable, DefinitionFault>, AllocError>
         ensures { IfOk result (λ r. r ≡ usable_by self.now definition.now) }
     {
-        let Some(place) = self.place(&definition.digest, definition.profile) else {
+        let Some(place) = self.place_for(definition) else {
             return Ok(Err(DefinitionFault::NotInstalled));
         };
-        let text = definition.policy.as_slice();
-        let Some(policy) = policy_in_text(alloc, text, &self.orgs)? else {
+        let Some(policy) = self.policy_for(alloc, definition)? else {
             return Ok(Err(DefinitionFault::BadPolicy));
         };
         Ok(Ok(Usable {
@@ -99,15 +118,58 @@ impl Installed {
         }))
     }
 
-    /// Whether a definition can be used. The only error is want of memory.
-    pub(crate) fn is_usable(
+    /// Which module a definition means. None where it is closed and none is installed.
+    fn place_for(&self, definition: &Definition) -> Option<ModulePlace>
+        ensures { result ≡ place_for self.now definition.now }
+    {
+        let id = ModuleId::of(definition);
+        if definition.is_open {
+            return Some(ModulePlace::Named(id));
+        }
+        self.place(&id).map(ModulePlace::Installed)
+    }
+
+    /// The policy that a definition's text is, whomever it names if the definition is open. The
+    /// only error is want of memory.
+    fn policy_for(
+        &self,
+        alloc: Global,
+        definition: &Definition,
+    ) -> Result<Option<Policy>, AllocError>
+        ensures { IfOk result (λ p. p ≡ policy_in_text (names_for self.now definition.now)
+            definition.now.policy) }
+    {
+        let text = definition.policy.as_slice();
+        if definition.is_open {
+            let names = names_in_text(alloc, text)?;
+            return policy_in_text(alloc, text, &names);
+        }
+        policy_in_text(alloc, text, &self.orgs)
+    }
+
+    /// Whether an upgrade may put a definition: it can be used, and its policy is of organisations
+    /// that are known. The only error is want of memory.
+    pub(crate) fn may_be_put(
         &self,
         alloc: Global,
         definition: &Definition,
     ) -> Result<bool, AllocError>
-        ensures { IfOk result (λ b. b ≡ is_ok (usable_by self.now definition.now)) }
+        ensures { IfOk result (λ b. b ≡ (is_ok (usable_by self.now definition.now)
+            && names_known self.now definition.now)) }
     {
-        Ok(self.usable(alloc, definition)?.is_ok())
+        Ok(self.usable(alloc, definition)?.is_ok() && self.names_known(alloc, definition)?)
+    }
+
+    /// Whether the policy of a definition is of organisations that are known, if it is open. The
+    /// only error is want of memory.
+    fn names_known(&self, alloc: Global, definition: &Definition) -> Result<bool, AllocError>
+        ensures { IfOk result (λ b. b ≡ names_known self.now definition.now) }
+    {
+        if !definition.is_open {
+            return Ok(true);
+        }
+        let text = definition.policy.as_slice();
+        Ok(policy_in_text(alloc, text, &self.orgs)?.is_some())
     }
 
     /// How the definition that these bytes spell is used. None where they spell none, or one that

@@ -107,6 +107,7 @@ impl<'a> Judge<'a> {
         match envelope.payload.proposal() {
             Proposal::Call(call) => self.is_call_endorsed(alloc, call, envelope, right),
             Proposal::Upgrade(upgrade) => self.is_upgrade_endorsed(alloc, upgrade, envelope, right),
+            Proposal::Amend(_) => Ok(false),
         }
     }
 
@@ -151,7 +152,7 @@ impl<'a> Judge<'a> {
             return Ok(false);
         }
         let installed = self.rules.installed();
-        if !installed.is_usable(alloc, &upgrade.definition)? {
+        if !installed.may_be_put(alloc, &upgrade.definition)? {
             return Ok(false);
         }
         let policy = Some(self.rules.upgrade());

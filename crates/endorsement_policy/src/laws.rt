@@ -1,6 +1,6 @@
 //! Laws of definitions and of endorsed envelopes.
 
-ghost use Rattle.std.specs.Prelude.{◌≡◌, List, true, ℕ, Some, Ok, slice_get};
+ghost use Rattle.std.specs.Prelude.{◌≡◌, List, true, ℕ, Some, Ok};
 ghost use Rattle.fab_types.specs.Limits.{IsPolicyText};
 ghost use Rattle.fab_types.specs.declared.definition.Definition.{Definition};
 ghost use Rattle.fab_types.specs.declared.envelope.Envelope.{Envelope};
@@ -8,8 +8,9 @@ ghost use Rattle.ledger_model.specs.Views.{Plain};
 ghost use Rattle.fab_types.specs.Spelling.{definition_bytes};
 ghost use Rattle.fab_types.specs.Within.{IsDefinition};
 ghost use Rattle.endorsement_policy.specs.Endorsed.{CarriesRight, is_endorsed};
-ghost use Rattle.endorsement_policy.specs.Installed.{Installed, place_of, usable_by, usable_in};
+ghost use Rattle.endorsement_policy.specs.Installed.{Installed, IsPlaced, names_for, names_known, place_for, usable_by, usable_in};
 ghost use Rattle.policy_language.specs.Limits.{IsText};
+ghost use Rattle.endorsement_policy.specs.declared.installed.ModulePlace.{ModulePlace};
 ghost use Rattle.endorsement_policy.specs.declared.installed.Usable.{Usable};
 ghost use Rattle.policy_language.specs.declared.policy.Policy.{Policy};
 
@@ -25,17 +26,19 @@ pub fn an_endorsed_envelope_carries_a_right_tag(rules: &Rules)
 }
 
 /// A definition that can be used has a text that spells its policy within the limits (`spelled`),
-/// and its digest and its profile are those of the module at its place (`placed`); where a module
-/// of both is installed and the text spells a policy, that is what is found (`found`). What bytes
-/// come to is what the one definition that they spell comes to (`read`, `again`).
+/// of the organisations where its names are known (`known`), and its digest and its profile are
+/// those of the module that it means (`placed`); where it means one and the text spells a policy,
+/// that is what is found (`found`). What bytes come to is what the one definition that they spell
+/// comes to (`read`, `again`).
 pub fn usable_definitions_are_spelled()
     ensures spelled { (i : Installed) (d : Definition) (u : Usable) → usable_by i d ≡ Ok u →
-        IsPolicyText d.policy → IsText i.orgs u.policy d.policy }
+        IsPolicyText d.policy → IsText (names_for i d) u.policy d.policy }
+    ensures known { (i : Installed) (d : Definition) (u : Usable) → usable_by i d ≡ Ok u →
+        IsPolicyText d.policy → names_known i d ≡ true → IsText i.orgs u.policy d.policy }
     ensures placed { (i : Installed) (d : Definition) (u : Usable) → usable_by i d ≡ Ok u →
-        (slice_get i.modules u.place ≡ Some (record { digest = d.digest; profile = d.profile })) ×
-        (u.fuel ≡ d.fuel) }
-    ensures found { (i : Installed) (d : Definition) (place : ℕ) (p : Policy) →
-        place_of i.modules d.digest d.profile ≡ Some place → IsText i.orgs p d.policy →
+        IsPlaced i d u.place × (u.fuel ≡ d.fuel) }
+    ensures found { (i : Installed) (d : Definition) (place : ModulePlace) (p : Policy) →
+        place_for i d ≡ Some place → IsText (names_for i d) p d.policy →
         usable_by i d ≡ Ok (record { place = place; fuel = d.fuel; policy = p }) }
     ensures read { (i : Installed) (bytes : List ℕ) (u : Usable) → usable_in i bytes ≡ Some u →
         (d : Definition) × IsDefinition d × (definition_bytes d ≡ bytes) ×

@@ -8,22 +8,22 @@ use fab_types::{Name, Payload, ReadItem, Upgrade, Value, WriteItem, is_shown};
 use std::alloc::{AllocError, Global};
 use wire::encode_definition;
 
-/// Whether the key of the chaincode's definition is read.
+/// Whether the key that the proposal is about is read.
 pub(crate) fn reads_own(payload: &Payload) -> bool
     ensures { result ≡ reads_own payload.now }
 {
-    let chaincode = payload.proposal().chaincode();
+    let proposal = payload.proposal();
     let reads = payload.reads().as_slice();
-    reads.iter().any(|r| r.key.is_of_definition(chaincode))
+    reads.iter().any(|r| r.key.is_of_proposal(proposal))
 }
 
 /// Whether each other key that is read is shown.
 fn reads_no_other(payload: &Payload) -> bool
     ensures { result ≡ reads_no_other payload.now }
 {
-    let chaincode = payload.proposal().chaincode();
+    let proposal = payload.proposal();
     let reads = payload.reads().as_slice();
-    reads.iter().all(|r| r.key.is_of_definition(chaincode) || is_shown(r.key.as_slice()))
+    reads.iter().all(|r| r.key.is_of_proposal(proposal) || is_shown(r.key.as_slice()))
 }
 
 /// Whether each key that is written is shown.
@@ -34,7 +34,7 @@ fn writes_shown(payload: &Payload) -> bool
     writes.iter().all(|w| is_shown(w.key.as_slice()))
 }
 
-/// Whether no key that is not shown is named but that of the chaincode's definition, and that one
+/// Whether no key that is not shown is named but the one that the proposal is about, and that one
 /// is not written.
 pub(crate) fn names_no_other(payload: &Payload) -> bool
     ensures { result ≡ names_no_other payload.now }

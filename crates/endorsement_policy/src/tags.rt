@@ -1,6 +1,6 @@
 //! Whose tags on envelopes are right.
 
-ghost use Rattle.std.specs.Prelude.{◌≡◌, ◌≤◌, IfOk, map};
+ghost use Rattle.std.specs.Prelude.{◌≡◌, ◌≤◌, [], ◌∷◌, IfOk, map};
 ghost use Rattle.std.specs.Thread.{IsSync};
 ghost use Rattle.endorsement_policy.specs.Endorsed.{right_orgs};
 
@@ -9,6 +9,9 @@ use fab_types::Envelope;
 use policy_language::OrgSet;
 use std::alloc::{AllocError, Global};
 use std::thread::{Threads, join};
+
+/// A thread is not worth its start for fewer envelopes.
+const FEW: usize = 8;
 
 /// The organisations of which the envelope carries a right tag.
 pub(crate) fn right_orgs(
@@ -59,10 +62,65 @@ fn right_orgs_in_turn(
     Ok(all)
 }
 
+/// The same of each envelope of one block, by 1 to 16 workers at once. Each takes a part of the
+/// envelopes, one as large as another.
+#[cycle(parts)]
+fn right_orgs_by_parts<R: Threads + Sync>(
+    rt: &R,
+    alloc: Global,
+    rules: &Rules,
+    envelopes: &[Envelope],
+    workers: usize,
+) -> Result<Vec<OrgSet>, AllocError>
+    requires least { 1 ≤ workers }
+    requires greatest { workers ≤ 16 }
+    ensures { IfOk result (λ v. v.items ≡ map (right_orgs rules.now.orgs) envelopes.now) }
+{
+    if workers == 1 || envelopes.len() < FEW {
+        return right_orgs_of_block(alloc, rules, envelopes);
+    }
+    let front_workers = workers / 2;
+    let back_workers = workers - front_workers;
+    let cut = (envelopes.len().saturating_mul(front_workers) / workers).min(envelopes.len());
+    let (front, back) = envelopes.split_at(cut);
+    let front_part = move || -> Result<Vec<OrgSet>, AllocError>
+        requires { IsSync R.row × (1 ≤ front_workers) × (front_workers ≤ 16) }
+        ensures { IfOk result (λ v. v.items ≡ map (right_orgs rules.entry.now.orgs) front.entry.now) }
+    { right_orgs_by_parts(rt, alloc, rules, front, front_workers) };
+    let back_part = move || -> Result<Vec<OrgSet>, AllocError>
+        requires { IsSync R.row × (1 ≤ back_workers) × (back_workers ≤ 16) }
+        ensures { IfOk result (λ v. v.items ≡ map (right_orgs rules.entry.now.orgs) back.entry.now) }
+    { right_orgs_by_parts(rt, alloc, rules, back, back_workers) };
+    let (low, high) = join(rt, front_part, back_part);
+    let mut all = low?;
+    let mut rest = high?;
+    all.append(&mut rest)?;
+    Ok(all)
+}
+
+/// The same of the one block there is.
+fn right_orgs_of_one<R: Threads + Sync>(
+    rt: &R,
+    alloc: Global,
+    rules: &Rules,
+    envelopes: &[Envelope],
+    workers: usize,
+) -> Result<Vec<Vec<OrgSet>>, AllocError>
+    requires least { 1 ≤ workers }
+    requires greatest { workers ≤ 16 }
+    ensures { IfOk result (λ v. map (λ right. right.items) v.items
+        ≡ map (right_orgs rules.now.orgs) envelopes.now ∷ []) }
+{
+    let right = right_orgs_by_parts(rt, alloc, rules, envelopes, workers)?;
+    let mut all = Vec::with_capacity(alloc, 1)?;
+    all.push(right)?;
+    Ok(all)
+}
+
 /// For each envelope of each block the organisations of which it carries a right tag, by 1 to 16
 /// workers at once: the same for every number of them. Each takes a part of the blocks, one as
-/// large as another. The caller is one of the workers, and does the part of one that cannot be
-/// started. The only error is want of memory.
+/// large as another, or of one block's envelopes. The caller is one of the workers, and does the
+/// part of one that cannot be started. The only error is want of memory.
 ///
 /// What is found depends on no state, so that the tags of many blocks can be judged at once, and
 /// each block then by `check_with_right_orgs` on the state before it.
@@ -79,7 +137,10 @@ pub fn right_orgs_of_blocks<R: Threads + Sync>(
     ensures { IfOk result (λ v. map (λ right. right.items) v.items
         ≡ map (λ block. map (right_orgs rules.now.orgs) block.now) blocks.now) }
 {
-    if workers == 1 || blocks.len() < 2 {
+    if let [block] = blocks {
+        return right_orgs_of_one(rt, alloc, rules, block, workers);
+    }
+    if workers == 1 || blocks.is_empty() {
         return right_orgs_in_turn(alloc, rules, blocks);
     }
     let front_workers = workers / 2;

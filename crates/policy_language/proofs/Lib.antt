@@ -8,3 +8,4 @@ pub mod Texts
 pub mod Found
 pub mod Needed
 pub mod Whole
+pub mod Named

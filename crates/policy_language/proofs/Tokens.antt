@@ -15,7 +15,7 @@ use Rattle.policy_language.specs.Tree.{Rule, And, Or, OutOf}
 use Rattle.policy_language.specs.GoodSets.{Name}
 use Rattle.policy_language.specs.Spelling.{IsSpaces, ◌⋯◌, IsLeaf, IsThreshold, decimal_after, leads_with_zero, IsOpening}
 use Rattle.policy_language.specs.Reading.{after_spaces, tag_at, token_at, quoted_at, is_org_name, leaf_at, threshold_at, bracket_at, out_of_at, opening_at}
-use Rattle.policy_language.specs.Reading.{by_mark, comma_at}
+use Rattle.policy_language.specs.Reading.{by_delimiter, comma_at}
 use Rattle.policy_language.specs.declared.policy.Policy.{Policy}
 use Rattle.policy_language.specs.declared.policy.Policy.TheVariants as policy
 use Rattle.std.proofs.lemmas.List.Folds.{length-prefix_len}
@@ -286,28 +286,28 @@ pub comma_ends : (spaces rest : List ℕ) → IsSpaces spaces → comma_at (spac
 unfolding comma_at
 comma_ends spaces rest h = rw (spaces_left spaces 41 rest h refl) refl
 
-abbrev pub mark : Bool → ℕ
-mark true = 44
-mark false = 41
+abbrev pub delimiter : Bool → ℕ
+delimiter true = 44
+delimiter false = 41
 
 abbrev chosen : Bool → Bool → List ℕ → Option (Bool × List ℕ)
 chosen c d left = cond c (Some (true, left)) (cond d (Some (false, left)) None)
 
 pub comma_taken : (bytes rest : List ℕ) (more : Bool) → comma_at bytes ≡ Some (more, rest) →
-    (spaces : List ℕ) × IsSpaces spaces × (bytes ≡ spaces ++ mark more ∷ rest)
+    (spaces : List ℕ) × IsSpaces spaces × (bytes ≡ spaces ++ delimiter more ∷ rest)
 unfolding comma_at
 comma_taken bytes rest more e =
     let s = spaces_taken bytes in
-    let t = bind_some (byte_at (after_spaces bytes)) (λ t. by_mark t.0 t.1) (more, rest) e in (
+    let t = bind_some (byte_at (after_spaces bytes)) (λ t. by_delimiter t.0 t.1) (more, rest) e in (
       s.0,
       s.1,
       s.2 ∙ ap (λ (x : List ℕ). s.0 ++ x)
-          (byte_taken (after_spaces bytes) t.0.0 t.0.1 t.1 ∙ marked t.0.0 t.0.1 (eqb t.0.0 44) (eqb t.0.0 41) refl refl t.2),
+          (byte_taken (after_spaces bytes) t.0.0 t.0.1 t.1 ∙ delimited t.0.0 t.0.1 (eqb t.0.0 44) (eqb t.0.0 41) refl refl t.2),
     )
   where
-    marked : (b : ℕ) (left : List ℕ) (c d : Bool) → eqb b 44 ≡ c → eqb b 41 ≡ d → chosen c d left ≡ Some (more, rest) → b ∷ left ≡ mark more ∷ rest
-    marked b left true d c_is d_is e = let parts =
-        some_pair_parts true more left rest e in ap₂ (λ (x : ℕ) (xs : List ℕ). x ∷ xs) (eqb-true b 44 c_is ∙ ap mark parts.0) parts.1
-    marked b left false true c_is d_is e = let parts =
-        some_pair_parts false more left rest e in ap₂ (λ (x : ℕ) (xs : List ℕ). x ∷ xs) (eqb-true b 41 d_is ∙ ap mark parts.0) parts.1
-    marked b left false false c_is d_is e = absurd cc
+    delimited : (b : ℕ) (left : List ℕ) (c d : Bool) → eqb b 44 ≡ c → eqb b 41 ≡ d → chosen c d left ≡ Some (more, rest) → b ∷ left ≡ delimiter more ∷ rest
+    delimited b left true d c_is d_is e = let parts =
+        some_pair_parts true more left rest e in ap₂ (λ (x : ℕ) (xs : List ℕ). x ∷ xs) (eqb-true b 44 c_is ∙ ap delimiter parts.0) parts.1
+    delimited b left false true c_is d_is e = let parts =
+        some_pair_parts false more left rest e in ap₂ (λ (x : ℕ) (xs : List ℕ). x ∷ xs) (eqb-true b 41 d_is ∙ ap delimiter parts.0) parts.1
+    delimited b left false false c_is d_is e = absurd cc

@@ -7,6 +7,7 @@ pub mod Spelling
 pub mod Limits
 pub mod Leniency
 pub mod Reading
+pub mod Names
 pub mod Faults
 pub mod Parsing
 pub mod Operators

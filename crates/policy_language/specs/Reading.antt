@@ -65,12 +65,12 @@ opening_at bytes =
     else (if pointwise nat_eq (take 5 bytes) (codes "OutOf") then out_of_at (drop 5 bytes) else None))
 
 -- whether another child comes (after a comma), or the operator ends
-abbrev pub by_mark : ℕ → List ℕ → Option (Bool × List ℕ)
-by_mark mark bytes = if mark == 44 then Some (true, bytes) else (if mark == 41 then Some (false, bytes) else None)
+abbrev pub by_delimiter : ℕ → List ℕ → Option (Bool × List ℕ)
+by_delimiter delimiter bytes = if delimiter == 44 then Some (true, bytes) else (if delimiter == 41 then Some (false, bytes) else None)
 
--- spaces, and then that mark
+-- spaces, and then that delimiter
 unfoldable pub comma_at : List ℕ → Option (Bool × List ℕ)
-comma_at bytes = byte_at (after_spaces bytes) >>= λ t. by_mark t.0 t.1
+comma_at bytes = byte_at (after_spaces bytes) >>= λ t. by_delimiter t.0 t.1
 
 -- a child before others
 abbrev pub before : Policy → Option (List Policy × List ℕ) → Option (List Policy × List ℕ)

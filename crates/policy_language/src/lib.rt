@@ -10,6 +10,7 @@
 
 mod fault;
 mod laws;
+mod names;
 mod operator;
 mod org_set;
 mod policy;
@@ -17,7 +18,8 @@ mod reader;
 mod reading;
 
 pub use fault::PolicyFault;
-pub use laws::spelled_once;
+pub use laws::{its_own_names_suffice, spelled_once};
+pub use names::names_in_text;
 pub use org_set::{OrgSet, is_among};
 pub use policy::{Policies, Policy};
 pub use reading::{parse, policy_in_text};

@@ -205,7 +205,7 @@ fn spaces(bytes: &[u8]) -> usize
 }
 
 /// How many bytes of a name stand at the front.
-fn name_bytes(bytes: &[u8]) -> usize
+pub(crate) fn name_bytes(bytes: &[u8]) -> usize
     ensures count { result ≡ prefix_len is_org_name_byte bytes.now }
     ensures within { result ≤ length bytes.now }
 {

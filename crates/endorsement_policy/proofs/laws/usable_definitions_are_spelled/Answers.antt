@@ -1,8 +1,11 @@
-use Rattle.endorsement_policy.proofs.Definitions.{spelled, placed, made, known, again}
+use Rattle.endorsement_policy.proofs.Definitions.{spelled, of_known, placed, made, known, again}
 use Rattle.endorsement_policy.proofs.laws.usable_definitions_are_spelled.Goals as goal
 
 pub returns-clause-spelled : goal.returns-clause-spelled
 returns-clause-spelled c = λ i d u is limits. spelled i d u is limits
+
+pub returns-clause-known : goal.returns-clause-known
+returns-clause-known c = λ i d u is limits known. of_known i d u is limits known
 
 pub returns-clause-placed : goal.returns-clause-placed
 returns-clause-placed c = λ i d u is. placed i d u is
