@@ -90,7 +90,7 @@ impl Endorser {
     /// Simulates a proposal on a snapshot's state and endorses the payload there, where nothing is
     /// to be looked at once more.
     ///
-    /// Refused as the simulation is (401 to 404, 406 and 407), and for want of memory (9).
+    /// Refused as the simulation is (401 to 404, 406 to 408), and for want of memory (9).
     pub fn endorse(
         &self,
         snapshot: &Snapshot,

@@ -1,23 +1,28 @@
 -- An execution by a book of valid modules depends only on what it read.
 use Rattle.std.proofs.Common.{ℕ, zero, suc, Bool, true, false, cond, List, [], ◌∷◌, ◌++◌, map, Option, Some, None, refl, option_map, slice_get}
 use Rattle.std.specs.Prelude.{IfSome}
-use Rattle.std.specs.Option.{option_and_then}
+use Rattle.std.specs.Option.{option_and_then, option_or}
 use Rattle.std.specs.List.{find, AllByRecursion}
 use Rattle.fab_types.specs.declared.proposal.Proposal.{Proposal}
 use Rattle.fab_types.specs.declared.proposal.Proposal.TheVariants as proposal
-use Rattle.fab_types.specs.Spelling.{definition_bytes}
+use Rattle.fab_types.specs.Memberships.{membership_key}
+use Rattle.fab_types.specs.Spelling.{definition_bytes, membership_bytes}
 use Rattle.ledger_model.specs.Chain.{Bytes}
 use Rattle.ledger_model.specs.Views.{Plain}
 use Rattle.ledger_model.specs.Execution as ledger
 use Rattle.ledger_model.specs.Defined.{IsAlone, called, upgraded, definition_key}
 use Rattle.wasm_ast.specs.declared.module.Module.{Module}
 use Rattle.wasm_typing.specs.ModuleRules.{IsValid}
-use Rattle.endorsement_policy.specs.Installed.{usable_by, usable_in}
+use Rattle.endorsement_policy.specs.Installed.{place_of, usable_in}
+use Rattle.endorsement_policy.specs.declared.installed.ModuleId.{ModuleId}
+use Rattle.endorsement_policy.specs.declared.installed.ModulePlace.{ModulePlace}
+use Rattle.endorsement_policy.specs.declared.installed.ModulePlace.TheVariants as at
 use Rattle.endorsement_policy.specs.declared.installed.Usable.{Usable}
 use Rattle.host_api.specs.Executing as host
 use Rattle.chaincode_book.specs.declared.book.Chaincode.{Chaincode}
-use Rattle.chaincode_book.specs.Books.{Book, AreValid, modules_of, chaincode_at}
-use Rattle.simulator.specs.Execution.{Executable, execute, executable_by, genesis_executable, installed_executable, upgrade_ending, exec_of}
+use Rattle.chaincode_book.specs.declared.book.Held.{Held}
+use Rattle.chaincode_book.specs.Books.{Book, AreValid, modules_of, chaincode_at, installed_module, module_at_hand}
+use Rattle.simulator.specs.Execution.{Defined, Executable, execute, executable_at, executable_by, executable_definition, genesis_executable, not_executed, upgrade_ending, usable_executable, with_fuel, exec_of}
 
 all_found : {X : Type 0} (P : X → Type 0) (test : X → Bool) (xs : List X) → AllByRecursion P xs → IfSome (find test xs) P
 all_found P test [] h = tt
@@ -42,33 +47,53 @@ if_then : {X Y : Type 0} (P : Y → Type 0) (f : X → Option Y) (o : Option X) 
 if_then P f None h = tt
 if_then P f (Some x) h = h x
 
--- what a call executes is valid
-abbrev pub IsFit : Option Executable → Type 0
-IsFit found = IfSome found (λ e. IsValid e.module)
+if_or : {X : Type 0} (P : X → Type 0) (o p : Option X) → IfSome o P → IfSome p P → IfSome (option_or o p) P
+if_or P None p h k = k
+if_or P (Some x) p h k = h
+
+-- what a call executes is valid, where it is at hand
+abbrev pub IsFitIn : Defined → Type 0
+IsFitIn defined = IfSome defined (λ e. IsValid e.module)
+
+abbrev pub IsFit : Option Defined → Type 0
+IsFit found = IfSome found IsFitIn
 
 module _ (book : Book) (valid : AreValid book) where
   genesis_fit : (name : Bytes) → IsFit (genesis_executable book name)
   genesis_fit name =
-      if_mapped (λ (e : Executable). IsValid e.module) (λ (c : Chaincode). record { «module» = c.module; fuel = c.fuel }) (chaincode_at book.chaincodes name)
+      if_mapped IsFitIn (λ (c : Chaincode). Some (with_fuel c.fuel c.module)) (chaincode_at book.chaincodes name)
       (all_found (λ (c : Chaincode). IsValid c.module) _ book.chaincodes valid.chaincodes)
 
-  installed_fit : (u : Usable) → IsFit (installed_executable book u)
-  installed_fit u =
-      let all : AllByRecursion IsValid (modules_of book) =
-      all_mapped IsValid (λ (c : Chaincode). c.module) book.chaincodes book.modules valid.chaincodes valid.modules in
-      if_mapped (λ (e : Executable). IsValid e.module) (λ (m : Module). record { «module» = m; fuel = u.fuel }) (slice_get (modules_of book) u.place)
-      (all_at IsValid (modules_of book) u.place all)
+  installed_valid : (place : ℕ) → IfSome (slice_get (modules_of book) place) IsValid
+  installed_valid place =
+      all_at IsValid (modules_of book) place
+      (all_mapped IsValid (λ (c : Chaincode). c.module) book.chaincodes book.modules valid.chaincodes valid.modules)
+
+  at_hand_valid : (id : ModuleId) → IfSome (module_at_hand book id) IsValid
+  at_hand_valid id =
+      if_or IsValid (installed_module book id) _
+      (if_then IsValid (slice_get (modules_of book)) (place_of book.installed.modules id.digest id.profile) installed_valid)
+      (if_mapped IsValid (λ (h : Held). h.module) _ (all_found (λ (h : Held). IsValid h.module) _ book.held valid.held))
+
+  place_fit : (place : ModulePlace) (fuel : ℕ) → IsFit (executable_at book place fuel)
+  place_fit (at.Installed place) fuel =
+      if_mapped IsFitIn (λ (m : Module). Some (with_fuel fuel m)) (slice_get (modules_of book) place) (installed_valid place)
+  place_fit (at.Named id) fuel = if_mapped (λ (e : Executable). IsValid e.module) (with_fuel fuel) (module_at_hand book id) (at_hand_valid id)
 
   pub executable_fit : (name : Bytes) (value : Option Bytes) → IsFit (executable_by book name value)
   executable_fit name None = genesis_fit name
   executable_fit name (Some bytes) =
-      if_then (λ (e : Executable). IsValid e.module) (installed_executable book) (usable_in book.installed bytes) installed_fit
+      if_then IsFitIn (usable_executable book) (usable_in book.installed bytes) (λ (u : Usable). place_fit u.place u.fuel)
+
+not_executed_alone : (ending : ledger.Ending) → IsAlone (not_executed ending)
+not_executed_alone ending = record { truthful = λ m. record { reads = tt; ranges = tt }; only = λ m n h. refl }
 
 -- what is known of each valid module
 module _ (alone : (wasm : Module) (fuel : ℕ) (argument : Bytes) → IsValid wasm → host.ReadsAlone wasm fuel argument) where
-  executed_alone : (found : Option Executable) → IsFit found → (argument : Bytes) → IsAlone (execute found argument)
-  executed_alone None fit argument = record { truthful = λ m. record { reads = tt; ranges = tt }; only = λ m n h. refl }
-  executed_alone (Some e) fit argument =
+  executed_alone : (found : Option Defined) → IsFit found → (argument : Bytes) → IsAlone (execute found argument)
+  executed_alone None fit argument = not_executed_alone ledger.Unknown
+  executed_alone (Some None) fit argument = not_executed_alone ledger.NotInstalled
+  executed_alone (Some (Some e)) fit argument =
       let is = alone e.module e.fuel argument fit in record { truthful = λ m. is.truthful m; only = λ m n h. is.only m n h }
 
   -- and of executions that read a definition
@@ -81,4 +106,5 @@ module _ (alone : (wasm : Module) (fuel : ℕ) (argument : Bytes) → IsValid wa
         calls (definition_key c.chaincode) (λ value. execute (executable_by book c.chaincode value) c.argument)
         (λ value. executed_alone (executable_by book c.chaincode value) (executable_fit book valid c.chaincode value) c.argument)
     each_alone (proposal.Upgrade u) =
-        upgrades (definition_key u.chaincode) (definition_bytes u.definition) (upgrade_ending (usable_by book.installed u.definition))
+        upgrades (definition_key u.chaincode) (definition_bytes u.definition) (upgrade_ending (executable_definition book u.definition))
+    each_alone (proposal.Amend a) = upgrades membership_key (membership_bytes a.membership) ledger.BadMembership

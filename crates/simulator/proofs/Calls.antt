@@ -11,7 +11,7 @@ use Rattle.ledger_model.specs.Defined.{definition_key}
 use Rattle.host_api.specs.Parts.{parts_of}
 use Rattle.host_api.specs.declared.recorder.Parts.{Parts}
 use Rattle.chaincode_book.specs.Books.{Book}
-use Rattle.simulator.specs.Execution.{Executable, execute, executable_by, exec_of}
+use Rattle.simulator.specs.Execution.{Defined, execute, executable_by, exec_of}
 use Rattle.simulator.specs.Answers.{SimRefusal, Answers, done_or_refusal}
 use Rattle.simulator.proofs.Endings.{map_ok, answers_made}
 
@@ -21,7 +21,7 @@ with_first item p = record { reads = item ∷ p.reads; ranges = p.ranges; result
 
 -- a call of which a look-up of its definition's key told this value and this version, and the book what it executes
 module _ (book : Book) (call : Call) (m : Versioned) (key : Bytes) (key_is : key ≡ definition_key call.chaincode) (value : Option Bytes)
-    (value_is : value ≡ get (values_of m) key) (version : Option Version) (version_is : version ≡ version_at m key) (found : Option Executable)
+    (value_is : value ≡ get (values_of m) key) (version : Option Version) (version_is : version ≡ version_at m key) (found : Option Defined)
     (found_is : found ≡ executable_by book call.chaincode value) (result : Result Parts SimRefusal) where
   -- what it answers, where its chaincode answers so
   pub call_answers : let e =
@@ -35,7 +35,7 @@ module _ (book : Book) (call : Call) (m : Versioned) (key : Bytes) (key_is : key
       let item : ReadItem = record { key = key; version = version } in
       let there : ReadItem = record { key = definition_key name; version = version_at m (definition_key name) } in
       let item_is : item ≡ there = λ i. record { key = key_is i; version = (version_is ∙ ap (version_at m) key_is) i } in
-      subst (λ (f : Option Executable). let o = execute f call.argument (values_of m) in
+      subst (λ (f : Option Defined). let o = execute f call.argument (values_of m) in
       Answers (done_or_refusal o.ending (with_first there (parts_of m o.seen))) (map_ok (with_first item) result))
       (found_is ∙ ap (executable_by book name) (value_is ∙ ap (get (values_of m)) key_is))
       (subst (λ (i : ReadItem). Answers (done_or_refusal e.ending (with_first i (parts_of m e.seen))) (map_ok (with_first item) result)) item_is

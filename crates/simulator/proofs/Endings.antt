@@ -105,6 +105,7 @@ answers wanted (Err (refusal.Status n)) e = e
 answers wanted (Err refusal.Stale) e = e
 answers wanted (Err refusal.NotInstalled) e = e
 answers wanted (Err refusal.BadPolicy) e = e
+answers wanted (Err refusal.BadMembership) e = e
 
 abbrev pub map_ok : {X Y : Type 0} → (X → Y) → Result X SimRefusal → Result Y SimRefusal
 map_ok f (Ok x) = Ok (f x)
@@ -122,12 +123,14 @@ answers_mapped f wanted (Err (refusal.Status n)) h = ap (map_ok f) h
 answers_mapped f wanted (Err refusal.Stale) h = ap (map_ok f) h
 answers_mapped f wanted (Err refusal.NotInstalled) h = ap (map_ok f) h
 answers_mapped f wanted (Err refusal.BadPolicy) h = ap (map_ok f) h
+answers_mapped f wanted (Err refusal.BadMembership) h = ap (map_ok f) h
 
 pub mapped_done : {X Y : Type 0} (f : X → Y) (e : ledger.Ending) (x : X) → map_ok f (done_or_refusal e x) ≡ done_or_refusal e (f x)
 mapped_done f ledger.Done x = refl
 mapped_done f ledger.Unknown x = refl
 mapped_done f ledger.NotInstalled x = refl
 mapped_done f ledger.BadPolicy x = refl
+mapped_done f ledger.BadMembership x = refl
 mapped_done f (ledger.Trapped kind used) x = refl
 mapped_done f ledger.Spent x = refl
 mapped_done f (ledger.Status n) x = refl

@@ -3,3 +3,4 @@ pub mod Reruns
 pub mod Alone
 pub mod Refusals
 pub mod Calls
+mod Parts

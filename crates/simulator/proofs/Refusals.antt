@@ -1,5 +1,5 @@
--- The refusals 401, 406 and 407 are told exactly where what is proposed is not defined, not installed or has a bad policy.
-use Rattle.std.proofs.Common.{◌≡◌, ℕ, Bool, true, false, cond, [], ◌∷◌, Option, Some, None, Result, Ok, Err, refl, ap, subst}
+-- The refusals 401 and 406 to 408 are told exactly where what is proposed is not defined, not at hand, has a bad policy or is an amendment.
+use Rattle.std.proofs.Common.{◌≡◌, ℕ, Bool, true, false, cond, [], ◌∷◌, Option, Some, None, Result, Ok, Err, refl, ap, ◌∙◌, subst}
 use Rattle.std.specs.Prelude.{◌==◌}
 use Rattle.std.specs.FinMap.{get}
 use Rattle.fab_types.specs.Payloads.{Payload}
@@ -15,7 +15,6 @@ use Rattle.ledger_model.specs.Defined.{definition_key}
 use Rattle.wasm_meaning.specs.Values.{Answer, Next, Branch, Returns, Trapped, Spent, Stuck}
 use Rattle.wasm_meaning.specs.Fine.{IsEnding}
 use Rattle.wasm_meaning.specs.Laws.NeverStuck.{invocation_ends}
-use Rattle.endorsement_policy.specs.Installed.{usable_by}
 use Rattle.endorsement_policy.specs.declared.installed.Usable.{Usable}
 use Rattle.endorsement_policy.specs.declared.fault.DefinitionFault.{DefinitionFault}
 use Rattle.endorsement_policy.specs.declared.fault.DefinitionFault.TheVariants as fault
@@ -25,7 +24,7 @@ use Rattle.host_api.specs.Executing.{outcome_of, execution}
 use Rattle.host_api.specs.Parts.{parts_of}
 use Rattle.host_api.specs.declared.recorder.Parts.{Parts}
 use Rattle.chaincode_book.specs.Books.{Book, AreValid}
-use Rattle.simulator.specs.Execution.{Executable, IsUnknown, IsUnusable, execute, executable_in, exec_of, upgrade_ending}
+use Rattle.simulator.specs.Execution.{Defined, HasBadPolicy, IsAmendment, IsNotAtHand, IsUnknown, execute, executable_definition, executable_in, exec_of, upgrade_ending}
 use Rattle.simulator.specs.Answers.{SimRefusal, Answers, IsToldWhere, done_or_refusal}
 use Rattle.simulator.specs.declared.refusal.SimRefusal.TheVariants as refusal
 use Rattle.simulator.proofs.Alone.{IsFit, executable_fit}
@@ -36,6 +35,7 @@ abbrev CanRun : ledger.Ending → Type 0
 CanRun ledger.Unknown = ⊥
 CanRun ledger.NotInstalled = ⊥
 CanRun ledger.BadPolicy = ⊥
+CanRun ledger.BadMembership = ⊥
 CanRun _ = Unit {0}
 
 status_runs : (status : ℕ) (b : Bool) → CanRun (cond b ledger.Done (ledger.Status status))
@@ -52,105 +52,95 @@ outcome_runs fuel m (Branch k left s l w) is = absurd is
 outcome_runs fuel m (Returns left s l w) is = absurd is
 outcome_runs fuel m Stuck is = absurd is
 
--- what an ending says of a proposal
-abbrev Says : Book → Plain → Proposal → ledger.Ending → Type 0
-Says book m p ledger.Unknown = IsUnknown book m p
-Says book m p ledger.NotInstalled = IsUnusable fault.NotInstalled book p
-Says book m p ledger.BadPolicy = IsUnusable fault.BadPolicy book p
+-- what an answer says of a proposal
+abbrev Says : {X : Type 0} → Book → Plain → Proposal → Result X SimRefusal → Type 0
+Says book m p (Err refusal.UnknownChaincode) = IsUnknown book m p
+Says book m p (Err refusal.NotInstalled) = IsNotAtHand book m p
+Says book m p (Err refusal.BadPolicy) = HasBadPolicy book p
+Says book m p (Err refusal.BadMembership) = IsAmendment p
 Says book m p _ = Unit {0}
 
-run_says : (book : Book) (m : Plain) (p : Proposal) (e : ledger.Ending) → CanRun e → Says book m p e
-run_says book m p ledger.Unknown h = absurd h
-run_says book m p ledger.NotInstalled h = absurd h
-run_says book m p ledger.BadPolicy h = absurd h
-run_says book m p (ledger.Trapped kind used) h = tt
-run_says book m p ledger.Spent h = tt
-run_says book m p (ledger.Status n) h = tt
-run_says book m p ledger.Done h = tt
+-- what an execution that was done or refused says, where x is what it gives
+module _ {X : Type 0} (x : X) (book : Book) (m : Plain) where
+  run_says : (p : Proposal) (e : ledger.Ending) → CanRun e → Says book m p (done_or_refusal e x)
+  run_says p ledger.Unknown h = absurd h
+  run_says p ledger.NotInstalled h = absurd h
+  run_says p ledger.BadPolicy h = absurd h
+  run_says p ledger.BadMembership h = absurd h
+  run_says p (ledger.Trapped kind used) h = tt
+  run_says p ledger.Spent h = tt
+  run_says p (ledger.Status n) h = tt
+  run_says p ledger.Done h = tt
 
-upgrade_says : (book : Book) (m : Plain) (u : Upgrade) (r : Result Usable DefinitionFault) → usable_by book.installed u.definition ≡ r →
-    Says book m (proposal.Upgrade u) (upgrade_ending r)
-upgrade_says book m u (Ok x) e = tt
-upgrade_says book m u (Err fault.NotInstalled) e = e
-upgrade_says book m u (Err fault.BadPolicy) e = e
+  upgrade_says : (u : Upgrade) (r : Result Usable DefinitionFault) → executable_definition book u.definition ≡ r →
+      Says book m (proposal.Upgrade u) (done_or_refusal (upgrade_ending r) x)
+  upgrade_says u (Ok usable) e = tt
+  upgrade_says u (Err fault.NotInstalled) e = e
+  upgrade_says u (Err fault.BadPolicy) e = e
 
-found_says : (book : Book) (m : Plain) (c : Call) (found : Option Executable) → executable_in book m c.chaincode ≡ found → IsFit found →
-    Says book m (proposal.Call c) (execute found c.argument m).ending
-found_says book m c None e fit = e
-found_says book m c (Some x) e fit =
-    let ends = invocation_ends x.module (host_step m c.argument) nothing_recorded x.fuel fit in
-    run_says book m (proposal.Call c) _ (outcome_runs x.fuel m (execution x.module x.fuel c.argument m) ends)
+  found_says : (c : Call) (found : Option Defined) → executable_in book m c.chaincode ≡ found → IsFit found →
+      Says book m (proposal.Call c) (done_or_refusal (execute found c.argument m).ending x)
+  found_says c None e fit = e
+  found_says c (Some None) e fit = e
+  found_says c (Some (Some f)) e fit =
+      let ends = invocation_ends f.module (host_step m c.argument) nothing_recorded f.fuel fit in
+      run_says (proposal.Call c) _ (outcome_runs f.fuel m (execution f.module f.fuel c.argument m) ends)
 
-exec_says : (book : Book) → AreValid book → (m : Plain) (p : Proposal) → Says book m p (exec_of book p m).ending
-unfolding exec_of
-exec_says book valid m (proposal.Call c) =
-    found_says book m c (executable_in book m c.chaincode) refl (executable_fit book valid c.chaincode (get m (definition_key c.chaincode)))
-exec_says book valid m (proposal.Upgrade u) = upgrade_says book m u (usable_by book.installed u.definition) refl
+  exec_says : AreValid book → (p : Proposal) → Says book m p (done_or_refusal (exec_of book p m).ending x)
+  unfolding exec_of
+  exec_says valid (proposal.Call c) =
+      found_says c (executable_in book m c.chaincode) refl (executable_fit book valid c.chaincode (get m (definition_key c.chaincode)))
+  exec_says valid (proposal.Upgrade u) = upgrade_says u (executable_definition book u.definition) refl
+  exec_says valid (proposal.Amend a) = tt
 
 -- and what is so of a proposal makes its ending
 unknown_ends : (book : Book) (m : Plain) (p : Proposal) → IsUnknown book m p → (exec_of book p m).ending ≡ ledger.Unknown
 unfolding exec_of
 unknown_ends book m (proposal.Call c) h = ap (λ found. (execute found c.argument m).ending) h
 unknown_ends book m (proposal.Upgrade u) h = absurd h
+unknown_ends book m (proposal.Amend a) h = absurd h
 
-unusable_ends : (why : DefinitionFault) (book : Book) (m : Plain) (p : Proposal) → IsUnusable why book p →
-    (exec_of book p m).ending ≡ upgrade_ending (Err why)
+not_at_hand_ends : (book : Book) (m : Plain) (p : Proposal) → IsNotAtHand book m p → (exec_of book p m).ending ≡ ledger.NotInstalled
 unfolding exec_of
-unusable_ends why book m (proposal.Call c) h = absurd h
-unusable_ends why book m (proposal.Upgrade u) h = ap upgrade_ending h
+not_at_hand_ends book m (proposal.Call c) h = ap (λ found. (execute found c.argument m).ending) h
+not_at_hand_ends book m (proposal.Upgrade u) h = ap upgrade_ending h
+not_at_hand_ends book m (proposal.Amend a) h = absurd h
 
--- the ending that a refusal is
-unknown_only : {X : Type 0} (e : ledger.Ending) (x : X) → done_or_refusal e x ≡ Err refusal.UnknownChaincode → e ≡ ledger.Unknown
-unknown_only ledger.Unknown x h = refl
-unknown_only ledger.NotInstalled x h = cc
-unknown_only ledger.BadPolicy x h = cc
-unknown_only (ledger.Trapped kind used) x h = cc
-unknown_only ledger.Spent x h = cc
-unknown_only (ledger.Status n) x h = cc
-unknown_only ledger.Done x h = cc
+bad_policy_ends : (book : Book) (m : Plain) (p : Proposal) → HasBadPolicy book p → (exec_of book p m).ending ≡ ledger.BadPolicy
+unfolding exec_of
+bad_policy_ends book m (proposal.Call c) h = absurd h
+bad_policy_ends book m (proposal.Upgrade u) h = ap upgrade_ending h
+bad_policy_ends book m (proposal.Amend a) h = absurd h
 
-not_installed_only : {X : Type 0} (e : ledger.Ending) (x : X) → done_or_refusal e x ≡ Err refusal.NotInstalled → e ≡ ledger.NotInstalled
-not_installed_only ledger.Unknown x h = cc
-not_installed_only ledger.NotInstalled x h = refl
-not_installed_only ledger.BadPolicy x h = cc
-not_installed_only (ledger.Trapped kind used) x h = cc
-not_installed_only ledger.Spent x h = cc
-not_installed_only (ledger.Status n) x h = cc
-not_installed_only ledger.Done x h = cc
-
-bad_policy_only : {X : Type 0} (e : ledger.Ending) (x : X) → done_or_refusal e x ≡ Err refusal.BadPolicy → e ≡ ledger.BadPolicy
-bad_policy_only ledger.Unknown x h = cc
-bad_policy_only ledger.NotInstalled x h = cc
-bad_policy_only ledger.BadPolicy x h = refl
-bad_policy_only (ledger.Trapped kind used) x h = cc
-bad_policy_only ledger.Spent x h = cc
-bad_policy_only (ledger.Status n) x h = cc
-bad_policy_only ledger.Done x h = cc
+amendment_ends : (book : Book) (m : Plain) (p : Proposal) → IsAmendment p → (exec_of book p m).ending ≡ ledger.BadMembership
+unfolding exec_of
+amendment_ends book m (proposal.Call c) h = absurd h
+amendment_ends book m (proposal.Upgrade u) h = absurd h
+amendment_ends book m (proposal.Amend a) h = refl
 
 module _ {X : Type 0} (book : Book) (valid : AreValid book) (m : Plain) (p : Proposal) (x : X) (result : Result X SimRefusal) where
   abbrev wanted : Result X SimRefusal
   wanted = done_or_refusal (exec_of book p m).ending x
 
+  -- a refusal that is no want of memory, and that an ending is
+  told_where : (r : SimRefusal) (e : ledger.Ending) → done_or_refusal e x ≡ Err r → (Answers wanted (Err r) → wanted ≡ Err r) →
+      (Says {X = X} book m p (Err r) → (exec_of book p m).ending ≡ e) → Answers wanted result → IsToldWhere r (Says {X = X} book m p (Err r)) result
+  told_where r e is known ends h = record {
+    only = λ same. subst (Says book m p) (known (subst (Answers wanted) same h)) (exec_says x book m valid p);
+    told = λ so. subst (λ w. Answers w result) (ap (λ ending. done_or_refusal ending x) (ends so) ∙ is) h;
+  }
+
   pub unknown_told : Answers wanted result → IsToldWhere refusal.UnknownChaincode (IsUnknown book m p) result
-  unknown_told h = record {
-    only = λ e. let told : wanted ≡ Err refusal.UnknownChaincode = subst (Answers wanted) e h in
-        subst (Says book m p) (unknown_only (exec_of book p m).ending x told) (exec_says book valid m p);
-    told = λ is. subst (λ e. Answers (done_or_refusal e x) result) (unknown_ends book m p is) h;
-  }
+  unknown_told = told_where refusal.UnknownChaincode ledger.Unknown refl (λ a. a) (unknown_ends book m p)
 
-  pub not_installed_told : Answers wanted result → IsToldWhere refusal.NotInstalled (IsUnusable fault.NotInstalled book p) result
-  not_installed_told h = record {
-    only = λ e. let told : wanted ≡ Err refusal.NotInstalled = subst (Answers wanted) e h in
-        subst (Says book m p) (not_installed_only (exec_of book p m).ending x told) (exec_says book valid m p);
-    told = λ is. subst (λ e. Answers (done_or_refusal e x) result) (unusable_ends fault.NotInstalled book m p is) h;
-  }
+  pub not_installed_told : Answers wanted result → IsToldWhere refusal.NotInstalled (IsNotAtHand book m p) result
+  not_installed_told = told_where refusal.NotInstalled ledger.NotInstalled refl (λ a. a) (not_at_hand_ends book m p)
 
-  pub bad_policy_told : Answers wanted result → IsToldWhere refusal.BadPolicy (IsUnusable fault.BadPolicy book p) result
-  bad_policy_told h = record {
-    only = λ e. let told : wanted ≡ Err refusal.BadPolicy = subst (Answers wanted) e h in
-        subst (Says book m p) (bad_policy_only (exec_of book p m).ending x told) (exec_says book valid m p);
-    told = λ is. subst (λ e. Answers (done_or_refusal e x) result) (unusable_ends fault.BadPolicy book m p is) h;
-  }
+  pub bad_policy_told : Answers wanted result → IsToldWhere refusal.BadPolicy (HasBadPolicy book p) result
+  bad_policy_told = told_where refusal.BadPolicy ledger.BadPolicy refl (λ a. a) (bad_policy_ends book m p)
+
+  pub bad_membership_told : Answers wanted result → IsToldWhere refusal.BadMembership (IsAmendment p) result
+  bad_membership_told = told_where refusal.BadMembership ledger.BadMembership refl (λ a. a) (amendment_ends book m p)
 
 -- the same of what is made of the parts that were executed on the state after a chain
 module _ (make : Parts → Payload) (book : Book) (valid : AreValid book) (chain : Chain) (p : Proposal) (executed : Result Parts SimRefusal) where
@@ -170,8 +160,11 @@ module _ (make : Parts → Payload) (book : Book) (valid : AreValid book) (chain
     pub then_unknown : IsToldWhere refusal.UnknownChaincode (IsUnknown book (values_of after) p) result
     then_unknown = unknown_told book valid (values_of after) p (make (parts_of after comes_to.seen)) result then_answers
 
-    pub then_not_installed : IsToldWhere refusal.NotInstalled (IsUnusable fault.NotInstalled book p) result
+    pub then_not_installed : IsToldWhere refusal.NotInstalled (IsNotAtHand book (values_of after) p) result
     then_not_installed = not_installed_told book valid (values_of after) p (make (parts_of after comes_to.seen)) result then_answers
 
-    pub then_bad_policy : IsToldWhere refusal.BadPolicy (IsUnusable fault.BadPolicy book p) result
+    pub then_bad_policy : IsToldWhere refusal.BadPolicy (HasBadPolicy book p) result
     then_bad_policy = bad_policy_told book valid (values_of after) p (make (parts_of after comes_to.seen)) result then_answers
+
+    pub then_bad_membership : IsToldWhere refusal.BadMembership (IsAmendment p) result
+    then_bad_membership = bad_membership_told book valid (values_of after) p (make (parts_of after comes_to.seen)) result then_answers

@@ -10,8 +10,9 @@ use Rattle.ledger_model.specs.Views.{Plain, Versioned, first, values_of}
 use Rattle.ledger_model.specs.Flags.{entry_of}
 use Rattle.ledger_model.specs.Execution as ledger
 use Rattle.ledger_model.specs.Execution.{Seen, read_item, range_item}
-use Rattle.ledger_model.specs.Defined.{definition_key, with_read}
-use Rattle.fab_types.specs.Spelling.{definition_bytes}
+use Rattle.ledger_model.specs.Defined.{definition_key, upgraded, with_read}
+use Rattle.fab_types.specs.Memberships.{membership_key}
+use Rattle.fab_types.specs.Spelling.{definition_bytes, membership_bytes}
 use Rattle.ledger_model.specs.Serial.{seen_key, seen_keys, read_key, range_keys}
 use Rattle.ledger_model.proofs.Views.{get-values_of, first-values_of}
 use Rattle.wasm_meaning.specs.Values.{Answer, Next, Branch, Returns, Trapped, Spent, Stuck}
@@ -20,7 +21,7 @@ use Rattle.host_api.specs.Executing.{outcome_of, execution}
 use Rattle.host_api.specs.Parts.{parts_of}
 use Rattle.host_api.specs.declared.recorder.Parts.{Parts}
 use Rattle.chaincode_book.specs.Books.{Book}
-use Rattle.simulator.specs.Execution.{Executable, executable_by, execute, exec_of}
+use Rattle.simulator.specs.Execution.{Defined, executable_by, executable_definition, execute, exec_of, upgrade_ending}
 use Rattle.simulator.proofs.Endings.{map_ok, answers_made}
 use Rattle.simulator.specs.Answers.{SimRefusal, Answers, done_or_refusal, Rerun, rerun_of, rerun_or_refusal, told_by, told_in}
 
@@ -39,9 +40,10 @@ outcome_asks fuel m (Trapped why left w) = (w.records, refl)
 outcome_asks fuel m (Spent w) = (w.records, refl)
 outcome_asks fuel m Stuck = (nothing_recorded, refl)
 
-executed_asks : (found : Option Executable) (argument : Bytes) (m : Plain) → Asks m (execute found argument m).seen
+executed_asks : (found : Option Defined) (argument : Bytes) (m : Plain) → Asks m (execute found argument m).seen
 executed_asks None argument m = (nothing_recorded, refl)
-executed_asks (Some e) argument m = outcome_asks e.fuel m (execution e.module e.fuel argument m)
+executed_asks (Some None) argument m = (nothing_recorded, refl)
+executed_asks (Some (Some e)) argument m = outcome_asks e.fuel m (execution e.module e.fuel argument m)
 
 -- a read in front is one question more
 read_asks : (m : Plain) (key : Bytes) (o : ledger.Outcome) → Asks m o.seen → Asks m (with_read key (get m key) o).seen
@@ -50,6 +52,11 @@ read_asks m key o asks = (
   ap (λ (s : Seen). (with_read key (get m key) (record { ending = o.ending; seen = s })).seen) asks.1,
 )
 
+upgraded_asks : (m : Plain) (key value : Bytes) (ending : ledger.Ending) → Asks m (upgraded key value ending m).seen
+upgraded_asks m key value ending =
+    let write : WriteItem = record { key = key; value = Some value } in
+    (record { reads = key ∷ []; ranges = []; result = []; writes = write ∷ [] }, refl)
+
 exec_asks : (book : Book) (p : Proposal) (m : Plain) → Asks m (exec_of book p m).seen
 unfolding exec_of
 exec_asks book (proposal.Call c) m =
@@ -57,8 +64,8 @@ exec_asks book (proposal.Call c) m =
     let found = executable_by book c.chaincode (get m key) in
     read_asks m key (execute found c.argument m) (executed_asks found c.argument m)
 exec_asks book (proposal.Upgrade u) m =
-    let write : WriteItem = record { key = definition_key u.chaincode; value = Some (definition_bytes u.definition) } in
-    (record { reads = definition_key u.chaincode ∷ []; ranges = []; result = []; writes = write ∷ [] }, refl)
+    upgraded_asks m (definition_key u.chaincode) (definition_bytes u.definition) (upgrade_ending (executable_definition book u.definition))
+exec_asks book (proposal.Amend a) m = upgraded_asks m membership_key (membership_bytes a.membership) ledger.BadMembership
 
 -- ---- what is told of questions on a state with versions and without
 

@@ -7,7 +7,7 @@ use Rattle.fab_types.specs.Payloads.{Payload}
 use Rattle.ledger_model.specs.Chain.{Bytes, Chain, history}
 use Rattle.ledger_model.specs.Views.{Plain, Versioned, values_of}
 use Rattle.ledger_model.specs.State.{state}
-use Rattle.ledger_model.specs.Execution.{Ending, Unknown, NotInstalled, BadPolicy, Trapped, Spent, Status, Done, Seen, Outcome, Exec, payload_of}
+use Rattle.ledger_model.specs.Execution.{Ending, Unknown, NotInstalled, BadPolicy, BadMembership, Trapped, Spent, Status, Done, Seen, Outcome, Exec, payload_of}
 use Rattle.ledger_model.specs.Serial.{seen_key, seen_keys, read_key, range_keys}
 use Rattle.wasm_ast.specs.declared.trap.Trap.{Trap}
 use Rattle.wasm_ast.specs.declared.trap.Trap.TheVariants as trap
@@ -31,6 +31,7 @@ done_or_refusal Done x = Ok x
 done_or_refusal Unknown x = Err refusal.UnknownChaincode
 done_or_refusal NotInstalled x = Err refusal.NotInstalled
 done_or_refusal BadPolicy x = Err refusal.BadPolicy
+done_or_refusal BadMembership x = Err refusal.BadMembership
 done_or_refusal (Trapped kind used) x = Err (refusal.Trapped (trap_of kind) used)
 done_or_refusal Spent x = Err refusal.Spent
 done_or_refusal (Status n) x = Err (refusal.Status n)

@@ -3,7 +3,7 @@ use Rattle.std.specs.Prelude.{◌++◌, ℕ, List, Option, Some, None, codes}
 use Rattle.std.specs.Fmt.{decimal}
 use Rattle.wasm_ast.specs.Traps.{trap_number}
 use Rattle.simulator.specs.declared.refusal.SimRefusal.{SimRefusal}
-use Rattle.simulator.specs.declared.refusal.SimRefusal.TheVariants.{UnknownChaincode, NotInstalled, BadPolicy, Trapped, Spent, Status, Stale, Memory}
+use Rattle.simulator.specs.declared.refusal.SimRefusal.TheVariants.{UnknownChaincode, NotInstalled, BadPolicy, BadMembership, Trapped, Spent, Status, Stale, Memory}
 
 abbrev pub refusal_number : SimRefusal → ℕ
 refusal_number UnknownChaincode = 401
@@ -13,6 +13,7 @@ refusal_number (Status status) = 404
 refusal_number Stale = 405
 refusal_number NotInstalled = 406
 refusal_number BadPolicy = 407
+refusal_number BadMembership = 408
 refusal_number Memory = 9
 
 -- the text of a refusal. None of a status, which is written as a signed number

@@ -1,11 +1,11 @@
 //! What calls execute.
 
 ghost use Rattle.std.specs.Prelude.{◌≡◌, IfOk, option_map};
-ghost use Rattle.simulator.specs.Execution.{executable_by, genesis_executable, installed_executable, shown, spelled_executable};
+ghost use Rattle.simulator.specs.Execution.{executable_at, executable_by, found_as, genesis_executable, spelled_executable};
 
 use chaincode_book::Book;
-use endorsement_policy::Usable;
-use fab_types::{Name, Value};
+use endorsement_policy::ModulePlace;
+use fab_types::{Fuel, Name, Value};
 use std::alloc::{AllocError, Global};
 use wasm_validate::ValidModule;
 
@@ -16,15 +16,23 @@ pub(crate) struct Executable<'b> {
     pub fuel: u64,
 }
 
+/// What a definition that can be used comes to in a book.
+#[derive(Clone, Copy)]
+pub(crate) enum Found<'b> {
+    /// A module that is not at hand.
+    NotAtHand,
+    AtHand(Executable<'b>),
+}
+
 /// What a call of the chaincode executes by a book, where the key of its definition has this value.
 pub(crate) fn find_executable<'b>(
     alloc: Global,
     book: &'b Book,
     name: &Name,
     value: Option<&Value>,
-) -> Result<Option<Executable<'b>>, AllocError>
+) -> Result<Option<Found<'b>>, AllocError>
     ensures { IfOk result
-        (λ e. option_map shown e
+        (λ e. option_map found_as e
         ≡ executable_by book.now name.now (option_map (λ v. v.now) value.entry)) }
 {
     match value {
@@ -34,14 +42,14 @@ pub(crate) fn find_executable<'b>(
 }
 
 /// By the genesis.
-fn by_genesis<'b>(book: &'b Book, name: &Name) -> Option<Executable<'b>>
-    ensures { option_map shown result ≡ genesis_executable book.now name.now }
+fn by_genesis<'b>(book: &'b Book, name: &Name) -> Option<Found<'b>>
+    ensures { option_map found_as result ≡ genesis_executable book.now name.now }
 {
     let chaincode = book.get(name)?;
-    Some(Executable {
+    Some(Found::AtHand(Executable {
         module: &chaincode.module,
         fuel: chaincode.fuel,
-    })
+    }))
 }
 
 /// By the bytes of a definition.
@@ -49,22 +57,26 @@ fn by_spelling<'b>(
     alloc: Global,
     book: &'b Book,
     bytes: &Value,
-) -> Result<Option<Executable<'b>>, AllocError>
-    ensures { IfOk result (λ e. option_map shown e ≡ spelled_executable book.now bytes.now) }
+) -> Result<Option<Found<'b>>, AllocError>
+    ensures { IfOk result (λ e. option_map found_as e ≡ spelled_executable book.now bytes.now) }
 {
     match book.installed().definition(alloc, bytes.as_slice())? {
-        Some(usable) => Ok(by_definition(book, &usable)),
+        Some(usable) => Ok(by_place(book, usable.place, usable.fuel)),
         None => Ok(None),
     }
 }
 
-/// By a definition that can be used.
-fn by_definition<'b>(book: &'b Book, usable: &Usable) -> Option<Executable<'b>>
-    ensures { option_map shown result ≡ installed_executable book.now usable.now }
+/// By the place of a module. One that is installed is at hand; any other is looked for.
+fn by_place<'b>(book: &'b Book, place: ModulePlace, fuel: Fuel) -> Option<Found<'b>>
+    ensures { option_map found_as result ≡ executable_at book.now place fuel }
 {
-    let module = book.module_at(usable.place)?;
-    Some(Executable {
-        module,
-        fuel: u64::from(usable.fuel.get()),
-    })
+    let fuel = u64::from(fuel.get());
+    let module = match place {
+        ModulePlace::Installed(place) => book.module_at(place)?,
+        ModulePlace::Named(id) => match book.at_hand(&id) {
+            Some(module) => module,
+            None => return Some(Found::NotAtHand),
+        },
+    };
+    Some(Found::AtHand(Executable { module, fuel }))
 }

@@ -1,7 +1,11 @@
 //! What is true of every book.
 
-ghost use Rattle.ledger_model.specs.Execution.{ReadsAlone};
-ghost use Rattle.simulator.specs.Execution.{exec_of};
+ghost use Rattle.std.specs.Prelude.{◌≡◌, ◌⊎◌};
+ghost use Rattle.fab_types.specs.declared.proposal.Proposal.{Proposal};
+ghost use Rattle.ledger_model.specs.Execution.{NotInstalled, ReadsAlone};
+ghost use Rattle.ledger_model.specs.Views.{Plain};
+ghost use Rattle.chaincode_book.specs.Books.{Book};
+ghost use Rattle.simulator.specs.Execution.{IsPartOf, exec_of};
 
 use chaincode_book::Book;
 
@@ -14,3 +18,10 @@ pub fn reads_alone(book: &Book)
     host_api::reads_alone();
     ledger_model::definitions_are_read();
 }
+
+/// Who has the same genesis and fewer modules at hand comes to what who has more comes to, or ends
+/// as where a module is not at hand (406).
+pub fn parts_answer_alike()
+    ensures { (part whole : Book) → IsPartOf part whole → (p : Proposal) (m : Plain) →
+        (exec_of part p m ≡ exec_of whole p m) ⊎ ((exec_of part p m).ending ≡ NotInstalled) }
+{}

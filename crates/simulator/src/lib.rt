@@ -3,7 +3,8 @@
 //! `specs/Execution.antt` has the execution that a proposal is by a book of chaincodes and modules,
 //! on a plain state, and `specs/Answers.antt` the payload, the record or the refusal that follows
 //! from how it ended. A call is executed by the definition that the state has of its chaincode, else
-//! by the genesis. An execution depends on nothing but what it read.
+//! by the genesis. An execution depends on nothing but what it read. Who has fewer modules at hand
+//! comes to the same, or to 406.
 #![tactic(auto)]
 
 mod executable;
@@ -12,6 +13,6 @@ mod refusal;
 mod simulation;
 
 pub use chaincode_book::{Book, Chaincode};
-pub use laws::reads_alone;
+pub use laws::{parts_answer_alike, reads_alone};
 pub use refusal::SimRefusal;
-pub use simulation::{rerun, simulate};
+pub use simulation::{is_at_hand, rerun, simulate};

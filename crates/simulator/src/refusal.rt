@@ -14,10 +14,13 @@ use wasm_ast::Trap;
 pub enum SimRefusal {
     /// The chaincode that is called has no definition that can be used.
     UnknownChaincode,
-    /// The module of an upgrade's definition is not installed.
+    /// The module of an upgrade's definition is not installed; or that of an open definition, to
+    /// which an upgrade is or under which a call falls, is not at hand.
     NotInstalled,
     /// The policy of an upgrade's definition is refused.
     BadPolicy,
+    /// An amendment is not the next membership.
+    BadMembership,
     /// The execution was cut off, after it had used this fuel.
     Trapped { kind: Trap, used: u64 },
     /// The execution had less fuel than the next cost.
@@ -32,7 +35,7 @@ pub enum SimRefusal {
 }
 
 impl SimRefusal {
-    /// The number by which the program names the refusal: 401 to 407, or 9 for want of memory.
+    /// The number by which the program names the refusal: 401 to 408, or 9 for want of memory.
     pub fn number(self) -> u16
         ensures { result ≡ refusal_number self }
     {
@@ -44,6 +47,7 @@ impl SimRefusal {
             SimRefusal::Stale => 405,
             SimRefusal::NotInstalled => 406,
             SimRefusal::BadPolicy => 407,
+            SimRefusal::BadMembership => 408,
             SimRefusal::Memory => 9,
         }
     }

@@ -10,22 +10,22 @@ ghost use Rattle.ledger_model.specs.Views.{values_of};
 ghost use Rattle.ledger_model.specs.Execution.{Done};
 ghost use Rattle.ledger_model.specs.Defined.{definition_key, upgraded};
 ghost use Rattle.fab_types.specs.Spelling.{definition_bytes};
-ghost use Rattle.endorsement_policy.specs.declared.fault.DefinitionFault.TheVariants as fault;
 ghost use Rattle.world_state.specs.Writing.{as_state};
 ghost use Rattle.host_api.specs.Plain.{plain_of};
 ghost use Rattle.host_api.specs.Parts.{parts_of};
 ghost use Rattle.host_api.specs.Executing.{outcome};
-ghost use Rattle.simulator.specs.Execution.{IsUnknown, IsUnusable, exec_of};
+ghost use Rattle.simulator.specs.Execution.{HasBadPolicy, IsAmendment, IsNotAtHand, IsUnknown, exec_of, is_at_hand};
 ghost use Rattle.simulator.specs.Answers.{Answers, IsToldWhere, done_or_refusal, parts_or_refusal, payload_or_refusal, rerun_or_refusal, told_in};
 ghost use Rattle.simulator.specs.Success.{success_of};
-ghost use Rattle.simulator.specs.declared.refusal.SimRefusal.TheVariants.{UnknownChaincode, NotInstalled, BadPolicy};
+ghost use Rattle.simulator.specs.declared.refusal.SimRefusal.TheVariants.{UnknownChaincode, NotInstalled, BadPolicy, BadMembership};
 
-use crate::executable::{Executable, find_executable};
+use crate::executable::{Executable, Found, find_executable};
 use crate::refusal::SimRefusal;
 use chaincode_book::Book;
+use endorsement_policy::ModuleId;
 use fab_types::{
-    Call, Key, Payload, PayloadParts, Proposal, Ranges, ReadItem, ReadSet, Upgrade, Value,
-    WriteItem, WriteSet,
+    Call, Definition, Key, Payload, PayloadParts, Proposal, Ranges, ReadItem, ReadSet, Upgrade,
+    Value, WriteItem, WriteSet,
 };
 use host_api::{Parts, PlainMap, Recorder, View, look_up};
 use interp::{Outcome, run};
@@ -38,10 +38,11 @@ use world_state::Snapshot;
 /// front. An upgrade's payload reads that key and puts the new definition there. What was read has
 /// the versions of that state.
 ///
-/// A call is refused where its chaincode has no definition that can be used (401), where the
-/// execution traps (402), runs out of fuel (403) or returns a status that is not 0 (404); an
-/// upgrade where its module is not installed (406) or its policy is refused (407); and both for
-/// want of memory (9).
+/// A call is refused where its chaincode has no definition that can be used (401) or an open one
+/// whose module is not at hand (406), where the execution traps (402), runs out of fuel (403) or
+/// returns a status that is not 0 (404); an upgrade where its module is not installed, or not at
+/// hand if it is open (406), or its policy is refused (407); an amendment always (408); and each
+/// for want of memory (9).
 pub fn simulate(
     alloc: Global,
     book: &Book,
@@ -53,9 +54,9 @@ pub fn simulate(
     ensures unknown { IsToldWhere UnknownChaincode
         (IsUnknown book.now (values_of (state (history snapshot.now))) proposal.now) result }
     ensures not_installed { IsToldWhere NotInstalled
-        (IsUnusable fault.NotInstalled book.now proposal.now) result }
-    ensures bad_policy { IsToldWhere BadPolicy (IsUnusable fault.BadPolicy book.now proposal.now)
-        result }
+        (IsNotAtHand book.now (values_of (state (history snapshot.now))) proposal.now) result }
+    ensures bad_policy { IsToldWhere BadPolicy (HasBadPolicy book.now proposal.now) result }
+    ensures bad_membership { IsToldWhere BadMembership (IsAmendment proposal.now) result }
 {
     let _valid = book.chaincodes();
     let parts = execute(alloc, book, snapshot, proposal)?;
@@ -86,15 +87,16 @@ pub fn rerun(
     ensures unknown { IsToldWhere UnknownChaincode
         (IsUnknown book.now (plain_of state.now) proposal.now) result }
     ensures not_installed { IsToldWhere NotInstalled
-        (IsUnusable fault.NotInstalled book.now proposal.now) result }
-    ensures bad_policy { IsToldWhere BadPolicy (IsUnusable fault.BadPolicy book.now proposal.now)
-        result }
+        (IsNotAtHand book.now (plain_of state.now) proposal.now) result }
+    ensures bad_policy { IsToldWhere BadPolicy (HasBadPolicy book.now proposal.now) result }
+    ensures bad_membership { IsToldWhere BadMembership (IsAmendment proposal.now) result }
 {
     let _valid = book.chaincodes();
     execute(alloc, book, state, proposal)
 }
 
 /// What the execution of a proposal on a view of the state reads, answers and writes.
+#[tactic(auto, unfolding(crate::specs::Execution::exec_of))]
 fn execute<V: View>(
     alloc: Global,
     book: &Book,
@@ -106,6 +108,7 @@ fn execute<V: View>(
     match proposal {
         Proposal::Call(call) => execute_call(alloc, book, view, call),
         Proposal::Upgrade(upgrade) => execute_upgrade(alloc, book, view, upgrade),
+        Proposal::Amend(_) => Err(SimRefusal::BadMembership),
     }
 }
 
@@ -121,8 +124,10 @@ fn execute_call<V: View>(
 {
     let key = Key::of_definition(&call.chaincode);
     let (value, version) = look_up(view, &key);
-    let Some(executable) = find_executable(alloc, book, &call.chaincode, value)? else {
-        return Err(SimRefusal::UnknownChaincode);
+    let executable = match find_executable(alloc, book, &call.chaincode, value)? {
+        None => return Err(SimRefusal::UnknownChaincode),
+        Some(Found::NotAtHand) => return Err(SimRefusal::NotInstalled),
+        Some(Found::AtHand(executable)) => executable,
     };
     let parts = run_executable(alloc, &executable, view, &call.argument)?;
     let reads = parts.reads.with_first(ReadItem { key, version })?;
@@ -177,8 +182,18 @@ fn execute_upgrade<V: View>(
         (parts_or_refusal (exec_of book.now (proposals.Upgrade upgrade.now)) (V.state view.now))
         result }
 {
+    if !is_at_hand(book, &upgrade.definition) {
+        return Err(SimRefusal::NotInstalled);
+    }
     let _usable = book.installed().usable(alloc, &upgrade.definition)??;
     Ok(put_definition(alloc, view, upgrade)?)
+}
+
+/// Whether the module of a definition is at hand, if it is open.
+pub fn is_at_hand(book: &Book, definition: &Definition) -> bool
+    ensures { result ≡ is_at_hand book.now definition.now }
+{
+    !definition.is_open || book.at_hand(&ModuleId::of(definition)).is_some()
 }
 
 /// What an upgrade to a definition that can be used reads and writes.

@@ -1,9 +1,9 @@
-use Rattle.std.proofs.Common.{Ok, Err, refl, ap, sym, ◌∙◌}
+use Rattle.std.proofs.Common.{Ok, Err, ap, sym, ◌∙◌}
 use Rattle.std.proofs.lemmas.Result.{err_from_is_err_and}
 use Rattle.fab_types.specs.Payloads.{Payload}
 use Rattle.fab_types.specs.declared.proposal.Proposal.{Proposal}
 use Rattle.host_api.specs.declared.recorder.Parts.{Parts}
-use Rattle.simulator.proofs.Refusals.{then_unknown, then_not_installed, then_bad_policy}
+use Rattle.simulator.proofs.Refusals.{then_unknown, then_not_installed, then_bad_policy, then_bad_membership}
 use Rattle.simulator.proofs.simulation.simulate.Goals as goal
 
 abbrev made : Proposal → Parts → Payload
@@ -40,4 +40,15 @@ returns-in_err-parts-clause-bad_policy c =
 pub returns-clause-bad_policy : goal.returns-clause-bad_policy
 returns-clause-bad_policy c =
     then_bad_policy (made c.in_ok-clone.field-0) c.args.book.now c.chaincodes-valid.ensures.valid c.args.snapshot.now c.args.proposal.now
+    (Ok c.in_ok-parts.parts) c.in_ok-parts.ensures _ (sym (ap Ok c.in_ok-new.ensures))
+
+pub returns-in_err-parts-clause-bad_membership : goal.returns-in_err-parts-clause-bad_membership
+returns-in_err-parts-clause-bad_membership c =
+    let p = err_from_is_err_and c.from_residual.result c.from_residual.ensures.1 in
+    then_bad_membership (made c.args.proposal.now) c.args.book.now c.chaincodes-valid.ensures.valid c.args.snapshot.now c.args.proposal.now
+    (Err c.in_err-parts.field-0.0) c.in_err-parts.ensures c.from_residual.result (sym (p.1 ∙ ap Err p.2))
+
+pub returns-clause-bad_membership : goal.returns-clause-bad_membership
+returns-clause-bad_membership c =
+    then_bad_membership (made c.in_ok-clone.field-0) c.args.book.now c.chaincodes-valid.ensures.valid c.args.snapshot.now c.args.proposal.now
     (Ok c.in_ok-parts.parts) c.in_ok-parts.ensures _ (sym (ap Ok c.in_ok-new.ensures))
