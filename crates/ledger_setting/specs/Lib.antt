@@ -1,3 +1,3 @@
 pub mod Rule
-pub mod Setting
+pub mod Limits
 pub mod Judging

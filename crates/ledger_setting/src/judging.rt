@@ -1,19 +1,21 @@
 //! What a block is judged to be by the rules, and its commit.
 
-ghost use Rattle.std.specs.Prelude.{◌≡◌, [], ◌∷◌, ◌++◌, map, IfOk, OnOk, OnErr, IfErr};
+ghost use Rattle.std.specs.Prelude.{◌≡◌, [], ◌∷◌, ◌++◌, map, IfOk, OnOk, OnErr, IfErr, IfSome};
 ghost use Rattle.ledger_model.specs.Chain.{history};
 ghost use Rattle.ledger_model.specs.State.{state};
 ghost use Rattle.ledger_model.specs.Views.{values_of};
-ghost use Rattle.endorsement_policy.specs.Endorsed.{is_endorsed};
+ghost use Rattle.endorsement_policy.specs.Endorsed.{is_endorsed, right_orgs};
 ghost use Rattle.committer.specs.Fits.{Fits, IsRefused, blocks_of};
 ghost use Rattle.ledger_setting.specs.Judging.{IsJudged, next_by};
 ghost use Rattle.ledger_setting.specs.Rule.{table_of};
 
 use committer::{CommitRefusal, check_fits};
-use endorsement_policy::{Rules, check_plain};
-use fab_types::Block;
-use mvcc_validate::mark;
+use endorsement_policy::{Gate, Rules, Workers, check_all, check_plain, check_with_right_orgs};
+use fab_types::{Block, Envelope};
+use mvcc_validate::flag_block;
+use policy_language::OrgSet;
 use std::alloc::{AllocError, Global};
+use std::thread::Threads;
 use world_state::{Judged, Snapshot};
 
 /// What a block is judged to be behind a snapshot: its transactions have the flags of the table, by
@@ -33,9 +35,78 @@ pub fn judge(
     ensures refused { IfErr result
         (λ refusal. IsRefused refusal (blocks_of snapshot.now) block.now) }
 {
+    judge_with(alloc, rules, snapshot, block, None)
+}
+
+/// The same where it may be known of each envelope which organisations' tags on it are right, as
+/// `right_orgs_of_blocks` tells. Where it is, no tag is computed.
+pub fn judge_with(
+    alloc: Global,
+    rules: &Rules,
+    snapshot: &Snapshot,
+    block: &Block,
+    right: Option<&[OrgSet]>,
+) -> Result<Judged, CommitRefusal>
+    requires { IfSome right
+        (λ orgs. orgs.now ≡ map (right_orgs rules.now.orgs) block.now.envelopes) }
+    ensures judged { IfOk result
+        (λ judged. IsJudged (table_of rules.now) snapshot.now block.now judged) }
+    ensures refused { IfErr result
+        (λ refusal. IsRefused refusal (blocks_of snapshot.now) block.now) }
+{
     check_fits(alloc, snapshot, block)?;
-    let endorsed = check_plain(alloc, rules, snapshot, block.envelopes.as_slice())?;
+    let endorsed = check_with(alloc, rules, snapshot, block.envelopes.as_slice(), right)?;
     Ok(judge_checked(alloc, rules, snapshot, block, &endorsed)?)
+}
+
+/// Nothing happens round a check.
+struct NoGate;
+
+impl Gate for NoGate {
+    fn before(&self, _index: usize) {}
+
+    fn after(&self, _index: usize) {}
+}
+
+/// The same as `judge`, where workers check the envelopes at once: the same for every number of
+/// them.
+pub fn judge_by_workers<T: Threads + Sync>(
+    workers: &Workers<'_, T>,
+    alloc: Global,
+    rules: &Rules,
+    snapshot: &Snapshot,
+    block: &Block,
+) -> Result<Judged, CommitRefusal>
+    ensures judged { IfOk result
+        (λ judged. IsJudged (table_of rules.now) snapshot.now block.now judged) }
+    ensures refused { IfErr result
+        (λ refusal. IsRefused refusal (blocks_of snapshot.now) block.now) }
+{
+    check_fits(alloc, snapshot, block)?;
+    let envelopes = block.envelopes.as_slice();
+    let (rt, count) = (workers.rt(), workers.count().min(envelopes.len().max(1)));
+    let endorsed = check_all(rt, alloc, rules, snapshot, envelopes, count, &NoGate)?;
+    Ok(judge_checked(alloc, rules, snapshot, block, &endorsed)?)
+}
+
+/// For each envelope whether it is endorsed. It may be known of each which organisations' tags on
+/// it are right. The only error is want of memory.
+fn check_with(
+    alloc: Global,
+    rules: &Rules,
+    snapshot: &Snapshot,
+    envelopes: &[Envelope],
+    right: Option<&[OrgSet]>,
+) -> Result<Vec<bool>, AllocError>
+    requires { IfSome right (λ orgs. orgs.now ≡ map (right_orgs rules.now.orgs) envelopes.now) }
+    ensures { IfOk result (λ v. v.items
+        ≡ map (is_endorsed rules.now (values_of (state (history snapshot.now))))
+        envelopes.now) }
+{
+    match right {
+        Some(right) => check_with_right_orgs(alloc, rules, snapshot, envelopes, right),
+        None => check_plain(alloc, rules, snapshot, envelopes),
+    }
 }
 
 /// What `judge` says of a block that fits, where it is known which of its envelopes are endorsed.
@@ -54,7 +125,7 @@ pub fn judge_checked(
     ensures { IfOk result
         (λ judged. IsJudged (table_of rules.now) snapshot.now block.now judged) }
 {
-    let judged = mark(alloc, snapshot, block, endorsed)?;
+    let judged = flag_block(alloc, snapshot, block, endorsed)?;
     Ok(judged)
 }
 
@@ -75,4 +146,24 @@ pub fn commit(
 {
     let judged = judge(alloc, rules, snapshot, &block)?;
     Ok(snapshot.extend(alloc, block, judged)?)
+}
+
+/// The same as `commit`, where workers check the envelopes at once: the same for every number of
+/// them.
+pub fn commit_by_workers<T: Threads + Sync>(
+    workers: &Workers<'_, T>,
+    alloc: Global,
+    rules: &Rules,
+    snapshot: &mut Snapshot,
+    block: Block,
+) -> Result<(), CommitRefusal>
+    ensures committed { OnOk result
+        (snapshot.new ≡ snapshot.old ++ next_by (table_of rules.now) snapshot.old block ∷ []) }
+    ensures unchanged { OnErr result (snapshot.new ≡ snapshot.old) }
+    ensures fits { OnOk result (Fits (blocks_of snapshot.old) block) }
+    ensures refused { IfErr result (λ refusal. IsRefused refusal (blocks_of snapshot.old) block) }
+{
+    let judged = judge_by_workers(workers, alloc, rules, snapshot, &block)?;
+    snapshot.extend(alloc, block, judged)?;
+    Ok(())
 }

@@ -7,5 +7,5 @@ mod judging;
 mod verdict;
 
 pub use genesis::Genesis;
-pub use judging::{commit, judge, judge_checked};
+pub use judging::{commit, commit_by_workers, judge, judge_by_workers, judge_checked, judge_with};
 pub use verdict::Audit;

@@ -1,5 +1,5 @@
 -- How a replay goes on, and how it stops.
-use Rattle.std.proofs.Common.{◌≡◌, arith, ℕ, ◌+◌, Bool, true, false, inl, inr, Option, Some, None, List, [], ◌∷◌, length, refl, sym, ap, subst, ◌∙◌}
+use Rattle.std.proofs.Common.{◌≡◌, arith, ℕ, ◌+◌, Bool, true, false, inl, inr, Option, Some, None, MatchOption, List, [], ◌∷◌, length, refl, sym, ap, subst, ◌∙◌}
 use Rattle.fab_types.specs.Committed.{Committed}
 use Rattle.ledger_model.specs.Chain.{Chain}
 use Rattle.ledger_model.specs.Judged.{BlockRule}
@@ -23,9 +23,6 @@ earlier_twice None true n later = refl
 earlier_twice None false n later = refl
 earlier_twice (Some m) is_same n later = refl
 
-pub begins : (rule : BlockRule) (all : List Committed) → GoesOn rule all [] None all
-begins rule all last later refused h = h
-
 pub goes_on : (rule : BlockRule) (all : List Committed) (chain : Chain) (d : Option ℕ) (c : Committed) (left : List Committed) (is_same : Bool)
     (last : Chain) → GoesOn rule all chain d (c ∷ left) → IsPushed rule chain c is_same last →
     GoesOn rule all last (earlier d (first_of is_same (length last) None)) left
@@ -46,7 +43,12 @@ pub ends : (rule : BlockRule) (all : List Committed) (chain : Chain) (d : Option
 ends rule all chain d inv =
     subst (λ (x : Option ℕ). Replays rule [] all chain x None) (earlier_none d) (inv chain None None (refl, refl, refl))
 
--- no records are left
-pub none_left : (cs : List Committed) (n : ℕ) → n ≡ length cs → n ≡ 0 → cs ≡ []
+-- none are left
+pub none_left : {X : Type 0} (xs : List X) (n : ℕ) → n ≡ length xs → n ≡ 0 → xs ≡ []
 none_left [] n h e = refl
-none_left (c ∷ cs) n h e = let wrong : ⊥ = omega (arith, h, e) in absurd wrong
+none_left (x ∷ xs) n h e = let wrong : ⊥ = omega (arith, h, e) in absurd wrong
+
+-- what stands where nothing was taken
+pub at_none : {X : Type 0} (taken : Option X) (P : Type 0) (Q : X → Type 0) → taken ≡ None → MatchOption taken P Q → P
+at_none None P Q is h = h
+at_none (Some x) P Q is h = let wrong : ⊥ = cc in absurd wrong

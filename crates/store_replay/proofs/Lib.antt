@@ -2,3 +2,4 @@ pub mod Flags
 pub mod Pushed
 pub mod Going
 pub mod Lawful
+pub mod RightTags

@@ -1,11 +1,11 @@
 -- The block of a record on a chain, and what that says of the record.
-use Rattle.std.proofs.Common.{◌≡◌, ◌≢◌, ◌∙◌, ◌++◌, ◌∷◌, ◌+◌, [], ℕ, Bool, true, false, MatchBool, List, length, length-append, sym, ap}
+use Rattle.std.proofs.Common.{◌≡◌, ◌≢◌, ◌∙◌, ◌++◌, ◌∷◌, ◌+◌, [], Bool, true, false, MatchBool, List, length, length-append, sym, ap}
 use Rattle.fab_types.specs.Committed.{Committed}
 use Rattle.fab_types.specs.declared.block.Block.{Block}
 use Rattle.fab_types.specs.declared.flag.Flag.{Flag}
 use Rattle.ledger_model.specs.Chain.{Chain}
 use Rattle.ledger_model.specs.Judged.{BlockRule}
-use Rattle.world_state.specs.Judging.{marked}
+use Rattle.world_state.specs.Judging.{flagged}
 use Rattle.world_state.specs.declared.judged.Judged.{Judged}
 use Rattle.ledger_setting.specs.Judging.{IsJudged, next_by}
 use Rattle.store_replay.specs.Replay.{HasTheFlags, IsPushed}
@@ -18,14 +18,14 @@ by_test rule chain c false h = h
 
 -- a block that was judged behind a chain stands there as the rule has it
 pub grown : (rule : BlockRule) (chain last : Chain) (b c : Block) (judged : Judged) → b ≡ c → IsJudged rule chain c judged →
-    last ≡ chain ++ marked b judged ∷ [] → last ≡ chain ++ next_by rule chain c ∷ []
+    last ≡ chain ++ flagged b judged ∷ [] → last ≡ chain ++ next_by rule chain c ∷ []
 grown rule chain last b c judged same is on =
-    on ∙ ap (λ (x : Block). chain ++ marked x judged ∷ []) same
+    on ∙ ap (λ (x : Block). chain ++ flagged x judged ∷ []) same
     ∙ ap (λ (fs : List Flag). chain ++ record { block = c; flags = fs } ∷ []) is.flags
 
 -- and as the record has it, where that has the rule's flags
 pub stands : (rule : BlockRule) (chain last : Chain) (b : Block) (c : Committed) (judged : Judged) → b ≡ c.block → IsJudged rule chain c.block judged →
-    HasTheFlags rule chain c true → last ≡ chain ++ marked b judged ∷ [] → last ≡ chain ++ c ∷ []
+    HasTheFlags rule chain c true → last ≡ chain ++ flagged b judged ∷ [] → last ≡ chain ++ c ∷ []
 stands rule chain last b c judged same is flags on =
     grown rule chain last b c.block judged same is on ∙ ap (λ (x : Committed). chain ++ x ∷ []) (sym (is_judged rule chain c flags))
 

@@ -1,3 +1,4 @@
 pub mod Replay
 pub mod Lawful
+pub mod Tags
 pub mod Numbers

@@ -4,14 +4,20 @@
 //! another, as a peer would: headers are tested, envelopes are checked under the genesis' policies,
 //! and flags are computed anew. It trusts neither the flags in the store nor whoever wrote it.
 //! [`recommit`] does so with blocks that were loaded, and takes them only if all of them fit and
-//! have the flags of the table; [`recommit_next`] with one record more.
+//! have the flags of the table; [`recommit_behind`] and [`recommit_next`] with more records, or one
+//! more. Who checks the tags is told by [`TagChecks`], and who watches by [`Watch`].
 #![tactic(auto)]
 
+mod pending;
 mod pushing;
 mod recommitting;
 mod refusal;
 mod replaying;
+mod tags;
+mod watch;
 
-pub use recommitting::{recommit, recommit_next};
+pub use recommitting::{recommit, recommit_behind, recommit_next};
 pub use refusal::RecommitRefusal;
 pub use replaying::{Replayed, replay_store};
+pub use tags::TagChecks;
+pub use watch::{Unwatched, Watch};

@@ -1,26 +1,30 @@
 //! The block of one record behind a chain.
 
-ghost use Rattle.std.specs.Prelude.{◌≡◌, IfOk, OnErr, IfErr};
+ghost use Rattle.std.specs.Prelude.{◌≡◌, IfOk, IfSome, OnErr, IfErr};
 ghost use Rattle.committer.specs.Fits.{IsRefused, blocks_of};
 ghost use Rattle.ledger_setting.specs.Judging.{IsJudged};
 ghost use Rattle.ledger_setting.specs.Rule.{table_of};
 ghost use Rattle.store_replay.specs.Replay.{HasTheFlags, IsPushed};
+ghost use Rattle.store_replay.specs.Tags.{right_in_record};
 
 use committer::CommitRefusal;
 use endorsement_policy::Rules;
 use fab_types::{CommittedBlock, Flag};
-use ledger_setting::judge;
+use ledger_setting::judge_with;
+use policy_language::OrgSet;
 use std::alloc::Global;
 use world_state::{Judged, Snapshot};
 
 /// What the block of a record is judged to be behind a chain, and whether the record has these
-/// flags. It refuses as `judge` does.
+/// flags. It may be known whose tags in it are right. It refuses as `judge` does.
 pub fn judge_record(
     alloc: Global,
     rules: &Rules,
     snapshot: &Snapshot,
     stored: &CommittedBlock,
+    right: Option<&[OrgSet]>,
 ) -> Result<(Judged, bool), CommitRefusal>
+    requires { IfSome right (λ orgs. orgs.now ≡ right_in_record rules.now.orgs stored.now) }
     ensures judged { IfOk result
         (λ t. IsJudged (table_of rules.now) snapshot.now stored.now.block t.0) }
     ensures flags { IfOk result
@@ -28,14 +32,14 @@ pub fn judge_record(
     ensures refused { IfErr result
         (λ cause. IsRefused cause (blocks_of snapshot.now) stored.now.block) }
 {
-    let judged = judge(alloc, rules, snapshot, stored.block())?;
+    let judged = judge_with(alloc, rules, snapshot, stored.block(), right)?;
     let flags: &[Flag] = &judged.flags;
     let is_same = stored.flags() == flags;
     Ok((judged, is_same))
 }
 
 /// Commits the block of a record behind a chain, and tells whether the record has the table's
-/// flags.
+/// flags. It may be known whose tags in it are right.
 ///
 /// It refuses as `judge` does, and a refusal changes nothing.
 pub fn push(
@@ -43,14 +47,16 @@ pub fn push(
     rules: &Rules,
     snapshot: &mut Snapshot,
     stored: CommittedBlock,
+    right: Option<Vec<OrgSet>>,
 ) -> Result<bool, CommitRefusal>
+    requires { IfSome right (λ orgs. orgs.items ≡ right_in_record rules.now.orgs stored) }
     ensures pushed { IfOk result
         (λ is_same. IsPushed (table_of rules.now) snapshot.old stored is_same snapshot.new) }
     ensures unchanged { OnErr result (snapshot.new ≡ snapshot.old) }
     ensures refused { IfErr result
         (λ cause. IsRefused cause (blocks_of snapshot.old) stored.block) }
 {
-    let (judged, is_same) = judge_record(alloc, rules, snapshot, &stored)?;
+    let (judged, is_same) = judge_record(alloc, rules, snapshot, &stored, right.as_deref())?;
     let (block, _flags) = stored.into_parts();
     snapshot.extend(alloc, block, judged)?;
     Ok(is_same)

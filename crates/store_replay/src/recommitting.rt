@@ -1,6 +1,6 @@
 //! Stored blocks as a chain again.
 
-ghost use Rattle.std.specs.Prelude.{◌≡◌, true, [], ◌∷◌, ◌++◌, IfOk, OnOk, OnErr, IfErr};
+ghost use Rattle.std.specs.Prelude.{◌≡◌, true, [], ◌∷◌, ◌++◌, IfOk, IfSome, OnOk, OnErr, IfErr};
 ghost use Rattle.fab_types.specs.Committed.{Committed};
 ghost use Rattle.ledger_model.specs.Judged.{BlockRule};
 ghost use Rattle.committer.specs.Fits.{IsRefused, blocks_of};
@@ -8,13 +8,19 @@ ghost use Rattle.ledger_setting.specs.Judging.{IsJudged};
 ghost use Rattle.ledger_setting.specs.Rule.{table_of};
 ghost use Rattle.store_replay.specs.Lawful.{AreLawful, IsNextRefused, IsRecommitRefused};
 ghost use Rattle.store_replay.specs.Replay.{HasTheFlags};
+ghost use Rattle.store_replay.specs.Tags.{right_in_record};
 
+use crate::pending::Pending;
 use crate::pushing::judge_record;
 use crate::refusal::RecommitRefusal;
+use crate::tags::TagChecks;
+use crate::watch::Watch;
 use committer::CommitRefusal;
 use endorsement_policy::Rules;
 use fab_types::CommittedBlock;
+use policy_language::OrgSet;
 use std::alloc::Global;
+use std::thread::Threads;
 use world_state::{Judged, Snapshot};
 
 /// The refusal of a record whose block is not committed behind a chain.
@@ -35,14 +41,16 @@ fn judge_as_stored(
     rules: &Rules,
     snapshot: &Snapshot,
     stored: &CommittedBlock,
+    right: Option<&[OrgSet]>,
 ) -> Result<Judged, RecommitRefusal>
+    requires { IfSome right (λ orgs. orgs.now ≡ right_in_record rules.now.orgs stored.now) }
     ensures judged { IfOk result
         (λ judged. IsJudged (table_of rules.now) snapshot.now stored.now.block judged) }
     ensures flags { OnOk result (HasTheFlags (table_of rules.now) snapshot.now stored.now true) }
     ensures refused { IfErr result
         (λ r. IsNextRefused (table_of rules.now) snapshot.now stored.now r) }
 {
-    match judge_record(alloc, rules, snapshot, stored) {
+    match judge_record(alloc, rules, snapshot, stored, right) {
         Ok((judged, is_same)) => {
             if !is_same {
                 return Err(RecommitRefusal::Flags(snapshot.height() + 1));
@@ -71,18 +79,63 @@ pub fn recommit_next(
     ensures refused { IfErr result
         (λ r. IsNextRefused (table_of rules.now) snapshot.old stored r) }
 {
-    let judged = judge_as_stored(alloc, rules, snapshot, &stored)?;
+    recommit_with(alloc, rules, snapshot, stored, None)
+}
+
+/// The same where it may be known of each envelope which organisations' tags on it are right. Where
+/// it is, no tag is computed.
+fn recommit_with(
+    alloc: Global,
+    rules: &Rules,
+    snapshot: &mut Snapshot,
+    stored: CommittedBlock,
+    right: Option<Vec<OrgSet>>,
+) -> Result<(), RecommitRefusal>
+    requires { IfSome right (λ orgs. orgs.items ≡ right_in_record rules.now.orgs stored) }
+    ensures chain { OnOk result (snapshot.new ≡ snapshot.old ++ stored ∷ []) }
+    ensures lawful { OnOk result (AreLawful (table_of rules.now) snapshot.old (stored ∷ [])) }
+    ensures unchanged { OnErr result (snapshot.new ≡ snapshot.old) }
+    ensures refused { IfErr result
+        (λ r. IsNextRefused (table_of rules.now) snapshot.old stored r) }
+{
+    let judged = judge_as_stored(alloc, rules, snapshot, &stored, right.as_deref())?;
     let (block, _flags) = stored.into_parts();
     Ok(snapshot.extend(alloc, block, judged)?)
 }
 
+/// Puts the blocks of records behind a chain, one after another: each is committed again, and has
+/// to have the flags with which it is stored. The answer is the same whoever checks the tags.
+///
+/// Refused at the first block that does not fit (601 to 604) or has other flags than the table's
+/// (711), and for want of memory (9), behind blocks that are lawful and at one that is the next by
+/// its number and the hash that it names. The blocks before that one stay.
+pub fn recommit_behind<T: Threads + Sync, V: Watch>(
+    tags: &TagChecks<'_, T, V>,
+    alloc: Global,
+    rules: &Rules,
+    snapshot: &mut Snapshot,
+    records: Vec<CommittedBlock>,
+) -> Result<(), RecommitRefusal>
+    ensures chain { OnOk result (snapshot.new ≡ snapshot.old ++ records.items) }
+    ensures lawful { OnOk result (AreLawful (table_of rules.now) snapshot.old records.items) }
+    ensures refused { IfErr result (λ r. AreLawful (table_of rules.now) [] snapshot.old →
+        IsRecommitRefused (table_of rules.now) (snapshot.old ++ records.items) r) }
+{
+    let mut pending = Pending::new(alloc, records);
+    'records: while let Some((stored, right)) = pending.next(tags, alloc, rules, snapshot) {
+        recommit_with(alloc, rules, snapshot, stored, right)?;
+    }
+    Ok(())
+}
+
 /// The chain of these blocks: each is committed again behind those before it, and has to have the
-/// flags with which it is stored.
+/// flags with which it is stored. The answer is the same whoever checks the tags.
 ///
 /// Refused at the first block that does not fit (601 to 604) or has other flags than the table's
 /// (711), and for want of memory (9), behind blocks that are lawful and at one that is the next by
 /// its number and the hash that it names.
-pub fn recommit(
+pub fn recommit<T: Threads + Sync, V: Watch>(
+    tags: &TagChecks<'_, T, V>,
     alloc: Global,
     rules: &Rules,
     records: Vec<CommittedBlock>,
@@ -92,8 +145,6 @@ pub fn recommit(
     ensures refused { IfErr result (λ r. IsRecommitRefused (table_of rules.now) records.items r) }
 {
     let mut snapshot = Snapshot::empty(alloc);
-    'records: for stored in records {
-        recommit_next(alloc, rules, &mut snapshot, stored)?;
-    }
+    recommit_behind(tags, alloc, rules, &mut snapshot, records)?;
     Ok(snapshot)
 }

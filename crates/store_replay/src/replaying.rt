@@ -5,13 +5,17 @@ ghost use Rattle.block_store.specs.Loading.{IsTold, ReadsAll};
 ghost use Rattle.ledger_setting.specs.Rule.{table_of};
 ghost use Rattle.store_replay.specs.Replay.{Replays, IsReplayed, earlier, first_of};
 
+use crate::pending::Pending;
 use crate::pushing::push;
+use crate::tags::TagChecks;
+use crate::watch::Watch;
 use block_store::{CountedRead, End, load};
 use committer::CommitRefusal;
 use endorsement_policy::Rules;
 use fab_types::CommittedBlock;
 use ledger_setting::Genesis;
 use std::alloc::{AllocError, Global};
+use std::thread::Threads;
 use world_state::Snapshot;
 
 /// A store's chain as it was committed again.
@@ -39,7 +43,8 @@ struct Progress {
 
 /// Commits the blocks of records behind one another from the empty state on, as far as they fit.
 /// The error is of memory.
-fn commit_all(
+fn commit_all<T: Threads + Sync, V: Watch>(
+    tags: &TagChecks<'_, T, V>,
     alloc: Global,
     rules: &Rules,
     records: Vec<CommittedBlock>,
@@ -52,8 +57,14 @@ fn commit_all(
         differs: None,
         refused: None,
     };
-    'records: for stored in records {
-        match push(alloc, rules, &mut progress.snapshot, stored) {
+    let mut pending = Pending::new(alloc, records);
+    'records: while let Some((stored, right)) = pending.next(
+        tags,
+        alloc,
+        rules,
+        &progress.snapshot,
+    ) {
+        match push(alloc, rules, &mut progress.snapshot, stored, right) {
             Ok(is_same) => progress.note(is_same),
             Err(CommitRefusal::Memory) => return Err(AllocError),
             Err(cause) => {
@@ -83,8 +94,9 @@ impl Progress {
 /// Reads a store from its device and commits its blocks again under the rules of a genesis.
 ///
 /// The whole blocks that the store has are committed from the empty state on, up to the first that
-/// does not fit. The error is of memory.
-pub fn replay_store<R: CountedRead>(
+/// does not fit. The answer is the same whoever checks the tags. The error is of memory.
+pub fn replay_store<T: Threads + Sync, V: Watch, R: CountedRead>(
+    tags: &TagChecks<'_, T, V>,
     alloc: Global,
     genesis: &Genesis,
     reader: &mut R,
@@ -101,7 +113,7 @@ pub fn replay_store<R: CountedRead>(
 {
     let loaded = load(alloc, reader)?;
     let blocks = loaded.blocks.len();
-    let progress = commit_all(alloc, &genesis.rules, loaded.blocks)?;
+    let progress = commit_all(tags, alloc, &genesis.rules, loaded.blocks)?;
     Ok(Replayed {
         blocks,
         snapshot: progress.snapshot,

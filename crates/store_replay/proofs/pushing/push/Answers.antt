@@ -1,5 +1,6 @@
 use Rattle.ledger_setting.specs.Rule.{table_of}
 use Rattle.store_replay.proofs.Pushed.{grown}
+use Rattle.store_replay.proofs.RightTags.{of_lent}
 use Rattle.store_replay.proofs.pushing.push.Goals as goal
 
 pub returns-clause-pushed : goal.returns-clause-pushed
@@ -12,3 +13,6 @@ returns-clause-pushed c =
           grown (table_of c.args.rules.now) c.args.snapshot.now c.extend.new.self _ c.args.stored.block c.in_ok-judged.judged
           c.into_parts-block.ensures.block is c.in_ok-extend.ensures.extended;
     }
+
+pub judge_record-requires : goal.judge_record-requires
+judge_record-requires c = of_lent c.args.rules.now.orgs c.args.stored c.args.right c.as_deref.result c.requires c.as_deref.ensures.value

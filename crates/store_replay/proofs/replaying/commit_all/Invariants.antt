@@ -1,10 +1,15 @@
-use Rattle.std.proofs.Common.{◌≡◌, None}
+use Rattle.std.proofs.Common.{◌≡◌, None, length}
 use Rattle.ledger_setting.specs.Rule.{table_of}
+use Rattle.store_replay.specs.Tags.{AreRightTags}
 use Rattle.store_replay.proofs.Going.{GoesOn}
 use Rattle.store_replay.proofs.replaying.commit_all.Given as goal
 
 abbrev pub invariant-records : goal.invariant-records
-invariant-records l = record {
-  goes_on : GoesOn (table_of l.rules) l.fn.records.items l.progress.snapshot l.progress.differs l.stored-iterator.rest.items;
+invariant-records g l = record {
+  goes_on : GoesOn (table_of l.rules) l.fn.records.items l.progress.snapshot l.progress.differs l.pending.records.items;
+  known : AreRightTags l.rules.orgs l.pending.right.items l.pending.records.items;
   fits : l.progress.refused ≡ None;
 }
+
+abbrev pub decreases-records : goal.decreases-records
+decreases-records g l = length l.pending.records.items

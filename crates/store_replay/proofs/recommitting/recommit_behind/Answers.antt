@@ -1,0 +1,56 @@
+use Rattle.std.proofs.Common.{rules, ◌≡◌, ◌∙◌, ◌++◌, ◌∷◌, [], List, ap, sym, subst, append_assoc}
+use Rattle.fab_types.specs.Committed.{Committed}
+use Rattle.ledger_model.specs.Chain.{Chain}
+use Rattle.ledger_setting.specs.Rule.{table_of}
+use Rattle.store_replay.specs.Lawful.{AreLawful, IsRecommitRefused}
+use Rattle.store_replay.proofs.Lawful.{lawful_joined, lawful_more, refused_at}
+use Rattle.store_replay.proofs.RightTags.{of_none}
+use Rattle.store_replay.proofs.recommitting.recommit_behind.Goals as goal
+
+pub records-init : goal.records-init
+records-init g c = record {
+  done = [];
+  all = search rules;
+  chain = search rules;
+  lawful = search rules;
+  known = of_none c.args.rules.now.orgs _ _ c.new-pending.ensures.known;
+}
+
+pub records-preserved : goal.records-preserved
+records-preserved g c =
+    let rule = table_of c.args.rules.now in
+    let start = c.args.snapshot.now in
+    let done = c.records.invariant.done in
+    let stored = c.in-Some.stored in
+    let left = c.next.new.self.records.items in
+    let steps : c.records.pending.records.items ≡ stored ∷ left = c.in-Some.ensures.next in
+    let next = subst (λ (chain : Chain). AreLawful rule chain (stored ∷ [])) c.records.invariant.chain c.in_ok-recommit_with.ensures.lawful in
+    record {
+      done = done ++ stored ∷ [];
+      all = c.records.invariant.all ∙ ap (λ (cs : List Committed). done ++ cs) steps ∙ sym (append_assoc done (stored ∷ []) left);
+      chain =
+          c.in_ok-recommit_with.ensures.chain ∙ ap (λ (chain : Chain). chain ++ stored ∷ []) c.records.invariant.chain
+          ∙ append_assoc start done (stored ∷ []);
+      lawful = lawful_more rule start done stored c.records.invariant.lawful next.0 next.1;
+      known = c.next.ensures.known;
+    }
+
+pub returns-in_err-recommit_with-clause-refused : goal.returns-in_err-recommit_with-clause-refused
+returns-in_err-recommit_with-clause-refused g c =
+    let rule = table_of c.args.rules.now in
+    let start = c.args.snapshot.now in
+    let done = c.records.invariant.done in
+    let stored = c.in-Some.stored in
+    let left = c.next.new.self.records.items in
+    let refusal = c.in_err-recommit_with.field-0.0 in
+    let chain = c.records.invariant.chain in
+    let steps : c.records.pending.records.items ≡ stored ∷ left = c.in-Some.ensures.next in
+    let split = ap (λ (cs : List Committed). start ++ cs) (c.records.invariant.all ∙ ap (λ (cs : List Committed). done ++ cs) steps)
+    ∙ sym (append_assoc start done (stored ∷ left)) ∙ ap (λ (before : Chain). before ++ stored ∷ left) (sym chain)
+    in
+    let told : AreLawful rule [] start → IsRecommitRefused rule (start ++ c.args.records.items) refusal =
+    λ (lawful : AreLawful rule [] start).
+    refused_at rule (start ++ c.args.records.items) c.records.snapshot left stored refusal split
+    (subst (AreLawful rule []) (sym chain) (lawful_joined rule start done lawful c.records.invariant.lawful)) c.in_err-recommit_with.ensures.refused
+    in
+    search rules

@@ -1,0 +1,6 @@
+use Rattle.std.proofs.Common.{rules}
+use Rattle.store_replay.proofs.RightTags.{of_taken}
+use Rattle.store_replay.proofs.tags.right_in_stretch.Goals as goal
+
+pub returns-in-Ok : goal.returns-in-Ok
+returns-in-Ok g c = of_taken c.args.rules.now.orgs c.in-Ok.right.items c.fitting-count.result _ c.args.records.now (search rules) c.in-Ok.ensures
