@@ -12,7 +12,7 @@ use Rattle.ledger_model.specs.State.{state}
 use Rattle.ledger_model.specs.Judged.{BlockRule, table, judge, judge_onto}
 use Rattle.ledger_model.specs.Legal.{DiffersBefore}
 use Rattle.ledger_model.proofs.Kept.{block_legal}
-use Rattle.orderer.specs.Arranged.{plans_of}
+use Rattle.orderer.specs.Arranged.{arranges_by}
 use Rattle.orderer.specs.Blocks.{AddsEach, AreLegal}
 use Rattle.orderer.specs.Ordering.{Ordering, Takes}
 use Rattle.orderer.specs.declared.report.BatchReport.{BatchReport}
@@ -75,7 +75,7 @@ arranging_kept : IsKept IsArranging
 arranging_kept old mark reports new was takes = (
   takes.reorder ∙ was.0,
   takes_legal old.chain takes.batches reports new.chain
-      (subst (λ (b : Bool). AddsEach (plans_of b) old.chain takes.batches reports new.chain) was.0 takes.added) was.1,
+      (subst (λ (b : Bool). AddsEach (arranges_by b) old.chain takes.batches reports new.chain) was.0 takes.added) was.1,
 )
 
 take_legal : (n : ℕ) (blocks : List Block) → AreLegal blocks → AreLegal (take n blocks)

@@ -9,7 +9,7 @@ use Rattle.ledger_model.specs.Chain.{Bytes, Envelope, Committed, Chain, Placed, 
 use Rattle.ledger_model.specs.Views.{Versioned, Plain, values_of}
 use Rattle.mvcc_validate.specs.Current.{is_current}
 use Rattle.ledger_model.specs.State.{state}
-use Rattle.ledger_model.specs.Execution.{Unknown, NotInstalled, BadPolicy, Trapped, Spent, Status, Done, Exec, ReadsAlone, payload_of}
+use Rattle.ledger_model.specs.Execution.{Unknown, NotInstalled, BadPolicy, BadMembership, Trapped, Spent, Status, Done, Exec, ReadsAlone, payload_of}
 use Rattle.ledger_model.specs.Serial.{IsPrefix, IsHandedOut, AllHandedOut}
 use Rattle.ledger_model.specs.Judged.{BlockRule, AllEndorsed, AreEndorsed, block_of, judged_chain}
 use Rattle.fab_types.specs.declared.block.Block.{Block}
@@ -149,6 +149,7 @@ answered exec seal proposal now chain p x e =
       | Unknown ↦ λ d f. absurd (cc)
       | NotInstalled ↦ λ d f. absurd (cc)
       | BadPolicy ↦ λ d f. absurd (cc)
+      | BadMembership ↦ λ d f. absurd (cc)
       | Trapped k u ↦ λ d f. absurd (cc)
       | Spent ↦ λ d f. absurd (cc)
       | Status n ↦ λ d f. absurd (cc)

@@ -18,7 +18,7 @@ use Rattle.batch_cutter.specs.Division.{Mark, timeout}
 use Rattle.orderer.specs.Ordering.{Ordering, Takes}
 use Rattle.orderer.specs.declared.report.BatchReport.{BatchReport}
 use Rattle.orderer.proofs.Refusing.{takes_begins}
-use Rattle.world_state.specs.Judging.{marked}
+use Rattle.world_state.specs.Judging.{flagged}
 use Rattle.world_state.specs.declared.judged.Judged.{Judged}
 use Rattle.ledger_setting.specs.Judging.{IsJudged, next_by}
 use Rattle.ledger_setting.specs.Rule.{table_of}
@@ -139,19 +139,19 @@ timed_right listed peers old report new right takes = mark_right listed peers ol
 
 -- a block that was judged, put behind the snapshot that shows a chain
 pub put_on : (rule : BlockRule) (chain shown made : Chain) (b : Block) (judged : Judged) → shown ≡ chain → IsJudged rule shown b judged →
-    made ≡ shown ++ marked b judged ∷ [] → made ≡ chain ++ next_by rule chain b ∷ []
+    made ≡ shown ++ flagged b judged ∷ [] → made ≡ chain ++ next_by rule chain b ∷ []
 put_on rule chain shown made b judged same is on =
     on ∙ ap (λ (fs : List Flag). shown ++ record { block = b; flags = fs } ∷ []) is.flags ∙ ap (λ (c : Chain). c ++ next_by rule c b ∷ []) same
 
 -- and what is replied of it
 pub put_reply : (rule : BlockRule) (chain shown made : Chain) (b : Block) (judged : Judged) (n : ℕ) (flags : List Flag) → shown ≡ chain →
-    IsJudged rule shown b judged → made ≡ shown ++ marked b judged ∷ [] → n ≡ length made → flags ≡ judged.flags.items →
+    IsJudged rule shown b judged → made ≡ shown ++ flagged b judged ∷ [] → n ≡ length made → flags ≡ judged.flags.items →
     IsCommitted n flags ≡ IsCommitted (length chain + 1) (next_by rule chain b).flags
 put_reply rule chain shown made b judged n flags same is on tall told =
     let whole = put_on rule chain shown made b judged same is on in
     let number : n ≡ length chain + 1 = tall ∙ ap (λ (c : Chain). length c) whole ∙ length-append chain (next_by rule chain b ∷ []) in
-    let marked : flags ≡ (next_by rule chain b).flags = told ∙ is.flags ∙ ap (λ (c : Chain). (next_by rule c b).flags) same in
-    λ i. IsCommitted (number i) (marked i)
+    let flagged : flags ≡ (next_by rule chain b).flags = told ∙ is.flags ∙ ap (λ (c : Chain). (next_by rule c b).flags) same in
+    λ i. IsCommitted (number i) (flagged i)
 
 -- a peer with the next block
 pub committed : (rule : BlockRule) (blocks : List Block) (old new : Peer) (b : Block) (reply : Reply) → IsPeerRight (chain_of_first rule blocks) old →

@@ -31,8 +31,8 @@ abbrev pub TakesStep : (old new : State) → Event → Reply → Type 0
 TakesStep old new event reply = IsStep (rules_of (exec_of old.book) old.rules old.seeds old.capacity) old.world event reply new.world
 
 -- what every call keeps: the chaincodes, the organisations and policies, the seeds, and the queue's capacity
-abbrev pub KeepsSetting : (old new : State) → Type 0
-KeepsSetting old new = (new.book ≡ old.book) × (new.rules ≡ old.rules) × (new.seeds ≡ old.seeds) × (new.capacity ≡ old.capacity)
+abbrev pub KeepsRules : (old new : State) → Type 0
+KeepsRules old new = (new.book ≡ old.book) × (new.rules ≡ old.rules) × (new.seeds ≡ old.seeds) × (new.capacity ≡ old.capacity)
 
 abbrev pub noted : Begun → Noted
 noted b = record { proposal = b.proposal; height = length b.snapshot.value }

@@ -76,7 +76,7 @@ pub enum Reply {
     Begun(usize),
     /// Finish: nothing was begun at the seat (453).
     NothingBegun,
-    /// Finish: the simulation gave no payload (401 to 404, 406 and 407), or something that the
+    /// Finish: the simulation gave no payload (401 to 404, 406 to 408), or something that the
     /// payload read is not as it is in the peer's newest state (405).
     Refused(SimRefusal),
     /// Finish: the payload of the simulation, with the tag of the peer's organisation.

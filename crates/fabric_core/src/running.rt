@@ -8,8 +8,8 @@ ghost use Rattle.ledger_setting.specs.Rule.{table_of};
 ghost use Rattle.endorsement_policy.specs.Endorsed.{is_right};
 ghost use Rattle.simulator.specs.Execution.{exec_of};
 ghost use Rattle.fabric_core.specs.System.{Reply, chain_of};
-ghost use Rattle.ledger_setting.specs.Setting.{limits_of};
-ghost use Rattle.fabric_core.specs.Inside.{rules_of, TakesStep, KeepsSetting};
+ghost use Rattle.ledger_setting.specs.Limits.{limits_of};
+ghost use Rattle.fabric_core.specs.Inside.{rules_of, TakesStep, KeepsRules};
 ghost use Rattle.fabric_core.specs.Headline.{IsRun, IsHonest, ConflictsAreOlder};
 
 use crate::event::{Event, Reply};
@@ -38,7 +38,7 @@ impl Ran {
             (self.new.replies.items ≡ self.old.replies.items ++ reply ∷ [])) }
         ensures system { OnErr result (self.new.system ≡ self.old.system) }
         ensures replies { OnErr result (self.new.replies.items ≡ self.old.replies.items) }
-        ensures keeps { KeepsSetting self.old.system self.new.system }
+        ensures keeps { KeepsRules self.old.system self.new.system }
         ensures refused { self.new.refused ≡ self.old.refused }
     {
         self.replies.reserve(1)?;

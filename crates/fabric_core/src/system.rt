@@ -5,10 +5,10 @@ ghost use Rattle.std.specs.Option.{option_to_list};
 ghost use Rattle.batch_cutter.specs.Division.{timeout};
 ghost use Rattle.wire.specs.Links.{AreLinked};
 ghost use Rattle.orderer.specs.Ordering.{Takes, IsRefused};
-ghost use Rattle.ledger_setting.specs.Setting.{limits_of};
+ghost use Rattle.ledger_setting.specs.Limits.{limits_of};
 ghost use Rattle.fabric_core.specs.System.{opening, Begin, Finish, Submit, Take, Tick, Commit, chain_of};
 ghost use Rattle.simulator.specs.Execution.{exec_of};
-ghost use Rattle.fabric_core.specs.Inside.{rules_of, TakesStep, KeepsSetting};
+ghost use Rattle.fabric_core.specs.Inside.{rules_of, TakesStep, KeepsRules};
 
 use crate::event::{Event, Reply};
 use crate::peer::Peer;
@@ -129,7 +129,7 @@ impl System {
     fn begin(&mut self, peer: usize, seat: usize, proposal: Proposal) -> Result<Reply, AllocError>
         ensures step { IfOk result
             (λ reply. TakesStep self.old self.new (Begin peer seat proposal) reply) }
-        ensures keeps { KeepsSetting self.old self.new }
+        ensures keeps { KeepsRules self.old self.new }
         ensures unchanged { OnErr result (self.new ≡ self.old) }
     {
         if peer >= self.peers.len() {
@@ -141,7 +141,7 @@ impl System {
     fn finish(&mut self, peer: usize, seat: usize) -> Result<Reply, AllocError>
         ensures step { IfOk result
             (λ reply. TakesStep self.old self.new (Finish peer seat) reply) }
-        ensures keeps { KeepsSetting self.old self.new }
+        ensures keeps { KeepsRules self.old self.new }
         ensures unchanged { OnErr result (self.new ≡ self.old) }
     {
         if peer >= self.peers.len() {
@@ -153,7 +153,7 @@ impl System {
     fn submit(&mut self, envelope: Envelope) -> Result<Reply, AllocError>
         ensures step { IfOk result
             (λ reply. TakesStep self.old self.new (Submit envelope) reply) }
-        ensures keeps { KeepsSetting self.old self.new }
+        ensures keeps { KeepsRules self.old self.new }
         ensures unchanged { OnErr result (self.new ≡ self.old) }
     {
         if self.queue.len() >= self.capacity {
@@ -166,7 +166,7 @@ impl System {
     fn take(&mut self) -> Result<Reply, AllocError>
         ensures step { IfOk result
             (λ reply. TakesStep self.old self.new Take reply) }
-        ensures keeps { KeepsSetting self.old self.new }
+        ensures keeps { KeepsRules self.old self.new }
         ensures unchanged { OnErr result (self.new ≡ self.old) }
     {
         let Some(envelope) = self.queue.pop_front() else {
@@ -191,7 +191,7 @@ impl System {
     fn tick(&mut self) -> Result<Reply, AllocError>
         ensures step { IfOk result
             (λ reply. TakesStep self.old self.new Tick reply) }
-        ensures keeps { KeepsSetting self.old self.new }
+        ensures keeps { KeepsRules self.old self.new }
         ensures unchanged { OnErr result (self.new ≡ self.old) }
     {
         match timed_out(&mut self.orderer) {
@@ -207,7 +207,7 @@ impl System {
     fn commit(&mut self, peer: usize) -> Result<Reply, AllocError>
         ensures step { IfOk result
             (λ reply. TakesStep self.old self.new (Commit peer) reply) }
-        ensures keeps { KeepsSetting self.old self.new }
+        ensures keeps { KeepsRules self.old self.new }
         ensures unchanged { OnErr result (self.new ≡ self.old) }
     {
         if peer >= self.peers.len() {
@@ -226,7 +226,7 @@ impl System {
     pub fn step(&mut self, event: Event) -> Result<Reply, AllocError>
         ensures step { IfOk result
             (λ reply. TakesStep self.old self.new event reply) }
-        ensures keeps { KeepsSetting self.old self.new }
+        ensures keeps { KeepsRules self.old self.new }
         ensures unchanged { OnErr result (self.new ≡ self.old) }
     {
         match event {

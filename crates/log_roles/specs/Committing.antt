@@ -4,7 +4,7 @@ use Rattle.std.specs.Arc.{arc_value}
 use Rattle.sha2.specs.Sha256.{sha256}
 use Rattle.fab_types.specs.declared.block.Block.{Block}
 use Rattle.fab_types.specs.BlockSpelling.{header_bytes}
-use Rattle.ledger_model.specs.Chain.{Bytes, Chain}
+use Rattle.ledger_model.specs.Chain.{Bytes, Chain, Committed}
 use Rattle.ledger_model.specs.Judged.{BlockRule, judge_onto}
 use Rattle.endorsement_policy.specs.Endorsed.{Listed}
 use Rattle.committer.specs.Fits.{Fits, IsRefused, blocks_of}
@@ -28,17 +28,21 @@ abbrev pub FitEach : List Block → List Block → Type 0
 FitEach before [] = Unit {0}
 FitEach before (block ∷ blocks) = Fits before block × FitEach (before ++ block ∷ []) blocks
 
--- behind a chain these blocks fit one after another, and `new` is the chain with all of them, marked by the rule
+-- behind a chain these blocks fit one after another, and `new` is the chain with all of them, flagged by the rule
 abbrev pub Commits : BlockRule → Chain → List Block → Chain → Type 0
 Commits rule chain blocks new = FitEach (blocks_of chain) blocks × (new ≡ judge_onto rule chain blocks)
 
 abbrev pub header_hash : Block → Bytes
 header_hash block = sha256 (header_bytes block.header)
 
--- the hash of the header that stands at a number in a chain: numbers go from 1 on
+-- the block that stands at a number in a chain, with its flags: numbers go from 1 on
+abbrev pub block_at : Chain → ℕ → Option Committed
+block_at chain zero = None
+block_at chain (suc place) = slice_get chain place
+
+-- the hash of its header
 abbrev pub own_hash : Chain → ℕ → Option Bytes
-own_hash chain zero = None
-own_hash chain (suc place) = option_map (λ own. header_hash own.block) (slice_get chain place)
+own_hash chain number = option_map (λ own. header_hash own.block) (block_at chain number)
 
 -- the chain has the block, by the hash of its header
 abbrev pub IsKnown : Chain → Block → Type 0

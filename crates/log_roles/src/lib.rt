@@ -9,6 +9,7 @@
 
 mod following;
 mod laws;
+mod lookup;
 mod receiving;
 mod refusal;
 

@@ -3,14 +3,17 @@
 ghost use Rattle.std.specs.Prelude.{◌≡◌, ◌<◌, ◌-◌, IfNone, length, option_map, slice_get};
 ghost use Rattle.std.specs.Arc.{arc_value};
 ghost use Rattle.ledger_setting.specs.Rule.{table_of};
-ghost use Rattle.log_roles.specs.Committing.{committed_chain, rules_of, Receives, own_hash};
+ghost use Rattle.log_roles.specs.Committing.{block_at, committed_chain, own_hash};
+ghost use Rattle.log_roles.specs.Committing.{rules_of, Receives};
 
+use crate::lookup::block_at;
 use crate::refusal::ReceiveRefusal;
-use endorsement_policy::Rules;
+use endorsement_policy::{Rules, Workers};
 use fab_types::{Block, CommittedBlock, Header};
-use ledger_setting::commit;
+use ledger_setting::commit_by_workers;
 use std::alloc::Global;
 use std::sync::Arc;
+use std::thread::Threads;
 use wire::header_hash;
 use world_state::Snapshot;
 
@@ -55,27 +58,36 @@ impl Committer {
     /// other block is committed, or refused as `commit` refuses: where the chain is full
     /// (604), where the block has not the next number (601), names another hash than that of the
     /// last header (602) or says another hash of its data (603), and for want of memory (9), behind
-    /// the first three tests alone. Only a block that is committed changes the chain.
-    pub fn receive(&mut self, block: Block) -> Result<Received, ReceiveRefusal>
+    /// the first three tests alone. Only a block that is committed changes the chain. Its tags are
+    /// checked by workers at once: the answer is the same for every number of them.
+    pub fn receive<T: Threads + Sync>(
+        &mut self,
+        workers: &Workers<'_, T>,
+        block: Block,
+    ) -> Result<Received, ReceiveRefusal>
         ensures received { Receives (table_of (rules_of self.old)) (committed_chain self.old) block
             result (committed_chain self.new) }
         ensures same { rules_of self.new ≡ rules_of self.old }
     {
         match own_hash(&self.snapshot, &block.header) {
-            None => self.commit(block),
+            None => self.commit(workers, block),
             Some(own) if own == header_hash(&block.header) => Ok(Received::Known),
             Some(_) => Err(ReceiveRefusal::Forked(block.header.number)),
         }
     }
 
     /// Commits a block above the height.
-    fn commit(&mut self, block: Block) -> Result<Received, ReceiveRefusal>
+    fn commit<T: Threads + Sync>(
+        &mut self,
+        workers: &Workers<'_, T>,
+        block: Block,
+    ) -> Result<Received, ReceiveRefusal>
         requires above { length (committed_chain self.old) < block.header.number }
         ensures received { Receives (table_of (rules_of self.old)) (committed_chain self.old) block
             result (committed_chain self.new) }
         ensures same { rules_of self.new ≡ rules_of self.old }
     {
-        commit(self.alloc, &self.rules, &mut self.snapshot, block)?;
+        commit_by_workers(workers, self.alloc, &self.rules, &mut self.snapshot, block)?;
         Ok(Received::Committed)
     }
 
@@ -84,6 +96,14 @@ impl Committer {
         ensures { result ≡ length (committed_chain self.now) }
     {
         self.snapshot.height()
+    }
+
+    /// The block of this number with its flags. None where the chain has none, as of 0. It takes no
+    /// memory.
+    pub fn block(&self, number: u32) -> Option<&CommittedBlock>
+        ensures { option_map (λ c. c.now) result ≡ block_at (committed_chain self.now) number }
+    {
+        block_at(&self.snapshot, number)
     }
 
     /// The last block with its flags. None where there is no block. It takes no memory.

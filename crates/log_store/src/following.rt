@@ -1,12 +1,11 @@
 //! An endorser beside a store that grows.
 
-ghost use Rattle.std.specs.Prelude.{◌≡◌, [], ◌++◌, IsTrue, IfOk, OnOk};
+ghost use Rattle.std.specs.Prelude.{◌≡◌, [], IsTrue, IfOk, OnOk, option_map};
 ghost use Rattle.std.specs.Arc.{arc_value};
 ghost use Rattle.endorsement_policy.specs.Endorsed.{seal_of};
-ghost use Rattle.ledger_setting.specs.Rule.{table_of};
 ghost use Rattle.simulator.specs.Answers.{Answers};
-ghost use Rattle.store_replay.specs.Lawful.{AreLawful};
-ghost use Rattle.log_roles.specs.Following.{endorsed_on, endorsing_of, followed_chain};
+ghost use Rattle.log_roles.specs.Committing.{block_at};
+ghost use Rattle.log_roles.specs.Following.{endorsed_on};
 ghost use Rattle.log_store.specs.Following.{IsFollowed, bytes_read, endorses_by, read_chain};
 
 use crate::refusal::StoreRefusal;
@@ -19,8 +18,9 @@ use simulator::{Book, SimRefusal};
 use std::alloc::{AllocError, Global};
 use std::io::Read;
 use std::sync::Arc;
+use std::thread::Threads;
 use store_devices::Counted;
-use store_replay::RecommitRefusal;
+use store_replay::{TagChecks, Watch};
 
 /// So many bytes at most are asked of the file at a time.
 const PIECE: usize = 65_536;
@@ -67,12 +67,15 @@ impl<R: Read + Drop> StoreFollower<R> {
     }
 
     /// Goes on by the whole records that the store has got. What stands behind them is kept, and
-    /// taken up where the store goes on.
+    /// taken up where the store goes on. The answer is the same whoever checks the tags.
     ///
     /// Refused where the store is damaged (702), where a block does not fit (601 to 604) or has
     /// other flags than the table's (711), where a call of the file fails (703), and for want of
     /// memory (9).
-    pub fn catch_up(&mut self) -> Result<(), StoreRefusal>
+    pub fn catch_up<T: Threads + Sync, V: Watch>(
+        &mut self,
+        tags: &TagChecks<'_, T, V>,
+    ) -> Result<(), StoreRefusal>
         requires followed { IsFollowed self.old }
         ensures followed { OnOk result (IsFollowed self.new) }
         ensures all { OnOk result (IsTrue self.new.file.is_at_end) }
@@ -84,7 +87,7 @@ impl<R: Read + Drop> StoreFollower<R> {
                 return Ok(());
             }
             let records = self.records.feed(&self.piece[..count])?;
-            follow_each(&mut self.follower, records)?;
+            self.follower.follow_all(tags, records)?;
             if self.records.is_damaged() {
                 return Err(StoreRefusal::Damaged(self.records.next()));
             }
@@ -96,25 +99,17 @@ impl<R: Read + Drop> StoreFollower<R> {
     /// Simulates a proposal on the state after the records that were read, and endorses the
     /// payload.
     ///
-    /// Refused as the simulation is (401 to 404, 406 and 407), and for want of memory (9).
+    /// Refused as the simulation is (401 to 404, 406 to 408), and for want of memory (9).
     pub fn endorse(&self, proposal: &Proposal) -> Result<(Payload, Endorsement), SimRefusal>
         ensures { Answers (endorsed_on (endorses_by self.now) proposal.now (read_chain self.now)) result }
     {
         self.follower.endorse(proposal)
     }
-}
 
-/// Goes on by records, one after another.
-fn follow_each(follower: &mut Follower, records: Vec<CommittedBlock>) -> Result<(), RecommitRefusal>
-    ensures chain { OnOk result
-        (followed_chain follower.new ≡ followed_chain follower.old ++ records.items) }
-    ensures lawful { OnOk result
-        (AreLawful (table_of (endorsing_of follower.old).listed) (followed_chain follower.old)
-        records.items) }
-    ensures same { endorsing_of follower.new ≡ endorsing_of follower.old }
-{
-    'records: for stored in records {
-        follower.follow(stored)?;
+    /// The block of this number that was read, with its flags. None where there is none, as of 0.
+    pub fn block(&self, number: u32) -> Option<&CommittedBlock>
+        ensures { option_map (λ c. c.now) result ≡ block_at (read_chain self.now) number }
+    {
+        self.follower.block(number)
     }
-    Ok(())
 }

@@ -8,20 +8,21 @@ ghost use Rattle.ledger_setting.specs.Rule.{table_of};
 ghost use Rattle.block_store.specs.Loading.{Holds, IsBehind};
 ghost use Rattle.block_store.specs.Record.{record_bytes};
 ghost use Rattle.store_replay.specs.Lawful.{AreLawful};
-ghost use Rattle.log_roles.specs.Committing.{Receives, committed_chain};
+ghost use Rattle.log_roles.specs.Committing.{Receives, block_at, committed_chain};
 ghost use Rattle.log_store.specs.Storing.{IsOfMachine, IsReceiveRefused, IsStored, rules_of, stored_chain};
 
 use crate::refusal::StoreRefusal;
 use block_store::{End, Loaded, append, load};
-use endorsement_policy::Rules;
+use endorsement_policy::{Rules, Workers};
 use fab_types::{Block, CommittedBlock};
 use log_roles::{Committer, Received};
 use std::alloc::Global;
 use std::fs::OpenFile;
 use std::io::{Read, Seek, Write};
 use std::sync::Arc;
+use std::thread::Threads;
 use store_devices::Counted;
-use store_replay::recommit;
+use store_replay::{TagChecks, Watch, recommit};
 
 /// A chain to which the blocks of a log are committed, and the file that it is stored in.
 ///
@@ -36,13 +37,15 @@ pub struct StoredChain<D: Drop> {
 
 impl<D: Read + Write + Seek + OpenFile + Drop> StoredChain<D> {
     /// The chain of a store, which is committed again as it stands, and how many bytes were cut off
-    /// behind its whole records. The file is read from its first byte on.
+    /// behind its whole records. The file is read from its first byte on. The answer is the same
+    /// whoever checks the tags.
     ///
     /// Refused where the store is damaged (702), where a block does not fit (601 to 604) or has
     /// other flags than the table's (711), where a call of the file fails (703), and for want of
     /// memory (9). The file is cut behind all tests, so a refused one stays as it was, but where a
     /// call fails.
-    pub fn open(
+    pub fn open<T: Threads + Sync, V: Watch>(
+        tags: &TagChecks<'_, T, V>,
         alloc: Global,
         rules: Arc<Rules>,
         file: D,
@@ -55,7 +58,7 @@ impl<D: Read + Write + Seek + OpenFile + Drop> StoredChain<D> {
         let mut file = Counted::new(file);
         let loaded = load(alloc, &mut file)?;
         let held = held_of(&loaded)?;
-        let snapshot = recommit(alloc, &rules, loaded.blocks)?;
+        let snapshot = recommit(tags, alloc, &rules, loaded.blocks)?;
         file.cut_back(held)?;
         file.sync()?;
         let committer = Committer::new(alloc, rules, snapshot);
@@ -72,7 +75,11 @@ impl<D: Read + Write + Seek + OpenFile + Drop> StoredChain<D> {
     ///
     /// Refused as `Committer::receive` refuses, which changes nothing; and where a call of the file
     /// fails (703) or memory is wanted (9), behind which the store has to be opened again.
-    pub fn receive(&mut self, block: Block) -> Result<Received, StoreRefusal>
+    pub fn receive<T: Threads + Sync>(
+        &mut self,
+        workers: &Workers<'_, T>,
+        block: Block,
+    ) -> Result<Received, StoreRefusal>
         requires stored { IsStored self.old }
         ensures stored { OnOk result (IsStored self.new) }
         ensures received { IfOk result
@@ -82,7 +89,7 @@ impl<D: Read + Write + Seek + OpenFile + Drop> StoredChain<D> {
             (λ refusal. IsReceiveRefused refusal self.old block self.new) }
         ensures rules { rules_of self.new ≡ rules_of self.old }
     {
-        match self.committer.receive(block)? {
+        match self.committer.receive(workers, block)? {
             Received::Known => Ok(Received::Known),
             Received::Committed => {
                 append_newest(self.alloc, &self.committer, &mut self.file)?;
@@ -96,6 +103,13 @@ impl<D: Read + Write + Seek + OpenFile + Drop> StoredChain<D> {
         ensures { result ≡ length (stored_chain self.now) }
     {
         self.committer.height()
+    }
+
+    /// The block of this number with its flags. None where the chain has none, as of 0.
+    pub fn block(&self, number: u32) -> Option<&CommittedBlock>
+        ensures { option_map (λ c. c.now) result ≡ block_at (stored_chain self.now) number }
+    {
+        self.committer.block(number)
     }
 
     /// The last block with its flags. None where there is no block.

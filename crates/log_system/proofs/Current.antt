@@ -7,7 +7,7 @@ use Rattle.fab_types.specs.declared.envelope.Endorsement.{Endorsement}
 use Rattle.fab_types.specs.declared.proposal.Proposal.{Proposal}
 use Rattle.fab_types.specs.Payloads.{Payload}
 use Rattle.ledger_model.specs.Chain.{Version}
-use Rattle.ledger_model.specs.Execution.{Ending, Unknown, NotInstalled, BadPolicy, Trapped, Spent, Status, Done, KeySeen, RangeSeen, Seen, payload_of}
+use Rattle.ledger_model.specs.Execution.{Ending, Unknown, NotInstalled, BadPolicy, BadMembership, Trapped, Spent, Status, Done, KeySeen, RangeSeen, Seen, payload_of}
 use Rattle.ledger_model.specs.Execution.{range_item, read_item}
 use Rattle.ledger_model.specs.Flags.{entries_at, ranges_current, reads_current, same_entries, same_version, version_at, version_eq}
 use Rattle.ledger_model.specs.Views.{Versioned}
@@ -50,6 +50,7 @@ finished seal p m Done s = rw (current_self p m s) refl
 finished seal p m Unknown s = refl
 finished seal p m NotInstalled s = refl
 finished seal p m BadPolicy s = refl
+finished seal p m BadMembership s = refl
 finished seal p m (Trapped kind used) s = refl
 finished seal p m Spent s = refl
 finished seal p m (Status n) s = refl

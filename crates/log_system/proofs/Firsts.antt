@@ -9,7 +9,7 @@ use Rattle.std.specs.List.{AllByRecursion}
 use Rattle.fab_types.specs.declared.block.Block.{Block}
 use Rattle.fab_types.specs.declared.envelope.Envelope.{Envelope}
 use Rattle.batch_cutter.specs.Division.{Mark}
-use Rattle.orderer.specs.Arranged.{plans_of}
+use Rattle.orderer.specs.Arranged.{arranges_by}
 use Rattle.orderer.specs.Blocks.{AddsEach, AreLegal}
 use Rattle.orderer.specs.Ordering.{Ordering}
 use Rattle.orderer.specs.declared.report.BatchReport.{BatchReport}
@@ -106,7 +106,7 @@ IsLinked o = AreLinked [] o.chain × (length o.chain ≤ 65535)
 
 linked_kept : IsKept IsLinked
 linked_kept old new mark reports was takes =
-    (each_linked (plans_of old.reorder) old.chain takes.0.batches reports new.chain takes.0.added was.0, takes.2)
+    (each_linked (arranges_by old.reorder) old.chain takes.0.batches reports new.chain takes.0.added was.0, takes.2)
 
 linked_log : (s : Setting) (log : Ordering) (lines : List (List ℕ)) (answers : List (Option (List BatchReport))) → ReadsEach (unread s) lines answers log →
     IsLinked log
@@ -123,7 +123,7 @@ arranging_kept : IsKept IsArranging
 arranging_kept old new mark reports was takes = (
   takes.0.reorder ∙ was.0,
   takes_legal old.chain takes.0.batches reports new.chain
-      (subst (λ (b : Bool). AddsEach (plans_of b) old.chain takes.0.batches reports new.chain) was.0 takes.0.added) was.1,
+      (subst (λ (b : Bool). AddsEach (arranges_by b) old.chain takes.0.batches reports new.chain) was.0 takes.0.added) was.1,
 )
 
 -- ---- the block behind a machine's chain

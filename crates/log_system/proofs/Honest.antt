@@ -9,7 +9,7 @@ use Rattle.orderer.specs.Ordering.{Ordering}
 use Rattle.orderer.specs.declared.report.BatchReport.{BatchReport}
 use Rattle.wire.specs.Ids.{id_of}
 use Rattle.ledger_model.specs.Chain.{Bytes, Chain, Envelope, Placed, history, placed_from}
-use Rattle.ledger_model.specs.Execution.{Unknown, NotInstalled, BadPolicy, Trapped, Spent, Status, Done, ReadsAlone, payload_of}
+use Rattle.ledger_model.specs.Execution.{Unknown, NotInstalled, BadPolicy, BadMembership, Trapped, Spent, Status, Done, ReadsAlone, payload_of}
 use Rattle.ledger_model.specs.Judged.{AllEndorsed, AreEndorsed, AreFlagsBy, block_of}
 use Rattle.ledger_model.specs.Serial.{AllHandedOut, IsHandedOut, IsPrefix}
 use Rattle.ledger_model.specs.State.{state}
@@ -52,6 +52,7 @@ made_on s org q begun chain p x joined told =
       | Unknown ↦ λ d f. absurd (cc)
       | NotInstalled ↦ λ d f. absurd (cc)
       | BadPolicy ↦ λ d f. absurd (cc)
+      | BadMembership ↦ λ d f. absurd (cc)
       | Trapped k u ↦ λ d f. absurd (cc)
       | Spent ↦ λ d f. absurd (cc)
       | Status n ↦ λ d f. absurd (cc)

@@ -8,7 +8,7 @@ use Rattle.fab_types.specs.declared.block.Block.{Block}
 use Rattle.fab_types.specs.declared.envelope.Envelope.{Envelope}
 use Rattle.batch_cutter.specs.Division.{IsDivision, IsPending, Limits, Mark, message, timeout}
 use Rattle.batch_cutter.proofs.Divisions.{IsDivision-one, nothing_cut, pending_of, timeout_cuts}
-use Rattle.orderer.specs.Arranged.{plans_of}
+use Rattle.orderer.specs.Arranged.{arranges_by}
 use Rattle.orderer.specs.Blocks.{AddsEach}
 use Rattle.orderer.specs.Ordering.{IsOrdered, Ordering, Takes}
 use Rattle.orderer.specs.declared.report.BatchReport.{BatchReport}
@@ -66,7 +66,7 @@ one_batch limits (e ∷ waited) rest batches waits cut =
     (Some (e ∷ waited), (IsDivision-one envelope_size limits marks ((e ∷ waited) ∷ []) batches [] rest one cut).0)
 
 report_of : (reorder : Bool) (old new : List Block) (batch : Option (List Envelope)) (reports : List BatchReport) →
-    AddsEach (plans_of reorder) old (option_to_list batch) reports new → (report : Option BatchReport) × (reports ≡ option_to_list report)
+    AddsEach (arranges_by reorder) old (option_to_list batch) reports new → (report : Option BatchReport) × (reports ≡ option_to_list report)
 report_of reorder old new None reports added = (None, added.0)
 report_of reorder old new (Some batch) reports added = (Some added.0, added.3 ∙ ap (λ (l : List BatchReport). added.0 ∷ l) added.5.0)
 
@@ -75,7 +75,7 @@ one_report : (old new : Ordering) (reports : List BatchReport) → IsPending env
 one_report old new reports waits takes =
     let one = one_batch old.limits old.pending new.pending takes.batches waits takes.cut in
     report_of old.reorder old.chain new.chain one.0 reports
-    (subst (λ (bs : List (List Envelope)). AddsEach (plans_of old.reorder) old.chain bs reports new.chain) (sym one.1) takes.added)
+    (subst (λ (bs : List (List Envelope)). AddsEach (arranges_by old.reorder) old.chain bs reports new.chain) (sym one.1) takes.added)
 
 timed : (r : Rules) (peers : List PeerState) (old new : Ordering) (report : Option BatchReport) → Takes old timeout (option_to_list report) new →
     length new.chain ≤ 65535 → IsStep r (resting peers old) Tick (reply_of_tick report) (resting peers new)

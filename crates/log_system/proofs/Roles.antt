@@ -1,5 +1,5 @@
 -- What a committer, a follower and an endorser of a log do are acts of a machine.
-use Rattle.std.proofs.Common.{◌≡◌, ◌≢◌, ◌+◌, ℕ, List, [], ◌∷◌, ◌++◌, length, length-take, Option, Result, Ok, Err, refl, sym, ap, subst}
+use Rattle.std.proofs.Common.{◌≡◌, ◌≢◌, ◌⊎◌, ◌+◌, inl, inr, ℕ, List, [], ◌∷◌, ◌++◌, length, length-take, Option, Result, Ok, Err, refl, sym, ap, subst}
 use Rattle.std.proofs.Common.{◌∙◌, arith}
 use Rattle.std.proofs.lemmas.List.{length-map}
 use Rattle.std.proofs.lemmas.Option.{slice_get_within}
@@ -11,19 +11,24 @@ use Rattle.orderer.specs.Ordering.{Ordering}
 use Rattle.orderer.specs.declared.report.BatchReport.{BatchReport}
 use Rattle.orderer.proofs.Linking.{linked_at}
 use Rattle.ledger_model.specs.Chain.{Bytes, Chain, Committed, history}
+use Rattle.ledger_model.specs.Execution.{Ending, NotInstalled, Outcome, payload_of}
 use Rattle.ledger_model.specs.Judged.{BlockRule, judge}
+use Rattle.ledger_model.specs.State.{state}
+use Rattle.ledger_model.specs.Views.{Plain, values_of}
 use Rattle.committer.specs.Fits.{Fits, blocks_of}
+use Rattle.chaincode_book.specs.Books.{Book}
 use Rattle.ledger_setting.specs.Rule.{table_of}
-use Rattle.simulator.specs.Answers.{Answers}
+use Rattle.simulator.specs.Answers.{Answers, done_or_refusal}
+use Rattle.simulator.specs.Execution.{IsPartOf, exec_of}
 use Rattle.simulator.specs.declared.refusal.SimRefusal.{SimRefusal}
 use Rattle.simulator.specs.declared.refusal.SimRefusal.TheVariants as refusal
 use Rattle.store_replay.specs.Lawful.{AreLawful}
 use Rattle.log_orderer.specs.Log.{ReadsEach}
 use Rattle.log_roles.specs.Committing.{Receives}
-use Rattle.log_roles.specs.Following.{endorsed_on}
+use Rattle.log_roles.specs.Following.{endorsed_on, sealed_by}
 use Rattle.log_roles.specs.declared.receiving.Received.TheVariants as received
 use Rattle.log_system.proofs.Firsts.{log_linked}
-use Rattle.log_system.specs.Machines.{Does, Endorses, IsRead, Joins, Setting, endorsing_at, unread}
+use Rattle.log_system.specs.Machines.{Does, Endorses, IsRead, Joins, Setting, endorsing_at, endorsing_with, unread}
 
 -- ---- a block of the log that fits is the next one
 
@@ -98,6 +103,7 @@ answer_is wanted (Err refusal.Memory) enough told = absurd (enough refl)
 answer_is wanted (Err refusal.UnknownChaincode) enough told = sym told
 answer_is wanted (Err refusal.NotInstalled) enough told = sym told
 answer_is wanted (Err refusal.BadPolicy) enough told = sym told
+answer_is wanted (Err refusal.BadMembership) enough told = sym told
 answer_is wanted (Err (refusal.Trapped kind used)) enough told = sym told
 answer_is wanted (Err refusal.Spent) enough told = sym told
 answer_is wanted (Err (refusal.Status n)) enough told = sym told
@@ -108,3 +114,24 @@ pub endorser_acts : (s : Setting) (lines : List (List ℕ)) (org : Bytes) (chain
     Does s lines org chain (Endorses p result) chain
 endorser_acts s lines org chain p result enough told =
     (answer_is (endorsed_on (endorsing_at s org) p chain) result enough told, refl)
+
+-- who has fewer modules at hand comes to what who has more comes to, or ends as where a module is not at hand
+abbrev pub PartsAnswerAlike : Type 0
+PartsAnswerAlike =
+    (part whole : Book) → IsPartOf part whole → (p : Proposal) (m : Plain) →
+    (exec_of part p m ≡ exec_of whole p m) ⊎ ((exec_of part p m).ending ≡ NotInstalled)
+
+pub part_acts : PartsAnswerAlike → (s : Setting) (lines : List (List ℕ)) (org : Bytes) (chain : Chain) (book : Book) (p : Proposal)
+    (result : Result (Payload × Endorsement) SimRefusal) → IsPartOf book s.book → result ≢ Err refusal.Memory →
+    Answers (endorsed_on (endorsing_with book s org) p chain) result →
+    (result ≡ Err refusal.NotInstalled) ⊎ Does s lines org chain (Endorses p result) chain
+part_acts alike s lines org chain book p result part enough told =
+    let m = state (history chain) in
+    let seal : Payload → Endorsement = s.seal (values_of m) org in
+    let answer : Outcome → Result (Payload × Endorsement) SimRefusal = λ o. sealed_by seal (done_or_refusal o.ending (payload_of p m o.seen)) in
+    let made = payload_of p m (exec_of book p (values_of m)).seen in
+    let is = answer_is (endorsed_on (endorsing_with book s org) p chain) result enough told in
+    elim (alike book s.book part p (values_of m)) [
+      | inl same ↦ inr (is ∙ ap answer same, refl)
+      | inr none ↦ inl (is ∙ ap (λ (e : Ending). sealed_by seal (done_or_refusal e made)) none)
+    ]

@@ -19,7 +19,8 @@ use Rattle.log_roles.specs.Committing.{Commits}
 use Rattle.log_roles.specs.Following.{Endorsing, endorsed_on}
 use Rattle.fabric_core.specs.System.{fresh_orderer}
 
--- what is one on all machines: what the genesis fixes, and what each organisation puts on a payload
+-- What is one on all machines: what the genesis fixes with all the modules that any of them has at hand, and what each organisation puts on a
+-- payload
 pub record Setting : Type 0 where
   pub book : Book
   pub listed : Listed
@@ -28,9 +29,13 @@ pub record Setting : Type 0 where
   pub limits : Limits
   pub reorder : Bool
 
--- by what a machine of an organisation endorses
+-- by what a machine of an organisation endorses, with a book of its own
+abbrev pub endorsing_with : Book → Setting → Bytes → Endorsing
+endorsing_with book s org = record { book = book; listed = s.listed; seal = λ m. s.seal m org }
+
+-- and with the book that is one on all machines
 abbrev pub endorsing_at : Setting → Bytes → Endorsing
-endorsing_at s org = record { book = s.book; listed = s.listed; seal = λ m. s.seal m org }
+endorsing_at s org = endorsing_with s.book s org
 
 -- who has read nothing of the log
 abbrev pub unread : Setting → Ordering
@@ -46,7 +51,7 @@ pub record IsRead (s : Setting) (lines : List (List ℕ)) (place : ℕ) (block :
   pub reads : ReadsEach (unread s) front answers replica
   pub there : slice_get replica.chain place ≡ Some block
 
--- what a machine does, with what comes of it. A call that wanted memory changes nothing, and is left out
+-- what a machine does, with what comes of it. A call that wanted memory, or a module that is not at hand there, changes nothing, and is left out
 pub data Act : Type 0 where
   -- a block with its flags joins its chain
   Joins : Committed → Act

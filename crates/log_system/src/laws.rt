@@ -14,10 +14,11 @@ ghost use Rattle.ledger_model.specs.Chain.{Bytes, Chain, Committed};
 ghost use Rattle.ledger_model.specs.Serial.{IsPrefix};
 ghost use Rattle.ledger_model.specs.Views.{Plain};
 ghost use Rattle.committer.specs.Fits.{Fits, blocks_of};
+ghost use Rattle.chaincode_book.specs.Books.{Book};
 ghost use Rattle.endorsement_policy.specs.Endorsed.{is_right};
 ghost use Rattle.ledger_setting.specs.Rule.{table_of};
 ghost use Rattle.simulator.specs.Answers.{Answers};
-ghost use Rattle.simulator.specs.Execution.{exec_of};
+ghost use Rattle.simulator.specs.Execution.{IsPartOf, exec_of};
 ghost use Rattle.simulator.specs.declared.refusal.SimRefusal.{SimRefusal};
 ghost use Rattle.simulator.specs.declared.refusal.SimRefusal.TheVariants as refusal;
 ghost use Rattle.store_replay.specs.Lawful.{AreLawful};
@@ -27,14 +28,14 @@ ghost use Rattle.log_roles.specs.declared.receiving.Received.TheVariants as rece
 ghost use Rattle.fabric_core.specs.System.{chain_of_first};
 ghost use Rattle.fabric_core.specs.Headline.{ConflictsAreOlder, IsAmong, IsHonest};
 ghost use Rattle.log_system.specs.Machines.{AreMachines, Does, IsRead, Machine, Setting};
-ghost use Rattle.log_system.specs.Machines.{Endorses, Joins, endorsing_at, unread};
+ghost use Rattle.log_system.specs.Machines.{Endorses, Joins, endorsing_at, endorsing_with, unread};
 ghost use Rattle.log_system.specs.OneSystem.{IsOneSystem, replies_of_machines};
 
 use chaincode_book::Book;
 use endorsement_policy::{Rules, an_endorsed_envelope_carries_a_right_tag};
 use log_orderer::log_laws;
 use orderer::ordering_laws;
-use simulator::reads_alone;
+use simulator::{parts_answer_alike, reads_alone};
 
 /// Machines that go by one genesis, and of which each has read a beginning of one list of lines,
 /// are one system, with any number of seats and any queue: a run of it has what the log and the
@@ -54,7 +55,8 @@ pub fn apart()
 /// What the roles of a log do are acts of such machines. Who has read a beginning of the lines has
 /// given the first of the log's answers. A block of the log that a committer takes, or that a
 /// follower follows, is the next one of its chain; and what an endorser answers, but for want of
-/// memory, is what its machine answers.
+/// memory, is what its machine answers (`endorser`). One with the same genesis that has fewer
+/// modules at hand than the setting answers so too, or 406 for what is not at hand there (`part`).
 pub fn roles_act()
     ensures replica { (setting : Setting) (front back : List (List ℕ))
         (answers some : List (Option (List BatchReport))) (log replica : Ordering) →
@@ -74,11 +76,17 @@ pub fn roles_act()
         result ≢ Err refusal.Memory →
         Answers (endorsed_on (endorsing_at setting org) p chain) result →
         Does setting lines org chain (Endorses p result) chain }
+    ensures part { (setting : Setting) (lines : List (List ℕ)) (org : Bytes) (chain : Chain)
+        (book : Book) (p : Proposal) (result : Result (Payload × Endorsement) SimRefusal) →
+        IsPartOf book setting.book → result ≢ Err refusal.Memory →
+        Answers (endorsed_on (endorsing_with book setting org) p chain) result →
+        (result ≡ Err refusal.NotInstalled) ⊎ Does setting lines org chain (Endorses p result) chain }
 {
     log_laws();
+    parts_answer_alike();
 }
 
-/// Each machine's chain is that of the log's first blocks, marked by the rule (`first`), so that
+/// Each machine's chain is that of the log's first blocks, flagged by the rule (`first`), so that
 /// of two machines one has a beginning of the other's (`one`). The log's block behind it fits
 /// (`fits`). Where batches are put in a legal order, conflicts differed before their block
 /// (`conflicts`).

@@ -4,13 +4,13 @@ use Rattle.fab_types.specs.declared.block.Block.{Block}
 use Rattle.fab_types.specs.declared.flag.Flag.{Flag}
 use Rattle.endorsement_policy.specs.Endorsed.{Listed}
 use Rattle.ledger_model.specs.Chain.{Chain}
-use Rattle.world_state.specs.Judging.{marked}
+use Rattle.world_state.specs.Judging.{flagged}
 use Rattle.world_state.specs.declared.judged.Judged.{Judged}
 use Rattle.ledger_setting.specs.Judging.{IsJudged}
 use Rattle.ledger_setting.specs.Rule.{table_of}
 use Rattle.peer_node.specs.Writers.{next_by}
 
 pub committed : (listed : Listed) (chain shown : Chain) (b : Block) (judged : Judged) → shown ≡ chain → IsJudged (table_of listed) shown b judged
-    → shown ++ marked b judged ∷ [] ≡ chain ++ next_by listed chain b ∷ []
+    → shown ++ flagged b judged ∷ [] ≡ chain ++ next_by listed chain b ∷ []
 committed listed chain shown b judged same is =
     ap (λ (fs : List Flag). shown ++ record { block = b; flags = fs } ∷ []) is.flags ∙ ap (λ (c : Chain). c ++ next_by listed c b ∷ []) same

@@ -7,12 +7,12 @@ use Rattle.fab_types.specs.Payloads.{Payload}
 use Rattle.fab_types.specs.declared.envelope.Endorsement.{Endorsement}
 use Rattle.ledger_model.specs.Chain.{Chain}
 use Rattle.simulator.specs.declared.refusal.SimRefusal.{SimRefusal}
-use Rattle.simulator.specs.declared.refusal.SimRefusal.TheVariants.{UnknownChaincode, NotInstalled, BadPolicy, Trapped, Spent, Status, Stale, Memory}
+use Rattle.simulator.specs.declared.refusal.SimRefusal.TheVariants.{UnknownChaincode, NotInstalled, BadPolicy, BadMembership, Trapped, Spent, Status, Stale, Memory}
 use Rattle.snapshot_cell.specs.declared.refusal.TakeRefusal.{TakeRefusal}
 use Rattle.snapshot_cell.specs.declared.refusal.TakeRefusal.TheVariants as take
 use Rattle.endorser.specs.Endorsing.{Endorsing}
 use Rattle.peer_node.specs.declared.refusal.FinishRefusal.{FinishRefusal}
-use Rattle.peer_node.specs.declared.refusal.FinishRefusal.TheVariants.{Simulation, NoEntry}
+use Rattle.peer_node.specs.declared.refusal.FinishRefusal.TheVariants.{Simulation, NotEntered}
 use Rattle.peer_node.specs.Refusals.{of_take}
 use Rattle.peer_node.specs.Seats.{FinishesBy, IsEndorsed, IsNotEndorsed, simulated_on}
 
@@ -25,7 +25,7 @@ is_done : (payload : Payload) (r : Result Payload SimRefusal) → r ≡ Ok paylo
 is_done payload r is = subst (λ (r : Result Payload SimRefusal). IsOk r) (sym is) refl
 
 refused_take : (before after : Chain) (payload : Payload) (t : TakeRefusal) → after ≡ before → Finishes before after payload (of_take t)
-refused_take before after payload take.NoEntry same = λ e p first done. (is_done payload (simulated_on e p first) done, same)
+refused_take before after payload take.NotEntered same = λ e p first done. (is_done payload (simulated_on e p first) done, same)
 refused_take before after payload take.Memory same = λ e p first done. inl same
 
 -- no snapshot was taken
@@ -41,10 +41,11 @@ refused_on before after payload (Simulation Memory) begins why = λ e p first do
 refused_on before after payload (Simulation UnknownChaincode) begins why = absurd why
 refused_on before after payload (Simulation NotInstalled) begins why = absurd why
 refused_on before after payload (Simulation BadPolicy) begins why = absurd why
+refused_on before after payload (Simulation BadMembership) begins why = absurd why
 refused_on before after payload (Simulation (Trapped kind used)) begins why = absurd why
 refused_on before after payload (Simulation Spent) begins why = absurd why
 refused_on before after payload (Simulation (Status n)) begins why = absurd why
-refused_on before after payload NoEntry begins why = absurd why
+refused_on before after payload NotEntered begins why = absurd why
 
 -- by what an endorsement on the snapshot that was taken came to
 pub not_endorsed : (before after shown : Chain) (payload : Payload) (r : Result Endorsement FinishRefusal) → IsPrefix before shown → after ≡ shown →

@@ -22,6 +22,7 @@ use Rattle.wasm_ast.proofs.module.Export.TheSendSync as exported
 use Rattle.wasm_ast.proofs.host_call.HostCall.TheSendSync as host_call
 use Rattle.wasm_translate.proofs.translation.FlatText.TheSendSync as flat_code
 use Rattle.endorsement_policy.proofs.installed.Installed.TheSendSync as installed
+use Rattle.endorsement_policy.proofs.installed.ModuleId.TheSendSync as module_id
 use Rattle.org_keys.proofs.organisation.Organisation.TheSendSync as organisation
 use Rattle.org_keys.proofs.signers.Signers.TheSendSync as signers
 use Rattle.snapshot_cell.proofs.reader.Reader.TheSendSync as reader
@@ -35,6 +36,7 @@ use Rattle.wasm_ast.specs.contracts.module.DataSegment as segment_type
 use Rattle.wasm_ast.specs.contracts.module.Module as module_tree_type
 use Rattle.wasm_validate.specs.contracts.valid.ValidModule as valid_module_type
 use Rattle.chaincode_book.specs.contracts.book.Chaincode as chaincode_type
+use Rattle.chaincode_book.specs.contracts.book.Held as held_type
 use Rattle.chaincode_book.specs.contracts.book.Book as book_type
 use Rattle.policy_language.specs.contracts.policy.Policy as policy_type
 use Rattle.endorsement_policy.specs.contracts.rules.ChaincodePolicy as chaincode_policy_type
@@ -121,8 +123,11 @@ send_valid_module = search (sendable, crosses, host_call.the_send, flat_code.the
 send_chaincode : IsSend chaincode_type.the_row
 send_chaincode = search (sendable, crosses, name.the_send, send_valid_module) depth 30
 
+send_held : IsSend held_type.the_row
+send_held = search (sendable, crosses, module_id.the_send, send_valid_module) depth 30
+
 send_book : IsSend book_type.the_row
-send_book = search (sendable, crosses, send_chaincode, send_valid_module, installed.the_send) depth 30
+send_book = search (sendable, crosses, send_chaincode, send_held, send_valid_module, installed.the_send) depth 30
 
 send_policy_field : IsSend (policy_type.the_field).row
 send_policy_field = search (sendable, crosses, org_name.the_send, policy_knot.crosses) depth 30
@@ -170,8 +175,11 @@ sync_valid_module = search (sendable, crosses, host_call.the_sync, flat_code.the
 sync_chaincode : IsSync chaincode_type.the_row
 sync_chaincode = search (sendable, crosses, name.the_sync, sync_valid_module) depth 30
 
+sync_held : IsSync held_type.the_row
+sync_held = search (sendable, crosses, module_id.the_sync, sync_valid_module) depth 30
+
 sync_book : IsSync book_type.the_row
-sync_book = search (sendable, crosses, sync_chaincode, sync_valid_module, installed.the_sync) depth 30
+sync_book = search (sendable, crosses, sync_chaincode, sync_held, sync_valid_module, installed.the_sync) depth 30
 
 sync_policy_field : IsSync (policy_type.the_field).row
 sync_policy_field = search (sendable, crosses, org_name.the_sync, policy_knot.crosses) depth 30

@@ -12,19 +12,19 @@ use Rattle.store_replay.specs.Numbers.{recommit_number}
 use Rattle.peer_node.specs.declared.refusal.ReopenRefusal.{ReopenRefusal}
 use Rattle.peer_node.specs.declared.refusal.ReopenRefusal.TheVariants.{Stored, Open}
 use Rattle.peer_node.specs.declared.refusal.FinishRefusal.{FinishRefusal}
-use Rattle.peer_node.specs.declared.refusal.FinishRefusal.TheVariants.{Simulation, NoEntry}
+use Rattle.peer_node.specs.declared.refusal.FinishRefusal.TheVariants.{Simulation, NotEntered}
 
 abbrev pub finish_number : FinishRefusal → ℕ
 finish_number (Simulation r) = refusal_number r
-finish_number NoEntry = 432
+finish_number NotEntered = 432
 
-abbrev pub no_memory : FinishRefusal
-no_memory = Simulation Memory
+abbrev pub of_memory : FinishRefusal
+of_memory = Simulation Memory
 
 -- the refusal of a seat that took no snapshot
 abbrev pub of_take : TakeRefusal → FinishRefusal
-of_take take.NoEntry = NoEntry
-of_take take.Memory = no_memory
+of_take take.NotEntered = NotEntered
+of_take take.Memory = of_memory
 
 abbrev pub reopen_number : ReopenRefusal → ℕ
 reopen_number (Stored r) = recommit_number r

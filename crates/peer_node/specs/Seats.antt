@@ -11,7 +11,7 @@ use Rattle.ledger_model.specs.State.{state, state_at}
 use Rattle.mvcc_validate.specs.Current.{is_current}
 use Rattle.endorser.specs.Rechecks.{IsRecheckRefused}
 use Rattle.simulator.specs.declared.refusal.SimRefusal.{SimRefusal}
-use Rattle.simulator.specs.declared.refusal.SimRefusal.TheVariants.{UnknownChaincode, NotInstalled, BadPolicy, Trapped, Spent, Status, Stale, Memory}
+use Rattle.simulator.specs.declared.refusal.SimRefusal.TheVariants.{UnknownChaincode, NotInstalled, BadPolicy, BadMembership, Trapped, Spent, Status, Stale, Memory}
 use Rattle.endorsement_policy.specs.Endorsed.{seal_of}
 use Rattle.ledger_setting.specs.declared.genesis.Genesis.{Genesis}
 use Rattle.snapshot_cell.specs.Seats as cell
@@ -21,7 +21,7 @@ use Rattle.endorser.specs.Endorsing as endorser
 pub use Rattle.endorser.specs.Endorsing.{Endorsing, simulated_on, IsEndorsed}
 use Rattle.peer_node.specs.declared.seat.Seat.{Seat}
 use Rattle.peer_node.specs.declared.refusal.FinishRefusal.{FinishRefusal}
-use Rattle.peer_node.specs.declared.refusal.FinishRefusal.TheVariants.{Simulation, NoEntry}
+use Rattle.peer_node.specs.declared.refusal.FinishRefusal.TheVariants.{Simulation, NotEntered}
 use Rattle.peer_node.specs.Refusals.{of_take}
 
 -- the whole blocks that a seat has seen or was told of
@@ -59,23 +59,24 @@ IsFinishRefused e p first before after Memory = (after ≡ before) ⊎ (IsOk (si
 IsFinishRefused e p first before after UnknownChaincode = (simulated_on e p first ≡ Err UnknownChaincode) × (after ≡ before)
 IsFinishRefused e p first before after NotInstalled = (simulated_on e p first ≡ Err NotInstalled) × (after ≡ before)
 IsFinishRefused e p first before after BadPolicy = (simulated_on e p first ≡ Err BadPolicy) × (after ≡ before)
+IsFinishRefused e p first before after BadMembership = (simulated_on e p first ≡ Err BadMembership) × (after ≡ before)
 IsFinishRefused e p first before after (Trapped kind used) = (simulated_on e p first ≡ Err (Trapped kind used)) × (after ≡ before)
 IsFinishRefused e p first before after Spent = (simulated_on e p first ≡ Err Spent) × (after ≡ before)
 IsFinishRefused e p first before after (Status n) = (simulated_on e p first ≡ Err (Status n)) × (after ≡ before)
 
 -- What was begun on the list `first` is endorsed where the simulation gave a payload, and all that it read is as it was after a second list, which
--- begins with all that was seen before and is what is seen afterwards; it is sealed in the state after that. Where the cell gave no entry the simulation
+-- begins with all that was seen before and is what is seen afterwards; it is sealed in the state after that. Where the cell was not entered the simulation
 -- had given a payload, and nothing was seen
 abbrev pub FinishesBy : Endorsing → Proposal → (first before after : Chain) → Result (Payload × Endorsement) FinishRefusal → Type 0
 FinishesBy e p first before after (Ok answer) =
     (simulated_on e p first ≡ Ok answer.0) × IsPrefix before after × IsEndorsed e after answer.0 answer.1
 FinishesBy e p first before after (Err (Simulation r)) = IsFinishRefused e p first before after r
-FinishesBy e p first before after (Err NoEntry) = IsOk (simulated_on e p first) × (after ≡ before)
+FinishesBy e p first before after (Err NotEntered) = IsOk (simulated_on e p first) × (after ≡ before)
 
 -- something that a payload read is not as it is after a chain, or there was no memory
 abbrev pub IsNotEndorsed : Chain → Payload → FinishRefusal → Type 0
 IsNotEndorsed chain payload (Simulation r) = IsRecheckRefused (state (history chain)) payload r
-IsNotEndorsed chain payload NoEntry = ⊥
+IsNotEndorsed chain payload NotEntered = ⊥
 
 -- refused as the take of a snapshot was, with nothing seen; or begun on a list that begins with all that was seen, and finished
 abbrev pub Endorses : Endorsing → Proposal → (before after : Chain) → Result (Payload × Endorsement) FinishRefusal → Type 0
@@ -84,6 +85,6 @@ Endorses e p before after r =
 
 -- what a refused read leaves: nothing was seen; or the entry that the key has after a list was not copied for want of memory
 abbrev pub IsReadRefused : Bytes → (before after : Chain) → TakeRefusal → Type 0
-IsReadRefused key before after take.NoEntry = after ≡ before
+IsReadRefused key before after take.NotEntered = after ≡ before
 IsReadRefused key before after take.Memory =
     (after ≡ before) ⊎ (IsPrefix before after × IsSome (state_at (history after) key))

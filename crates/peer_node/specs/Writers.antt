@@ -22,6 +22,6 @@ peer_of_writer w = cell.cell_of_writer w.cell
 abbrev pub rules_of : PeerWriter → Arc Listed Global
 rules_of w = w.rules
 
--- the block that comes next in a chain, its transactions marked by the table
+-- the block that comes next in a chain, its transactions flagged by the table
 abbrev pub next_by : Listed → Chain → Block → Committed
 next_by listed = judging.next_by (table_of listed)

@@ -14,20 +14,20 @@ use store_replay::RecommitRefusal;
 pub enum FinishRefusal {
     /// The simulation or its recheck refused, or there was no memory.
     Simulation(SimRefusal),
-    /// The cell gave no entry.
-    NoEntry,
+    /// The cell was not entered.
+    NotEntered,
 }
 
 impl FinishRefusal {
     ghost use Rattle.peer_node.specs.Refusals.{finish_number};
 
-    /// The number by which the program names the refusal: 401 to 407, 432, or 9 for want of memory.
+    /// The number by which the program names the refusal: 401 to 408, 432, or 9 for want of memory.
     pub fn number(self) -> u16
         ensures { result ≡ finish_number self }
     {
         match self {
             FinishRefusal::Simulation(refusal) => refusal.number(),
-            FinishRefusal::NoEntry => 432,
+            FinishRefusal::NotEntered => 432,
         }
     }
 }
@@ -36,7 +36,7 @@ impl Display for FinishRefusal {
     fn fmt<W: Write>(&self, f: &mut Formatter<W>) -> fmt::Result {
         match self {
             FinishRefusal::Simulation(refusal) => write!(f, "{refusal}"),
-            FinishRefusal::NoEntry => write!(f, "refused 432"),
+            FinishRefusal::NotEntered => write!(f, "refused 432"),
         }
     }
 }
@@ -62,7 +62,7 @@ impl From<TakeRefusal> for FinishRefusal {
 
     fn from(refusal: TakeRefusal) -> FinishRefusal {
         match refusal {
-            TakeRefusal::NoEntry => FinishRefusal::NoEntry,
+            TakeRefusal::NotEntered => FinishRefusal::NotEntered,
             TakeRefusal::Memory => FinishRefusal::Simulation(SimRefusal::Memory),
         }
     }
@@ -70,9 +70,9 @@ impl From<TakeRefusal> for FinishRefusal {
 
 impl From<AllocError> for FinishRefusal {
     ghost use Rattle.std.specs.Prelude.{◌≡◌};
-    ghost use Rattle.peer_node.specs.Refusals.{no_memory};
+    ghost use Rattle.peer_node.specs.Refusals.{of_memory};
 
-    ghost from_gives = { λ _ r. r ≡ no_memory };
+    ghost from_gives = { λ _ r. r ≡ of_memory };
 
     fn from(_error: AllocError) -> FinishRefusal {
         FinishRefusal::Simulation(SimRefusal::Memory)

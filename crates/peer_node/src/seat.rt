@@ -42,8 +42,8 @@ impl Seat {
     /// Takes the snapshot on which a proposal is simulated: its blocks begin with all that this
     /// seat has seen or was told of, and are what it has seen afterwards.
     ///
-    /// Refused where the cell gave no entry, as after its writer's end (432; no contract says when
-    /// else), and for want of memory (9).
+    /// Refused where the cell was not entered, as after its writer's end (432; no contract says
+    /// when else), and for want of memory (9).
     pub fn begin(&mut self, proposal: &Proposal) -> Result<Begun, TakeRefusal>
         ensures begun { IfOk result
             (λ b. (b.proposal ≡ proposal.now) ×
@@ -62,7 +62,7 @@ impl Seat {
     /// was read is as it was, and endorses the payload. The blocks of the second snapshot begin
     /// with all that this seat has seen or was told of, and are what it has seen afterwards.
     ///
-    /// Refused as the simulation is (401 to 404, 406 and 407); where that gave a payload and the
+    /// Refused as the simulation is (401 to 404, 406 to 408); where that gave a payload and the
     /// cell no entry (432), with nothing new seen; where something that was read has changed (405);
     /// and for want of memory (9), which leaves what was seen as it was or comes behind a payload.
     pub fn finish(&mut self, begun: Begun) -> Result<(Payload, Endorsement), FinishRefusal>
@@ -118,7 +118,7 @@ impl Seat {
     /// A key's value and version in the state after a list of blocks that begins with all that this
     /// seat has seen or was told of, and is what it has seen afterwards.
     ///
-    /// Refused where the cell gave no entry (432), with nothing new seen; and for want of memory
+    /// Refused where the cell was not entered (432), with nothing new seen; and for want of memory
     /// (9), with nothing new seen or where the key has an entry.
     pub fn read(&mut self, key: &Key) -> Result<Option<(Value, Version)>, TakeRefusal>
         ensures answer { IfOk result

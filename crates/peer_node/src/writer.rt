@@ -5,7 +5,6 @@ ghost use Rattle.std.specs.Arc.{arc_value};
 ghost use Rattle.logbook.specs.Pages.{Book as PeerId};
 ghost use Rattle.ledger_model.specs.Chain.{Chain};
 ghost use Rattle.committer.specs.Fits.{IsRefused, blocks_of};
-ghost use Rattle.ledger_setting.specs.Judging.{IsJudged};
 ghost use Rattle.ledger_setting.specs.Rule.{table_of};
 ghost use Rattle.store_replay.specs.Lawful.{AreLawful};
 ghost use Rattle.snapshot_cell.specs.Seats.{EachBegins};
@@ -17,17 +16,17 @@ ghost use Rattle.peer_node.specs.Writers.{published_chain, peer_of_writer, rules
 use crate::refusal::ReopenRefusal;
 use crate::seat::Seat;
 use block_store::Loaded;
-use committer::{CommitRefusal, check_fits};
-use endorsement_policy::{Gate, Rules, check_all};
+use committer::CommitRefusal;
+use endorsement_policy::{Rules, Workers};
 use endorser::Endorser;
 use fab_types::{Block, OrgName};
-use ledger_setting::{Genesis, judge_checked};
+use ledger_setting::{Genesis, judge_by_workers};
 use snapshot_cell::{OpenRefusal, Reader, Told, Writer, open};
 use std::alloc::{AllocError, Global};
 use std::sync::{Arc, Wait};
 use std::thread::Threads;
-use store_replay::recommit;
-use world_state::{Judged, Snapshot};
+use store_replay::{TagChecks, Unwatched, recommit};
+use world_state::Snapshot;
 
 /// How many workers check the envelopes of a block.
 const WORKERS: usize = 4;
@@ -42,15 +41,6 @@ pub struct PeerWriter {
     cell: Writer,
     rules: Arc<Rules>,
     alloc: Global,
-}
-
-/// Nothing happens round a check.
-struct NoGate;
-
-impl Gate for NoGate {
-    fn before(&self, _index: usize) {}
-
-    fn after(&self, _index: usize) {}
 }
 
 impl Peer {
@@ -87,7 +77,7 @@ impl Peer {
     /// the table's (711); where all of them fit with the table's flags and a seat got no place in
     /// the cell (431, as for `open`); and for want of memory (9), behind blocks that fit with the
     /// table's flags.
-    pub fn reopen<R: Wait>(
+    pub fn reopen<R: Threads + Wait + Sync>(
         rt: &R,
         alloc: Global,
         genesis: &Genesis,
@@ -111,7 +101,9 @@ impl Peer {
             (λ refusal. IsReopenRefused (table_of (arc_value genesis.now.rules)) loaded.blocks.items
             refusal) }
     {
-        let first = recommit(alloc, &genesis.rules, loaded.blocks)?;
+        let workers = Workers::new(rt, WORKERS);
+        let tags = TagChecks::new(&workers, &Unwatched);
+        let first = recommit(&tags, alloc, &genesis.rules, loaded.blocks)?;
         let opened = open_with(rt, alloc, genesis, org, seats, first)?;
         Ok(opened)
     }
@@ -145,26 +137,6 @@ fn open_with<R: Wait>(
             Err(error.into())
         }
     }
-}
-
-/// What `judge` says of a block behind a snapshot, where workers check the envelopes. It refuses as
-/// `judge` does.
-fn judge_by_workers<R: Threads + Sync>(
-    rt: &R,
-    alloc: Global,
-    rules: &Rules,
-    newest: &Snapshot,
-    block: &Block,
-) -> Result<Judged, CommitRefusal>
-    ensures judged { IfOk result
-        (λ judged. IsJudged (table_of rules.now) newest.now block.now judged) }
-    ensures refused { IfErr result
-        (λ refusal. IsRefused refusal (blocks_of newest.now) block.now) }
-{
-    check_fits(alloc, newest, block)?;
-    let envelopes = block.envelopes.as_slice();
-    let endorsed = check_all(rt, alloc, rules, newest, envelopes, WORKERS, &NoGate)?;
-    Ok(judge_checked(alloc, rules, newest, block, &endorsed)?)
 }
 
 impl PeerWriter {
@@ -207,12 +179,13 @@ impl PeerWriter {
             (rules_of self.new ≡ rules_of self.old) }
     {
         let newest = self.cell.newest();
-        let judged = judge_by_workers(rt, self.alloc, &self.rules, newest, &block)?;
+        let workers = Workers::new(rt, WORKERS);
+        let judged = judge_by_workers(&workers, self.alloc, &self.rules, newest, &block)?;
         let next = newest.followed_by(self.alloc, block, judged)?;
         Ok(self.cell.publish(rt, next)?)
     }
 
-    /// Ends the peer: its seats get no entry from now on.
+    /// Ends the peer: its seats enter the cell no more from now on.
     pub fn close<R: Wait>(self, rt: &R) {
         let PeerWriter {
             cell,

@@ -2,9 +2,9 @@
 use Rattle.std.proofs.Common.{◌≡◌, ◌<◌, ◌≤◌, ◌+◌, ◌*◌, ◌^◌, ◌++◌, ℕ, suc, List, [], ◌∷◌, length, Ok, Err, refl, ap, arith}
 use Rattle.std.specs.Prelude.{fold}
 use Rattle.std.proofs.Math.Nat.{suc-mul, mul-le-mul_right}
-use Rattle.simulator.specs.declared.refusal.SimRefusal.TheVariants.{UnknownChaincode, NotInstalled, BadPolicy, Trapped, Spent, Status, Stale, Memory}
+use Rattle.simulator.specs.declared.refusal.SimRefusal.TheVariants.{UnknownChaincode, NotInstalled, BadPolicy, BadMembership, Trapped, Spent, Status, Stale, Memory}
 use Rattle.peer_node.specs.declared.refusal.FinishRefusal.{FinishRefusal}
-use Rattle.peer_node.specs.declared.refusal.FinishRefusal.TheVariants.{Simulation, NoEntry}
+use Rattle.peer_node.specs.declared.refusal.FinishRefusal.TheVariants.{Simulation, NotEntered}
 use Rattle.seat_threads.specs.declared.counts.Counts.{Counts}
 use Rattle.seat_threads.specs.Rounds.{Outcome, rounds_in, sum_of, no_rounds, with_refused, with_outcome, counts_of, envelopes_in}
 use Rattle.seat_threads.specs.Work.{Task, AllCameTo, total_of}
@@ -21,10 +21,11 @@ summed a b = omega arith
 
 -- a round that was refused counts once, and as none that was endorsed
 refused_once : (c : Counts) (r : FinishRefusal) → (rounds_in (with_refused r c) ≡ rounds_in c + 1) × ((with_refused r c).endorsed ≡ c.endorsed)
-refused_once c NoEntry = (omega arith, refl)
+refused_once c NotEntered = (omega arith, refl)
 refused_once c (Simulation UnknownChaincode) = (omega arith, refl)
 refused_once c (Simulation NotInstalled) = (omega arith, refl)
 refused_once c (Simulation BadPolicy) = (omega arith, refl)
+refused_once c (Simulation BadMembership) = (omega arith, refl)
 refused_once c (Simulation (Trapped kind used)) = (omega arith, refl)
 refused_once c (Simulation Spent) = (omega arith, refl)
 refused_once c (Simulation (Status n)) = (omega arith, refl)

@@ -18,7 +18,7 @@ use Rattle.fabric_core.specs.Audit.{AuditSays}
 use Rattle.seat_threads.specs.declared.counts.Counts.{Counts}
 use Rattle.seat_threads.specs.declared.desk.Desk.{Desk}
 use Rattle.seat_threads.specs.declared.refusal.SeatsRefusal.{SeatsRefusal}
-use Rattle.seat_threads.specs.declared.refusal.SeatsRefusal.TheVariants.{Memory, NoPlace, NoEntry}
+use Rattle.seat_threads.specs.declared.refusal.SeatsRefusal.TheVariants.{Memory, NoPlace, NotEntered}
 use Rattle.seat_threads.specs.declared.running.Report.{Report}
 use Rattle.seat_threads.specs.Desks.{envelopes_got}
 use Rattle.seat_threads.specs.Reports.{TellsOfSeats, IsSeatsRefused, IsWorkRefused, IsOpeningRefused, IsCountRefused, counts_told}
@@ -77,18 +77,18 @@ pub refused_by_counts : (task : Task) (n : ℕ) (counts : Counts) (old new : Lis
     IsCountRefused counts r → IsWorkRefused task n r
 refused_by_counts task n counts old new Memory h why = tt
 refused_by_counts task n counts old new NoPlace h why = why
-refused_by_counts task n counts old new NoEntry h why =
-    (h.outcomes, h.seats_are, h.came, omega (arith, why, ap (λ (c : Counts). c.without_entry) h.counted))
+refused_by_counts task n counts old new NotEntered h why =
+    (h.outcomes, h.seats_are, h.came, omega (arith, why, ap (λ (c : Counts). c.not_entered) h.counted))
 
 pub refused_at_work : (task : Task) (n : ℕ) (r : SeatsRefusal) → IsWorkRefused task n r → IsSeatsRefused task n r
 refused_at_work task n Memory why = tt
 refused_at_work task n NoPlace why = tt
-refused_at_work task n NoEntry why = why
+refused_at_work task n NotEntered why = why
 
 pub refused_at_opening : (task : Task) (n : ℕ) (r : SeatsRefusal) → IsOpeningRefused r → IsSeatsRefused task n r
 refused_at_opening task n Memory why = tt
 refused_at_opening task n NoPlace why = tt
-refused_at_opening task n NoEntry why = absurd why
+refused_at_opening task n NotEntered why = absurd why
 
 pub if_ok : {T E : Type 0} (P Q : T → Type 0) (r : Result T E) → ((x : T) → P x → Q x) → IfOk r P → IfOk r Q
 if_ok P Q (Ok x) f h = f x h

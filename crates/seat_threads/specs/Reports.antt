@@ -16,7 +16,7 @@ use Rattle.fabric_core.specs.Audit.{AuditSays}
 use Rattle.peer_node.specs.Seats.{endorsing_for}
 use Rattle.seat_threads.specs.declared.counts.Counts.{Counts}
 use Rattle.seat_threads.specs.declared.refusal.SeatsRefusal.{SeatsRefusal}
-use Rattle.seat_threads.specs.declared.refusal.SeatsRefusal.TheVariants.{Memory, NoPlace, NoEntry}
+use Rattle.seat_threads.specs.declared.refusal.SeatsRefusal.TheVariants.{Memory, NoPlace, NotEntered}
 use Rattle.seat_threads.specs.declared.running.Report.{Report}
 use Rattle.seat_threads.specs.Desks.{envelopes_got}
 use Rattle.seat_threads.specs.Rounds.{Outcome, envelopes_in}
@@ -37,10 +37,10 @@ AreGot got seat (outcomes ∷ others) = (of seat got ≡ envelopes_in outcomes) 
 
 -- the counts where no round was refused for want of memory or of an entry
 abbrev pub counts_told : Report → Counts
-counts_told r = record { endorsed = r.endorsed; refused = r.refused; out_of_memory = 0; without_entry = 0 }
+counts_told r = record { endorsed = r.endorsed; refused = r.refused; out_of_memory = 0; not_entered = 0 }
 
 -- The rounds of so many seats came to some outcomes, and what they endorsed was got and given to an orderer, which ordered it but for what it refused.
--- The chain that came of it was committed, each transaction marked by the table, and audited
+-- The chain that came of it was committed, each transaction flagged by the table, and audited
 pub record TellsOfSeats (task : Task) (seats : ℕ) (reorder : Bool) (limits : Limits) (r : Report) : Type 0 where
   pub outcomes : List (List Outcome)
   pub seats_are : length outcomes ≡ seats
@@ -66,23 +66,23 @@ pub record TellsOfSeats (task : Task) (seats : ℕ) (reorder : Bool) (limits : L
 abbrev pub IsSeatsRefused : Task → ℕ → SeatsRefusal → Type 0
 IsSeatsRefused task seats Memory = Unit {0}
 IsSeatsRefused task seats NoPlace = Unit {0}
-IsSeatsRefused task seats NoEntry =
-    (outcomes : List (List Outcome)) × (length outcomes ≡ seats) × AllCameTo task 0 outcomes × (0 < (total_of outcomes).without_entry)
+IsSeatsRefused task seats NotEntered =
+    (outcomes : List (List Outcome)) × (length outcomes ≡ seats) × AllCameTo task 0 outcomes × (0 < (total_of outcomes).not_entered)
 
 -- a peer opens without a round
 abbrev pub IsOpeningRefused : SeatsRefusal → Type 0
 IsOpeningRefused Memory = Unit {0}
 IsOpeningRefused NoPlace = Unit {0}
-IsOpeningRefused NoEntry = ⊥
+IsOpeningRefused NotEntered = ⊥
 
 -- seats at work have their places
 abbrev pub IsWorkRefused : Task → ℕ → SeatsRefusal → Type 0
 IsWorkRefused task seats Memory = Unit {0}
 IsWorkRefused task seats NoPlace = ⊥
-IsWorkRefused task seats NoEntry = IsSeatsRefused task seats NoEntry
+IsWorkRefused task seats NotEntered = IsSeatsRefused task seats NotEntered
 
 -- some round counts as one without an entry
 abbrev pub IsCountRefused : Counts → SeatsRefusal → Type 0
 IsCountRefused counts Memory = Unit {0}
 IsCountRefused counts NoPlace = ⊥
-IsCountRefused counts NoEntry = 0 < counts.without_entry
+IsCountRefused counts NotEntered = 0 < counts.not_entered

@@ -8,14 +8,14 @@ use Rattle.fab_types.specs.declared.envelope.Envelope.{Envelope}
 use Rattle.simulator.specs.declared.refusal.SimRefusal.{SimRefusal}
 use Rattle.simulator.specs.declared.refusal.SimRefusal.TheVariants.{Memory}
 use Rattle.peer_node.specs.declared.refusal.FinishRefusal.{FinishRefusal}
-use Rattle.peer_node.specs.declared.refusal.FinishRefusal.TheVariants.{Simulation, NoEntry}
+use Rattle.peer_node.specs.declared.refusal.FinishRefusal.TheVariants.{Simulation, NotEntered}
 use Rattle.endorser.specs.Endorsing.{Endorsing}
-use Rattle.peer_node.specs.Refusals.{no_memory}
+use Rattle.peer_node.specs.Refusals.{of_memory}
 use Rattle.peer_node.specs.Seats.{Endorses}
 use Rattle.ledger_model.specs.Chain.{Bytes, Chain}
 use Rattle.seat_threads.specs.declared.counts.Counts.{Counts}
 use Rattle.seat_threads.specs.declared.refusal.SeatsRefusal.{SeatsRefusal}
-use Rattle.seat_threads.specs.declared.refusal.SeatsRefusal.TheVariants.{Memory, NoEntry as EntryRefused}
+use Rattle.seat_threads.specs.declared.refusal.SeatsRefusal.TheVariants.{Memory, NotEntered as EntryRefused}
 
 -- a call without an argument, whose nonce is the numbers of the seat and of the round
 abbrev pub proposal_of : Bytes → (seat round : ℕ) → Proposal
@@ -28,7 +28,7 @@ Outcome = Result Envelope FinishRefusal
 -- What a proposal comes to: an envelope with this endorser's endorsement alone, or the refusal to endorse, or want of memory for the envelope
 abbrev pub ComesTo : Endorsing → Proposal → (before after : Chain) → Outcome → Type 0
 ComesTo e p before after (Ok x) = (tag : Endorsement) × Endorses e p before after (Ok (x.payload, tag)) × (x.endorsements ≡ tag ∷ [])
-ComesTo e p before after (Err r) = Endorses e p before after (Err r) ⊎ (r ≡ no_memory)
+ComesTo e p before after (Err r) = Endorses e p before after (Err r) ⊎ (r ≡ of_memory)
 
 -- each round of a seat came to the outcome at its place
 abbrev pub CameTo : Endorsing → Bytes → (seat rounds : ℕ) → List Outcome → Type 0
@@ -44,11 +44,11 @@ envelopes_in (Ok x ∷ outcomes) = x ∷ envelopes_in outcomes
 envelopes_in (Err r ∷ outcomes) = envelopes_in outcomes
 
 abbrev pub no_rounds : Counts
-no_rounds = record { endorsed = 0; refused = 0; out_of_memory = 0; without_entry = 0 }
+no_rounds = record { endorsed = 0; refused = 0; out_of_memory = 0; not_entered = 0 }
 
 -- how many rounds were counted
 abbrev pub rounds_in : Counts → ℕ
-rounds_in c = c.endorsed + c.refused + c.out_of_memory + c.without_entry
+rounds_in c = c.endorsed + c.refused + c.out_of_memory + c.not_entered
 
 abbrev pub with_endorsed : Counts → Counts
 with_endorsed c = record c { endorsed = c.endorsed + 1 }
@@ -60,7 +60,7 @@ with_sim_refused refusal c = record c { refused = c.refused + 1 }
 
 abbrev pub with_refused : FinishRefusal → Counts → Counts
 with_refused (Simulation refusal) c = with_sim_refused refusal c
-with_refused NoEntry c = record c { without_entry = c.without_entry + 1 }
+with_refused NotEntered c = record c { not_entered = c.not_entered + 1 }
 
 abbrev pub with_outcome : Counts → Outcome → Counts
 with_outcome c (Ok x) = with_endorsed c
@@ -74,9 +74,9 @@ sum_of a b = record {
   endorsed = a.endorsed + b.endorsed;
   refused = a.refused + b.refused;
   out_of_memory = a.out_of_memory + b.out_of_memory;
-  without_entry = a.without_entry + b.without_entry;
+  not_entered = a.not_entered + b.not_entered;
 }
 
 -- want of memory comes before want of an entry
 abbrev pub least_refusal : Counts → Option SeatsRefusal
-least_refusal c = if c.out_of_memory == 0 then (if c.without_entry == 0 then None else Some EntryRefused) else Some Memory
+least_refusal c = if c.out_of_memory == 0 then (if c.not_entered == 0 then None else Some EntryRefused) else Some Memory

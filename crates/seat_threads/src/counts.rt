@@ -16,8 +16,8 @@ pub struct Counts {
     pub refused: u64,
     /// Refused for want of memory (9).
     pub out_of_memory: u64,
-    /// Refused since the cell gave no entry (432).
-    pub without_entry: u64,
+    /// Refused since the cell was not entered (432).
+    pub not_entered: u64,
 }
 
 impl Counts {
@@ -29,7 +29,7 @@ impl Counts {
             endorsed: 0,
             refused: 0,
             out_of_memory: 0,
-            without_entry: 0,
+            not_entered: 0,
         }
     }
 
@@ -41,7 +41,7 @@ impl Counts {
         match refusal {
             FinishRefusal::Simulation(SimRefusal::Memory) => self.out_of_memory += 1,
             FinishRefusal::Simulation(_) => self.refused += 1,
-            FinishRefusal::NoEntry => self.without_entry += 1,
+            FinishRefusal::NotEntered => self.not_entered += 1,
         }
     }
 
@@ -54,7 +54,7 @@ impl Counts {
             endorsed: self.endorsed + other.endorsed,
             refused: self.refused + other.refused,
             out_of_memory: self.out_of_memory + other.out_of_memory,
-            without_entry: self.without_entry + other.without_entry,
+            not_entered: self.not_entered + other.not_entered,
         }
     }
 
@@ -64,8 +64,8 @@ impl Counts {
     {
         if self.out_of_memory > 0 {
             Some(SeatsRefusal::Memory)
-        } else if self.without_entry > 0 {
-            Some(SeatsRefusal::NoEntry)
+        } else if self.not_entered > 0 {
+            Some(SeatsRefusal::NotEntered)
         } else {
             None
         }

@@ -12,8 +12,8 @@ pub enum SeatsRefusal {
     Memory = 9,
     /// A seat got no place in the cell.
     NoPlace = 431,
-    /// The cell gave a seat no entry.
-    NoEntry = 432,
+    /// A seat did not enter the cell.
+    NotEntered = 432,
 }
 
 impl SeatsRefusal {

@@ -9,7 +9,7 @@ ghost use Rattle.wire.specs.Links.{AreLinked};
 ghost use Rattle.intake.specs.Mail.{receiver};
 ghost use Rattle.intake.specs.Seats.{intake_of_receiver, knows};
 ghost use Rattle.ledger_setting.specs.Rule.{table_of};
-ghost use Rattle.ledger_setting.specs.Setting.{limits_of};
+ghost use Rattle.ledger_setting.specs.Limits.{limits_of};
 ghost use Rattle.peer_node.specs.Seats.{endorsing_of};
 ghost use Rattle.peer_node.specs.Writers.{rules_of};
 ghost use Rattle.fabric_core.specs.Audit.{AuditSays};

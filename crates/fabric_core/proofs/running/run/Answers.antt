@@ -5,7 +5,7 @@ use Rattle.ledger_model.specs.State.{state}
 use Rattle.ledger_model.specs.Views.{values_of}
 use Rattle.endorsement_policy.specs.Endorsed.{is_endorsed}
 use Rattle.simulator.specs.Execution.{exec_of}
-use Rattle.ledger_setting.specs.Setting.{limits_of}
+use Rattle.ledger_setting.specs.Limits.{limits_of}
 use Rattle.fabric_core.specs.System.{Rules, World, Reply, fresh_orderer, IsStep, AreSteps}
 use Rattle.fabric_core.specs.Inside.{rules_of}
 use Rattle.fabric_core.specs.System.{opening}

@@ -27,17 +27,17 @@ loop-preserved g c =
     let fed : Reads p.next (p.held ++ piece) more q = subst (λ d. FeedsBy d p piece more q) inv.1 c.in_ok-records.ensures.fed in
     let read : Reads 1 (bytes ++ piece) (before ++ more) q = reads_on 1 bytes before p piece more q inv.1 inv.0 fed in
     let rule = table_of (endorsing_of c.loop.self.follower).listed in
-    let lawful : AreLawful rule [] (before ++ more) = lawful_joined rule before more inv.2 c.in_ok-follow_each.ensures.lawful in
+    let lawful : AreLawful rule [] (before ++ more) = lawful_joined rule before more inv.2 c.in_ok-follow_all.ensures.lawful in
     let moved : c.read.new.self.history.moved ≡ bytes ++ piece =
     c.in_ok-count.ensures.1 ∙ ap (λ (t : List ℕ). bytes ++ take c.in_ok-count.count t) (sym same)
     in
-    let all = c.in_ok-follow_each.ensures.chain in
+    let all = c.in_ok-follow_all.ensures.followed in
     record {
       followed = (
         subst (λ (chain : Chain). Reads 1 c.read.new.self.history.moved chain q) (sym all)
             (subst (λ (t : List ℕ). Reads 1 t (before ++ more) q) (sym moved) read),
         search rules,
-        subst (λ (e : Endorsing). AreLawful (table_of e.listed) [] (followed_chain c.follow_each.new.follower)) (sym c.in_ok-follow_each.ensures.same)
+        subst (λ (e : Endorsing). AreLawful (table_of e.listed) [] (followed_chain c.follow_all.new.self)) (sym c.in_ok-follow_all.ensures.same)
             (subst (λ (chain : Chain). AreLawful rule [] chain) (sym all) lawful),
         search rules,
       );

@@ -1,6 +1,6 @@
 use Rattle.std.proofs.Common.{rules, ◌≡◌, ◌∙◌, [], Err, inr, refl, sym, ap, subst}
 use Rattle.fab_types.specs.declared.proposal.Proposal.{Proposal}
-use Rattle.peer_node.specs.Refusals.{no_memory}
+use Rattle.peer_node.specs.Refusals.{of_memory}
 use Rattle.peer_node.specs.Seats.{seen_chain, endorsing_of}
 use Rattle.seat_threads.specs.Rounds.{Outcome, proposal_of, ComesTo}
 use Rattle.seat_threads.proofs.worker.Worker.endorse.Goals as goal
@@ -8,7 +8,7 @@ use Rattle.seat_threads.proofs.worker.Worker.endorse.Goals as goal
 pub returns-in_err-proposal-clause-comes : goal.returns-in_err-proposal-clause-comes
 returns-in_err-proposal-clause-comes c =
     let seat = c.args.self.now.seat in
-    let none : c.from_residual.result ≡ Err no_memory = search rules in (
+    let none : c.from_residual.result ≡ Err of_memory = search rules in (
       [],
       [],
       subst (λ (o : Outcome). ComesTo (endorsing_of seat) (proposal_of c.args.self.now.chaincode c.args.self.now.number c.args.round) [] [] o) (sym none)
