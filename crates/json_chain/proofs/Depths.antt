@@ -1,11 +1,15 @@
 -- How deep the lines nest.
-use Rattle.std.proofs.Common.{ℕ, ◌≤◌, List, [], ◌∷◌, Option, Some, None, map, arith}
+use Rattle.std.proofs.Common.{ℕ, ◌≤◌, List, [], ◌∷◌, Option, Some, None, map, codes, arith}
 use Rattle.fab_types.specs.Version.{Version}
 use Rattle.fab_types.specs.Sets.{Range}
 use Rattle.fab_types.specs.Committed.{Committed}
 use Rattle.fab_types.specs.declared.items.ReadItem.{ReadItem}
 use Rattle.fab_types.specs.declared.items.WriteItem.{WriteItem}
 use Rattle.fab_types.specs.declared.envelope.Envelope.{Envelope}
+use Rattle.fab_types.specs.declared.membership.Member.{Member}
+use Rattle.fab_types.specs.declared.membership.MemberKey.{MemberKey}
+use Rattle.fab_types.specs.declared.membership.MemberKey.TheVariants.{Kept, Public}
+use Rattle.fab_types.specs.declared.membership.Membership.{Membership}
 use Rattle.fab_types.specs.declared.flag.Flag.{Flag}
 use Rattle.fab_types.specs.declared.proposal.Proposal.{Proposal}
 use Rattle.fab_types.specs.declared.proposal.Proposal.TheVariants as proposal
@@ -18,14 +22,15 @@ use Rattle.endorsement_policy.specs.declared.rules.ChaincodePolicy.{ChaincodePol
 use Rattle.endorsement_policy.specs.Endorsed.{key_of, listed_policy}
 use Rattle.chaincode_book.specs.declared.book.Chaincode.{Chaincode}
 use Rattle.ledger_setting.specs.declared.genesis.Genesis.{Genesis}
-use Rattle.serde_json.specs.Data.{Data, depth, items_depth, string}
+use Rattle.serde_json.specs.Data.{Data, depth, items_depth, string, object, member, no_members}
 use Rattle.serde_json.specs.View.{items_of}
 use Rattle.fab_types.specs.Spelling.{payload_bytes}
 use Rattle.json_chain.specs.Texts.{pairs_json, value_json}
+use Rattle.json_chain.specs.Memberships.{member_json, membership_json, with_key}
 use Rattle.json_chain.specs.Sets.{entry_json, range_json, read_json, seen_json, write_json}
 use Rattle.json_chain.specs.Transactions.{endorsement_json, proposal_json, transaction_json}
 use Rattle.json_chain.specs.Blocks.{block_json}
-use Rattle.json_chain.specs.Settings.{chaincode_json, module_json, named_json, org_json, policy_json, setting_json}
+use Rattle.json_chain.specs.Genesis.{chaincode_json, module_json, named_json, org_json, policy_json, genesis_json}
 use Rattle.json_chain.specs.Entries.{placed_write_json}
 
 items_low : {A : Type 0} (json : A → Data) (n : ℕ) → ((x : A) → depth (json x) ≤ n) → (xs : List A) → items_depth (items_of (map json xs)) ≤ n
@@ -55,10 +60,21 @@ write_low w = omega (arith, value_low w.value)
 range_low : (r : Range) → depth (range_json r) ≤ 3
 range_low r = omega (arith, items_low entry_json 1 (λ e. omega arith) r.entries)
 
+key_low : (name : List ℕ) (k : MemberKey) → depth (object (with_key k (member (codes "name") (string name) no_members))) ≤ 1
+key_low name Kept = omega arith
+key_low name (Public k) = omega arith
+
+member_low : (m : Member) → depth (member_json m) ≤ 1
+member_low m = key_low m.name m.key
+
+membership_low : (s : Membership) → depth (membership_json s) ≤ 3
+membership_low s = omega (arith, items_low member_json 1 member_low s.members)
+
 proposal_low : (p : Proposal) (flag : Flag) (a b c d e f : Data) → depth a ≤ 4 → depth b ≤ 4 → depth c ≤ 4 → depth d ≤ 4 → depth e ≤ 4 → depth f ≤ 4 →
     depth (proposal_json p flag a b c d e f) ≤ 5
 proposal_low (proposal.Call x) flag a b c d e f ha hb hc hd he hf = omega arith
 proposal_low (proposal.Upgrade u) flag a b c d e f ha hb hc hd he hf = omega arith
+proposal_low (proposal.Amend x) flag a b c d e f ha hb hc hd he hf = omega (arith, membership_low x.membership)
 
 transaction_low : (orgs : List Organisation) (e : Envelope) (flag : Flag) → depth (transaction_json orgs e flag) ≤ 5
 transaction_low orgs e flag =
@@ -92,8 +108,8 @@ named_low name (Some (key.Public k)) = omega arith
 org_low : (orgs : List Organisation) (name : List ℕ) → depth (org_json orgs name) ≤ 1
 org_low orgs name = named_low name (key_of orgs name)
 
-pub setting_low : (g : Genesis) → depth (setting_json g) ≤ 3
-setting_low g =
+pub genesis_low : (g : Genesis) → depth (genesis_json g) ≤ 3
+genesis_low g =
     let book = g.book.value in
     omega (
       arith,

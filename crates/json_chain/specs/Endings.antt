@@ -7,11 +7,12 @@ use Rattle.committer.specs.Numbers.{refusal_number}
 use Rattle.ledger_setting.specs.declared.verdict.Audit.TheVariants.{Agrees, Differs}
 use Rattle.serde_json.specs.Data.{Data, number, unsigned, string, object, member, no_members}
 use Rattle.json_chain.specs.declared.ending.Finding.{Finding}
-use Rattle.json_chain.specs.declared.ending.Finding.TheVariants.{FlagsDiffer, Unfit, Audited}
+use Rattle.json_chain.specs.declared.ending.Finding.TheVariants.{FlagsDiffer, Unfit, NotAtHand, Audited}
 
 abbrev pub finding_words : Finding → List ℕ
 finding_words (FlagsDiffer block) = codes "flags differ " ++ decimal block
 finding_words (Unfit cause) = codes "refused " ++ decimal (refusal_number cause)
+finding_words (NotAtHand block) = codes "refused 406 block " ++ decimal block
 finding_words (Audited (Agrees rerun)) = codes "agrees"
 finding_words (Audited (Differs block tx)) = codes "differs " ++ (decimal block ++ 46 ∷ decimal tx)
 
@@ -19,6 +20,7 @@ finding_words (Audited (Differs block tx)) = codes "differs " ++ (decimal block 
 abbrev pub rerun_of : Finding → ℕ
 rerun_of (FlagsDiffer block) = 0
 rerun_of (Unfit cause) = 0
+rerun_of (NotAtHand block) = 0
 rerun_of (Audited (Agrees rerun)) = rerun
 rerun_of (Audited (Differs block tx)) = 0
 

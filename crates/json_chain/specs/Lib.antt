@@ -1,9 +1,10 @@
 pub mod Texts
 pub mod Members
 pub mod Sets
+pub mod Memberships
 pub mod Transactions
 pub mod Blocks
-pub mod Settings
+pub mod Genesis
 pub mod Entries
 pub mod Endings
 pub mod Writes

@@ -18,6 +18,9 @@ pub enum Finding {
     FlagsDiffer(usize),
     /// A block does not fit.
     Unfit(CommitRefusal),
+    /// The block of this number is the first that upgrades to a module that is not at hand, so that
+    /// the chain cannot be rerun.
+    NotAtHand(u32),
     /// All fit and have the table's flags, and this is what their audit says.
     Audited(Audit),
 }
@@ -49,6 +52,7 @@ fn finding_words(alloc: Global, finding: Finding) -> Result<String, AllocError>
             let number = refusal.number();
             format!(in alloc; "refused {number}")
         }
+        Finding::NotAtHand(number) => format!(in alloc; "refused 406 block {number}"),
         Finding::Audited(Audit::Agrees { .. }) => String::from_str(alloc, "agrees"),
         Finding::Audited(Audit::Differs { block, tx }) => {
             format!(in alloc; "differs {block}.{tx}")

@@ -7,14 +7,14 @@ ghost use Rattle.serde_json.specs.View.{view};
 ghost use Rattle.json_chain.specs.Blocks.{block_json};
 ghost use Rattle.json_chain.specs.Endings.{ending_json};
 ghost use Rattle.json_chain.specs.Entries.{entry_json};
-ghost use Rattle.json_chain.specs.Settings.{setting_json};
+ghost use Rattle.json_chain.specs.Genesis.{genesis_json};
 ghost use Rattle.json_chain.specs.Writes.{IsWriteLine};
 
 use crate::block::block_of;
 use crate::ending::{Finding, ending_of};
 use crate::entries::{entry_of, write_of};
+use crate::genesis::genesis_of;
 use crate::placed::Placed;
-use crate::setting::setting_of;
 use crate::writes::written_to;
 use block_store::End;
 use endorsement_policy::Rules;
@@ -33,10 +33,10 @@ fn line_of(alloc: Global, value: &Value) -> Result<String, AllocError>
 }
 
 /// What a ledger begins with, but for the shared keys. The only error is want of memory.
-pub fn setting_line(alloc: Global, genesis: &Genesis) -> Result<String, AllocError>
-    ensures { IfOk result (λ s. read (string_bytes s) ≡ Some (setting_json genesis.now)) }
+pub fn genesis_line(alloc: Global, genesis: &Genesis) -> Result<String, AllocError>
+    ensures { IfOk result (λ s. read (string_bytes s) ≡ Some (genesis_json genesis.now)) }
 {
-    line_of(alloc, &setting_of(alloc, genesis)?)
+    line_of(alloc, &genesis_of(alloc, genesis)?)
 }
 
 /// A block with its hashes, its transactions and their flags, and which of their tags are right

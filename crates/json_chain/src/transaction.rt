@@ -4,14 +4,16 @@ ghost use Rattle.std.specs.Prelude.{◌≡◌, IfOk, OnOk};
 ghost use Rattle.serde_json.specs.View.{view};
 ghost use Rattle.json_chain.specs.Members.{members_in};
 ghost use Rattle.json_chain.specs.Texts.{list_json};
-ghost use Rattle.json_chain.specs.Transactions.{of_parts, call_json, definition_json, endorsement_json, endorsements_json, transaction_json, upgrade_json, with_call, with_payload, with_rest, with_upgrade};
+ghost use Rattle.fab_types.specs.Spelling.{form_of};
+ghost use Rattle.json_chain.specs.Transactions.{amend_json, of_parts, call_json, definition_json, endorsement_json, endorsements_json, transaction_json, upgrade_json};
+ghost use Rattle.json_chain.specs.Transactions.{with_amend, with_call, with_payload, with_rest, with_upgrade};
 
 use crate::object::Object;
 use crate::sets;
 use crate::texts::{name_of, policy_of};
 use crate::to_json::ToJson;
 use endorsement_policy::Rules;
-use fab_types::{Call, Definition, Endorsement, Envelope, Flag, Payload, Proposal, Upgrade};
+use fab_types::{Amend, Call, Definition, Endorsement, Envelope, Flag, Payload, Proposal, Upgrade};
 use serde_json::Value;
 use std::alloc::{AllocError, Global};
 use wire::payload_id;
@@ -29,6 +31,7 @@ pub(crate) fn transaction_of(
     match envelope.payload.proposal() {
         Proposal::Call(call) => call_of(alloc, rules, envelope, flag, call),
         Proposal::Upgrade(upgrade) => upgrade_of(alloc, rules, envelope, flag, upgrade),
+        Proposal::Amend(amend) => amend_of(alloc, rules, envelope, flag, amend),
     }
 }
 
@@ -85,7 +88,32 @@ fn put_upgrade(object: &mut Object, upgrade: &Upgrade) -> Result<(), AllocError>
     object.put_json("upgrade", &upgrade.definition)
 }
 
-/// Puts in what a call and an upgrade have in common.
+/// A transaction of this amendment.
+fn amend_of(
+    alloc: Global,
+    rules: &Rules,
+    envelope: &Envelope,
+    flag: Flag,
+    amend: &Amend,
+) -> Result<Value, AllocError>
+    ensures { IfOk result
+        (λ v. view v ≡ of_parts (amend_json amend.now flag) rules.now.orgs envelope.now) }
+{
+    let mut object = Object::new(alloc);
+    put_amend(&mut object, amend)?;
+    put_rest(alloc, &mut object, rules, envelope, flag)?;
+    Ok(object.into_value())
+}
+
+/// Puts in what an amendment has alone.
+fn put_amend(object: &mut Object, amend: &Amend) -> Result<(), AllocError>
+    ensures { OnOk result (members_in object.new ≡ with_amend amend.now (members_in object.old)) }
+{
+    object.put_json("amend", &amend.membership)?;
+    object.put_hex("nonce", &amend.nonce)
+}
+
+/// Puts in what all transactions have.
 fn put_rest(
     alloc: Global,
     object: &mut Object,
@@ -115,6 +143,18 @@ fn put_payload(object: &mut Object, payload: &Payload) -> Result<(), AllocError>
     object.put_list("writes", payload.writes().as_slice())
 }
 
+/// The first byte of a definition: its profile's number, and 16 more where it is open.
+fn form_of(definition: &Definition) -> u8
+    ensures { result ≡ form_of definition.now }
+{
+    let profile = definition.profile.number();
+    if definition.is_open {
+        16 + profile
+    } else {
+        profile
+    }
+}
+
 impl ToJson for Definition {
     ghost json = { definition_json };
 
@@ -123,7 +163,7 @@ impl ToJson for Definition {
         object.put("fuel", Value::from(self.fuel.get()))?;
         object.put_hex("module", &self.digest)?;
         object.put_text("policy", policy_of(&self.policy))?;
-        object.put("profile", Value::from(self.profile.number()))?;
+        object.put("profile", Value::from(form_of(self)))?;
         Ok(object.into_value())
     }
 }

@@ -1,4 +1,6 @@
 mod Texts
 mod Together
+mod Forms
+mod Memberships
 mod OneProposal
 mod OneAction

@@ -9,7 +9,8 @@ use Rattle.json_events.specs.declared.action.Action.{Action}
 use Rattle.json_events.specs.declared.action.Action.TheVariants.{Begin, Finish, SubmitEndorsed, SubmitBytes, Take, Tick, Commit}
 use Rattle.json_events.specs.Same.{AsksSame}
 use Rattle.json_events.specs.Spelling.{AreTexts, IsAction, IsHex, IsProposal, Spells, begin_object}
-use Rattle.json_events.proofs.OneProposal.{same_ok, one_proposal, one_data}
+use Rattle.json_events.proofs.Memberships.{same_ok}
+use Rattle.json_events.proofs.OneProposal.{one_proposal, one_data}
 
 abbrev key : Members → List ℕ
 key no_members = []
@@ -48,6 +49,7 @@ of_a_begin : (peer seat : ℕ) (ms : Members) (p : Proposal) → IsProposal (obj
     → begun_in (begin_object peer seat ms) ≡ (0, ms, number (unsigned peer), number (unsigned seat))
 of_a_begin peer seat ms (proposal.Call c) h = rw (ap members_in h.3) refl
 of_a_begin peer seat ms (proposal.Upgrade u) h = rw (ap members_in h.6) refl
+of_a_begin peer seat ms (proposal.Amend a) h = rw (ap members_in h.4) refl
 
 begun : (d : Data) (peer seat : ℕ) (p : Proposal) (h : IsAction d (Begin peer seat p))
     → begun_in d ≡ (0, h.0, number (unsigned peer), number (unsigned seat))

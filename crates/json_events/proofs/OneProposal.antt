@@ -1,20 +1,17 @@
 -- A line spells at most one proposal.
-use Rattle.std.proofs.Common.{◌≡◌, ℕ, List, codes, Some, Ok, Result, refl, sym, ap, subst, ◌∙◌, inl, inr}
+use Rattle.std.proofs.Common.{◌≡◌, ℕ, List, codes, Some, Ok, sym, ap, subst, ◌∙◌, inl, inr}
 use Rattle.serde_json.specs.Data.{Data}
 use Rattle.serde_json.specs.Read.{read}
 use Rattle.hex.specs.Hex.{decode_sized}
 use Rattle.fab_types.specs.declared.definition.Definition.{Definition}
+use Rattle.fab_types.specs.declared.proposal.Amend.{Amend}
 use Rattle.fab_types.specs.declared.proposal.Call.{Call}
 use Rattle.fab_types.specs.declared.proposal.Upgrade.{Upgrade}
 use Rattle.fab_types.specs.declared.proposal.Proposal.{Proposal}
 use Rattle.fab_types.specs.declared.proposal.Proposal.TheVariants as proposal
-use Rattle.wasm_profile.specs.Numbers.{number_of}
-use Rattle.wasm_profile.specs.declared.profile.Profile.{Profile}
-use Rattle.wasm_profile.specs.declared.profile.Profile.TheVariants.{Core1, SignExtension}
-use Rattle.json_events.specs.Spelling.{IsArgument, IsDefinition, IsHex, IsProposal, SpellsProposal}
-
-pub same_ok : {A E : Type 0} (r : Result A E) (a b : A) → r ≡ Ok a → r ≡ Ok b → a ≡ b
-same_ok {A} {E} r a b e f = let h = sym e ∙ f in cc
+use Rattle.json_events.specs.Spelling.{IsArgument, IsDefinition, IsHex, IsMembership, IsProposal, SpellsProposal}
+use Rattle.json_events.proofs.Forms.{one_form}
+use Rattle.json_events.proofs.Memberships.{one_membership, same_ok}
 
 -- `-` is no hex
 no_hex : (bytes : List ℕ) → ¬ IsHex (codes "-") bytes
@@ -30,10 +27,11 @@ same_call : (a b : Call) → a.chaincode ≡ b.chaincode → a.argument ≡ b.ar
 same_call a b c x n =
     ap (λ y. record a { chaincode = y }) c ∙ ap (λ y. record a { chaincode = b.chaincode; argument = y }) x ∙ ap (λ y. record b { nonce = y }) n
 
-same_definition : (a b : Definition) → a.profile ≡ b.profile → a.digest ≡ b.digest → a.fuel ≡ b.fuel → a.policy ≡ b.policy → a ≡ b
+same_definition : (a b : Definition) → (a.is_open ≡ b.is_open) × (a.profile ≡ b.profile) → a.digest ≡ b.digest → a.fuel ≡ b.fuel → a.policy ≡ b.policy → a ≡ b
 same_definition a b r d f p =
-    ap (λ y. record a { profile = y }) r ∙ ap (λ y. record a { profile = b.profile; digest = y }) d
-    ∙ ap (λ y. record b { fuel = y; policy = a.policy }) f ∙ ap (λ y. record b { policy = y }) p
+    ap (λ y. record a { is_open = y }) r.0 ∙ ap (λ y. record a { is_open = b.is_open; profile = y }) r.1
+    ∙ ap (λ y. record b { digest = y; fuel = a.fuel; policy = a.policy }) d ∙ ap (λ y. record b { fuel = y; policy = a.policy }) f
+    ∙ ap (λ y. record b { policy = y }) p
 
 same_upgrade : (a b : Upgrade) → a.chaincode ≡ b.chaincode → a.definition ≡ b.definition → a.nonce ≡ b.nonce → a ≡ b
 same_upgrade a b c d n =
@@ -49,16 +47,10 @@ one_call d a b h k =
     let bytes = same_ok _ _ _ (subst (λ x. decode_sized x 16 ≡ Ok a.nonce) nonce h.4.3) k.4.3 in
     same_call a b (h.4.0 ∙ chaincode ∙ sym k.4.0) argument bytes
 
-one_profile : (a b : Profile) → number_of a ≡ number_of b → a ≡ b
-one_profile Core1 Core1 e = refl
-one_profile Core1 SignExtension e = cc
-one_profile SignExtension Core1 e = cc
-one_profile SignExtension SignExtension e = refl
-
 one_definition : (fuel : ℕ) (digest policy : List ℕ) (profile : ℕ) (a b : Definition)
     → IsDefinition fuel digest policy profile a → IsDefinition fuel digest policy profile b → a ≡ b
 one_definition fuel digest policy profile a b h k =
-    same_definition a b (one_profile _ _ (h.0 ∙ sym k.0)) (same_ok _ _ _ h.1 k.1) (h.2 ∙ sym k.2) (h.4 ∙ sym k.4)
+    same_definition a b (one_form a b (h.0 ∙ sym k.0)) (same_ok _ _ _ h.1 k.1) (h.2 ∙ sym k.2) (h.4 ∙ sym k.4)
 
 one_upgrade : (d : Data) (a b : Upgrade) → IsProposal d (proposal.Upgrade a) → IsProposal d (proposal.Upgrade b) → a ≡ b
 one_upgrade d a b h k =
@@ -74,11 +66,30 @@ one_upgrade d a b h k =
     let bytes = same_ok _ _ _ (subst (λ x. decode_sized x 16 ≡ Ok a.nonce) nonce h.7.3) k.7.3 in
     same_upgrade a b (h.7.0 ∙ chaincode ∙ sym k.7.0) definition bytes
 
+same_amend : (a b : Amend) → a.membership ≡ b.membership → a.nonce ≡ b.nonce → a ≡ b
+same_amend a b m n = ap (λ y. record a { membership = y }) m ∙ ap (λ y. record b { nonce = y }) n
+
+one_amend : (d : Data) (a b : Amend) → IsProposal d (proposal.Amend a) → IsProposal d (proposal.Amend b) → a ≡ b
+one_amend d a b h k =
+    let e = sym h.4 ∙ k.4 in
+    let members : h.0 ≡ k.0 = cc in
+    let nonce : h.1 ≡ k.1 = cc in
+    let policy : h.2 ≡ k.2 = cc in
+    let serial : h.3 ≡ k.3 = cc in
+    let spelled : IsMembership k.0 k.2 k.3 a.membership = rw (sym members, sym policy, sym serial) h.5.0 in
+    let bytes = same_ok _ _ _ (subst (λ x. decode_sized x 16 ≡ Ok a.nonce) nonce h.5.1) k.5.1 in
+    same_amend a b (one_membership k.0 k.2 k.3 _ _ spelled k.5.0) bytes
+
 pub one_proposal : (d : Data) (p q : Proposal) → IsProposal d p → IsProposal d q → p ≡ q
 one_proposal d (proposal.Call a) (proposal.Call b) h k = ap proposal.Call (one_call d a b h k)
 one_proposal d (proposal.Call a) (proposal.Upgrade b) h k = let e = sym h.3 ∙ k.6 in cc
 one_proposal d (proposal.Upgrade a) (proposal.Call b) h k = let e = sym h.6 ∙ k.3 in cc
 one_proposal d (proposal.Upgrade a) (proposal.Upgrade b) h k = ap proposal.Upgrade (one_upgrade d a b h k)
+one_proposal d (proposal.Call a) (proposal.Amend b) h k = let e = sym h.3 ∙ k.4 in cc
+one_proposal d (proposal.Upgrade a) (proposal.Amend b) h k = let e = sym h.6 ∙ k.4 in cc
+one_proposal d (proposal.Amend a) (proposal.Call b) h k = let e = sym h.4 ∙ k.3 in cc
+one_proposal d (proposal.Amend a) (proposal.Upgrade b) h k = let e = sym h.4 ∙ k.6 in cc
+one_proposal d (proposal.Amend a) (proposal.Amend b) h k = ap proposal.Amend (one_amend d a b h k)
 
 pub one_data : (text : List ℕ) (d e : Data) → read text ≡ Some d → read text ≡ Some e → d ≡ e
 one_data text d e h k = let same = sym h ∙ k in cc

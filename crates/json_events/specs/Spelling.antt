@@ -1,19 +1,25 @@
 -- What a line of an events file spells, and what a line of proposals does, over the data that it is as JSON. A JSON
 -- object has each of its members once, in the order of their names; so an object with exactly some fields is written
 -- out in that order.
-use Rattle.std.specs.Prelude.{◌≡◌, ◌≤◌, ◌⊎◌, ℕ, List, [], length, codes, Some, Ok, String, string_bytes}
+use Rattle.std.specs.Prelude.{◌≡◌, ◌≤◌, ◌<◌, ◌^◌, ◌⊎◌, ℕ, List, [], length, codes, Some, Ok, String, string_bytes}
 use Rattle.std.specs.declared.alloc.Global.{Global}
 use Rattle.serde_json.specs.Data.{Data, object, member, no_members, Members, Items, array, put, string, number, unsigned}
 use Rattle.serde_json.specs.Read.{read}
 use Rattle.json_fields.specs.Lists.{AreItems}
 use Rattle.hex.specs.Hex.{decode_of, decode_sized}
-use Rattle.fab_types.specs.Limits.{IsFuel, IsName, IsPolicyText, IsValue}
+use Rattle.fab_types.specs.Limits.{IsFuel, IsName, IsOrgName, IsPolicyText, IsValue}
+use Rattle.fab_types.specs.Memberships.{IsMembers}
+use Rattle.fab_types.specs.Spelling.{form_of}
 use Rattle.fab_types.specs.declared.definition.Definition.{Definition}
+use Rattle.fab_types.specs.declared.membership.Member.{Member}
+use Rattle.fab_types.specs.declared.membership.MemberKey.{MemberKey}
+use Rattle.fab_types.specs.declared.membership.MemberKey.TheVariants.{Kept, Public}
+use Rattle.fab_types.specs.declared.membership.Membership.{Membership}
+use Rattle.fab_types.specs.declared.proposal.Amend.{Amend}
 use Rattle.fab_types.specs.declared.proposal.Call.{Call}
 use Rattle.fab_types.specs.declared.proposal.Proposal.{Proposal}
 use Rattle.fab_types.specs.declared.proposal.Proposal.TheVariants as proposal
 use Rattle.fab_types.specs.declared.proposal.Upgrade.{Upgrade}
-use Rattle.wasm_profile.specs.Numbers.{number_of}
 use Rattle.json_events.specs.declared.action.Action.{Action}
 use Rattle.json_events.specs.declared.action.Action.TheVariants.{Begin, Finish, SubmitEndorsed, SubmitBytes, Take, Tick, Commit}
 
@@ -30,16 +36,45 @@ abbrev pub IsCall : List ℕ → List ℕ → List ℕ → Call → Type 0
 IsCall arg chaincode nonce c =
     (c.chaincode ≡ chaincode) × IsName chaincode × IsArgument arg c.argument × (decode_sized nonce 16 ≡ Ok c.nonce)
 
--- the definition of a fuel, these texts and the number of a profile; a digest has 32 bytes
+-- the definition of a fuel and these texts, whose first byte is the number in "profile"; a digest has 32 bytes
 abbrev pub IsDefinition : ℕ → List ℕ → List ℕ → ℕ → Definition → Type 0
 IsDefinition fuel digest policy profile d =
-    (number_of d.profile ≡ profile) × (decode_sized digest 32 ≡ Ok d.digest) × (d.fuel ≡ fuel) × IsFuel fuel
+    (form_of d ≡ profile) × (decode_sized digest 32 ≡ Ok d.digest) × (d.fuel ≡ fuel) × IsFuel fuel
     × (d.policy ≡ policy) × IsPolicyText policy
 
--- the upgrade of a fuel, these texts and the number of a profile
+-- the upgrade to such a definition
 abbrev pub IsUpgrade : ℕ → List ℕ → List ℕ → List ℕ → ℕ → List ℕ → Upgrade → Type 0
 IsUpgrade fuel digest nonce policy profile chaincode u =
     (u.chaincode ≡ chaincode) × IsName chaincode × IsDefinition fuel digest policy profile u.definition × (decode_sized nonce 16 ≡ Ok u.nonce)
+
+-- {"name":"A"}
+abbrev pub kept_object : List ℕ → Data
+kept_object name = object (member (codes "name") (string name) no_members)
+
+-- {"name":"B","public":"d75a98.."}
+abbrev pub public_object : List ℕ → List ℕ → Data
+public_object name public = object (member (codes "name") (string name) (member (codes "public") (string public) no_members))
+
+-- the object has this name alone where the member keeps its key, or beside it a public key of 32 bytes
+abbrev pub IsNamedKey : Data → List ℕ → MemberKey → Type 0
+IsNamedKey d name Kept = d ≡ kept_object name
+IsNamedKey d name (Public k) = (hex : List ℕ) × (d ≡ public_object name hex) × (decode_sized hex 32 ≡ Ok k)
+
+abbrev pub IsMember : Data → Member → Type 0
+IsMember d m = IsNamedKey d m.name m.key × IsOrgName m.name
+
+-- 1 to 16 members, whose names ascend
+abbrev pub AreMembers : Items → List Member → Type 0
+AreMembers ds ms = AreItems IsMember ds ms × IsMembers ms
+
+-- the membership of these members, a policy's text and a serial number of 32 bits
+abbrev pub IsMembership : Items → List ℕ → ℕ → Membership → Type 0
+IsMembership members policy serial s =
+    (s.serial ≡ serial) × (serial < 2 ^ 32) × AreMembers members s.members × (s.policy ≡ policy) × IsPolicyText policy
+
+-- the amendment to such a membership; a nonce has 16 bytes
+abbrev pub IsAmend : Items → List ℕ → List ℕ → ℕ → Amend → Type 0
+IsAmend members nonce policy serial a = IsMembership members policy serial a.membership × (decode_sized nonce 16 ≡ Ok a.nonce)
 
 -- the strings that the items are
 abbrev pub AreTexts : Items → List (String Global) → Type 0
@@ -63,6 +98,12 @@ abbrev pub upgrade_members : ℕ → List ℕ → List ℕ → List ℕ → ℕ 
 upgrade_members fuel digest nonce policy profile chaincode =
     member (codes "fuel") (number (unsigned fuel)) (member (codes "module") (string digest) (member (codes "nonce") (string nonce)
     (member (codes "policy") (string policy) (member (codes "profile") (number (unsigned profile)) (member (codes "upgrade") (string chaincode) no_members)))))
+
+-- "members":[{"name":"A"},..], "nonce":"..", "policy":"..", "serial":1
+abbrev pub amend_members : Items → List ℕ → List ℕ → ℕ → Members
+amend_members members nonce policy serial =
+    member (codes "members") (array members) (member (codes "nonce") (string nonce)
+    (member (codes "policy") (string policy) (member (codes "serial") (number (unsigned serial)) no_members)))
 
 -- {.., "do":"begin", .., "peer":0, .., "seat":0, ..}: a begin has three members beside those of its proposal
 abbrev pub begin_object : ℕ → ℕ → Members → Data
@@ -96,6 +137,9 @@ IsProposal d (proposal.Call c) =
 IsProposal d (proposal.Upgrade u) =
     (fuel : ℕ) × (digest : List ℕ) × (nonce : List ℕ) × (policy : List ℕ) × (profile : ℕ) × (chaincode : List ℕ)
     × (d ≡ object (upgrade_members fuel digest nonce policy profile chaincode)) × IsUpgrade fuel digest nonce policy profile chaincode u
+IsProposal d (proposal.Amend a) =
+    (members : Items) × (nonce : List ℕ) × (policy : List ℕ) × (serial : ℕ)
+    × (d ≡ object (amend_members members nonce policy serial)) × IsAmend members nonce policy serial a
 
 -- the action that the data of a line spells
 abbrev pub IsAction : Data → Action → Type 0

@@ -1,9 +1,10 @@
 //! The fields of each form of a line, which are taken in the order of their names.
 
 ghost use Rattle.std.specs.Prelude.{◌≡◌, ◌≢◌, ℕ, List, codes, MatchOption, MatchBool};
-ghost use Rattle.serde_json.specs.Data.{Items, Members, member, number, object, string, unsigned};
+ghost use Rattle.serde_json.specs.Data.{Items, Members, array, member, number, object, string, unsigned};
 ghost use Rattle.serde_json.specs.View.{view, items_view, members_view};
-ghost use Rattle.json_events.specs.Spelling.{begin_object, call_members, commit_object, finish_object, hex_object, seat_members, upgrade_members, use_object, word_object};
+ghost use Rattle.json_events.specs.Spelling.{amend_members, begin_object, call_members, commit_object, finish_object, hex_object, seat_members, upgrade_members, use_object, word_object};
+ghost use Rattle.json_events.specs.Spelling.{kept_object, public_object};
 
 use json_fields::{Fields, fields, is_end, items, take, take_number, take_text, take_word};
 use serde_json::Value;
@@ -170,6 +171,113 @@ pub(crate) fn begun_upgrade_fields(value: &Value) -> Option<(Place, UpgradeField
         chaincode,
     };
     Some((Place { peer, seat }, fields))
+}
+
+/// Takes the first field that is left, which has this name and holds a list, and gives its items.
+fn take_list<'a>(left: &mut Fields<'a>, name: &str) -> Option<&'a [Value]>
+    ensures { MatchOption result
+        ((ds : Items) (rest : Members) → members_view left.old ≢ member name.now (array ds) rest)
+        (λ vs. members_view left.old
+        ≡ member name.now (array (items_view vs.now)) (members_view left.new)) }
+{
+    items(take(left, name)?)
+}
+
+/// What the fields of an amendment hold.
+#[derive(Clone, Copy)]
+pub(crate) struct AmendFields<'a> {
+    pub members: &'a [Value],
+    pub nonce: &'a str,
+    pub policy: &'a str,
+    pub serial: u64,
+}
+
+/// The fields of an amendment. None where the line is of another form.
+pub(crate) fn amend_fields(value: &Value) -> Option<AmendFields<'_>>
+    ensures { MatchOption result
+        ((members : Items) (nonce policy : List ℕ) (serial : ℕ) →
+        view value.now ≢ object (amend_members members nonce policy serial))
+        (λ f. view value.now
+        ≡ object (amend_members (items_view f.members.now) f.nonce.now f.policy.now f.serial)) }
+{
+    let mut left = fields(value)?;
+    let members = take_list(&mut left, "members")?;
+    let nonce = take_text(&mut left, "nonce")?;
+    let policy = take_text(&mut left, "policy")?;
+    let serial = take_number(&mut left, "serial")?;
+    if !is_end(&mut left) {
+        return None;
+    }
+    Some(AmendFields {
+        members,
+        nonce,
+        policy,
+        serial,
+    })
+}
+
+/// The fields of a begin of an amendment. None where the line is of another form.
+pub(crate) fn begun_amend_fields(value: &Value) -> Option<(Place, AmendFields<'_>)>
+    ensures { MatchOption result
+        ((members : Items) (nonce policy : List ℕ) (serial peer seat : ℕ) →
+        view value.now
+        ≢ begin_object peer seat (amend_members members nonce policy serial))
+        (λ b. view value.now
+        ≡ begin_object b.0.peer b.0.seat
+        (amend_members (items_view b.1.members.now) b.1.nonce.now b.1.policy.now b.1.serial)) }
+{
+    let mut left = fields(value)?;
+    if !take_word(&mut left, "do", "begin") {
+        return None;
+    }
+    let members = take_list(&mut left, "members")?;
+    let nonce = take_text(&mut left, "nonce")?;
+    let (peer, policy) = take_pair(&mut left, "peer", "policy")?;
+    let seat = take_number(&mut left, "seat")?;
+    let serial = take_number(&mut left, "serial")?;
+    if !is_end(&mut left) {
+        return None;
+    }
+    let fields = AmendFields {
+        members,
+        nonce,
+        policy,
+        serial,
+    };
+    Some((Place { peer, seat }, fields))
+}
+
+/// The name of a member that keeps its key. None where the object is of another form.
+pub(crate) fn kept_name(value: &Value) -> Option<&str>
+    ensures { MatchOption result ((name : List ℕ) → view value.now ≢ kept_object name)
+        (λ name. view value.now ≡ kept_object name.now) }
+{
+    let mut left = fields(value)?;
+    let name = take_text(&mut left, "name")?;
+    if is_end(&mut left) { Some(name) } else { None }
+}
+
+/// What the fields of a member with a public key of its own hold: the name, and the key in hex.
+#[derive(Clone, Copy)]
+pub(crate) struct PublicFields<'a> {
+    pub name: &'a str,
+    pub public: &'a str,
+}
+
+/// The fields of a member with a public key of its own. None where the object is of another form.
+pub(crate) fn public_fields(value: &Value) -> Option<PublicFields<'_>>
+    ensures { MatchOption result
+        ((name public : List ℕ) → view value.now ≢ public_object name public)
+        (λ f. view value.now ≡ public_object f.name.now f.public.now) }
+{
+    let mut left = fields(value)?;
+    let name = take_text(&mut left, "name")?;
+    let public = take_text(&mut left, "public")?;
+    if is_end(&mut left) {
+        Some(PublicFields { name, public })
+    } else {
+        None
+    }
 }
 
 /// What the fields of a finish hold.

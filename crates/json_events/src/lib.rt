@@ -12,6 +12,7 @@ mod bindings;
 mod fields;
 mod laws;
 mod line;
+mod members;
 mod values;
 
 pub use action::{Action, BadLine};

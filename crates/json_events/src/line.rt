@@ -10,9 +10,10 @@ ghost use Rattle.json_events.specs.declared.action.Action.TheVariants.{Begin};
 
 use crate::action::{Action, BadLine};
 use crate::fields::{
-    Place, begun_call_fields, begun_upgrade_fields, call_fields, committing_peer, finish_fields,
-    is_word, submitted_hex, upgrade_fields, used_names,
+    Place, amend_fields, begun_amend_fields, begun_call_fields, begun_upgrade_fields, call_fields,
+    committing_peer, finish_fields, is_word, submitted_hex, upgrade_fields, used_names,
 };
+use crate::members::amend;
 use crate::values::{bytes_of, call, names, upgrade};
 use fab_types::Proposal;
 use serde_json::Value;
@@ -67,6 +68,9 @@ fn proposal_of(alloc: Global, value: &Value) -> Result<Proposal, BadLine>
     if let Some(fields) = upgrade_fields(value) {
         return Ok(Proposal::Upgrade(upgrade(alloc, &fields)?));
     }
+    if let Some(fields) = amend_fields(value) {
+        return Ok(Proposal::Amend(amend(alloc, &fields)?));
+    }
     Err(BadLine::NoForm)
 }
 
@@ -91,6 +95,9 @@ fn action_of(alloc: Global, value: &Value) -> Result<Action, BadLine>
     }
     if let Some((place, fields)) = begun_upgrade_fields(value) {
         return Ok(begun(place, Proposal::Upgrade(upgrade(alloc, &fields)?)));
+    }
+    if let Some((place, fields)) = begun_amend_fields(value) {
+        return Ok(begun(place, Proposal::Amend(amend(alloc, &fields)?)));
     }
     if let Some(fields) = finish_fields(value) {
         let name = String::from_str(alloc, fields.name)?;

@@ -3,8 +3,8 @@
 ghost use Rattle.std.specs.Prelude.{◌≡◌, ◌≢◌, ℕ, List, IfOk, IfErr, MatchOption};
 ghost use Rattle.serde_json.specs.View.{items_view};
 ghost use Rattle.fab_types.specs.Limits.{IsFuel, IsName, IsPolicyText};
-ghost use Rattle.wasm_profile.specs.Numbers.{number_of};
-ghost use Rattle.wasm_profile.specs.declared.profile.Profile.{Profile};
+ghost use Rattle.fab_types.specs.Spelling.{form_of};
+ghost use Rattle.fab_types.specs.declared.definition.Definition.{Definition};
 ghost use Rattle.json_events.specs.Refused.{NoneIs};
 ghost use Rattle.json_events.specs.Spelling.{AreNames, AreTexts, IsArgument, IsCall, IsDefinition, IsHex, IsUpgrade};
 
@@ -80,7 +80,7 @@ pub(crate) fn call(alloc: Global, fields: &CallFields<'_>) -> Result<Call, BadLi
 }
 
 /// The policy's text that a text is.
-fn policy_text(alloc: Global, text: &str) -> Result<PolicyText, BadLine>
+pub(crate) fn policy_text(alloc: Global, text: &str) -> Result<PolicyText, BadLine>
     ensures ok { IfOk result (λ p. (p ≡ text.now) × IsPolicyText text.now) }
     ensures refused { IfErr result
         (λ r. NoneIs (λ (p : List ℕ). (p ≡ text.now) × IsPolicyText text.now) r) }
@@ -98,12 +98,16 @@ fn fuel(units: u64) -> Option<Fuel>
     Fuel::new(u32::try_from(units).ok()?)
 }
 
-/// The profile of a number.
-fn profile(number: u64) -> Option<Profile>
-    ensures { MatchOption result ((p : Profile) → number_of p ≢ number)
-        (λ p. number_of p ≡ number) }
+/// Whether a definition of this first byte is open, and its module's profile.
+fn form(number: u64) -> Option<(bool, Profile)>
+    ensures { MatchOption result ((d : Definition) → form_of d ≢ number)
+        (λ f. (d : Definition) → d.is_open ≡ f.0 → d.profile ≡ f.1 → form_of d ≡ number) }
 {
-    Profile::of_number(u8::try_from(number).ok()?)
+    let number = u8::try_from(number).ok()?;
+    match number.checked_sub(16) {
+        None | Some(0) => Some((false, Profile::of_number(number)?)),
+        Some(open) => Some((true, Profile::of_number(open)?)),
+    }
 }
 
 /// The definition that the fields of an upgrade hold.
@@ -116,7 +120,7 @@ fn definition(alloc: Global, fields: &UpgradeFields<'_>) -> Result<Definition, B
         (IsDefinition fields.now.fuel fields.now.digest.now fields.now.policy.now
         fields.now.profile) r) }
 {
-    let (Some(profile), Some(fuel)) = (profile(fields.profile), fuel(fields.fuel)) else {
+    let (Some((is_open, profile)), Some(fuel)) = (form(fields.profile), fuel(fields.fuel)) else {
         return Err(BadLine::NoForm);
     };
     let Ok(digest) = <[u8; 32]>::from_hex(fields.digest) else {
@@ -125,6 +129,7 @@ fn definition(alloc: Global, fields: &UpgradeFields<'_>) -> Result<Definition, B
     let policy = policy_text(alloc, fields.policy)?;
     Ok(Definition {
         profile,
+        is_open,
         digest,
         fuel,
         policy,

@@ -2,5 +2,6 @@ pub mod Items
 pub mod Refusals
 pub mod NamedKeys
 pub mod Whole
+pub mod OfTexts
 pub mod Opens
 pub mod OneGenesis

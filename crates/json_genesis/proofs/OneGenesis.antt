@@ -1,14 +1,15 @@
 -- What a text spells is one genesis.
-use Rattle.std.proofs.Common.{◌≡◌, ℕ, List, Some, refl, sym, ap, subst, ◌∙◌}
+use Rattle.std.proofs.Common.{◌≡◌, ℕ, List, refl, sym, ap, subst, ◌∙◌}
 use Rattle.endorsement_policy.specs.Endorsed.{Listed}
 use Rattle.policy_language.specs.GoodSets.{Names}
 use Rattle.serde_json.specs.Data.{Data, boolean}
-use Rattle.serde_json.specs.Read.{read}
+use Rattle.chaincode_book.specs.declared.book.Held.{Held}
 use Rattle.ledger_setting.specs.declared.genesis.Genesis.{Genesis}
 use Rattle.json_genesis.specs.Lists.{IsListOf}
 use Rattle.json_genesis.specs.Opening.{HoldsSame}
-use Rattle.json_genesis.specs.Spelling.{IsBookOf, IsGenesis, IsPeer, IsPolicy, Parts, Spells, names_of, object_of}
+use Rattle.json_genesis.specs.Spelling.{IsBookOf, IsGenesis, IsPeer, IsPolicy, Parts, SpellsHolding, names_of, object_of}
 use Rattle.json_genesis.proofs.Items.{IsListOf-same}
+use Rattle.json_genesis.proofs.OfTexts.{one_data}
 use Rattle.json_genesis.proofs.Whole.{one_book, one_list, one_policy, same_number}
 use Rattle.json_fields.proofs.Rests.{members_in, rest, rest_of_three, first, text_in}
 
@@ -20,15 +21,15 @@ same_rules a b o p u i =
     ap (λ x. record a { orgs = x }) o ∙ ap (λ x. record a { orgs = b.orgs; policies = x }) p ∙
     ap (λ x. record b { upgrade = x; installed = a.installed }) u ∙ ap (λ x. record b { installed = x }) i
 
-same_fields : (p : Parts) (a b : Genesis) → IsGenesis p a → IsGenesis p b → HoldsSame a b
-same_fields p a b h k =
+same_fields : (held : List Held) (p : Parts) (a b : Genesis) → IsGenesis held p a → IsGenesis held p b → HoldsSame a b
+same_fields held p a b h k =
     let orgs = one_list p.orgs _ _ h.organisations.0 k.organisations.0 in
     let names = sym (ap names_of orgs) in
     let those = names_of a.rules.value.orgs in
     let peers = subst (λ ns. IsListOf (IsPeer ns) 1 8 p.peers b.peers.items) names k.peers in
     let upgrade = subst (λ ns. IsPolicy ns p.upgrade b.rules.value.upgrade) names k.upgrade in
-    let book = subst (λ ns. IsBookOf ns p.chaincodes p.modules b.book.value b.rules.value.policies) names k.book in
-    let one = one_book those p.chaincodes p.modules _ _ _ _ h.book book in
+    let book = subst (λ ns. IsBookOf ns held p.chaincodes p.modules b.book.value b.rules.value.policies) names k.book in
+    let one = one_book those held p.chaincodes p.modules _ _ _ _ h.book book in
     let installed = h.installed ∙ ap (λ x. x.installed) one.0 ∙ sym k.installed in
     let truth : boolean a.reorder ≡ boolean b.reorder = sym h.reorder ∙ k.reorder in
     record {
@@ -68,11 +69,8 @@ parts_in d =
 one_object : (p q : Parts) → object_of p ≡ object_of q → p ≡ q
 one_object p q e = ap parts_in e
 
-one_data : (text : List ℕ) (d e : Data) → read text ≡ Some d → read text ≡ Some e → d ≡ e
-one_data text d e h k = let same = sym h ∙ k in cc
-
-pub one : (text : List ℕ) (a b : Genesis) → Spells text a → Spells text b → HoldsSame a b
-one text a b h k =
+pub one : (text : List ℕ) (held : List Held) (a b : Genesis) → SpellsHolding text held a → SpellsHolding text held b → HoldsSame a b
+one text held a b h k =
     let same_data = one_data text h.0 k.0 h.1 k.1 in
     let parts = one_object h.2.0 k.2.0 (sym h.2.1 ∙ same_data ∙ k.2.1) in
-    same_fields h.2.0 a b h.2.2 (subst (λ p. IsGenesis p b) (sym parts) k.2.2)
+    same_fields held h.2.0 a b h.2.2 (subst (λ p. IsGenesis held p b) (sym parts) k.2.2)

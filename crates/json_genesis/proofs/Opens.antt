@@ -6,6 +6,7 @@ use Rattle.json_fields.specs.Lists.{AreItems}
 use Rattle.policy_language.specs.GoodSets.{is_among, needs_someone}
 use Rattle.endorsement_policy.specs.declared.rules.ChaincodePolicy.{ChaincodePolicy}
 use Rattle.chaincode_book.specs.declared.book.Chaincode.{Chaincode}
+use Rattle.chaincode_book.specs.declared.book.Held.{Held}
 use Rattle.endorsement_policy.specs.Endorsed.{do_need_someone}
 use Rattle.policy_language.specs.Limits.{IsText}
 use Rattle.policy_language.specs.declared.policy.Policy.{Policy}
@@ -14,7 +15,7 @@ use Rattle.ledger_setting.specs.declared.genesis.Genesis.{Genesis}
 use Rattle.json_genesis.specs.declared.definition.Definition.{Definition}
 use Rattle.json_genesis.specs.Lists.{IsListOf}
 use Rattle.json_genesis.specs.Opening.{CanOpen}
-use Rattle.json_genesis.specs.Spelling.{IsDefinition, IsPeer, Parts, IsGenesis, Spells, chaincodes_of, policies_of}
+use Rattle.json_genesis.specs.Spelling.{IsDefinition, IsPeer, Parts, IsGenesis, SpellsHolding, chaincodes_of, policies_of}
 
 -- each peer's organisation is one of these
 known_peers : (orgs : List (List ℕ)) (ds : Items) (xs : List (List ℕ)) → AreItems (IsPeer orgs) ds xs → list_all (is_among orgs) xs ≡ true
@@ -48,8 +49,8 @@ needed orgs (item d ds) (c ∷ cs) h = rw (policy_needed orgs c.policy.policy h.
 pub all_needed : (orgs : List (List ℕ)) (d : Data) (cs : List Definition) → IsListOf (IsDefinition orgs) 1 16 d cs → do_need_someone (policies_of cs) ≡ true
 all_needed orgs d cs h = needed orgs h.0 cs h.2
 
-opens : (p : Parts) (g : Genesis) → IsGenesis p g → CanOpen g
-opens p g h =
+opens : (held : List Held) (p : Parts) (g : Genesis) → IsGenesis held p g → CanOpen g
+opens held p g h =
     let b = h.book in
     let cs = b.0 in
     let names = same_names _ b.2.0 cs b.2.2 in
@@ -63,5 +64,5 @@ opens p g h =
       installed = h.installed;
     }
 
-pub spelled_opens : (text : List ℕ) (g : Genesis) → Spells text g → CanOpen g
-spelled_opens text g h = opens h.2.0 g h.2.2
+pub spelled_opens : (text : List ℕ) (held : List Held) (g : Genesis) → SpellsHolding text held g → CanOpen g
+spelled_opens text held g h = opens held h.2.0 g h.2.2

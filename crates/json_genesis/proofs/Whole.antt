@@ -13,10 +13,10 @@ use Rattle.wasm_decode.specs.ModuleSpelling.{IsModule}
 use Rattle.sha2.specs.Sha256.{sha256}
 use Rattle.chaincode_book.specs.Books.{Book, IsBook}
 use Rattle.chaincode_book.specs.declared.book.Chaincode.{Chaincode}
+use Rattle.chaincode_book.specs.declared.book.Held.{Held}
 use Rattle.serde_json.specs.Data.{Data, Num, unsigned, number}
 use Rattle.ledger_setting.specs.declared.genesis.Genesis.{Genesis}
 use Rattle.json_genesis.specs.declared.definition.Definition.{Definition}
-use Rattle.json_genesis.specs.declared.definition.InstalledModule.{InstalledModule}
 use Rattle.json_genesis.specs.declared.refusal.GenesisRefusal.{GenesisRefusal}
 use Rattle.json_genesis.specs.Lists.{IsListOf}
 use Rattle.json_genesis.specs.Refused.{NoneIs}
@@ -54,7 +54,7 @@ one_hex_module hex a b x y p h k =
     let spelled = subst (λ q. IsModule q a k.0) p (subst (λ bs. IsModule x.profile a bs) bytes h.2) in
     (at_most_one y.profile k.0 a b spelled k.2, same_id x y (h.4 ∙ ap sha256 bytes ∙ sym k.4) p)
 
-pub one_installed : (d : Data) (x y : InstalledModule) → IsInstalled d x → IsInstalled d y → x ≡ y
+pub one_installed : (d : Data) (x y : Held) → IsInstalled d x → IsInstalled d y → x ≡ y
 one_installed d x y h k =
     let e = sym h.2 ∙ k.2 in
     let text = ap (λ d. text_in (first (members_in d))) e in
@@ -90,26 +90,29 @@ one_definition orgs d x y h k =
     let policy = same orgs k.2 _ _ (subst (λ t. IsText orgs x.policy.policy t) text h.9) k.9 in
     same_definition x y (same_chaincode _ _ name one.0 fuel) one.1 (same_policy _ _ (h.10 ∙ name ∙ sym k.10) policy)
 
-same_book : (orgs : Names) (d e : Data) (cs cs' : List Definition) (ms ms' : List InstalledModule) → IsListOf (IsDefinition orgs) 1 16 d cs
-    → IsListOf (IsDefinition orgs) 1 16 d cs' → IsListOf IsInstalled 0 16 e ms → IsListOf IsInstalled 0 16 e ms' → book_of orgs cs ms ≡ book_of orgs cs' ms'
-same_book orgs d e cs cs' ms ms' c c' m m' =
-    ap (λ x. book_of orgs x ms) (IsListOf-same (IsDefinition orgs) (one_definition orgs) 1 16 d cs cs' c c') ∙
-    ap (λ x. book_of orgs cs' x) (IsListOf-same IsInstalled one_installed 0 16 e ms ms' m m')
+same_book : (orgs : Names) (held : List Held) (d e : Data) (cs cs' : List Definition) (ms ms' : List Held) → IsListOf (IsDefinition orgs) 1 16 d cs
+    → IsListOf (IsDefinition orgs) 1 16 d cs' → IsListOf IsInstalled 0 16 e ms → IsListOf IsInstalled 0 16 e ms'
+    → book_of orgs held cs ms ≡ book_of orgs held cs' ms'
+same_book orgs held d e cs cs' ms ms' c c' m m' =
+    ap (λ x. book_of orgs held x ms) (IsListOf-same (IsDefinition orgs) (one_definition orgs) 1 16 d cs cs' c c') ∙
+    ap (λ x. book_of orgs held cs' x) (IsListOf-same IsInstalled one_installed 0 16 e ms ms' m m')
 
-pub one_book : (orgs : Names) (d e : Data) (a b : Book) (ps qs : List ChaincodePolicy) → IsBookOf orgs d e a ps → IsBookOf orgs d e b qs
+pub one_book : (orgs : Names) (held : List Held) (d e : Data) (a b : Book) (ps qs : List ChaincodePolicy) → IsBookOf orgs held d e a ps
+    → IsBookOf orgs held d e b qs
     → (a ≡ b) × (ps ≡ qs)
-one_book orgs d e a b ps qs h k = (
-  h.5 ∙ same_book orgs d e _ _ _ _ h.2 k.2 h.3 k.3 ∙ sym k.5,
+one_book orgs held d e a b ps qs h k = (
+  h.5 ∙ same_book orgs held d e _ _ _ _ h.2 k.2 h.3 k.3 ∙ sym k.5,
   h.6 ∙ ap policies_of (IsListOf-same (IsDefinition orgs) (one_definition orgs) 1 16 d _ _ h.2 k.2) ∙ sym k.6,
 )
 
 -- ---- a part that is refused
 
 -- chaincodes and modules that make no book
-pub NoneIs-book : (orgs : Names) (d e : Data) (cs : List Definition) (ms : List InstalledModule) → IsListOf (IsDefinition orgs) 1 16 d cs
-    → IsListOf IsInstalled 0 16 e ms → ¬ IsBook (book_of orgs cs ms) → (b : Book × List ChaincodePolicy) → ¬ IsBookOf orgs d e b.0 b.1
-NoneIs-book orgs d e cs ms c m not b spelled =
-    not (subst IsBook (spelled.5 ∙ same_book orgs d e _ cs _ ms spelled.2 c spelled.3 m) spelled.4)
+pub NoneIs-book : (orgs : Names) (held : List Held) (d e : Data) (cs : List Definition) (ms : List Held) → IsListOf (IsDefinition orgs) 1 16 d cs
+    → IsListOf IsInstalled 0 16 e ms → ¬ IsBook (book_of orgs held cs ms)
+    → (b : Book × List ChaincodePolicy) → ¬ IsBookOf orgs held d e b.0 b.1
+NoneIs-book orgs held d e cs ms c m not b spelled =
+    not (subst IsBook (spelled.5 ∙ same_book orgs held d e _ cs _ ms spelled.2 c spelled.3 m) spelled.4)
 
 -- two organisations of one name, or of one public key
 pub NoneIs-different : (of : List Organisation → List (List ℕ)) (d : Data) (os : List Organisation) → IsListOf IsOrganisation 1 16 d os
@@ -120,10 +123,10 @@ NoneIs-different of d os h not xs listed spelled =
     cc
 
 -- a part that rests on the names of the organisations
-pub NoneIs-part : {A : Type 0} (Is : Names → A → Type 0) (part : Genesis → A) (p : Parts) (os : List Organisation) (orgs : Names) (r : GenesisRefusal)
-    → ((g : Genesis) → IsGenesis p g → Is (names_of g.rules.value.orgs) (part g)) → AreOrganisations p.orgs os → orgs ≡ names_of os
-    → NoneIs (Is orgs) r → NoneIs (IsGenesis p) r
-NoneIs-part Is part p os orgs r has h is none = (
+pub NoneIs-part : {A : Type 0} (Is : Names → A → Type 0) (part : Genesis → A) (held : List Held) (p : Parts) (os : List Organisation) (orgs : Names) (r : GenesisRefusal)
+    → ((g : Genesis) → IsGenesis held p g → Is (names_of g.rules.value.orgs) (part g)) → AreOrganisations p.orgs os → orgs ≡ names_of os
+    → NoneIs (Is orgs) r → NoneIs (IsGenesis held p) r
+NoneIs-part Is part held p os orgs r has h is none = (
   none.0,
   λ real g spelled.
       let same = is ∙ ap names_of (one_list p.orgs os _ h.0 spelled.organisations.0) in

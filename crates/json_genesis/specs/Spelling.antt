@@ -23,9 +23,9 @@ use Rattle.policy_language.specs.declared.policy.Policy.{Policy}
 use Rattle.endorsement_policy.specs.declared.rules.ChaincodePolicy.{ChaincodePolicy}
 use Rattle.chaincode_book.specs.Books.{Book, IsBook}
 use Rattle.chaincode_book.specs.declared.book.Chaincode.{Chaincode}
+use Rattle.chaincode_book.specs.declared.book.Held.{Held}
 use Rattle.ledger_setting.specs.declared.genesis.Genesis.{Genesis}
 use Rattle.json_genesis.specs.declared.definition.Definition.{Definition}
-use Rattle.json_genesis.specs.declared.definition.InstalledModule.{InstalledModule}
 use Rattle.json_genesis.specs.Lists.{IsListOf, IsNumber}
 
 -- the bytes that a text of hex stands for
@@ -93,11 +93,11 @@ abbrev pub IsHexModule : List ℕ → Module → ModuleId → Type 0
 IsHexModule hex m id = (bytes : List ℕ) × IsHex hex bytes × IsModule id.profile m bytes × IsValid m × (id.digest ≡ sha256 bytes)
 
 -- the hex is of this module by the profile that the data name
-abbrev pub IsModuleOf : List ℕ → Data → InstalledModule → Type 0
+abbrev pub IsModuleOf : List ℕ → Data → Held → Type 0
 IsModuleOf hex profile m = IsProfile profile m.id.profile × IsHexModule hex m.«module» m.id
 
 -- one more module
-abbrev pub IsInstalled : Data → InstalledModule → Type 0
+abbrev pub IsInstalled : Data → Held → Type 0
 IsInstalled d m = (hex : List ℕ) × (profile : Data) × (d ≡ module_object hex profile) × IsModuleOf hex profile m
 
 -- "'A'": a policy over these organisations
@@ -125,26 +125,27 @@ ids_of cs = map (λ (c : Definition). c.id) cs
 abbrev pub policies_of : List Definition → List ChaincodePolicy
 policies_of cs = map (λ (c : Definition). c.policy) cs
 
-abbrev pub more_modules_of : List InstalledModule → List Module
-more_modules_of ms = map (λ (m : InstalledModule). m.«module») ms
+abbrev pub more_modules_of : List Held → List Module
+more_modules_of ms = map (λ (m : Held). m.«module») ms
 
-abbrev pub more_ids_of : List InstalledModule → List ModuleId
-more_ids_of ms = map (λ (m : InstalledModule). m.id) ms
+abbrev pub more_ids_of : List Held → List ModuleId
+more_ids_of ms = map (λ (m : Held). m.id) ms
 
--- the book of these chaincodes and more modules, where policies name these organisations
-abbrev pub book_of : Names → List Definition → List InstalledModule → Book
-book_of orgs cs ms = record {
+-- the book of these chaincodes and more modules, where policies name these organisations and the first modules are at hand beside them
+abbrev pub book_of : Names → List Held → List Definition → List Held → Book
+book_of orgs held cs ms = record {
   chaincodes = chaincodes_of cs;
   modules = more_modules_of ms;
   installed = record { modules = ids_of cs ++ more_ids_of ms; orgs = orgs };
+  held = held;
 }
 
--- the book that the fields "chaincodes" and "modules" spell, and the policies of its chaincodes
-abbrev pub IsBookOf : Names → Data → Data → Book → List ChaincodePolicy → Type 0
-IsBookOf orgs chaincodes modules book policies =
-    (cs : List Definition) × (ms : List InstalledModule)
+-- the book that the fields "chaincodes" and "modules" spell, with these modules at hand, and the policies of its chaincodes
+abbrev pub IsBookOf : Names → List Held → Data → Data → Book → List ChaincodePolicy → Type 0
+IsBookOf orgs held chaincodes modules book policies =
+    (cs : List Definition) × (ms : List Held)
     × IsListOf (IsDefinition orgs) 1 16 chaincodes cs × IsListOf IsInstalled 0 16 modules ms
-    × IsBook book × (book ≡ book_of orgs cs ms) × (policies ≡ policies_of cs)
+    × IsBook book × (book ≡ book_of orgs held cs ms) × (policies ≡ policies_of cs)
 
 -- what the fields of the file hold
 pub record Parts : Type 0 where
@@ -168,8 +169,8 @@ object_of p =
     (member (codes "preferred") p.preferred (member (codes "queue") p.queue (member (codes "reorder") p.reorder
     (member (codes "seats") p.seats (member (codes "upgrade") p.upgrade no_members)))))))))))
 
--- the genesis that the fields spell, with no seed at hand
-pub record IsGenesis (p : Parts) (g : Genesis) : Type 0 where
+-- the genesis that the fields spell, with these modules and no seed at hand
+pub record IsGenesis (held : List Held) (p : Parts) (g : Genesis) : Type 0 where
   pub seats : IsNumber 1 64 p.seats g.seats
   pub queue : IsNumber 1 4096 p.queue g.queue
   pub count : IsNumber 1 512 p.count g.count
@@ -178,15 +179,27 @@ pub record IsGenesis (p : Parts) (g : Genesis) : Type 0 where
   pub reorder : p.reorder ≡ boolean g.reorder
   pub organisations : AreOrganisations p.orgs g.rules.value.orgs
   pub peers : IsListOf (IsPeer (names_of g.rules.value.orgs)) 1 8 p.peers g.peers.items
-  pub book : IsBookOf (names_of g.rules.value.orgs) p.chaincodes p.modules g.book.value g.rules.value.policies
+  pub book : IsBookOf (names_of g.rules.value.orgs) held p.chaincodes p.modules g.book.value g.rules.value.policies
   pub upgrade : IsPolicy (names_of g.rules.value.orgs) p.upgrade g.rules.value.upgrade
   pub installed : g.rules.value.installed ≡ g.book.value.installed
   pub signers : g.signers.value ≡ []
 
--- the genesis that the data of a file spells
-abbrev pub IsGenesisOf : Data → Genesis → Type 0
-IsGenesisOf d g = (p : Parts) × (d ≡ object_of p) × IsGenesis p g
+-- the genesis that the data of a file spells, with these modules at hand
+abbrev pub IsGenesisOf : List Held → Data → Genesis → Type 0
+IsGenesisOf held d g = (p : Parts) × (d ≡ object_of p) × IsGenesis held p g
+
+-- the genesis that a text spells, with these modules at hand in its book
+abbrev pub SpellsHolding : List ℕ → List Held → Genesis → Type 0
+SpellsHolding text held g = (d : Data) × (read text ≡ Some d) × IsGenesisOf held d g
 
 -- the genesis that a text spells
 abbrev pub Spells : List ℕ → Genesis → Type 0
-Spells text g = (d : Data) × (read text ≡ Some d) × IsGenesisOf d g
+Spells text g = SpellsHolding text [] g
+
+-- the modules that the data of a modules file spell
+abbrev pub AreModules : Data → List Held → Type 0
+AreModules d ms = IsListOf IsInstalled 0 64 d ms
+
+-- the modules that a text spells
+abbrev pub SpellsModules : List ℕ → List Held → Type 0
+SpellsModules text ms = (d : Data) × (read text ≡ Some d) × AreModules d ms

@@ -11,25 +11,27 @@ use crate::chaincodes::{Apart, DefinitionReader, parted};
 use crate::lists::read_list;
 use crate::modules::{ModuleReader, modules_apart};
 use crate::refusal::GenesisRefusal;
-use chaincode_book::Book;
+use chaincode_book::{Book, Held};
 use endorsement_policy::{ChaincodePolicy, Installed};
 use fab_types::OrgName;
 use fab_types::limits::{MOST_CHAINCODES, MOST_MODULES};
 use serde_json::Value;
 use std::alloc::Global;
 
-/// The book of the chaincodes and modules that are listed, and the policies of its chaincodes.
+/// The book of the chaincodes and modules that are listed, with those modules at hand that are held,
+/// and the policies of its chaincodes.
 pub(crate) fn book(
     alloc: Global,
     chaincodes: &Value,
     modules: &Value,
     orgs: Vec<OrgName>,
+    held: Vec<Held>,
 ) -> Result<(Book, Vec<ChaincodePolicy>), GenesisRefusal>
     ensures ok { IfOk result
-        (λ b. IsBookOf orgs.items (view chaincodes.now) (view modules.now) b.0 b.1.items) }
+        (λ b. IsBookOf orgs.items held.items (view chaincodes.now) (view modules.now) b.0 b.1.items) }
     ensures refused { IfErr result
         (λ r. NoneIs
-        (λ (b : Book × List ChaincodePolicy). IsBookOf orgs.items (view chaincodes.now)
+        (λ (b : Book × List ChaincodePolicy). IsBookOf orgs.items held.items (view chaincodes.now)
         (view modules.now) b.0 b.1) r) }
 {
     let reader = DefinitionReader { orgs: &orgs };
@@ -41,7 +43,7 @@ pub(crate) fn book(
         policies,
     } = parted(alloc, definitions)?;
     let (modules, ids) = modules_apart(alloc, installed, ids)?;
-    match Book::new(chaincodes, modules, Installed::new(ids, orgs)) {
+    match Book::new(chaincodes, modules, Installed::new(ids, orgs), held) {
         Some(book) => Ok((book, policies)),
         None => Err(GenesisRefusal::Names),
     }

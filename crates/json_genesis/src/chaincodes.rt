@@ -8,13 +8,13 @@ ghost use Rattle.json_genesis.specs.declared.refusal.GenesisRefusal.TheVariants.
 ghost use Rattle.json_genesis.specs.Refused.{NoneIs};
 ghost use Rattle.json_genesis.specs.Spelling.{HasParts, IsPolicy, chaincodes_of, ids_of, policies_of};
 
-use crate::definition::{Definition, InstalledModule};
+use crate::definition::Definition;
 use crate::each::ReadItem;
 use crate::fields::{ChaincodeFields, chaincode_fields};
 use crate::modules::module;
 use crate::numbers::within;
 use crate::refusal::GenesisRefusal;
-use chaincode_book::Chaincode;
+use chaincode_book::{Chaincode, Held};
 use endorsement_policy::{ChaincodePolicy, ModuleId};
 use fab_types::limits::MOST_FUEL;
 use fab_types::{Name, OrgName};
@@ -67,7 +67,7 @@ fn definition(
         fields.now.policy.now) r) }
 {
     let chaincode = name.clone()?;
-    let InstalledModule { module, id } = module(alloc, fields.hex, fields.profile)?;
+    let Held { id, module } = module(alloc, fields.hex, fields.profile)?;
     let policy = policy(alloc, fields.policy, orgs)?;
     Ok(Definition {
         chaincode: Chaincode { name, module, fuel },

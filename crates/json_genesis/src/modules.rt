@@ -6,16 +6,15 @@ ghost use Rattle.wasm_ast.specs.declared.module.Module.{Module};
 ghost use Rattle.wasm_decode.specs.ModuleSpelling.{IsModule};
 ghost use Rattle.wasm_typing.specs.ModuleRules.{IsValid};
 ghost use Rattle.wasm_typing.specs.declared.fault.ValidateFault.{ValidateFault};
-ghost use Rattle.json_genesis.specs.declared.definition.InstalledModule.{InstalledModule};
 ghost use Rattle.json_genesis.specs.declared.refusal.GenesisRefusal.TheVariants.{Memory, Json};
 ghost use Rattle.json_genesis.specs.Refused.{NoneIs};
 ghost use Rattle.json_genesis.specs.Spelling.{IsModuleOf, more_ids_of, more_modules_of};
 
-use crate::definition::InstalledModule;
 use crate::each::ReadItem;
 use crate::fields::module_fields;
 use crate::numbers::{bytes_of, profile};
 use crate::refusal::GenesisRefusal;
+use chaincode_book::Held;
 use endorsement_policy::ModuleId;
 use serde_json::Value;
 use sha2::{Digest, Sha256};
@@ -29,13 +28,13 @@ use wasm_validate::{ValidModule, ValidateFault, validate};
 pub(crate) struct ModuleReader;
 
 impl ReadItem for ModuleReader {
-    type Item = InstalledModule;
+    type Item = Held;
 
     ghost use Rattle.json_genesis.specs.Spelling.{IsInstalled};
 
     ghost spells = { λ _. IsInstalled };
 
-    fn read(&self, alloc: Global, value: &Value) -> Result<InstalledModule, GenesisRefusal> {
+    fn read(&self, alloc: Global, value: &Value) -> Result<Held, GenesisRefusal> {
         match module_fields(value) {
             Some(fields) => module(alloc, fields.hex, fields.profile),
             None => Err(GenesisRefusal::Field),
@@ -45,11 +44,7 @@ impl ReadItem for ModuleReader {
 
 /// The valid module whose bytes are written in hex, read by the profile that a field holds, with
 /// what it is known by.
-pub(crate) fn module(
-    alloc: Global,
-    hex: &str,
-    number: &Value,
-) -> Result<InstalledModule, GenesisRefusal>
+pub(crate) fn module(alloc: Global, hex: &str, number: &Value) -> Result<Held, GenesisRefusal>
     ensures ok { IfOk result (λ m. IsModuleOf hex.now (view number.now) m) }
     ensures refused { IfErr result (λ r. NoneIs (IsModuleOf hex.now (view number.now)) r) }
 {
@@ -58,7 +53,7 @@ pub(crate) fn module(
     let module = module_in(alloc, &bytes, profile)?;
     let digest = Sha256::digest(bytes.as_slice());
     let id = ModuleId { digest, profile };
-    Ok(InstalledModule { module, id })
+    Ok(Held { id, module })
 }
 
 /// The valid module of a profile that bytes spell.
@@ -92,7 +87,7 @@ fn refusal_of_module(fault: ValidateFault) -> GenesisRefusal
 /// The modules apart from their ids, which come behind those that are given.
 pub(crate) fn modules_apart(
     alloc: Global,
-    installed: Vec<InstalledModule>,
+    installed: Vec<Held>,
     ids: Vec<ModuleId>,
 ) -> Result<(Vec<ValidModule>, Vec<ModuleId>), AllocError>
     ensures { IfOk result (λ p. (p.0.items ≡ more_modules_of installed.items)
@@ -101,7 +96,7 @@ pub(crate) fn modules_apart(
     let mut modules = Vec::with_capacity(alloc, installed.len())?;
     let mut ids = ids;
     'modules: for each in installed {
-        let InstalledModule { module, id } = each;
+        let Held { id, module } = each;
         modules.push(module)?;
         ids.push(id)?;
     }

@@ -1,12 +1,12 @@
 //! The file as a whole.
 
-ghost use Rattle.std.specs.Prelude.{IfOk, IfErr};
+ghost use Rattle.std.specs.Prelude.{◌≤◌, length, IfOk, IfErr};
 ghost use Rattle.serde_json.specs.View.{view};
 ghost use Rattle.json_genesis.specs.Fields.{parts_of};
-ghost use Rattle.json_genesis.specs.NoGenesis.{NoGenesis};
+ghost use Rattle.json_genesis.specs.NoGenesis.{NoGenesis, NoGenesisHolding};
 ghost use Rattle.json_genesis.specs.Opening.{CanOpen};
 ghost use Rattle.json_genesis.specs.Refused.{NoneIs};
-ghost use Rattle.json_genesis.specs.Spelling.{IsGenesis, IsGenesisOf, Spells};
+ghost use Rattle.json_genesis.specs.Spelling.{IsGenesis, IsGenesisOf, Spells, SpellsHolding};
 
 use crate::book::book;
 use crate::chaincodes::upgrade_policy;
@@ -16,6 +16,7 @@ use crate::numbers::{size_within, truth};
 use crate::organisations::organisations;
 use crate::peers::PeerReader;
 use crate::refusal::GenesisRefusal;
+use chaincode_book::Held;
 use endorsement_policy::Rules;
 use fab_types::limits::{MOST_DATA_BYTES, MOST_PEERS, MOST_QUEUED, MOST_SEATS, MOST_TRANSACTIONS};
 use ledger_setting::Genesis;
@@ -25,7 +26,7 @@ use serde_json::error::Category;
 use std::alloc::Global;
 use std::sync::Arc;
 
-/// The genesis that a text spells, with no seed at hand.
+/// The genesis that a text spells, with neither a module nor a seed at hand beside it.
 ///
 /// Refused where the text is not JSON (801), where a field is missing, left over or of the wrong
 /// kind or hex is not read (802), where a number, a length, a name or a public key is out of its
@@ -37,28 +38,47 @@ pub fn read_genesis(alloc: Global, text: &str) -> Result<Genesis, GenesisRefusal
     ensures opening { IfOk result (λ g. CanOpen g) }
     ensures refused { IfErr result (λ r. NoGenesis text.now r) }
 {
+    read_genesis_holding(alloc, text, Vec::new(alloc))
+}
+
+/// The same with these modules at hand in its book, 64 at most, beside those that the text installs.
+/// Refused as `read_genesis` refuses the text.
+pub fn read_genesis_holding(
+    alloc: Global,
+    text: &str,
+    held: Vec<Held>,
+) -> Result<Genesis, GenesisRefusal>
+    requires held { length held.items ≤ 64 }
+    ensures ok { IfOk result (λ g. SpellsHolding text.now held.items g) }
+    ensures opening { IfOk result (λ g. CanOpen g) }
+    ensures refused { IfErr result (λ r. NoGenesisHolding text.now held.items r) }
+{
     match Value::from_str(alloc, text) {
-        Ok(value) => genesis_of(alloc, &value),
+        Ok(value) => genesis_of(alloc, &value, held),
         Err(error) if error.classify() == Category::Memory => Err(GenesisRefusal::Memory),
         Err(_) => Err(GenesisRefusal::Json),
     }
 }
 
-/// The genesis that the data of a file spells.
-fn genesis_of(alloc: Global, value: &Value) -> Result<Genesis, GenesisRefusal>
-    ensures ok { IfOk result (λ g. IsGenesisOf (view value.now) g) }
-    ensures refused { IfErr result (λ r. NoneIs (IsGenesisOf (view value.now)) r) }
+/// The genesis that the data of a file spells, with these modules at hand.
+fn genesis_of(alloc: Global, value: &Value, held: Vec<Held>) -> Result<Genesis, GenesisRefusal>
+    ensures ok { IfOk result (λ g. IsGenesisOf held.items (view value.now) g) }
+    ensures refused { IfErr result (λ r. NoneIs (IsGenesisOf held.items (view value.now)) r) }
 {
     match genesis_fields(value) {
-        Some(fields) => genesis_from(alloc, &fields),
+        Some(fields) => genesis_from(alloc, &fields, held),
         None => Err(GenesisRefusal::Field),
     }
 }
 
-/// The genesis that the fields spell.
-fn genesis_from(alloc: Global, fields: &GenesisFields<'_>) -> Result<Genesis, GenesisRefusal>
-    ensures ok { IfOk result (λ g. IsGenesis (parts_of fields.now) g) }
-    ensures refused { IfErr result (λ r. NoneIs (IsGenesis (parts_of fields.now)) r) }
+/// The genesis that the fields spell, with these modules at hand.
+fn genesis_from(
+    alloc: Global,
+    fields: &GenesisFields<'_>,
+    held: Vec<Held>,
+) -> Result<Genesis, GenesisRefusal>
+    ensures ok { IfOk result (λ g. IsGenesis held.items (parts_of fields.now) g) }
+    ensures refused { IfErr result (λ r. NoneIs (IsGenesis held.items (parts_of fields.now)) r) }
 {
     let seats = size_within(fields.seats, 1, MOST_SEATS)?;
     let queue = size_within(fields.queue, 1, MOST_QUEUED)?;
@@ -70,7 +90,7 @@ fn genesis_from(alloc: Global, fields: &GenesisFields<'_>) -> Result<Genesis, Ge
     let reader = PeerReader { orgs: &orgs };
     let peers = read_list(alloc, &reader, fields.peers, 1, MOST_PEERS)?;
     let upgrade = upgrade_policy(alloc, fields.upgrade, &orgs)?;
-    let (book, policies) = book(alloc, fields.chaincodes, fields.modules, orgs)?;
+    let (book, policies) = book(alloc, fields.chaincodes, fields.modules, orgs, held)?;
     let installed = book.installed().clone()?;
     let Some(rules) = Rules::new(organisations, policies, upgrade, installed) else {
         return Err(GenesisRefusal::Policy);

@@ -1,4 +1,4 @@
-//! Why a text gives no genesis.
+//! Why a text gives no genesis, or no modules.
 
 ghost use Rattle.std.specs.Prelude.{◌≡◌};
 ghost use Rattle.json_genesis.specs.Numbers.{refusal_number};
@@ -8,7 +8,7 @@ use std::alloc::{AllocError, AllocFailed};
 use std::error::Error;
 use std::fmt::{self, Display, Formatter, Write};
 
-/// Why a text gives no genesis.
+/// Why a text gives no genesis, or no modules.
 #[derive(Clone, Copy, Debug, PartialEq, Eq)]
 pub enum GenesisRefusal {
     /// A growth of memory was refused.

@@ -4,3 +4,4 @@ use Rattle.json_events.proofs.line.proposal_of.Goals as goal
 pub returns-clause-refused : goal.returns-clause-refused
 returns-clause-refused c real (proposal.Call call) h = c.in_default.ensures h.0 h.1 h.2 h.3
 returns-clause-refused c real (proposal.Upgrade u) h = c.in_default-upgrade_fields.ensures h.0 h.1 h.2 h.3 h.4 h.5 h.6
+returns-clause-refused c real (proposal.Amend a) h = c.in_default-amend_fields.ensures h.0 h.1 h.2 h.3 h.4

@@ -55,7 +55,7 @@ returns-in_err-peers-clause-refused c =
     let names = c.deref.ensures.value ∙ c.in_ok-organisations.ensures.ok.1 in
     let d = (parts_of c.args.fields.now).peers in
     rw (p.1, p.2)
-    (NoneIs-part (λ orgs. IsListOf (IsPeer orgs) 1 8 d) (λ g. g.peers.items) _ _ _ _ (λ g h. h.peers) c.in_ok-organisations.ensures.ok.0 names
+    (NoneIs-part (λ orgs. IsListOf (IsPeer orgs) 1 8 d) (λ g. g.peers.items) _ _ _ _ _ (λ g h. h.peers) c.in_ok-organisations.ensures.ok.0 names
     c.in_err-peers.ensures.refused)
 
 pub returns-in_err-upgrade-clause-refused : goal.returns-in_err-upgrade-clause-refused
@@ -64,7 +64,7 @@ returns-in_err-upgrade-clause-refused c =
     let names = c.deref-2.ensures.value ∙ c.in_ok-organisations.ensures.ok.1 in
     let d = (parts_of c.args.fields.now).upgrade in
     rw (p.1, p.2)
-    (NoneIs-part (λ orgs. IsPolicy orgs d) (λ g. g.rules.value.upgrade) _ _ _ _ (λ g h. h.upgrade) c.in_ok-organisations.ensures.ok.0 names
+    (NoneIs-part (λ orgs. IsPolicy orgs d) (λ g. g.rules.value.upgrade) _ _ _ _ _ (λ g h. h.upgrade) c.in_ok-organisations.ensures.ok.0 names
     c.in_err-upgrade.ensures.refused)
 
 pub returns-in_err-book-clause-refused : goal.returns-in_err-book-clause-refused
@@ -73,7 +73,7 @@ returns-in_err-book-clause-refused c =
     let names = c.in_ok-organisations.ensures.ok.1 in
     let parts = parts_of c.args.fields.now in
     rw (p.1, p.2)
-    (NoneIs-part (λ orgs b. IsBookOf orgs parts.chaincodes parts.modules b.0 b.1) (λ g. (g.book.value, g.rules.value.policies)) _ _ _ _ (λ g h. h.book)
+    (NoneIs-part (λ orgs b. IsBookOf orgs c.args.held.items parts.chaincodes parts.modules b.0 b.1) (λ g. (g.book.value, g.rules.value.policies)) _ _ _ _ _ (λ g h. h.book)
     c.in_ok-organisations.ensures.ok.0 names c.in_err-book.ensures.refused)
 
 pub returns-in_default-clause-refused : goal.returns-in_default-clause-refused
@@ -82,3 +82,22 @@ returns-in_default-clause-refused c =
     let needed = all_needed _ _ book.0 book.2 in
     let upgrade = policy_needed _ _ _ c.in_ok-upgrade.ensures.ok.2 in
     absurd (true≢false (sym (c.in_default.ensures.accepted.1 (rw book.6 needed, upgrade))))
+
+pub returns-clause-ok : goal.returns-clause-ok
+returns-clause-ok c =
+    let names = sym c.in_ok-organisations.ensures.ok.1 in
+    let rules = c.in_ok-new-2.ensures.ok ∙ c.in-Some.ensures.value in
+    record {
+      seats = c.in_ok-seats.ensures.ok;
+      queue = c.in_ok-queue.ensures.ok;
+      count = c.in_ok-count.ensures.ok;
+      preferred = c.in_ok-preferred.ensures.ok;
+      absolute = c.in_ok-absolute.ensures.ok;
+      reorder = c.in_ok-reorder.ensures.ok;
+      organisations = rw rules c.in_ok-organisations.ensures.ok.0;
+      peers = rw (rules, names, sym c.deref.ensures.value) c.in_ok-peers.ensures.ok;
+      book = rw (c.in_ok-new.ensures.ok, rules, names) c.in_ok-book.ensures.ok;
+      upgrade = rw (rules, names, sym c.deref-2.ensures.value) c.in_ok-upgrade.ensures.ok;
+      installed = rw (rules, c.in_ok-new.ensures.ok) (c.in_ok-installed.ensures.cases ∙ c.installed.ensures);
+      signers = c.in_ok-new-3.ensures.ok ∙ c.none.ensures;
+    }

@@ -1,7 +1,7 @@
 use Rattle.std.proofs.Common.{◌≡◌, ◌++◌, map, drop}
 use Rattle.serde_json.specs.View.{view}
-use Rattle.json_chain.specs.Settings.{org_json}
-use Rattle.json_chain.proofs.setting.orgs_of.Given as goal
+use Rattle.json_chain.specs.Genesis.{org_json}
+use Rattle.json_chain.proofs.genesis.orgs_of.Given as goal
 
 abbrev pub invariant-loop-name : goal.invariant-loop-name
 invariant-loop-name l =

@@ -4,9 +4,9 @@ ghost use Rattle.std.specs.Prelude.{◌≡◌, ◌≤◌, Some, IfOk, OnOk, leng
 ghost use Rattle.serde_json.specs.Data.{array};
 ghost use Rattle.serde_json.specs.View.{items_of, view};
 ghost use Rattle.json_chain.specs.Members.{members_in};
-ghost use Rattle.json_chain.specs.Settings.{chaincode_json, chaincodes_json, module_json};
-ghost use Rattle.json_chain.specs.Settings.{named_json, org_json, policy_json, setting_json};
-ghost use Rattle.json_chain.specs.Settings.{with_book, with_limits};
+ghost use Rattle.json_chain.specs.Genesis.{chaincode_json, chaincodes_json, module_json};
+ghost use Rattle.json_chain.specs.Genesis.{named_json, org_json, policy_json, genesis_json};
+ghost use Rattle.json_chain.specs.Genesis.{with_book, with_limits};
 ghost use Rattle.json_chain.specs.Texts.{list_json};
 ghost use Rattle.endorsement_policy.specs.Endorsed.{listed_policy};
 
@@ -23,8 +23,8 @@ use serde_json::Value;
 use std::alloc::{AllocError, Global};
 
 /// What a ledger begins with, but for the shared keys. The only error is want of memory.
-pub(crate) fn setting_of(alloc: Global, genesis: &Genesis) -> Result<Value, AllocError>
-    ensures { IfOk result (λ v. view v ≡ setting_json genesis.now) }
+pub(crate) fn genesis_of(alloc: Global, genesis: &Genesis) -> Result<Value, AllocError>
+    ensures { IfOk result (λ v. view v ≡ genesis_json genesis.now) }
 {
     let mut object = Object::new(alloc);
     put_limits(&mut object, genesis)?;
@@ -32,7 +32,7 @@ pub(crate) fn setting_of(alloc: Global, genesis: &Genesis) -> Result<Value, Allo
     Ok(object.into_value())
 }
 
-/// Puts in what batches are cut and ordered by, and the number of this form of a setting.
+/// Puts in what batches are cut and ordered by, and the number of this form of a genesis.
 fn put_limits(object: &mut Object, genesis: &Genesis) -> Result<(), AllocError>
     ensures { OnOk result
         (members_in object.new ≡ with_limits genesis.now (members_in object.old)) }

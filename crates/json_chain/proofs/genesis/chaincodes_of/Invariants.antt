@@ -1,7 +1,7 @@
 use Rattle.std.proofs.Common.{◌≡◌, ◌++◌, map, drop}
 use Rattle.serde_json.specs.View.{view}
-use Rattle.json_chain.specs.Settings.{chaincodes_json}
-use Rattle.json_chain.proofs.setting.chaincodes_of.Given as goal
+use Rattle.json_chain.specs.Genesis.{chaincodes_json}
+use Rattle.json_chain.proofs.genesis.chaincodes_of.Given as goal
 
 abbrev pub invariant-loop-place : goal.invariant-loop-place
 invariant-loop-place l =

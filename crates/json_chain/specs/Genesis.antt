@@ -43,8 +43,8 @@ abbrev pub org_json : List Organisation → List ℕ → Data
 org_json orgs name = named_json name (key_of orgs name)
 
 -- all that is set but the shared keys; the seats and the queue have no part in the chain
-abbrev pub setting_json : Genesis → Data
-setting_json g =
+abbrev pub genesis_json : Genesis → Data
+genesis_json g =
     let book = g.book.value in
     let rules = g.rules.value in
     object (member (codes "absolute") (number (unsigned g.absolute))
@@ -56,7 +56,7 @@ setting_json g =
 
 -- ---- the same members as they are put in
 
--- what batches are cut and ordered by, and the number of this form of a setting
+-- what batches are cut and ordered by, and the number of this form of a genesis
 abbrev pub with_limits : Genesis → Members → Members
 with_limits g ms =
     put (codes "reorder") (boolean g.reorder) (put (codes "preferred") (number (unsigned g.preferred)) (put (codes "ledger") (number (unsigned 1))

@@ -1,0 +1,6 @@
+use Rattle.std.proofs.Common.{arith}
+use Rattle.json_chain.proofs.Depths.{genesis_low}
+use Rattle.json_chain.proofs.line.genesis_line.Goals as goal
+
+pub line_of-requires : goal.line_of-requires
+line_of-requires c = rw c.in_ok-genesis_of.ensures (omega (arith, genesis_low c.args.genesis.now))
