@@ -34,7 +34,7 @@ pub enum Failure {
     /// A seat on a thread of its own got no place at its peer.
     NoPlace,
     /// A seat on a thread of its own got no snapshot from its peer.
-    NoEntry,
+    NotEntered,
     /// A block of a store does not fit.
     Commit(CommitRefusal),
     /// The block of this number is stored with other flags than the table's.
@@ -66,7 +66,7 @@ impl Display for Failure {
             Failure::NoSecret => write!(f, "refused 808"),
             Failure::Simulation(refusal) => write!(f, "{refusal}"),
             Failure::NoPlace => write!(f, "refused 431"),
-            Failure::NoEntry => write!(f, "refused 432"),
+            Failure::NotEntered => write!(f, "refused 432"),
             Failure::Commit(refusal) => write!(f, "{refusal}"),
             Failure::Flags(block) => write!(f, "refused 711 block {block}"),
             Failure::Store(end) => write!(f, "refused {end}"),

@@ -5,6 +5,7 @@ ghost use Rattle.std.specs.Prelude.{◌≡◌, ℕ, List, Option, None, IfSome, 
 use std::alloc::{AllocError, Global};
 use std::fs::OpenFile;
 use std::io::{self, ErrorKind, Read, Seek, Write};
+use store_replay::Watch;
 
 /// Where the program's files are.
 pub trait Files {
@@ -18,6 +19,8 @@ pub trait Files {
 
     /// A file that the program has for itself alone, until this is dropped.
     type Lock: Drop;
+
+    type Watch: Watch + Drop;
 
     /// The bytes of the file of a name, where they are known.
     ghost bytes: { Self → List ℕ → Option (List ℕ) } = { λ _ _. None };
@@ -65,6 +68,9 @@ pub trait Files {
 
     /// The standard input, from where it was read to.
     fn input(&mut self) -> Self::Input;
+
+    /// Who is told how far a replay is, until this is dropped.
+    fn watch(&mut self) -> Self::Watch;
 
     /// Says a line to whoever runs the program, on the standard error.
     fn remark(&mut self, line: &str);

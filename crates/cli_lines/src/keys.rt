@@ -1,8 +1,9 @@
 //! The seeds of a key file, and who can endorse with them.
 
-ghost use Rattle.std.specs.Prelude.{◌≡◌, true, false, Ok, Err, IfErr, IfOk, IfSome};
+ghost use Rattle.std.specs.Prelude.{◌≡◌, true, false, Ok, Err, IfErr, IfOk, IfSome, option_map};
+ghost use Rattle.std.specs.List.{find, list_any};
 ghost use Rattle.key_file.specs.KeyFiles.{IsKeyFile};
-ghost use Rattle.cli_lines.specs.Sealing.{can_seal};
+ghost use Rattle.cli_lines.specs.Sealing.{lacks_seed};
 ghost use Rattle.cli_lines.specs.Told.{IsSilent};
 ghost use Rattle.cli_lines.specs.declared.failure.Failure.TheVariants.{NoSecret};
 
@@ -61,19 +62,19 @@ fn remark_malformed<F: Files>(alloc: Global, files: &mut F, name: &str) -> Resul
     Ok(())
 }
 
-/// Whether the secret of an organisation is at hand: its key is a shared one, or its seed is among
-/// these. One that is not listed has none, and lacks none.
-pub fn can_seal(rules: &Rules, signers: &Signers, org: &OrgName) -> bool
-    ensures { result ≡ can_seal rules.now signers.now org.now }
+/// Whether an organisation is listed with a public key whose seed is not among these. One that is
+/// not listed lacks none.
+pub fn lacks_seed(rules: &Rules, signers: &Signers, org: &OrgName) -> bool
+    ensures { result ≡ lacks_seed rules.now signers.now org.now }
 {
     match rules.organisation(org) {
-        Some(organisation) => signers.has(&organisation.key),
-        None => true,
+        Some(organisation) => !signers.has(&organisation.key),
+        None => false,
     }
 }
 
-/// Refused where the secret of an organisation is not at hand (808), which is said in words too, and
-/// for want of memory (9).
+/// Refused where an organisation lacks its seed (808), which is said in words too, and for want of
+/// memory (9).
 pub fn need_secret<F: Files>(
     alloc: Global,
     files: &mut F,
@@ -81,31 +82,48 @@ pub fn need_secret<F: Files>(
     org: &OrgName,
 ) -> Result<(), Failure>
     ensures ok { result ≡ Ok tt
-        → can_seal genesis.now.rules.value genesis.now.signers.value org.now ≡ true }
+        → lacks_seed genesis.now.rules.value genesis.now.signers.value org.now ≡ false }
     ensures refused { result ≡ Err NoSecret
-        → can_seal genesis.now.rules.value genesis.now.signers.value org.now ≡ false }
+        → lacks_seed genesis.now.rules.value genesis.now.signers.value org.now ≡ true }
     ensures silent { IfErr result IsSilent }
 {
-    if can_seal(&genesis.rules, &genesis.signers, org) {
+    if !lacks_seed(&genesis.rules, &genesis.signers, org) {
         return Ok(());
     }
     remark_missing(alloc, files, org)?;
     Err(Failure::NoSecret)
 }
 
-/// Refused as `need_secret` is of the first of these organisations that lacks its secret.
+/// Refused where one of these organisations lacks its seed (808), the first of which is said in
+/// words too, and for want of memory (9).
 pub fn need_secrets<F: Files>(
     alloc: Global,
     files: &mut F,
     genesis: &Genesis,
     orgs: &[OrgName],
 ) -> Result<(), Failure>
+    ensures ok { result ≡ Ok tt
+        → list_any (lacks_seed genesis.now.rules.value genesis.now.signers.value) orgs.now ≡ false }
+    ensures refused { result ≡ Err NoSecret
+        → list_any (lacks_seed genesis.now.rules.value genesis.now.signers.value) orgs.now ≡ true }
     ensures silent { IfErr result IsSilent }
 {
-    for org in orgs {
-        need_secret(alloc, files, genesis, org)?;
+    match first_lacking(genesis, orgs) {
+        Some(org) => {
+            remark_missing(alloc, files, org)?;
+            Err(Failure::NoSecret)
+        }
+        None => Ok(()),
     }
-    Ok(())
+}
+
+/// The first of these organisations that lacks its seed.
+fn first_lacking<'a>(genesis: &Genesis, orgs: &'a [OrgName]) -> Option<&'a OrgName>
+    ensures { option_map (λ o. o.now) result
+        ≡ find (lacks_seed genesis.now.rules.value genesis.now.signers.value) orgs.now }
+{
+    let (rules, signers) = (&*genesis.rules, &*genesis.signers);
+    orgs.iter().find(|org| lacks_seed(rules, signers, org))
 }
 
 /// Says whose seed is missing, and where it is looked for.

@@ -9,15 +9,15 @@ use crate::opening::{opened, order_log};
 use crate::public::public;
 use crate::threading::threads;
 use cli_lines::{Failure, Files, Printer};
-use cli_roles::{commit, endorse};
+use cli_roles::{LogGenesis, commit, endorse};
 use cli_session::{RunFiles, run};
 use cli_show::{Asked, Shown, Simulated, Span, audit, check, digest, show, simulate, state, trace};
-use cli_words::{Task, Usage, WordsFault, Work, parse};
-use ledger_setting::Genesis;
+use cli_words::{Beginning, Task, Usage, WordsFault, Work, parse};
+use endorsement_policy::Workers;
 use std::alloc::Global;
 use std::io::Write;
 use std::sync::Wait;
-use std::thread::Threads;
+use std::thread::{Threads, available_parallelism};
 
 /// Does what the words ask for, the command first, and answers the exit status: 0 for done, 1 for a
 /// refusal or a difference, which are printed, and 2 where the words name no task. Where a text
@@ -103,33 +103,26 @@ fn carry_out<R: Threads + Wait + Sync + Send + Copy + 'static, F: Files, W: Writ
         Ok(Task::Digest { module, profile }) => digest(alloc, files, module, profile, out),
         Ok(Task::Order { genesis }) => order_log(alloc, files, genesis, out),
         Ok(Task::Public { keys }) => public(alloc, files, keys, out),
-        Ok(
-            Task::Work {
-                genesis,
-                keys,
-                work,
-            },
-        ) => with_genesis(rt, alloc, files, genesis, keys, &work, out),
+        Ok(Task::Work { begin, work }) => with_genesis(rt, alloc, files, &begin, &work, out),
         Err(WordsFault::Memory) => Err(Failure::Memory),
         Err(WordsFault::Usage) => Err(Failure::Usage),
     }
 }
 
-/// Does what is asked for of the genesis in the file of this name, with the seeds of a key file at
-/// hand if there is one.
+/// Does what is asked for of the genesis in a file, with the modules and the seeds of other files at
+/// hand.
 fn with_genesis<R: Threads + Wait + Sync + Send + Copy + 'static, F: Files, W: Write>(
     rt: &R,
     alloc: Global,
     files: &mut F,
-    name: &str,
-    keys: Option<&str>,
+    begin: &Beginning<'_>,
     work: &Work<'_>,
     out: &mut Printer<'_, W>,
 ) -> Result<(), Failure>
     ensures tells { Tells out.old out.new result }
 {
-    let genesis = opened(alloc, files, name, keys)?;
-    do_work(rt, alloc, files, name, &genesis, work, out)
+    let log = opened(alloc, files, begin)?;
+    do_work(rt, alloc, files, begin.genesis, &log, work, out)
 }
 
 /// Does what is asked for of a genesis, whose file has this name.
@@ -138,19 +131,21 @@ fn do_work<R: Threads + Wait + Sync + Send + Copy + 'static, F: Files, W: Write>
     alloc: Global,
     files: &mut F,
     name: &str,
-    genesis: &Genesis,
+    log: &LogGenesis,
     work: &Work<'_>,
     out: &mut Printer<'_, W>,
 ) -> Result<(), Failure>
     ensures tells { Tells out.old out.new result }
 {
+    let genesis = &log.genesis;
+    let workers = workers_of(rt);
     match work {
         Work::Simulate { proposal, store } => {
             let simulated = Simulated {
                 proposal,
                 store: *store,
             };
-            simulate(alloc, files, genesis, &simulated, out)
+            simulate(&workers, alloc, files, genesis, &simulated, out)
         }
         Work::Run { events, store } => {
             let names = RunFiles {
@@ -163,13 +158,13 @@ fn do_work<R: Threads + Wait + Sync + Send + Copy + 'static, F: Files, W: Write>
         Work::Threads { chaincode, rounds } => {
             threads(rt, alloc, files, genesis, chaincode, *rounds, out)
         }
-        Work::Audit { store } => audit(alloc, files, genesis, store, out),
+        Work::Audit { store } => audit(&workers, alloc, files, genesis, store, out),
         Work::Show { store, from, to } => {
             let span = Span {
                 from: *from as usize,
                 to: *to as usize,
             };
-            show(alloc, files, genesis, &Shown { store, span }, out)
+            show(&workers, alloc, files, genesis, &Shown { store, span }, out)
         }
         Work::State { store, at, key } => {
             let asked = Asked {
@@ -177,10 +172,19 @@ fn do_work<R: Threads + Wait + Sync + Send + Copy + 'static, F: Files, W: Write>
                 at: *at as usize,
                 key: key.as_ref(),
             };
-            state(alloc, files, genesis, &asked, out)
+            state(&workers, alloc, files, genesis, &asked, out)
         }
         Work::Trace { call, most } => trace(alloc, genesis, call, *most, out),
-        Work::Commit { store } => commit(alloc, files, genesis, store, out),
-        Work::Endorse { org, store } => endorse(alloc, files, genesis, org, store, out),
+        Work::Commit { store } => commit(&workers, alloc, files, log, store, out),
+        Work::Endorse { org, store } => endorse(&workers, alloc, files, log, org, store, out),
     }
+}
+
+/// As many workers as the machine has cores, 16 at most; one where that is not known.
+fn workers_of<R: Threads>(rt: &R) -> Workers<'_, R> {
+    let cores = match available_parallelism(rt) {
+        Ok(cores) => cores.get(),
+        Err(_) => 1,
+    };
+    Workers::new(rt, cores)
 }

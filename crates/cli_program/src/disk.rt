@@ -1,5 +1,6 @@
 //! The files of the machine.
 
+use crate::terminal::Terminal;
 use cli_lines::{FileFault, Files, Target};
 use std::alloc::Global;
 use std::fs::{self, File, Metadata};
@@ -43,7 +44,7 @@ fn is_one_file(one: &Metadata, other: &Metadata) -> bool {
     (one.dev(), one.ino()) == (other.dev(), other.ino())
 }
 
-impl Files for Disk<'_> {
+impl<'a> Files for Disk<'a> {
     type Reader = File;
 
     type Writer = File;
@@ -53,6 +54,8 @@ impl Files for Disk<'_> {
     type Input = Stdin;
 
     type Lock = File;
+
+    type Watch = Terminal<'a>;
 
     fn open(&mut self, name: &str) -> Option<File> {
         fs::open(self.0, name).ok()
@@ -122,6 +125,10 @@ impl Files for Disk<'_> {
 
     fn input(&mut self) -> Stdin {
         self.0.stdin()
+    }
+
+    fn watch(&mut self) -> Terminal<'a> {
+        Terminal::new(self.0)
     }
 
     fn remark(&mut self, line: &str) {

@@ -11,8 +11,10 @@ mod commands;
 mod disk;
 mod opening;
 mod public;
+mod terminal;
 mod threading;
 
 pub use cli_lines::{Files, Printer};
 pub use commands::program;
 pub use disk::Disk;
+pub use terminal::Terminal;

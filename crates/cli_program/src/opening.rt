@@ -1,10 +1,14 @@
-//! The genesis that a command works by, and the command `order`, which needs its digest too.
+//! The genesis that a command works by, and the command `order`.
 
-ghost use Rattle.std.specs.Prelude.{IfErr};
+ghost use Rattle.std.specs.Prelude.{◌≤◌, length, IfOk, IfErr};
 ghost use Rattle.cli_lines.specs.Told.{IsSilent, Tells};
 
-use cli_lines::{Failure, Files, Printer, genesis_in, read_all, signers_in};
-use cli_roles::order;
+use chaincode_book::Held;
+use cli_lines::{
+    Failure, Files, Printer, genesis_holding, genesis_in, modules_in, read_all, signers_in,
+};
+use cli_roles::{LogGenesis, order};
+use cli_words::Beginning;
 use ledger_setting::Genesis;
 use org_keys::Signers;
 use sha2::{Digest, Sha256};
@@ -12,21 +16,54 @@ use std::alloc::Global;
 use std::io::Write;
 use std::sync::Arc;
 
-/// What a system begins with, by the file of this name, with the seeds of a key file at hand if
-/// there is one. The key file is read behind the other.
+/// What a system begins with, by the files of these names, and the genesis file's digest. Of several
+/// files that are refused the genesis file is told first, then the modules file, then the key file.
 pub fn opened<F: Files>(
     alloc: Global,
     files: &mut F,
-    name: &str,
-    keys: Option<&str>,
-) -> Result<Genesis, Failure>
+    begin: &Beginning<'_>,
+) -> Result<LogGenesis, Failure>
+    ensures silent { IfErr result IsSilent }
+{
+    let bytes = read_all(alloc, files, begin.genesis)?;
+    let genesis = match begin.modules {
+        Some(modules) => holding(alloc, &bytes, held(alloc, files, modules))?,
+        None => genesis_in(alloc, &bytes)?,
+    };
+    let digest = Sha256::digest(bytes.as_slice());
+    let log = LogGenesis { genesis, digest };
+    match begin.keys {
+        Some(keys) => with_signers(log, signers(alloc, files, keys)),
+        None => Ok(log),
+    }
+}
+
+/// The modules in the modules file of this name.
+fn held<F: Files>(alloc: Global, files: &mut F, name: &str) -> Result<Vec<Held>, Failure>
+    ensures count { IfOk result (λ held. length held.items ≤ 64) }
     ensures silent { IfErr result IsSilent }
 {
     let bytes = read_all(alloc, files, name)?;
-    let genesis = genesis_in(alloc, &bytes)?;
-    match keys {
-        Some(keys) => with_signers(genesis, signers(alloc, files, keys)),
-        None => Ok(genesis),
+    modules_in(alloc, &bytes)
+}
+
+/// What a system begins with by the bytes of a genesis file, with these modules at hand, where they
+/// were read.
+fn holding(
+    alloc: Global,
+    bytes: &[u8],
+    held: Result<Vec<Held>, Failure>,
+) -> Result<Genesis, Failure>
+    requires count { IfOk held (λ held. length held.items ≤ 64) }
+    requires silent { IfErr held IsSilent }
+    ensures silent { IfErr result IsSilent }
+{
+    match held {
+        Ok(held) => genesis_holding(alloc, bytes, held),
+        Err(failure) => {
+            genesis_in(alloc, bytes)?;
+            Err(failure)
+        }
     }
 }
 
@@ -40,16 +77,16 @@ fn signers<F: Files>(alloc: Global, files: &mut F, name: &str) -> Result<Arc<Sig
 
 /// A genesis with these seeds at hand, where they were read.
 fn with_signers(
-    mut genesis: Genesis,
+    mut log: LogGenesis,
     signers: Result<Arc<Signers>, Failure>,
-) -> Result<Genesis, Failure>
+) -> Result<LogGenesis, Failure>
     requires silent { IfErr signers IsSilent }
     ensures silent { IfErr result IsSilent }
 {
     match signers {
         Ok(signers) => {
-            genesis.signers = signers;
-            Ok(genesis)
+            log.genesis.signers = signers;
+            Ok(log)
         }
         Err(failure) => Err(failure),
     }
@@ -65,8 +102,11 @@ pub fn order_log<F: Files, W: Write>(
 ) -> Result<(), Failure>
     ensures tells { Tells out.old out.new result }
 {
-    let bytes = read_all(alloc, files, name)?;
-    let digest = hex::encode(alloc, &Sha256::digest(bytes.as_slice()))?;
-    let genesis = genesis_in(alloc, &bytes)?;
-    order(alloc, files, &genesis, &digest, out)
+    let begin = Beginning {
+        genesis: name,
+        modules: None,
+        keys: None,
+    };
+    let log = opened(alloc, files, &begin)?;
+    order(alloc, files, &log, out)
 }

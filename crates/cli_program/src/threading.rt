@@ -31,7 +31,7 @@ pub fn threads<R: Threads + Wait + Sync + Send + Copy + 'static, F: Files, W: Wr
         Ok(report) => print_report(report, out),
         Err(SeatsRefusal::Memory) => Err(Failure::Memory),
         Err(SeatsRefusal::NoPlace) => Err(Failure::NoPlace),
-        Err(SeatsRefusal::NoEntry) => Err(Failure::NoEntry),
+        Err(SeatsRefusal::NotEntered) => Err(Failure::NotEntered),
     }
 }
 

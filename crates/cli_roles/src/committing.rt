@@ -1,33 +1,43 @@
 //! The command `commit`.
 
-ghost use Rattle.std.specs.Prelude.{OnOk};
+ghost use Rattle.std.specs.Prelude.{◌≡◌, IfOk, OnOk, option_map};
 ghost use Rattle.cli_lines.specs.Told.{Tells};
-ghost use Rattle.log_store.specs.Storing.{IsStored};
+ghost use Rattle.cli_roles.specs.Seen.{has_hash, is_fork};
+ghost use Rattle.log_store.specs.Storing.{IsStored, stored_chain};
 
 use crate::ending::end;
 use crate::input::InputLines;
+use crate::log_genesis::LogGenesis;
+use crate::seen::{SignedSeen, is_signed, signed_seen_in};
 use cli_lines::{Failure, Files, Printer, print_committed};
-use fab_types::Block;
+use endorsement_policy::{Rules, Workers};
+use fab_types::{Block, CommittedBlock};
 use hex::FromHexError;
-use ledger_setting::Genesis;
 use log_roles::Received;
 use log_store::StoredChain;
 use std::alloc::{AllocError, Global};
 use std::fs::OpenFile;
 use std::io::{Read, Seek, Write};
-use wire::{WireFault, decode_block};
+use std::thread::Threads;
+use store_replay::{TagChecks, Watch};
+use wire::{WireFault, decode_block, header_hash};
 
-/// Reads lines, and commits the block of each that is `block`, a number, and the bytes of a block in
-/// hex. Lines that begin with another word are passed over.
+/// Reads lines, and commits the block of each that is `block`, a number, and the bytes of a block
+/// in hex. One by which an organisation says that it has seen a block is judged. Lines that begin
+/// with another word are passed over.
 ///
 /// First comes `cut` with a count of bytes, where the store ended with a part of a record, which is
 /// cut off then, and `height` with the count of its blocks. A block that joins the chain is on the
 /// disk before `committed`, its number and its flags come; of one that the chain has, `known` and
-/// its number. Why a block, or the store, is refused ends it.
-pub fn commit<F: Files, W: Write>(
+/// its number. Why a block, or the store, is refused ends it. `forked` comes of a block that was
+/// seen where the chain has another one of its number, or none, and the organisation has a public
+/// key and signed it. Tags are checked by workers at once: what is printed is the same for every
+/// number of them.
+pub fn commit<T: Threads + Sync, F: Files, W: Write>(
+    workers: &Workers<'_, T>,
     alloc: Global,
     files: &mut F,
-    genesis: &Genesis,
+    log: &LogGenesis,
     store: &str,
     out: &mut Printer<'_, W>,
 ) -> Result<(), Failure>
@@ -37,28 +47,52 @@ pub fn commit<F: Files, W: Write>(
         return Err(Failure::File);
     };
     let mut lines = InputLines::new(alloc, files.input())?;
-    commit_to(alloc, genesis, file, &mut lines, out)
+    let watch = files.watch();
+    commit_to(alloc, &Peer { workers, log }, watch, file, &mut lines, out)
+}
+
+/// A peer of a log.
+#[derive(Drop)]
+struct Peer<'a, T> {
+    workers: &'a Workers<'a, T>,
+    log: &'a LogGenesis,
 }
 
 /// Opens the store of a file, and commits the block of each line that has one.
-fn commit_to<D: Read + Write + Seek + OpenFile + Drop, R: Read + Drop, W: Write>(
+fn commit_to<
+    T: Threads + Sync,
+    V: Watch + Drop,
+    D: Read + Write + Seek + OpenFile + Drop,
+    R: Read + Drop,
+    W: Write,
+>(
     alloc: Global,
-    genesis: &Genesis,
+    peer: &Peer<'_, T>,
+    watch: V,
     file: D,
     lines: &mut InputLines<R>,
     out: &mut Printer<'_, W>,
 ) -> Result<(), Failure>
     ensures tells { Tells out.old out.new result }
 {
-    match StoredChain::open(alloc, genesis.rules.clone()?, file) {
-        Ok((mut chain, cut)) => commit_behind(alloc, &mut chain, cut, lines, out),
+    let rules = peer.log.genesis.rules.clone()?;
+    let opened = StoredChain::open(&TagChecks::new(peer.workers, &watch), alloc, rules, file);
+    drop(watch);
+    match opened {
+        Ok((mut chain, cut)) => commit_behind(alloc, peer, &mut chain, cut, lines, out),
         Err(refusal) => Err(end(refusal, out)),
     }
 }
 
 /// Prints with how many blocks a store was opened, and commits the block of each line.
-fn commit_behind<D: Read + Write + Seek + OpenFile + Drop, R: Read + Drop, W: Write>(
+fn commit_behind<
+    T: Threads + Sync,
+    D: Read + Write + Seek + OpenFile + Drop,
+    R: Read + Drop,
+    W: Write,
+>(
     alloc: Global,
+    peer: &Peer<'_, T>,
     chain: &mut StoredChain<D>,
     cut: usize,
     lines: &mut InputLines<R>,
@@ -68,7 +102,7 @@ fn commit_behind<D: Read + Write + Seek + OpenFile + Drop, R: Read + Drop, W: Wr
     ensures tells { Tells out.old out.new result }
 {
     print_opened(chain.height(), cut, out)?;
-    commit_lines(alloc, chain, lines, out)
+    commit_lines(alloc, peer, chain, lines, out)
 }
 
 /// Prints with how many blocks a store was opened, and how many bytes were cut off, if any.
@@ -86,9 +120,15 @@ fn print_opened<W: Write>(
     out.flush()
 }
 
-/// Commits the block of each line that has one.
-fn commit_lines<D: Read + Write + Seek + OpenFile + Drop, R: Read + Drop, W: Write>(
+/// Commits the block of each line that has one, and judges each that was seen.
+fn commit_lines<
+    T: Threads + Sync,
+    D: Read + Write + Seek + OpenFile + Drop,
+    R: Read + Drop,
+    W: Write,
+>(
     alloc: Global,
+    peer: &Peer<'_, T>,
     chain: &mut StoredChain<D>,
     lines: &mut InputLines<R>,
     out: &mut Printer<'_, W>,
@@ -98,7 +138,7 @@ fn commit_lines<D: Read + Write + Seek + OpenFile + Drop, R: Read + Drop, W: Wri
 {
     for _ in 0..u64::MAX {
         match lines.next()? {
-            Some(line) => take_line(alloc, chain, line, out)?,
+            Some(line) => take_line(alloc, peer, chain, line, out)?,
             None => return Ok(()),
         }
         if !lines.is_at_hand() {
@@ -108,9 +148,10 @@ fn commit_lines<D: Read + Write + Seek + OpenFile + Drop, R: Read + Drop, W: Wri
     Ok(())
 }
 
-/// Commits the block of a line, if it has one.
-fn take_line<D: Read + Write + Seek + OpenFile + Drop, W: Write>(
+/// Commits the block of a line, or judges one that was seen, if it has one.
+fn take_line<T: Threads + Sync, D: Read + Write + Seek + OpenFile + Drop, W: Write>(
     alloc: Global,
+    peer: &Peer<'_, T>,
     chain: &mut StoredChain<D>,
     line: &[u8],
     out: &mut Printer<'_, W>,
@@ -119,11 +160,29 @@ fn take_line<D: Read + Write + Seek + OpenFile + Drop, W: Write>(
     ensures stored { OnOk result (IsStored chain.new) }
     ensures tells { Tells out.old out.new result }
 {
-    let Some(digits) = block_digits(line) else {
+    let Ok(line) = std::str::from_utf8(line) else {
         return Ok(());
     };
+    match block_digits(line) {
+        Some(digits) => take_block(alloc, peer.workers, chain, digits, out),
+        None => print_fork(alloc, peer.log, chain, line, out),
+    }
+}
+
+/// Commits the block that hex stands for.
+fn take_block<T: Threads + Sync, D: Read + Write + Seek + OpenFile + Drop, W: Write>(
+    alloc: Global,
+    workers: &Workers<'_, T>,
+    chain: &mut StoredChain<D>,
+    digits: &str,
+    out: &mut Printer<'_, W>,
+) -> Result<(), Failure>
+    requires stored { IsStored chain.old }
+    ensures stored { OnOk result (IsStored chain.new) }
+    ensures tells { Tells out.old out.new result }
+{
     match block_of(alloc, digits)? {
-        Ok(block) => receive(chain, block, out),
+        Ok(block) => receive(workers, chain, block, out),
         Err(number) => {
             writeln!(out, "refused {number}")?;
             Err(Failure::Printed)
@@ -132,8 +191,7 @@ fn take_line<D: Read + Write + Seek + OpenFile + Drop, W: Write>(
 }
 
 /// The hex of a block in a line. None where the line is another one.
-fn block_digits(line: &[u8]) -> Option<&str> {
-    let line = std::str::from_utf8(line).ok()?;
+fn block_digits(line: &str) -> Option<&str> {
     let Some(("block", rest)) = line.split_once(' ') else {
         return None;
     };
@@ -161,7 +219,8 @@ fn number_of(block: &Block) -> u32 {
 }
 
 /// Commits a block, and prints what became of it.
-fn receive<D: Read + Write + Seek + OpenFile + Drop, W: Write>(
+fn receive<T: Threads + Sync, D: Read + Write + Seek + OpenFile + Drop, W: Write>(
+    workers: &Workers<'_, T>,
     chain: &mut StoredChain<D>,
     block: Block,
     out: &mut Printer<'_, W>,
@@ -171,7 +230,7 @@ fn receive<D: Read + Write + Seek + OpenFile + Drop, W: Write>(
     ensures tells { Tells out.old out.new result }
 {
     let number = number_of(&block);
-    match chain.receive(block) {
+    match chain.receive(workers, block) {
         Ok(Received::Committed) => print_newest(chain, out),
         Ok(Received::Known) => writeln!(out, "known {number}"),
         Err(refusal) => Err(end(refusal, out)),
@@ -189,5 +248,54 @@ fn print_newest<D: Read + Write + Seek + OpenFile + Drop, W: Write>(
     match chain.newest() {
         Some(newest) => print_committed(chain.height(), newest.flags(), out),
         None => Ok(()),
+    }
+}
+
+/// Prints that an organisation has signed that it has another block than the chain's, if a line
+/// says so.
+fn print_fork<D: Read + Write + Seek + OpenFile + Drop, W: Write>(
+    alloc: Global,
+    log: &LogGenesis,
+    chain: &StoredChain<D>,
+    line: &str,
+    out: &mut Printer<'_, W>,
+) -> Result<(), Failure>
+    ensures tells { Tells out.old out.new result }
+{
+    let Some(seen) = signed_seen_in(line) else {
+        return Ok(());
+    };
+    if is_fork(alloc, &log.genesis.rules, &log.digest, chain, &seen)? {
+        let org = String::from_utf8_lossy(alloc, seen.org.as_slice())?;
+        writeln!(out, "forked {org} {}", seen.number)?;
+    }
+    Ok(())
+}
+
+/// Whether a block that is said to be seen is told as a fork: the chain has another one of its
+/// number, or none, and it is signed. The signature is judged last.
+fn is_fork<D: Read + Write + Seek + OpenFile + Drop>(
+    alloc: Global,
+    rules: &Rules,
+    genesis: &[u8; 32],
+    chain: &StoredChain<D>,
+    seen: &SignedSeen,
+) -> Result<bool, AllocError>
+    ensures { IfOk result
+        (λ fork. fork ≡ is_fork rules.now.orgs genesis.now (stored_chain chain.now) seen.now) }
+{
+    if has_hash(chain.block(seen.number), &seen.hash) {
+        return Ok(false);
+    }
+    is_signed(alloc, rules, genesis, seen)
+}
+
+/// Whether a block is there, and its header has this hash.
+fn has_hash(block: Option<&CommittedBlock>, hash: &[u8; 32]) -> bool
+    ensures { result ≡ has_hash hash.now (option_map (λ b. b.now) block.entry) }
+{
+    match block {
+        Some(own) => header_hash(&own.block().header) == *hash,
+        None => false,
     }
 }

@@ -1,10 +1,13 @@
 //! The commands `order`, `commit` and `endorse` of the ledger's program: filters over lines, which
 //! an organisation runs on a machine of its own beside a replicated log.
 //!
-//! [`order`] cuts the blocks of a log, [`commit`] puts blocks at the end of a store, and [`endorse`]
-//! endorses proposals on the state after a store that grows. Each answers a line at once, and hands
-//! on what it printed where no further line is at hand. What stands behind the last line's end is
-//! not read: it may be a part of a line.
+//! [`order`] cuts the blocks of a log, [`commit`] puts blocks at the end of a store, and
+//! [`endorse`] endorses proposals on the state after a store that grows. Each answers a line at
+//! once, and hands on what it printed where no further line is at hand. What stands behind the last
+//! line's end is not read: it may be a part of a line.
+//!
+//! Who has a public key signs which blocks it has: `endorse` makes the line, `order` hands it on,
+//! and `commit`, which has the chain, tells where another one is meant.
 //!
 //! The state of each is a type with a contract: `Replica` of `log_orderer`, `StoredChain` and
 //! `StoreFollower` of `log_store`.
@@ -14,9 +17,12 @@ mod committing;
 mod ending;
 mod endorsing;
 mod input;
+mod log_genesis;
 mod marks;
 mod ordering;
+mod seen;
 
 pub use committing::commit;
 pub use endorsing::endorse;
+pub use log_genesis::LogGenesis;
 pub use ordering::order;

@@ -5,56 +5,68 @@ ghost use Rattle.cli_lines.specs.Told.{Tells};
 ghost use Rattle.cli_roles.specs.Marks.{IsMarkOrNone};
 
 use crate::input::InputLines;
-use crate::marks::{
-    index_and_mark, is_of_mark, leaves_genesis_open, names_another_genesis, seen_in,
-};
+use crate::log_genesis::LogGenesis;
+use crate::marks::{index_and_text, is_of_mark, leaves_genesis_open, names_another_genesis};
+use crate::seen::{Seen, has_public_key, seen_in};
 use cli_lines::{Failure, Files, Printer};
+use endorsement_policy::Rules;
 use fab_types::Block;
 use ledger_setting::Genesis;
 use log_orderer::{LineReport, LogBatch, Replica};
-use std::alloc::Global;
+use std::alloc::{AllocError, Global};
 use std::io::{Read, Write};
+use std::sync::Arc;
 use wire::{encode_block, header_hash};
 
 /// What is said of a log whose first line leaves open which genesis file counts.
 const LEFT_OPEN: &str =
-    "the log does not say which genesis file counts: let its first mark be `genesis <SHA-256>`";
+    "the log does not say which genesis file counts: let its first line be `genesis <SHA-256>`";
 
-/// Reads the lines of a log, each an index and a mark, and prints the blocks that the log makes.
+/// Reads the lines of a log, each an index and a text, and prints the blocks that the log makes.
 ///
-/// Behind each line comes `read`, its index, and how many envelopes wait; before it what came of the
-/// mark: `aborted` for each transaction that is left out of a batch, `block` with the bytes of a
-/// block, and `skipped` with the reason where the mark asks for nothing that can be done. Before a
-/// skipped mark comes `forked`, where it says that an organisation has seen another block of a number
-/// than this log's. A first line that names another genesis by its file's digest ends it. One that
-/// says nothing that an orderer or its readers know is told on the standard error: so nobody takes
-/// a log for one that names its genesis.
+/// Behind each line comes `read`, its index, and how many envelopes wait; before it what came of
+/// the mark: `aborted` for each transaction that is left out of a batch, `block` with the bytes of
+/// a block, and `skipped` with the reason where the text asks for nothing that can be done. A mark
+/// by which an organisation says that it has seen a block is skipped too. Where it is listed with a
+/// public key, and there is a signature, the text itself comes before that: `commit` judges it.
+/// Where it is not, and there is none, `forked` comes if this log has another block. A first line
+/// that names another genesis by its file's digest ends it. One that says nothing that an orderer
+/// or its readers know is told on the standard error: so nobody takes a log for one that names its
+/// genesis.
 pub fn order<F: Files, W: Write>(
     alloc: Global,
     files: &mut F,
-    genesis: &Genesis,
-    digest: &str,
+    log: &LogGenesis,
     out: &mut Printer<'_, W>,
 ) -> Result<(), Failure>
     ensures tells { Tells out.old out.new result }
 {
+    let digest = hex::encode(alloc, &log.digest)?;
     let mut lines = InputLines::new(alloc, files.input())?;
-    let (count, preferred, absolute) = (genesis.count, genesis.preferred, genesis.absolute);
-    let mut ordering = Ordering {
-        replica: Replica::new(alloc, count, preferred, absolute, genesis.reorder),
-        alloc,
-    };
-    ordering.read_lines(files, &mut lines, digest, out)
+    let mut ordering = Ordering::new(alloc, &log.genesis)?;
+    ordering.read_lines(files, &mut lines, &digest, out)
 }
 
-/// A replica of the orderer, of which is printed what it does.
+/// A replica of the orderer, of which is printed what it does, and the organisations that its log's
+/// lines name.
 #[derive(Drop)]
 struct Ordering {
     replica: Replica,
+    rules: Arc<Rules>,
     alloc: Global,
 }
 
 impl Ordering {
+    /// A replica that has read nothing, by the limits and the organisations of a genesis.
+    fn new(alloc: Global, genesis: &Genesis) -> Result<Ordering, AllocError> {
+        let (count, preferred, absolute) = (genesis.count, genesis.preferred, genesis.absolute);
+        Ok(Ordering {
+            replica: Replica::new(alloc, count, preferred, absolute, genesis.reorder),
+            rules: genesis.rules.clone()?,
+            alloc,
+        })
+    }
+
     /// Reads each line, and prints what comes of it.
     fn read_lines<F: Files, R: Read + Drop, W: Write>(
         &mut self,
@@ -89,14 +101,14 @@ impl Ordering {
     ) -> Result<(), Failure>
         ensures tells { Tells out.old out.new result }
     {
-        let text = String::from_utf8_lossy(self.alloc, line)?;
-        let (index, mark) = index_and_mark(&text);
-        if names_another_genesis(mark, digest) {
+        let decoded = String::from_utf8_lossy(self.alloc, line)?;
+        let (index, text) = index_and_text(&decoded);
+        if names_another_genesis(text, digest) {
             writeln!(out, "refused 807")?;
             return Err(Failure::Printed);
         }
-        let is_mark = self.take_mark(index, mark, out)?;
-        if !is_mark && leaves_genesis_open(mark) {
+        let is_mark = self.take_text(index, text, out)?;
+        if !is_mark && leaves_genesis_open(&self.rules, text) {
             files.remark(LEFT_OPEN);
         }
         writeln!(out, "read {index} {}", self.replica.waiting().len())
@@ -106,23 +118,24 @@ impl Ordering {
     fn take_line<W: Write>(&mut self, line: &[u8], out: &mut Printer<'_, W>) -> Result<(), Failure>
         ensures tells { Tells out.old out.new result }
     {
-        let text = String::from_utf8_lossy(self.alloc, line)?;
-        let (index, mark) = index_and_mark(&text);
-        self.take_mark(index, mark, out)?;
+        let decoded = String::from_utf8_lossy(self.alloc, line)?;
+        let (index, text) = index_and_text(&decoded);
+        self.take_text(index, text, out)?;
         writeln!(out, "read {index} {}", self.replica.waiting().len())
     }
 
-    /// Reads the mark of a line, and answers whether it is one of an orderer: an envelope or `tick`.
-    fn take_mark<W: Write>(
+    /// Reads the mark of a line, and answers whether it is one of an orderer: an envelope or
+    /// `tick`.
+    fn take_text<W: Write>(
         &mut self,
         index: &str,
-        mark: &str,
+        text: &str,
         out: &mut Printer<'_, W>,
     ) -> Result<bool, Failure>
         ensures tells { Tells out.old out.new result }
-        ensures mark { IfOk result (IsMarkOrNone mark.now) }
+        ensures mark { IfOk result (IsMarkOrNone text.now) }
     {
-        match self.replica.read(mark)? {
+        match self.replica.read(text)? {
             LineReport::Accepted { id: _, batches } => {
                 self.print_batches(batches.as_slice(), out)?;
                 Ok(true)
@@ -133,7 +146,7 @@ impl Ordering {
                 Ok(true)
             }
             LineReport::Skipped(skip) => {
-                self.print_fork(mark, out)?;
+                self.print_seen(text, out)?;
                 writeln!(out, "skipped {index} {skip}")?;
                 Ok(is_of_mark(skip))
             }
@@ -172,13 +185,28 @@ impl Ordering {
         }
     }
 
-    /// Prints that an organisation has seen another block than this log's, if a mark says so.
-    fn print_fork<W: Write>(&self, mark: &str, out: &mut Printer<'_, W>) -> Result<(), Failure>
+    /// Prints what becomes of a text by which an organisation says that it has seen a block, if it
+    /// is one: with a signature it is handed on. Without one it counts where there is no public
+    /// key.
+    fn print_seen<W: Write>(&self, text: &str, out: &mut Printer<'_, W>) -> Result<(), Failure>
         ensures tells { Tells out.old out.new result }
     {
-        let Some(seen) = seen_in(mark) else {
+        let Some(seen) = seen_in(&self.rules, text) else {
             return Ok(());
         };
+        if seen.signature.is_some() {
+            writeln!(out, "{text}")
+        } else if has_public_key(&self.rules, seen.org) {
+            Ok(())
+        } else {
+            self.print_fork(&seen, out)
+        }
+    }
+
+    /// Prints that an organisation has seen another block than this log's, if that is so.
+    fn print_fork<W: Write>(&self, seen: &Seen<'_>, out: &mut Printer<'_, W>) -> Result<(), Failure>
+        ensures tells { Tells out.old out.new result }
+    {
         let (org, number) = (seen.org, seen.number);
         if !has_header(self.replica.blocks(), number, &seen.hash) {
             writeln!(out, "forked {org} {number}")?;

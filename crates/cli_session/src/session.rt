@@ -36,8 +36,8 @@ pub struct RunFiles<'a> {
 }
 
 /// Runs the lines of a file of events on the system that a genesis opens, prints what each comes
-/// to, the state of the first peer after them and the audit of its chain, and writes that chain to a
-/// store if there is one.
+/// to, the state of the first peer after them and the audit of its chain, and writes that chain to
+/// a store if there is one.
 ///
 /// The file is read as the run goes. A line that stands for nothing ends the run, and then no store
 /// is written. The run is refused before the file is opened where a peer's secret is not at hand

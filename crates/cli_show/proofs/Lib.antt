@@ -1,4 +1,4 @@
 pub mod Cuts
 pub mod Behind
-pub mod Written
+pub mod WriteLines
 pub mod Read

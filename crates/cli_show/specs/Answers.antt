@@ -5,7 +5,7 @@ use Rattle.serde_json.specs.Data.{Data}
 use Rattle.block_store.specs.declared.end.End.{End}
 use Rattle.block_store.specs.declared.end.End.TheVariants.{Clean, Torn, Damaged, DeviceFailed}
 use Rattle.committer.specs.declared.refusal.CommitRefusal.{CommitRefusal}
-use Rattle.ledger_model.specs.Chain.{Bytes, Chain, history}
+use Rattle.ledger_model.specs.Chain.{Chain, history}
 use Rattle.ledger_model.specs.State.{state}
 use Rattle.store_replay.specs.declared.replaying.Replayed.{Replayed}
 use Rattle.cli_lines.specs.declared.failure.Failure.{Failure}

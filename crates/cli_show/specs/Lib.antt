@@ -1,5 +1,6 @@
 pub mod Spans
 pub mod Lines
+pub mod Missing
 pub mod Findings
 pub mod Modules
 pub mod Answers

@@ -10,7 +10,7 @@ use Rattle.wire.specs.Ids.{id_of}
 use Rattle.ledger_setting.specs.declared.genesis.Genesis.{Genesis}
 use Rattle.json_chain.specs.Blocks.{block_json}
 use Rattle.json_chain.specs.Entries.{entry_json, placed_write_json}
-use Rattle.json_chain.specs.Settings.{setting_json}
+use Rattle.json_chain.specs.Genesis.{genesis_json}
 use Rattle.cli_lines.specs.Texts.{line}
 use Rattle.cli_show.specs.Spans.{within}
 
@@ -18,9 +18,9 @@ use Rattle.cli_show.specs.Spans.{within}
 abbrev pub HasLines : List Data → (before after : Option Bytes) → Type 0
 HasLines ds before after = (texts : List Bytes) × (map read texts ≡ map Some ds) × Appends before after (flat_map line texts)
 
--- the setting, and the blocks from one number to another
-abbrev pub json_chain : Genesis → (from to : ℕ) → Chain → List Data
-json_chain g from to chain = setting_json g ∷ map (block_json g.rules.value.orgs) (within from to chain)
+-- the genesis, and the blocks from one number to another
+abbrev pub chain_json : Genesis → (from to : ℕ) → Chain → List Data
+chain_json g from to chain = genesis_json g ∷ map (block_json g.rules.value.orgs) (within from to chain)
 
 -- the entries of a state
 abbrev pub entries_json : List (Bytes × (Bytes × Version)) → List Data

@@ -1,5 +1,5 @@
 -- What is printed of a module.
-use Rattle.std.specs.Prelude.{ℕ, ◌++◌, List, Option, codes, length}
+use Rattle.std.specs.Prelude.{ℕ, ◌++◌, Option, codes, length}
 use Rattle.std.specs.Fmt.{decimal}
 use Rattle.std.specs.Io.KnownBytes.{Appends}
 use Rattle.hex.specs.Hex.{encode_lower}

@@ -3,18 +3,23 @@
 ghost use Rattle.std.specs.Prelude.{◌≡◌, ◌<◌, false, IfOk};
 ghost use Rattle.cli_lines.specs.Told.{Tells};
 
+use crate::missing::first_missing;
 use crate::replaying::replayed;
 use block_store::End;
 use cli_lines::{Failure, Files, Printer, print_audit};
+use endorsement_policy::Workers;
 use ledger_setting::Genesis;
 use std::alloc::Global;
 use std::io::Write;
+use std::thread::Threads;
 use store_replay::Replayed;
 
 /// Prints how many blocks a store has, and what is found of them: the first with flags that are not
-/// the rule's, why one does not fit, or what the audit of the chain says. Last comes how the store
-/// ends, unless it ends with a record.
-pub fn audit<F: Files, W: Write>(
+/// the rule's, why one does not fit, the first that upgrades to a module that is not at hand, or
+/// what the audit of the chain says. Last comes how the store ends, unless it ends with a record.
+/// Tags are checked by workers: it is the same for every number of them.
+pub fn audit<T: Threads + Sync, F: Files, W: Write>(
+    workers: &Workers<'_, T>,
     alloc: Global,
     files: &mut F,
     genesis: &Genesis,
@@ -23,7 +28,7 @@ pub fn audit<F: Files, W: Write>(
 ) -> Result<(), Failure>
     ensures tells { Tells out.old out.new result }
 {
-    let replayed = replayed(alloc, files, genesis, store)?;
+    let replayed = replayed(workers, alloc, files, genesis, store)?;
     print_replayed(alloc, genesis, &replayed, out)
 }
 
@@ -64,6 +69,10 @@ fn print_findings<W: Write>(
     if let Some(refusal) = replayed.refused {
         let refusal = Failure::Commit(refusal);
         writeln!(out, "{refusal}")?;
+        return Ok(false);
+    }
+    if let Some(number) = first_missing(&genesis.book, replayed.snapshot.blocks()) {
+        writeln!(out, "refused 406 block {number}")?;
         return Ok(false);
     }
     print_audit(fabric_core::audit(alloc, genesis, &replayed.snapshot)?, out)

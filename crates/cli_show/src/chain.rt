@@ -4,7 +4,7 @@ ghost use Rattle.std.specs.Prelude.{◌≡◌, OnOk, map};
 ghost use Rattle.cli_lines.specs.Told.{Tells};
 ghost use Rattle.world_state.specs.Shared.{blocks_in};
 ghost use Rattle.json_chain.specs.Blocks.{block_json};
-ghost use Rattle.cli_show.specs.Lines.{HasLines, json_chain};
+ghost use Rattle.cli_show.specs.Lines.{HasLines, chain_json};
 ghost use Rattle.cli_show.specs.Spans.{within};
 
 use crate::lines::print_line;
@@ -12,7 +12,7 @@ use crate::span::Span;
 use cli_lines::{Failure, Printer};
 use endorsement_policy::Rules;
 use fab_types::CommittedBlock;
-use json_chain::{block_line, setting_line};
+use json_chain::{block_line, genesis_line};
 use ledger_setting::Genesis;
 use std::alloc::Global;
 use std::io::Write;
@@ -30,10 +30,10 @@ pub fn print_chain<W: Write>(
 ) -> Result<(), Failure>
     ensures tells { Tells out.old out.new result }
     ensures lines { OnOk result
-        (HasLines (json_chain genesis.now span.from span.to snapshot.now) out.old.bytes out.new.bytes) }
+        (HasLines (chain_json genesis.now span.from span.to snapshot.now) out.old.bytes out.new.bytes) }
 {
-    let setting = setting_line(alloc, genesis)?;
-    print_line(&setting, out)?;
+    let line = genesis_line(alloc, genesis)?;
+    print_line(&line, out)?;
     print_blocks(alloc, &genesis.rules, within(snapshot.blocks(), span), out)
 }
 

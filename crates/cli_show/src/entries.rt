@@ -1,6 +1,6 @@
 //! The lines of a state.
 
-ghost use Rattle.std.specs.Prelude.{◌≡◌, OnOk, map, take};
+ghost use Rattle.std.specs.Prelude.{OnOk, map, take};
 ghost use Rattle.std.specs.FinMap.{entries};
 ghost use Rattle.std.specs.Map.Iter.{deref_pair};
 ghost use Rattle.cli_lines.specs.Told.{Tells};

@@ -1,10 +1,11 @@
 //! What is found of a store.
 
-ghost use Rattle.std.specs.Prelude.{◌≡◌, ◌<◌, [], ◌∷◌, true, false, length, IfOk};
+ghost use Rattle.std.specs.Prelude.{◌≡◌, ◌<◌, [], IfOk};
 ghost use Rattle.cli_lines.specs.Told.{Tells};
 ghost use Rattle.cli_show.specs.Findings.{EndsBy, Finds, is_good};
 
 use crate::lines::print_line;
+use crate::missing::first_missing;
 use block_store::End;
 use cli_lines::{Failure, Printer};
 use fabric_core::{Audit, audit};
@@ -42,6 +43,9 @@ fn finding_of(alloc: Global, genesis: &Genesis, replayed: &Replayed) -> Result<F
     }
     if let Some(refusal) = replayed.refused {
         return Ok(Finding::Unfit(refusal));
+    }
+    if let Some(number) = first_missing(&genesis.book, replayed.snapshot.blocks()) {
+        return Ok(Finding::NotAtHand(number));
     }
     Ok(Finding::Audited(audit(alloc, genesis, &replayed.snapshot)?))
 }

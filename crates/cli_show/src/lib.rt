@@ -15,6 +15,7 @@ mod earlier;
 mod entries;
 mod findings;
 mod lines;
+mod missing;
 mod replaying;
 mod showing;
 mod simulation;

@@ -1,6 +1,6 @@
 //! Lines.
 
-ghost use Rattle.std.specs.Prelude.{◌≡◌, ◌<◌, OnOk, string_bytes};
+ghost use Rattle.std.specs.Prelude.{◌<◌, OnOk, string_bytes};
 ghost use Rattle.std.specs.Io.KnownBytes.{Appends};
 ghost use Rattle.cli_lines.specs.Texts.{line};
 ghost use Rattle.cli_lines.specs.Told.{Tells};

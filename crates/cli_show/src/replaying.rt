@@ -4,14 +4,17 @@ ghost use Rattle.std.specs.Prelude.{IfErr};
 ghost use Rattle.cli_lines.specs.Told.{IsSilent};
 
 use cli_lines::{Failure, Files};
+use endorsement_policy::Workers;
 use ledger_setting::Genesis;
 use std::alloc::Global;
+use std::thread::Threads;
 use store_devices::Counted;
-use store_replay::{Replayed, replay_store};
+use store_replay::{Replayed, TagChecks, replay_store};
 
 /// The chain of a store, committed again. Refused where the file cannot be opened, and for want of
 /// memory.
-pub(crate) fn replayed<F: Files>(
+pub(crate) fn replayed<T: Threads + Sync, F: Files>(
+    workers: &Workers<'_, T>,
     alloc: Global,
     files: &mut F,
     genesis: &Genesis,
@@ -23,5 +26,7 @@ pub(crate) fn replayed<F: Files>(
         return Err(Failure::File);
     };
     let mut device = Counted::new(reader);
-    Ok(replay_store(alloc, genesis, &mut device)?)
+    let watch = files.watch();
+    let tags = TagChecks::new(workers, &watch);
+    Ok(replay_store(&tags, alloc, genesis, &mut device)?)
 }

@@ -14,10 +14,12 @@ use crate::span::Span;
 use crate::writes::print_writes;
 use block_store::End;
 use cli_lines::{Failure, Files, Printer};
+use endorsement_policy::Workers;
 use fab_types::Key;
 use ledger_setting::Genesis;
 use std::alloc::Global;
 use std::io::Write;
+use std::thread::Threads;
 use store_replay::Replayed;
 
 /// What `show` is asked for: these blocks of the store in the file of a name.
@@ -38,7 +40,8 @@ pub struct Asked<'a> {
 
 /// Prints what the genesis sets, the blocks of a store from one number to another, and what is
 /// found of the store, as lines of JSON.
-pub fn show<F: Files, W: Write>(
+pub fn show<T: Threads + Sync, F: Files, W: Write>(
+    workers: &Workers<'_, T>,
     alloc: Global,
     files: &mut F,
     genesis: &Genesis,
@@ -47,7 +50,7 @@ pub fn show<F: Files, W: Write>(
 ) -> Result<(), Failure>
     ensures tells { Tells out.old out.new result }
 {
-    let replayed = replayed(alloc, files, genesis, shown.store)?;
+    let replayed = replayed(workers, alloc, files, genesis, shown.store)?;
     print_shown(alloc, genesis, &replayed, shown.span, out)
 }
 
@@ -73,7 +76,8 @@ fn print_shown<W: Write>(
 ///
 /// Refused where a block is stored with other flags than the table's (711), where one does not fit
 /// (601 to 604), and where the store does not end with its last record (701 to 703).
-pub fn state<F: Files, W: Write>(
+pub fn state<T: Threads + Sync, F: Files, W: Write>(
+    workers: &Workers<'_, T>,
     alloc: Global,
     files: &mut F,
     genesis: &Genesis,
@@ -82,7 +86,7 @@ pub fn state<F: Files, W: Write>(
 ) -> Result<(), Failure>
     ensures tells { Tells out.old out.new result }
 {
-    let replayed = replayed(alloc, files, genesis, asked.store)?;
+    let replayed = replayed(workers, alloc, files, genesis, asked.store)?;
     print_asked(alloc, &replayed, asked.at, asked.key, out)
 }
 

@@ -5,10 +5,12 @@ ghost use Rattle.cli_lines.specs.Told.{Tells};
 use crate::replaying::replayed;
 use block_store::End;
 use cli_lines::{Failure, Files, Printer, print_payload};
+use endorsement_policy::Workers;
 use fab_types::Proposal;
 use ledger_setting::Genesis;
 use std::alloc::Global;
 use std::io::Write;
+use std::thread::Threads;
 use store_replay::Replayed;
 use world_state::Snapshot;
 
@@ -24,7 +26,8 @@ pub struct Simulated<'a> {
 ///
 /// Refused where a block of the store does not fit, and where the store does not end with its last
 /// record. Flags that the store has are passed over.
-pub fn simulate<F: Files, W: Write>(
+pub fn simulate<T: Threads + Sync, F: Files, W: Write>(
+    workers: &Workers<'_, T>,
     alloc: Global,
     files: &mut F,
     genesis: &Genesis,
@@ -37,7 +40,7 @@ pub fn simulate<F: Files, W: Write>(
     match simulated.store {
         None => print_call(alloc, genesis, &Snapshot::empty(alloc), proposal, out),
         Some(name) => {
-            let replayed = replayed(alloc, files, genesis, name)?;
+            let replayed = replayed(workers, alloc, files, genesis, name)?;
             print_call_after(alloc, genesis, &replayed, proposal, out)
         }
     }

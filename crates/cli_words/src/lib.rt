@@ -7,5 +7,5 @@ mod table;
 mod task;
 mod usage;
 
-pub use task::{Task, WordsFault, Work, parse};
+pub use task::{Beginning, Task, WordsFault, Work, parse};
 pub use usage::Usage;

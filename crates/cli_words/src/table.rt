@@ -35,15 +35,17 @@ valid",
     Form {
         name: "sim",
         words: &["GENESIS", "CHAINCODE", "ARG"],
-        options: &[("nonce", "HEX"), ("store", "FILE")],
+        options: &[("nonce", "HEX"), ("store", "FILE"), ("modules", "FILE")],
         does: "\
 simulates a call of CHAINCODE with the argument ARG (hex, or - for none) on the empty
-state, or on that after the store FILE; the nonce is 16 bytes of hex, zeros by default",
+state, or on that after the store FILE; the nonce is 16 bytes of hex, zeros by default;
+here and below, modules of open definitions are looked for in the genesis and in the
+modules file of --modules",
     },
     Form {
         name: "run",
         words: &["GENESIS", "EVENTS"],
-        options: &[("store", "FILE"), ("keys", "FILE")],
+        options: &[("store", "FILE"), ("modules", "FILE"), ("keys", "FILE")],
         does: "\
 runs the events of the file EVENTS, one JSON object a line, on the system that the
 file GENESIS opens, and writes the chain of its first peer to the store FILE; peers
@@ -52,7 +54,7 @@ of public keys endorse by the seeds of the key file",
     Form {
         name: "threads",
         words: &["GENESIS", "CHAINCODE", "ROUNDS"],
-        options: &[("keys", "FILE")],
+        options: &[("modules", "FILE"), ("keys", "FILE")],
         does: "\
 lets each seat of the first peer endorse ROUNDS calls (1 to 1000) of CHAINCODE on a thread
 of its own while their blocks are committed, and audits the chain",
@@ -60,14 +62,14 @@ of its own while their blocks are committed, and audits the chain",
     Form {
         name: "audit",
         words: &["GENESIS", "STORE"],
-        options: &[],
+        options: &[("modules", "FILE")],
         does: "\
 commits the file STORE again, and runs its VALID transactions again",
     },
     Form {
         name: "show",
         words: &["GENESIS", "STORE"],
-        options: &[("from", "N"), ("to", "N")],
+        options: &[("from", "N"), ("to", "N"), ("modules", "FILE")],
         does: "\
 shows what the genesis sets, the blocks of the file STORE from one number to another (all
 by default), and what audit says of it, one JSON object a line",
@@ -106,7 +108,7 @@ commits blocks, which come in line by line as order prints them, to the file STO
     Form {
         name: "endorse",
         words: &["GENESIS", "ORG", "STORE"],
-        options: &[("keys", "FILE")],
+        options: &[("modules", "FILE"), ("keys", "FILE")],
         does: "\
 endorses proposals, which come in line by line as JSON objects, for the organisation ORG
 on the state after the file STORE, which it reads as it grows; one of a public key signs

@@ -33,13 +33,21 @@ pub enum Task<'a> {
     Public {
         keys: &'a str,
     },
-    /// Do this with the chaincodes, organisations and peers of a genesis, with the seeds of a key
-    /// file at hand if there is one. Only `Run`, `Threads` and `Endorse` have one.
+    /// Do this with the chaincodes, organisations and peers of a genesis.
     Work {
-        genesis: &'a str,
-        keys: Option<&'a str>,
+        begin: Beginning<'a>,
         work: Work<'a>,
     },
+}
+
+/// The names of the files that a command with a genesis begins with.
+#[derive(Clone, Copy, Drop)]
+pub struct Beginning<'a> {
+    pub genesis: &'a str,
+    /// More modules at hand. `State`, `Trace` and `Commit` have none.
+    pub modules: Option<&'a str>,
+    /// Seeds at hand. Only `Run`, `Threads` and `Endorse` have them.
+    pub keys: Option<&'a str>,
 }
 
 /// What is asked for of a genesis.
@@ -170,21 +178,20 @@ fn public<'a>(command: &ArgMatches<'a>) -> Result<Task<'a>, WordsFault> {
     Ok(Task::Public { keys })
 }
 
-/// What a command of this name asks for of a genesis. A command without the option `keys` has no
-/// key file.
+/// What a command of this name asks for of a genesis. A command without the option `modules` has no
+/// modules file, and one without `keys` no key file.
 fn of_genesis<'a>(
     alloc: Global,
     name: &str,
     command: &ArgMatches<'a>,
 ) -> Result<Task<'a>, WordsFault> {
-    let genesis = text(command, "GENESIS")?;
-    let keys = command.get_str("keys");
+    let begin = Beginning {
+        genesis: text(command, "GENESIS")?,
+        modules: command.get_str("modules"),
+        keys: command.get_str("keys"),
+    };
     let work = work_of(alloc, name, command)?;
-    Ok(Task::Work {
-        genesis,
-        keys,
-        work,
-    })
+    Ok(Task::Work { begin, work })
 }
 
 /// What a command of this name asks for.

@@ -2,7 +2,7 @@ use Rattle.std.proofs.lemmas.Result.{err_from_is_err_and}
 use Rattle.cli_lines.proofs.Silence.{no_less, tells_by}
 use Rattle.cli_program.proofs.opening.order_log.Goals as goal
 
-pub returns-in_err-genesis : goal.returns-in_err-genesis
-returns-in_err-genesis g c =
-    let p = err_from_is_err_and c.from_residual-in_err-genesis.result c.from_residual-in_err-genesis.ensures.1 in
-    rw (p.1, p.2) (record { tells = tells_by c.args.out.now c.args.out.now _ (no_less c.args.out.now) c.in_err-genesis.ensures.silent })
+pub returns-in_err-log : goal.returns-in_err-log
+returns-in_err-log g c =
+    let p = err_from_is_err_and c.from_residual.result c.from_residual.ensures.1 in
+    rw (p.1, p.2) (record { tells = tells_by c.args.out.now c.args.out.now _ (no_less c.args.out.now) c.in_err-log.ensures.silent })

@@ -4,7 +4,7 @@ use Rattle.world_state.specs.Shared.{blocks_in}
 use Rattle.endorsement_policy.specs.Endorsed.{Listed}
 use Rattle.serde_json.specs.Data.{Data}
 use Rattle.json_chain.specs.Blocks.{block_json}
-use Rattle.json_chain.specs.Settings.{setting_json}
+use Rattle.json_chain.specs.Genesis.{genesis_json}
 use Rattle.cli_show.specs.Lines.{HasLines}
 use Rattle.cli_show.specs.Spans.{within}
 use Rattle.cli_show.proofs.Behind.{more_lines, one_line, on_ok}
@@ -20,10 +20,10 @@ returns-clause-lines g c =
     let blocks : blocks_in c.within.result.now ≡ shown =
     c.within.ensures ∙ ap (λ (chain : List Committed). within c.args.span.from c.args.span.to chain) c.blocks-2.ensures.value in
     let same = ap₂ (λ (listed : Listed) (chain : List Committed). map (block_json listed.orgs) chain) c.deref.ensures blocks in
-    let first : HasLines (setting_json genesis ∷ []) before middle =
-    one_line (setting_json genesis) (string_bytes c.in_ok-setting.setting) before middle c.in_ok-setting.ensures c.in_ok-print_line.ensures.line in
+    let first : HasLines (genesis_json genesis ∷ []) before middle =
+    one_line (genesis_json genesis) (string_bytes c.in_ok-line.line) before middle c.in_ok-line.ensures c.in_ok-print_line.ensures.line in
     on_ok c.print_blocks.result (HasLines (map (block_json c.deref.result.now.orgs) (blocks_in c.within.result.now)) middle after)
-    (HasLines (setting_json genesis ∷ map (block_json genesis.rules.value.orgs) shown) before after)
-    (λ h. more_lines (setting_json genesis ∷ []) (map (block_json genesis.rules.value.orgs) shown) before middle after first
+    (HasLines (genesis_json genesis ∷ map (block_json genesis.rules.value.orgs) shown) before after)
+    (λ h. more_lines (genesis_json genesis ∷ []) (map (block_json genesis.rules.value.orgs) shown) before middle after first
     (subst (λ (ds : List Data). HasLines ds middle after) same h))
     c.print_blocks.ensures.lines

@@ -4,7 +4,7 @@ use Rattle.json_chain.specs.Writes.{placed_at}
 use Rattle.cli_lines.specs.Texts.{line}
 use Rattle.cli_show.specs.Lines.{HasLines, write_json}
 use Rattle.cli_show.proofs.Behind.{on_ok}
-use Rattle.cli_show.proofs.Written.{line_of_write}
+use Rattle.cli_show.proofs.WriteLines.{line_of_write}
 use Rattle.cli_show.proofs.writes.print_write.Goals as goal
 
 pub returns-in-Some-clause-lines : goal.returns-in-Some-clause-lines

@@ -3,7 +3,7 @@ use Rattle.fab_types.specs.Committed.{Committed}
 use Rattle.world_state.specs.Shared.{blocks_in}
 use Rattle.cli_lines.proofs.Silence.{and_more}
 use Rattle.cli_show.proofs.Cuts.{one_block, taken_length}
-use Rattle.cli_show.proofs.Written.{writes_block}
+use Rattle.cli_show.proofs.WriteLines.{writes_block}
 use Rattle.cli_show.proofs.writes.print_writes.Goals as goal
 
 pub loop-index-preserved : goal.loop-index-preserved

@@ -1,7 +1,7 @@
 use Rattle.std.proofs.Common.{◌≡◌, ◌+◌, length, take, sym, ap, ◌∙◌, arith}
 use Rattle.ledger_model.specs.Chain.{transactions_from}
 use Rattle.cli_lines.proofs.Silence.{and_more}
-use Rattle.cli_show.proofs.Written.{transactions_push, writes_push}
+use Rattle.cli_show.proofs.WriteLines.{transactions_push, writes_push}
 use Rattle.cli_show.proofs.writes.print_writes_in.Goals as goal
 
 pub loop-place-preserved : goal.loop-place-preserved

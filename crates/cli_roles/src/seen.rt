@@ -1,0 +1,124 @@
+//! What an organisation says of the blocks that it has, and what it signs of that.
+
+ghost use Rattle.std.specs.Prelude.{◌≡◌, IfOk};
+ghost use Rattle.cli_roles.specs.Seen.{is_signed, seen_bytes};
+
+use endorsement_policy::Rules;
+use fab_types::{OrgName, Tag};
+use hex::FromHex;
+use org_keys::OrgKey;
+use std::alloc::{AllocError, Global};
+
+/// A block that an organisation says it has: `seen <organisation> <number> <header hash>`, and
+/// behind that a signature, or none.
+#[derive(Clone, Copy)]
+pub(crate) struct Seen<'a> {
+    pub org: &'a str,
+    pub number: u32,
+    pub hash: [u8; 32],
+    pub signature: Option<[u8; 64]>,
+}
+
+/// The block that a text says was seen, in a log of these organisations. None where the text is
+/// another one: so is one with a signature whose organisation is not listed with a public key.
+pub(crate) fn seen_in<'a>(rules: &Rules, text: &'a str) -> Option<Seen<'a>> {
+    let seen = spelled_seen(text)?;
+    if seen.signature.is_some() && !has_public_key(rules, seen.org) {
+        return None;
+    }
+    Some(seen)
+}
+
+/// The block that the words of a text name, whoever is listed.
+fn spelled_seen(text: &str) -> Option<Seen<'_>> {
+    let Some(("seen", rest)) = text.split_once(' ') else {
+        return None;
+    };
+    let (org, rest) = rest.split_once(' ')?;
+    let (number, rest) = rest.split_once(' ')?;
+    let (digits, signature) = match rest.split_once(' ') {
+        Some((digits, signature)) => (digits, Some(<[u8; 64]>::from_hex(signature).ok()?)),
+        None => (rest, None),
+    };
+    let number = number.parse::<u32>().ok()?;
+    let hash = <[u8; 32]>::from_hex(digits).ok()?;
+    Some(Seen {
+        org,
+        number,
+        hash,
+        signature,
+    })
+}
+
+/// Whether an organisation of this name is listed with a public key.
+pub(crate) fn has_public_key(rules: &Rules, org: &str) -> bool {
+    let Some(org) = OrgName::from_slice(org.as_bytes()) else {
+        return false;
+    };
+    match rules.organisation(&org) {
+        Some(organisation) => matches!(organisation.key, OrgKey::Public(_)),
+        None => false,
+    }
+}
+
+/// A block that an organisation says it has, with a signature of what it says.
+#[derive(Drop)]
+pub(crate) struct SignedSeen {
+    pub org: OrgName,
+    pub number: u32,
+    pub hash: [u8; 32],
+    pub signature: [u8; 64],
+}
+
+/// The block that a text says was seen, where it has a signature. None where the text is another
+/// one, or no organisation can have the name.
+pub(crate) fn signed_seen_in(text: &str) -> Option<SignedSeen> {
+    let seen = spelled_seen(text)?;
+    let signature = seen.signature?;
+    let org = OrgName::from_slice(seen.org.as_bytes())?;
+    Some(SignedSeen {
+        org,
+        number: seen.number,
+        hash: seen.hash,
+        signature,
+    })
+}
+
+/// The bytes that an organisation signs where it says which hash the header of its block of this
+/// number has, in the ledger whose genesis file has this SHA-256. They are those of no payload.
+pub(crate) fn seen_bytes(
+    alloc: Global,
+    genesis: &[u8; 32],
+    number: u32,
+    hash: &[u8; 32],
+) -> Result<Vec<u8>, AllocError>
+    ensures { IfOk result (λ v. v.items ≡ seen_bytes genesis.now number hash.now) }
+{
+    let mut bytes = Vec::new(alloc);
+    bytes.extend_from_slice(b"\xffseen ")?;
+    bytes.extend_from_slice(genesis)?;
+    bytes.extend_from_slice(&number.to_be_bytes())?;
+    bytes.extend_from_slice(hash)?;
+    Ok(bytes)
+}
+
+/// Whether the organisation that says so is listed with a public key, under which its signature is
+/// right, in the ledger whose genesis file has this SHA-256.
+pub(crate) fn is_signed(
+    alloc: Global,
+    rules: &Rules,
+    genesis: &[u8; 32],
+    seen: &SignedSeen,
+) -> Result<bool, AllocError>
+    ensures { IfOk result (λ signed. signed ≡ is_signed rules.now.orgs genesis.now seen.now) }
+{
+    let bytes = seen_bytes(alloc, genesis, seen.number, &seen.hash)?;
+    match rules.organisation(&seen.org) {
+        Some(organisation) => Ok(
+            organisation
+                .key
+                .is_right(&bytes, &Tag::Ed25519(seen.signature)),
+        ),
+        None => Ok(false),
+    }
+}
