@@ -1,8 +1,8 @@
 #!/usr/bin/env python3
 """Writes orders*, sizes*, names*, ends.json, scans.jsonl, stranger.jsonl, bytes.jsonl, upgrades*, versions.jsonl,
 predicted.jsonl, profiles*, seatless.json, nobody.json, doubled.json, look.json, extend.wasm, signed*, alone*, second.json,
-forged.jsonl, key files and stores beside this file: events with envelopes, genesis files, modules and stores that are laid
-out here, by docs/FORMATS.md.
+forged.jsonl, seen*, asked.txt, open*, modules*, key files and stores beside this file: events with envelopes, genesis
+files, modules files, modules and stores that are laid out here, by docs/FORMATS.md.
 
 older.store is not among them: the program wrote it when calls did not read their definitions yet. It has the blocks of
 whole.store but for these reads.
@@ -518,3 +518,90 @@ stored, _ = record(1, NO_LINK, one=one)
 (HERE / "signed.store").write_bytes(stored)
 blocks("signed.txt", f"1 {block(stored)}")
 write("signed.log", log([one.hex(), one[:-1].hex()]))
+
+# What organisations say of the block of signed.store, which has OWN as its header's hash.
+OWN, LIE = hashlib.sha256(stored[4:72]).digest(), bytes(32)
+
+
+def seen(org, number, header, seed=SEEDS[0], ledger="signed.json", signed=None):
+    """What an organisation says, with a signature by this seed, of what it says in this ledger, or of another number."""
+    digest = hashlib.sha256((HERE / ledger).read_bytes()).digest()
+    data = b"\xffseen " + digest + struct.pack(">I", number if signed is None else signed) + header
+    return f"seen {org} {number} {header.hex()} {rfc8032.sign(seed, data).hex()}"
+
+
+LIES = seen("B", 1, LIE)
+# Marks of a log, behind that block: of who has a shared key, is not listed, and has a public key; signed, in the name of
+# all three; and a signature that is cut short, and has a word behind it.
+marks = [one.hex(), f"seen A 1 {OWN.hex()}", f"seen A 1 {LIE.hex()}", f"seen C 1 {LIE.hex()}", f"seen B 1 {LIE.hex()}"]
+marks += [seen("B", 1, OWN), LIES, seen("A", 1, LIE), seen("C", 1, LIE), LIES[:-2], LIES + " 00"]
+write("seen.log", log(marks))
+# A log whose first mark is signed.
+write("seen-first.log", log([LIES]))
+# Lines for `commit`, behind that block: what is so; lies of a block, and of blocks that there are not; lies without a
+# signature, with one by another seed, a wrong one, and one of another ledger and of another number; lies in the name of who
+# has a shared key, is not listed, and cannot be; digits of the other case; and less.
+said = [seen("B", 1, OWN), LIES, seen("B", 0, LIE), seen("B", 2, OWN), seen("B", 70000, OWN), f"seen B 1 {LIE.hex()}"]
+said += [seen("B", 1, LIE, SEEDS[1]), LIES[:-1] + "%x" % (int(LIES[-1], 16) ^ 1)]
+said += [seen("B", 1, LIE, ledger="alone.json"), seen("B", 1, LIE, signed=2)]
+said += [seen("A", 1, LIE), seen("C", 1, LIE), seen("-", 1, LIE), LIES[:10] + LIES[10:].upper(), LIES[:-2], "seen B 1", "seen"]
+write("seen.txt", [f"block 1 {block(stored)}", *said])
+# Lines for `endorse`: the block, one that there is not yet, and what is no such line.
+asked = ["seen 1", "seen 2", "seen 99", "seen 0", "seen 01", "seen +1", "seen 1 ", "seen 1 1", "seen  1", " seen 1", "seen 4294967297"]
+write("asked.txt", [*asked, "seen ", "seen", "SEEN 1"])
+
+# Open definitions, and modules files. A is alone, and no module is installed beside that of `kv`. Modules files: of the
+# module that `open.jsonl` upgrades to; of none; of 65; of a module that is not valid; and what is no JSON.
+ALONE = {"orgs": [{"name": "A", "key": KEYS["A"].hex()}], "peers": ["A"]}
+genesis("open.json", **ALONE)
+(HERE / "open-bad.json").write_text("[")
+MODULES = {"": [installed(GET_PUT_A)], "-none": [], "-many": [installed(PUT_A)] * 65, "-wrong": [installed(GET_PUT_A[:-1])]}
+for name, held in MODULES.items():
+    (HERE / f"modules{name}.json").write_text(json.dumps(held, separators=(",", ":")))
+(HERE / "modules-bad.json").write_text("[")
+
+
+def alone(name, begun):
+    """Begins a proposal, finishes it under a name, and has what it endorsed committed."""
+    return [begun, finish(0, name), *use(name), event("commit", peer=0)]
+
+
+# A call, an upgrade to a module of modules.json by an open definition, and a call of that.
+TO = {"code": GET_PUT_A, "fuel": 141, "profile": 17}
+write("open.jsonl", alone("e1", begin(0, 1)) + alone("e2", upgrade(0, 2, **TO)) + alone("e3", begin(0, 3)))
+# The same upgrade, closed; an open one to a policy of whom nobody knows, which is endorsed, and fails the policy; and an
+# amendment.
+amendment = {"members": [{"name": "A"}], "policy": "'A'", "serial": 1, "nonce": "%032x" % 6}
+write(
+    "open-refused.jsonl",
+    [upgrade(0, 4, **(TO | {"profile": 1})), finish(0, "e")]
+    + alone("e5", upgrade(0, 5, PUT_A, profile=17, policy="'Z'"))
+    + [event("begin", **amendment, peer=0, seat=0), finish(0, "e6")],
+)
+# Proposals behind that chain, for `endorse`: a call, the upgrade once more, and an amendment.
+asked = [proposal(begin(0, 7)), proposal(upgrade(0, 8, **TO)), json.dumps(amendment, separators=(",", ":"))]
+write("open-asked.jsonl", asked)
+
+
+def written(proposed, key, data, reads):
+    """An envelope of a proposal that reads these keys and puts data at one, with A's tag."""
+    out = proposed + value(b"") + struct.pack(">H", len(reads))
+    out += b"".join(short(read) + (b"\0" if at is None else b"\1" + version(at)) for read, at in reads)
+    return envelope(out + bytes(2) + struct.pack(">H", 1) + short(key) + b"\1" + value(data))
+
+
+# The blocks of open.jsonl with modules.json, for `commit`, and their store.
+OPENED = b"\x11" + hashlib.sha256(GET_PUT_A).digest() + struct.pack(">I", 141) + value(b"'A'")
+NAMED = short(b"kv")
+called = [NAMED + value(b"") + bytes.fromhex("%032x" % nonce) for nonce in (1, 3)]
+opened = [
+    written(called[0], b"a", b"1", [(b"\0kv", None)]),
+    written(b"\0" + NAMED + OPENED + bytes.fromhex("%032x" % 2), b"\0kv", OPENED, [(b"\0kv", None)]),
+    written(called[1], b"a", b"1", [(b"\0kv", (2, 0)), (b"a", (1, 0))]),
+]
+before, stored = NO_LINK, []
+for number, one in enumerate(opened, 1):
+    kept, before = record(number, before, one=one)
+    stored.append(kept)
+(HERE / "open.store").write_bytes(b"".join(stored))
+blocks("open.txt", *(f"{number} {block(kept)}" for number, kept in enumerate(stored, 1)))

@@ -25,6 +25,8 @@ FORGED = {"differs.store", "differs-unlinked.store", "unlinked-differs.store"}
 UNENDORSED_BY = {"older.store", "names.json"}
 # Its chaincode reads, and those of the other genesis files only put.
 REREAD = "get.json"
+# The first byte of a proposal that is an amendment, and what the first byte of a definition that is open has more.
+AMENDMENT, OPEN = 0x80, 16
 
 
 class Bytes:
@@ -67,13 +69,24 @@ class Bytes:
         profile, module, fuel = self.number(1), self.take(32).hex(), self.number(4)
         return {"profile": profile, "module": module, "fuel": fuel, "policy": self.take(self.number(2)).decode()}
 
+    def member(self):
+        name, public = self.name(), self.option(lambda: self.take(32).hex())
+        return {"name": name} if public is None else {"name": name, "public": public}
+
+    def membership(self):
+        self.take(1)
+        serial, members = self.number(4), self.list(1, self.member)
+        return {"serial": serial, "members": members, "policy": self.take(self.number(2)).decode()}
+
+    def proposed(self):
+        if self.data[self.at] == AMENDMENT:
+            self.take(1)
+            return {"amend": self.membership()}
+        name = self.name()
+        return {"chaincode": name, "arg": self.hex(2)} if name else {"chaincode": self.name(), "upgrade": self.definition()}
+
     def proposal(self):
-        tx = {"chaincode": self.name()}
-        if not tx["chaincode"]:
-            tx = {"chaincode": self.name(), "upgrade": self.definition()}
-        else:
-            tx["arg"] = self.hex(2)
-        return {**tx, "nonce": self.take(16).hex()}
+        return {**self.proposed(), "nonce": self.take(16).hex()}
 
     def endorsement(self):
         org = self.name()
@@ -131,7 +144,30 @@ def records(store):
     return found, "clean"
 
 
-def chain_of(store, genesis_name, store_name, keys):
+def flags_by_rule(block, stored, genesis_name, store_name):
+    """The flags of a block by the rules. Nobody endorses an amendment."""
+    if {genesis_name, store_name} & UNENDORSED_BY:
+        return [UNENDORSED] * len(stored)
+    flags = [VALID] * len(stored) if store_name in FORGED else stored
+    return [UNENDORSED if "amend" in tx else flag for tx, flag in zip(block["txs"], flags)]
+
+
+def lacks_module(tx, at_hand):
+    """Whether a rerun of the chain needs a module for this transaction that is not among these, by digests and profiles."""
+    if tx["flag"] != VALID or "upgrade" not in tx:
+        return False
+    return (tx["upgrade"]["module"], tx["upgrade"]["profile"] % OPEN) not in at_hand
+
+
+def rerun_of(blocks, genesis_name, store_name, at_hand):
+    """What is found of a chain with the flags of the rules, where it is run again with these modules at hand."""
+    for block in blocks:
+        if any(lacks_module(tx, at_hand) for tx in block["txs"]):
+            return f"refused 406 block {block['block']}"
+    return "differs 1.0" if genesis_name == REREAD and store_name == "whole.store" else "agrees"
+
+
+def chain_of(store, genesis_name, store_name, keys, at_hand):
     """The blocks of a store that fit, and what is found of it."""
     stored, end = records(store)
     blocks, link, audit = [], bytes(32).hex(), None
@@ -140,28 +176,25 @@ def chain_of(store, genesis_name, store_name, keys):
         if block["previous"] != link or not is_whole:
             audit = audit or ("refused 602" if block["previous"] != link else "refused 603")
             break
-        if {genesis_name, store_name} & UNENDORSED_BY:
-            ruled = [UNENDORSED] * len(flags)
-        else:
-            ruled = [VALID] * len(flags) if store_name in FORGED else flags
+        ruled = flags_by_rule(block, flags, genesis_name, store_name)
         if ruled != flags:
             audit = audit or f"flags differ {block['block']}"
         for tx, flag in zip(block["txs"], ruled):
             tx["flag"] = flag
         blocks.append(block)
         link = block["hash"]
-    if audit is None:
-        audit = "differs 1.0" if genesis_name == REREAD and store_name == "whole.store" else "agrees"
+    audit = audit or rerun_of(blocks, genesis_name, store_name, at_hand)
     rerun = sum(tx["flag"] == VALID for block in blocks for tx in block["txs"]) if audit == "agrees" else 0
     return blocks, {"audit": audit, "rerun": rerun, "blocks": len(blocks), "end": end}
 
 
+def installed(it):
+    """A module of a genesis file or of a modules file as it is shown."""
+    return {"module": hashlib.sha256(bytes.fromhex(it["module"])).hexdigest(), "profile": it["profile"]}
+
+
 def setting_of(genesis):
     """What a genesis file sets; its policies have no spaces within names."""
-
-    def installed(it):
-        return {"module": hashlib.sha256(bytes.fromhex(it["module"])).hexdigest(), "profile": it["profile"]}
-
     chaincodes = [
         {"name": it["name"], "policy": it["policy"].replace(" ", ""), "fuel": it["fuel"], **installed(it)}
         for it in genesis["chaincodes"]
@@ -195,14 +228,19 @@ def shown(words, folder):
     options = dict(zip(rest[::2], rest[1::2]))
     genesis = json.loads((folder / genesis_name).read_text())
     keys = {it["name"]: it for it in genesis["orgs"]}
-    blocks, found = chain_of((folder / store_name).read_bytes(), genesis_name, store_name, keys)
+    held = json.loads((folder / options["--modules"]).read_text()) if "--modules" in options else []
+    modules = map(installed, [*genesis["chaincodes"], *genesis["modules"], *held])
+    at_hand = {(it["module"], it["profile"]) for it in modules}
+    blocks, found = chain_of((folder / store_name).read_bytes(), genesis_name, store_name, keys, at_hand)
     if command == "show":
         first, last = int(options.get("--from", 1)), int(options.get("--to", 65535))
         within = [it for it in blocks if first <= it["block"] <= last]
         return [setting_of(genesis), *within, found], int((found["audit"], found["end"]) != ("agrees", "clean"))
     if found["audit"].startswith("flags differ"):
         return [f"refused 711 block {found['audit'].split()[-1]}"], 1
-    for refusal in found["audit"], found["end"]:
+    # No module is needed for a state.
+    audit = "agrees" if found["audit"].startswith("refused 406") else found["audit"]
+    for refusal in audit, found["end"]:
         if refusal.startswith("refused"):
             return [refusal], 1
     blocks = [it for it in blocks if it["block"] <= int(options.get("--at", 65535))]
@@ -223,7 +261,8 @@ def main(program, answers=None):
             ran = subprocess.run([program, *line.split()], cwd=folder, stdout=subprocess.PIPE, text=True)
             told += [*ran.stdout.splitlines(), f"status {ran.returncode}"]
             if line.startswith(("show ", "state ")) and ran.returncode < 2 and (folder / line.split()[2]).exists():
-                if ran.stdout.startswith("refused 8"):
+                # A file is refused.
+                if ran.stdout.startswith(("refused 8", "refused 703")):
                     continue
                 compared += 1
                 lines, status = shown(line.split(), folder)

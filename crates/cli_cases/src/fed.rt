@@ -2,7 +2,7 @@
 
 use crate::memory::MemoryFile;
 use cli_lines::{FileFault, Files, Target};
-use cli_program::Disk;
+use cli_program::{Disk, Terminal};
 use std::alloc::Global;
 use std::fs::{self, File};
 use std::io::Read;
@@ -38,7 +38,7 @@ fn bytes_of(alloc: Global, machine: &HostRuntime, name: &str) -> Vec<u8> {
     bytes
 }
 
-impl Files for Fed<'_> {
+impl<'a> Files for Fed<'a> {
     type Reader = File;
 
     type Writer = File;
@@ -48,6 +48,8 @@ impl Files for Fed<'_> {
     type Input = MemoryFile;
 
     type Lock = File;
+
+    type Watch = Terminal<'a>;
 
     fn open(&mut self, name: &str) -> Option<File> {
         self.disk.open(name)
@@ -98,6 +100,10 @@ impl Files for Fed<'_> {
     fn input(&mut self) -> MemoryFile {
         let empty = MemoryFile::new(Vec::new(self.machine.alloc()));
         std::mem::replace(&mut self.input, empty)
+    }
+
+    fn watch(&mut self) -> Terminal<'a> {
+        self.disk.watch()
     }
 
     fn remark(&mut self, line: &str) {

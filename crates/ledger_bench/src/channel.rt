@@ -5,7 +5,7 @@ use crate::members::{TagKind, rules, transaction};
 use crate::workload::Workload;
 use committer::commit_on;
 use endorsement_policy::{Rules, check_plain};
-use fab_types::{Block, Envelope, Flag};
+use fab_types::{Block, CommittedBlock, Envelope, Flag};
 use orderer::Orderer;
 use std::alloc::Global;
 use world_state::Snapshot;
@@ -17,16 +17,18 @@ pub const BATCH: usize = 512;
 #[derive(Drop)]
 pub struct Channel {
     rules: Rules,
+    kind: TagKind,
     workload: Workload,
     orderer: Orderer,
     snapshot: Snapshot,
 }
 
 impl Channel {
-    /// A channel without blocks, for transactions over so many keys.
-    pub fn new(alloc: Global, keys: u32, reorder: bool) -> Result<Channel, Failure> {
+    /// A channel without blocks, for transactions over so many keys with tags of a kind.
+    pub fn new(alloc: Global, keys: u32, kind: TagKind, reorder: bool) -> Result<Channel, Failure> {
         Ok(Channel {
-            rules: rules(alloc, TagKind::Hmac)?,
+            rules: rules(alloc, kind)?,
+            kind,
             workload: Workload::new(keys, 0),
             orderer: Orderer::new(alloc, BATCH, 524_288, 524_288, reorder),
             snapshot: Snapshot::empty(alloc),
@@ -46,7 +48,7 @@ impl Channel {
     /// Orders a batch of transactions that are made on the newest state.
     fn submit_batch(&mut self, alloc: Global) -> Result<(), Failure> {
         for _ in 0..BATCH {
-            let envelope = transaction(alloc, &mut self.workload, &self.snapshot, TagKind::Hmac)?;
+            let envelope = transaction(alloc, &mut self.workload, &self.snapshot, self.kind)?;
             submit(&mut self.orderer, envelope)?;
         }
         Ok(())
@@ -69,6 +71,20 @@ impl Channel {
         Ok(())
     }
 
+    /// The rules by which blocks are committed.
+    pub fn rules(&self) -> &Rules {
+        &self.rules
+    }
+
+    /// Copies of the blocks with their flags.
+    pub fn records(&self, alloc: Global) -> Result<Vec<CommittedBlock>, Failure> {
+        let mut records = Vec::new(alloc);
+        for committed in self.snapshot.blocks() {
+            records.push(copied(alloc, committed)?)?;
+        }
+        Ok(records)
+    }
+
     /// The blocks.
     pub fn blocks(&self) -> &[Block] {
         self.orderer.blocks()
@@ -83,6 +99,11 @@ impl Channel {
         }
         Ok(valid)
     }
+}
+
+fn copied(alloc: Global, committed: &CommittedBlock) -> Result<CommittedBlock, Failure> {
+    let flags = committed.flags().to_vec(alloc)?;
+    Ok(CommittedBlock::new(committed.block().clone()?, flags))
 }
 
 /// How many of these flags are VALID.

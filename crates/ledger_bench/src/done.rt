@@ -12,7 +12,7 @@ pub enum Done {
         transactions: u64,
         bytes: u64,
     },
-    /// So many blocks or reads took so many microseconds.
+    /// So many blocks, transactions or reads took so many microseconds.
     Timed {
         count: u64,
         micros: u64,

@@ -6,6 +6,8 @@
 //! - `check WORKERS COUNT` checks a batch of 512 envelopes so many times, each with two tags of
 //!   three organisations. `blocks WORKERS COUNT` checks so many blocks of such a batch at once: the
 //!   tags of all of them by the workers, and then each block by what is known of its tags.
+//! - `signed WORKERS COUNT` commits so many blocks of 512 transactions with two signatures each, the
+//!   tags by the workers, and prints how many microseconds that took.
 //! - `order COUNT` orders so many envelopes of 1,024 bytes in blocks of 64.
 //! - `commit COUNT` checks and commits so many blocks of 512 transactions.
 //! - `plan KEYS COUNT` reorders a batch of 512 transactions so many times, each with four reads and
@@ -30,6 +32,7 @@ mod members;
 mod parts;
 mod reads;
 mod register;
+mod signed;
 mod state;
 mod task;
 mod workload;
@@ -88,9 +91,7 @@ fn carry_out<R: Files + Threads + Wait + Clock + Sync>(
         Task::Blocks { workers, count } => {
             parts::check(rt, alloc, workers as usize, count, true)
         }
-        Task::Signed { workers, count } => {
-            parts::check_signed(rt, alloc, workers as usize, count)
-        }
+        Task::Signed { workers, count } => signed::commit(rt, alloc, workers, count),
         Task::Order { count } => parts::order(alloc, count),
         Task::Commit { count } => parts::commit(alloc, count),
         Task::Plan { keys, count } => parts::plan(alloc, keys, count),

@@ -50,27 +50,12 @@ pub fn check<R: Threads + Sync>(
     if workers == 0 || workers > 16 {
         return Err(Failure::Limit);
     }
-    let checked = Checked::new(alloc, TagKind::Hmac)?;
+    let checked = Checked::new(alloc)?;
     if at_once {
         checked.at_once(rt, alloc, workers, count)
     } else {
         checked.one_by_one(rt, alloc, workers, count)
     }
-}
-
-/// Checks so many blocks of signed transactions, their tags at once by 1 to 16 workers.
-pub fn check_signed<R: Threads + Sync>(
-    rt: &R,
-    alloc: Global,
-    workers: usize,
-    count: u32,
-) -> Result<Done, Failure> {
-    if workers == 0 || workers > 16 {
-        return Err(Failure::Limit);
-    }
-    let checked = Checked::new(alloc, TagKind::Ed25519)?;
-    checked.at_once(rt, alloc, workers, count)?;
-    Ok(Done::Count(u64::from(count).saturating_mul(BATCH as u64)))
 }
 
 /// A batch of transactions that is checked, and what it is checked by.
@@ -82,11 +67,11 @@ struct Checked {
 }
 
 impl Checked {
-    /// A batch with tags of a kind, on the empty state.
-    fn new(alloc: Global, kind: TagKind) -> Result<Checked, Failure> {
+    /// A batch on the empty state.
+    fn new(alloc: Global) -> Result<Checked, Failure> {
         Ok(Checked {
-            rules: rules(alloc, kind)?,
-            batch: batch(alloc, KEYS, kind)?,
+            rules: rules(alloc, TagKind::Hmac)?,
+            batch: batch(alloc, KEYS)?,
             snapshot: Snapshot::empty(alloc),
         })
     }
@@ -189,7 +174,7 @@ fn order_copies(orderer: &mut Orderer, envelope: &Envelope, count: u32) -> Resul
 
 /// Checks and commits so many blocks, the same few again and again.
 pub fn commit(alloc: Global, count: u32) -> Result<Done, Failure> {
-    let mut channel = Channel::new(alloc, KEYS, false)?;
+    let mut channel = Channel::new(alloc, KEYS, TagKind::Hmac, false)?;
     commit_rounds(alloc, &mut channel, count / CHAIN)
 }
 
@@ -205,7 +190,7 @@ fn commit_rounds(alloc: Global, channel: &mut Channel, rounds: u32) -> Result<Do
 
 /// Plans a batch over so many keys so many times.
 pub fn plan(alloc: Global, keys: u32, count: u32) -> Result<Done, Failure> {
-    let batch = batch(alloc, keys, TagKind::Hmac)?;
+    let batch = batch(alloc, keys)?;
     plan_again(alloc, &batch, count)
 }
 
@@ -232,7 +217,7 @@ pub fn valid(alloc: Global, keys: u32, count: u32) -> Result<Done, Failure> {
 
 /// How many transactions of so many batches are VALID.
 fn valid_after(alloc: Global, blocks: u32, keys: u32, ordered: bool) -> Result<u64, Failure> {
-    let mut channel = Channel::new(alloc, keys, ordered)?;
+    let mut channel = Channel::new(alloc, keys, TagKind::Hmac, ordered)?;
     channel.valid_after(alloc, blocks)
 }
 
@@ -250,24 +235,23 @@ fn blocks_of(loaded: &Loaded) -> Result<Done, Failure> {
     }
 }
 
-/// A batch over so many keys with tags of a kind, made on the empty state.
-fn batch(alloc: Global, keys: u32, kind: TagKind) -> Result<Vec<Envelope>, Failure> {
+/// A batch over so many keys, made on the empty state.
+fn batch(alloc: Global, keys: u32) -> Result<Vec<Envelope>, Failure> {
     let mut batch = Vec::new(alloc);
-    fill(alloc, keys, kind, &Snapshot::empty(alloc), &mut batch)?;
+    fill(alloc, keys, &Snapshot::empty(alloc), &mut batch)?;
     Ok(batch)
 }
 
-/// Puts a batch over so many keys with tags of a kind, made on this state, into a vector.
+/// Puts a batch over so many keys, made on this state, into a vector.
 fn fill(
     alloc: Global,
     keys: u32,
-    kind: TagKind,
     snapshot: &Snapshot,
     batch: &mut Vec<Envelope>,
 ) -> Result<(), Failure> {
     let mut workload = Workload::new(keys, 0);
     for _ in 0..BATCH {
-        let envelope = transaction(alloc, &mut workload, snapshot, kind)?;
+        let envelope = transaction(alloc, &mut workload, snapshot, TagKind::Hmac)?;
         batch.push(envelope)?;
     }
     Ok(())

@@ -28,7 +28,7 @@ pub fn read<R: Threads + Wait + Clock + Sync>(
     blocks: u32,
     count: u32,
 ) -> Result<Done, Failure> {
-    let mut channel = Channel::new(alloc, KEYS, false)?;
+    let mut channel = Channel::new(alloc, KEYS, TagKind::Hmac, false)?;
     read_beside(rt, alloc, &mut channel, blocks, count)
 }
 
@@ -98,7 +98,9 @@ fn genesis(alloc: Global) -> Result<Genesis, Failure> {
 /// A book without chaincodes.
 fn empty_book(alloc: Global) -> Result<Arc<Book>, Failure> {
     let installed = Installed::new(Vec::new(alloc), Vec::new(alloc));
-    let book = Book::new(Vec::new(alloc), Vec::new(alloc), installed).ok_or(Failure::Limit)?;
+    let book = Book::new(Vec::new(alloc), Vec::new(alloc), installed, Vec::new(alloc)).ok_or(
+        Failure::Limit,
+    )?;
     Ok(Arc::new(alloc, book)?)
 }
 

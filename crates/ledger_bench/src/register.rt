@@ -106,7 +106,7 @@ pub fn book_of(alloc: Global, bytes: &[u8]) -> Result<Book, Failure> {
         fuel: 10_000_000,
     };
     let chaincodes = vec![in alloc; chaincode]?;
-    Book::new(chaincodes, Vec::new(alloc), installed).ok_or(Failure::Limit)
+    Book::new(chaincodes, Vec::new(alloc), installed, Vec::new(alloc)).ok_or(Failure::Limit)
 }
 
 /// The name of the chaincode.

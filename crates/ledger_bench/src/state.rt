@@ -39,16 +39,16 @@ fn commit_batches<R: Clock>(
         return Err(Failure::Clock);
     };
     commit_each(alloc, snapshots, batches)?;
-    done_since(rt, &start, count)
+    done_since(rt, &start, u64::from(count))
 }
 
-/// So many blocks were committed since this instant.
-fn done_since<R: Clock>(rt: &R, start: &Instant, count: u32) -> Result<Done, Failure> {
+/// So much was done since this instant.
+pub fn done_since<R: Clock>(rt: &R, start: &Instant, count: u64) -> Result<Done, Failure> {
     let Ok(took) = start.elapsed(rt) else {
         return Err(Failure::Clock);
     };
     Ok(Done::Timed {
-        count: u64::from(count),
+        count,
         micros: u64::try_from(took.as_micros()).unwrap_or(u64::MAX),
     })
 }

@@ -11,7 +11,7 @@ pub enum Task<'a> {
     Check { workers: u32, count: u32 },
     /// Check so many batches as blocks, their tags at once by so many workers.
     Blocks { workers: u32, count: u32 },
-    /// Check so many blocks of signed transactions, their tags at once by so many workers.
+    /// Commit so many blocks of signed transactions, their tags by so many workers.
     Signed { workers: u32, count: u32 },
     /// Order so many envelopes.
     Order { count: u32 },

@@ -4,11 +4,12 @@ use crate::bytes::{split_fuel, split_word};
 use crate::calls::call_host;
 use crate::chains::{show_flags, show_key, show_range, show_state};
 use crate::decoding::{
-    show_block, show_definition, show_envelope, show_hashes, show_id, show_payload, show_tag,
+    show_block, show_definition, show_envelope, show_hashes, show_id, show_membership,
+    show_payload, show_tag,
 };
 use crate::event_lines::event_line;
 use crate::fault::CaseFault;
-use crate::genesis_files::genesis_file;
+use crate::genesis_files::{genesis_file, modules_file};
 use crate::hosts::answer_of;
 use crate::items::{read_items, show_position};
 use crate::modules::{Look, ask_module, show_module};
@@ -36,6 +37,7 @@ pub fn answer_case(alloc: Global, line: &str) -> Result<String, CaseFault> {
         "endorsed" => show_endorsed(alloc, rest),
         "event" => Ok(event_line(alloc, rest)?),
         "genesis" => Ok(genesis_file(alloc, rest)?),
+        "modules" => Ok(modules_file(alloc, rest)?),
         "flags" => show_flags(alloc, rest),
         "state" => show_state(alloc, rest),
         "get" => show_key(alloc, rest),
@@ -55,6 +57,7 @@ fn answer_bytes(alloc: Global, verb: &str, pieces: &str) -> Result<String, CaseF
         "envelope" => show_envelope(alloc, pieces),
         "block" => show_block(alloc, pieces),
         "definition" => show_definition(alloc, pieces),
+        "membership" => show_membership(alloc, pieces),
         "tx_id" => show_id(alloc, pieces),
         "hashes" => show_hashes(alloc, pieces),
         "tag" => show_tag(alloc, pieces),

@@ -2,14 +2,17 @@
 
 use crate::bytes::{bytes_of, split_word};
 use crate::fault::CaseFault;
-use crate::texts::{write_definition, write_endorsements, write_hex, write_payload};
-use fab_types::{Block, Definition, Envelope, Payload, Proposal};
+use crate::texts::{
+    write_definition, write_endorsements, write_hex, write_membership, write_payload,
+};
+use fab_types::{Block, Definition, Envelope, Membership, Payload, Proposal};
 use hmac_tag::tag;
 use std::alloc::{AllocError, Global};
 use std::fmt::Write;
 use wire::{
-    data_hash, decode_block, decode_definition, decode_envelope, decode_payload, encode_block,
-    encode_definition, encode_envelope, encode_payload, header_hash, tx_id,
+    data_hash, decode_block, decode_definition, decode_envelope, decode_membership, decode_payload,
+    encode_block, encode_definition, encode_envelope, encode_membership, encode_payload,
+    header_hash, tx_id,
 };
 
 /// The payload that the bytes spell.
@@ -38,6 +41,13 @@ pub fn show_definition(alloc: Global, pieces: &str) -> Result<String, CaseFault>
     let bytes = bytes_of(alloc, pieces)?;
     let definition = decode_definition(alloc, &bytes)?;
     definition_text(alloc, &bytes, &definition)
+}
+
+/// The membership that the bytes spell.
+pub fn show_membership(alloc: Global, pieces: &str) -> Result<String, CaseFault> {
+    let bytes = bytes_of(alloc, pieces)?;
+    let membership = decode_membership(alloc, &bytes)?;
+    membership_text(alloc, &bytes, &membership)
 }
 
 fn payload_text(alloc: Global, bytes: &[u8], payload: &Payload) -> Result<String, CaseFault> {
@@ -69,6 +79,17 @@ fn definition_text(
     let mut answer = String::from_str(alloc, "definition")?;
     write_definition(&mut answer, definition)?;
     write_comparison(&mut answer, bytes, &encode_definition(alloc, definition)?)?;
+    Ok(answer)
+}
+
+fn membership_text(
+    alloc: Global,
+    bytes: &[u8],
+    membership: &Membership,
+) -> Result<String, CaseFault> {
+    let mut answer = String::new(alloc);
+    write_membership(&mut answer, membership)?;
+    write_comparison(&mut answer, bytes, &encode_membership(alloc, membership)?)?;
     Ok(answer)
 }
 

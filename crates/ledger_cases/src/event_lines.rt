@@ -1,7 +1,7 @@
 //! Cases `event TEXT`: what a line of an events file asks for.
 
-use crate::texts::{write_characters, write_definition, write_hex};
-use fab_types::Proposal;
+use crate::texts::{write_amendment, write_characters, write_hex, write_upgrade};
+use fab_types::{Call, Proposal};
 use json_events::{Action, BadLine, read_event};
 use std::alloc::{AllocError, Global};
 
@@ -32,22 +32,26 @@ fn shown(alloc: Global, action: &Action) -> Result<String, AllocError> {
 
 fn begun(alloc: Global, peer: u64, seat: u64, proposal: &Proposal) -> Result<String, AllocError> {
     let mut text = format!(in alloc; "begin {peer}.{seat} ")?;
-    write_characters(&mut text, proposal.chaincode().as_slice())?;
     write_asked(&mut text, proposal)?;
     text.push(' ')?;
     write_hex_or_none(&mut text, proposal.nonce().as_slice())?;
     Ok(text)
 }
 
-/// The argument of a call, or the definition of an upgrade.
+/// What a proposal asks for.
 fn write_asked(text: &mut String, proposal: &Proposal) -> Result<(), AllocError> {
     match proposal {
-        Proposal::Call(call) => {
-            text.push(' ')?;
-            write_hex_or_none(text, call.argument.as_slice())
-        }
-        Proposal::Upgrade(upgrade) => write_definition(text, &upgrade.definition),
+        Proposal::Call(call) => write_call(text, call),
+        Proposal::Upgrade(upgrade) => write_upgrade(text, &upgrade.chaincode, &upgrade.definition),
+        Proposal::Amend(amend) => write_amendment(text, &amend.membership),
     }
+}
+
+/// A chaincode and its argument.
+fn write_call(text: &mut String, call: &Call) -> Result<(), AllocError> {
+    write_characters(text, call.chaincode.as_slice())?;
+    text.push(' ')?;
+    write_hex_or_none(text, call.argument.as_slice())
 }
 
 fn used(alloc: Global, names: &[String]) -> Result<String, AllocError> {

@@ -1,8 +1,10 @@
-//! Cases `genesis TEXT`: what the genesis has that a text spells, or why it spells none.
+//! Cases `genesis TEXT` and `modules TEXT`: what the genesis has that a text spells, or the modules
+//! file, or why it spells none.
 
 use crate::texts::write_hex;
+use chaincode_book::Held;
 use endorsement_policy::ModuleId;
-use json_genesis::read_genesis;
+use json_genesis::{read_genesis, read_modules};
 use ledger_setting::Genesis;
 use std::alloc::{AllocError, Global};
 use std::fmt::Write;
@@ -14,6 +16,23 @@ pub fn genesis_file(alloc: Global, text: &str) -> Result<String, AllocError> {
         Ok(genesis) => contents(alloc, &genesis),
         Err(refusal) => format!(in alloc; "{refusal}"),
     }
+}
+
+/// The answer of a case of a modules file: how many modules it has, and their digests.
+pub fn modules_file(alloc: Global, text: &str) -> Result<String, AllocError> {
+    match read_modules(alloc, text) {
+        Ok(modules) => held(alloc, &modules),
+        Err(refusal) => format!(in alloc; "{refusal}"),
+    }
+}
+
+fn held(alloc: Global, modules: &[Held]) -> Result<String, AllocError> {
+    let mut text = format!(in alloc; "read modules={}", modules.len())?;
+    for module in modules {
+        text.push(' ')?;
+        write_id(&mut text, &module.id)?;
+    }
+    Ok(text)
 }
 
 /// How many there are of each, the numbers, and the digests of the modules.

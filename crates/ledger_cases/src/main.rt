@@ -23,8 +23,8 @@
 //!
 //! Of the ledger's bytes:
 //!
-//! - `payload HEX`, `envelope HEX`, `block HEX`, `definition HEX`: the value that the bytes spell,
-//!   and whether its own bytes are the same, or `refused NUMBER`;
+//! - `payload HEX`, `envelope HEX`, `block HEX`, `definition HEX`, `membership HEX`: the value that
+//!   the bytes spell, and whether its own bytes are the same, or `refused NUMBER`;
 //! - `tx_id HEX`: the id of the payload's proposal; `hashes HEX`: those of the block's header and
 //!   data;
 //! - `tag KEY HEX`: the tag of the bytes under the key, which is one piece.
@@ -44,13 +44,16 @@
 //!   whose state it is judged.
 //!
 //! `event TEXT` tells what a line of an events file asks for, with bytes in hex and `-` for none,
-//! and `genesis TEXT` what the genesis has that the text spells, or why it spells none.
+//! `genesis TEXT` what the genesis has that the text spells, or why it spells none, and
+//! `modules TEXT` the same of a modules file.
 //!
 //! A transaction is words: `r:KEY@BLOCK.PLACE` and `r:KEY@-` for a key read and its version or
 //! absence, `q:START..END*LIMIT=KEY@BLOCK.PLACE,..` for a range with the entries seen,
 //! `w:KEY=VALUE` and `d:KEY` for a key put and deleted, `n:BYTE` for its nonce, `e:no` for one that
 //! is not endorsed, and `u:BYTE,FUEL,POLICY` for an upgrade of `kv` to the module of profile 1
-//! whose digest has this byte alone, in place of a call; `u2:` in place of `u:` is for profile 2.
+//! whose digest has this byte alone, in place of a call; `u2:` in place of `u:` is for profile 2,
+//! and `u17:` and `u18:` are for an open definition of profile 1 or 2. `a:SERIAL,NAMES,POLICY` is
+//! an amendment, with `+` between the names of members, each of which keeps its key.
 //! Bytes are written as they are where all of them are printed characters or blanks, and else in
 //! hex behind `0x`. Transactions stand between ` | ` in a block, and blocks between ` / ` in a
 //! chain. Where no nonce is said, each has its own.
@@ -63,8 +66,9 @@
 //!   argument and the memory are in hex, and a call is its name and its numbers;
 //! - `simulate NAME FUEL HEX | ARGUMENT | ..`: the payload or the refusal of each call of `kv` by
 //!   the book that has the module of profile 1 under a name, on the state that the earlier calls
-//!   leave; `simulate2 ..` the same of profile 2. What begins with `u:` or `u2:` is an upgrade, as
-//!   above: the module's digest has the byte 7, and `A` is an organisation.
+//!   leave; `simulate2 ..` the same of profile 2. What begins with such a word and a colon is an
+//!   upgrade or an amendment, as above: the module's digest has the byte 7, and `A` is an
+//!   organisation.
 #![tactic(auto)]
 
 mod bytes;

@@ -5,7 +5,7 @@ use crate::chains::{block_after, extend};
 use crate::fault::CaseFault;
 use crate::modules::valid_module;
 use crate::texts::write_payload;
-use crate::transactions::{call_with, definition_of, name_of, unendorsed, upgrade_to};
+use crate::transactions::{call_with, change_of, name_of, unendorsed};
 use endorsement_policy::{Installed, ModuleId};
 use fab_types::{Block, Flag, OrgName, Payload, Proposal, Value};
 use simulator::{Book, Chaincode, SimRefusal, simulate};
@@ -26,7 +26,8 @@ pub fn simulate_calls(alloc: Global, text: &str, profile: Profile) -> Result<Str
 fn book_of(alloc: Global, head: &str, profile: Profile) -> Result<Book, CaseFault> {
     let installed = installed(alloc, profile)?;
     let chaincodes = chaincodes_of(alloc, head, profile)?;
-    Book::new(chaincodes, Vec::new(alloc), installed).ok_or(CaseFault::BadLine)
+    let (modules, held) = (Vec::new(alloc), Vec::new(alloc));
+    Book::new(chaincodes, modules, installed, held).ok_or(CaseFault::BadLine)
 }
 
 /// The one chaincode of the book.
@@ -103,11 +104,12 @@ fn propose(
     }
 }
 
-/// The upgrade of `kv` where the text has a colon, or the call with the text, behind the blank.
+/// The upgrade of `kv` or the amendment where the text has a colon, or the call with the text,
+/// behind the blank.
 fn proposal_in(alloc: Global, text: &str) -> Result<Proposal, CaseFault> {
     let text = text.strip_prefix(" ").unwrap_or(text);
     match text.split_once(':') {
-        Some((kind, text)) => upgrade_to(alloc, definition_of(alloc, kind, text)?, [0; 16]),
+        Some((kind, text)) => change_of(alloc, [0; 16], kind, text),
         None => call_with(alloc, argument_of(alloc, text)?, [0; 16]),
     }
 }

@@ -21,7 +21,8 @@ pub fn orgs_of(alloc: Global, list: &str) -> Result<Vec<OrgName>, CaseFault> {
     Ok(orgs)
 }
 
-fn org_of(alloc: Global, name: &str) -> Result<OrgName, CaseFault> {
+/// The name of an organisation that a word spells.
+pub fn org_of(alloc: Global, name: &str) -> Result<OrgName, CaseFault> {
     OrgName::new(name.as_bytes().to_vec(alloc)?).ok_or(CaseFault::BadLine)
 }
 

@@ -1,8 +1,8 @@
 //! Values as the words of a line.
 
 use fab_types::{
-    Definition, Endorsement, Endorsements, Key, Payload, Proposal, RangeEntry, RangeItem, ReadItem,
-    Value, Version, WriteItem,
+    Definition, Endorsement, Endorsements, Key, Member, MemberKey, Membership, Name, Payload,
+    Proposal, RangeEntry, RangeItem, ReadItem, Value, Version, WriteItem,
 };
 use std::alloc::AllocError;
 use std::fmt::Write;
@@ -42,13 +42,15 @@ pub fn write_payload(answer: &mut String, payload: &Payload) -> Result<(), Alloc
     write_writes(answer, payload.writes().as_slice())
 }
 
-/// A call as `CHAINCODE(ARGUMENT)`, an upgrade as `CHAINCODE := DEFINITION`, and the nonce where
-/// that is not 0.
+/// A call as `CHAINCODE(ARGUMENT)`, an upgrade as `CHAINCODE := DEFINITION`, an amendment as
+/// `members := MEMBERSHIP`, and the nonce where that is not 0.
 fn write_proposal(answer: &mut String, proposal: &Proposal) -> Result<(), AllocError> {
-    write_bytes(answer, proposal.chaincode().as_slice())?;
     match proposal {
-        Proposal::Call(call) => write_argument(answer, &call.argument)?,
-        Proposal::Upgrade(upgrade) => write_definition(answer, &upgrade.definition)?,
+        Proposal::Call(call) => write_call(answer, &call.chaincode, &call.argument)?,
+        Proposal::Upgrade(upgrade) => {
+            write_upgrade(answer, &upgrade.chaincode, &upgrade.definition)?
+        }
+        Proposal::Amend(amend) => write_amendment(answer, &amend.membership)?,
     }
     let nonce = proposal.nonce();
     if nonce == [0; 16] {
@@ -58,19 +60,77 @@ fn write_proposal(answer: &mut String, proposal: &Proposal) -> Result<(), AllocE
     write_hex(answer, &nonce)
 }
 
-/// An argument in brackets.
-fn write_argument(answer: &mut String, argument: &Value) -> Result<(), AllocError> {
+/// A chaincode, and its argument in brackets.
+fn write_call(answer: &mut String, chaincode: &Name, argument: &Value) -> Result<(), AllocError> {
+    write_bytes(answer, chaincode.as_slice())?;
     answer.push('(')?;
     write_bytes(answer, argument.as_slice())?;
     answer.push(')')
 }
 
-/// A definition as ` := PROFILE DIGEST FUEL POLICY`.
+/// A chaincode, and its new definition.
+pub fn write_upgrade(
+    answer: &mut String,
+    chaincode: &Name,
+    definition: &Definition,
+) -> Result<(), AllocError> {
+    write_bytes(answer, chaincode.as_slice())?;
+    write_definition(answer, definition)
+}
+
+/// A definition as ` := FORM DIGEST FUEL POLICY`.
 pub fn write_definition(answer: &mut String, definition: &Definition) -> Result<(), AllocError> {
-    write!(answer, " := {} ", definition.profile)?;
+    write!(answer, " := {} ", form_of(definition))?;
     write_hex(answer, &definition.digest)?;
     write!(answer, " {} ", definition.fuel.get())?;
     write_bytes(answer, definition.policy.as_slice())
+}
+
+/// The first byte of a definition: its profile's number, and 16 more where it is open.
+fn form_of(definition: &Definition) -> u8 {
+    let profile = definition.profile.number();
+    if definition.is_open {
+        16 + profile
+    } else {
+        profile
+    }
+}
+
+/// The next membership.
+pub fn write_amendment(answer: &mut String, membership: &Membership) -> Result<(), AllocError> {
+    answer.push_str("members := ")?;
+    write_membership(answer, membership)
+}
+
+/// A membership as `SERIAL MEMBERS POLICY`.
+pub fn write_membership(answer: &mut String, membership: &Membership) -> Result<(), AllocError> {
+    write!(answer, "{} ", membership.serial)?;
+    write_members(answer, membership.members.as_slice())?;
+    answer.push(' ')?;
+    write_bytes(answer, membership.policy.as_slice())
+}
+
+/// Members with commas between them.
+fn write_members(answer: &mut String, members: &[Member]) -> Result<(), AllocError> {
+    for (place, member) in members.iter().enumerate() {
+        if place > 0 {
+            answer.push(',')?;
+        }
+        write_member(answer, member)?;
+    }
+    Ok(())
+}
+
+/// A member's name, and its public key behind `=`, if it has one of its own.
+fn write_member(answer: &mut String, member: &Member) -> Result<(), AllocError> {
+    write_bytes(answer, member.name.as_slice())?;
+    match &member.key {
+        MemberKey::Kept => Ok(()),
+        MemberKey::Public(key) => {
+            answer.push('=')?;
+            write_hex(answer, key)
+        }
+    }
 }
 
 /// A result, if it is not empty.

@@ -2,10 +2,11 @@
 
 use crate::bytes::from_digits;
 use crate::fault::CaseFault;
+use crate::tags::org_of;
 use fab_types::{
-    Bound, Call, Definition, Endorsements, Envelope, Fuel, Key, Name, Payload, PayloadParts,
-    PolicyText, Proposal, RangeEntry, RangeItem, Ranges, ReadItem, ReadSet, Upgrade, Value,
-    Version, WriteItem, WriteSet,
+    Amend, Bound, Call, Definition, Endorsements, Envelope, Fuel, Key, Member, MemberKey, Members,
+    Membership, Name, Payload, PayloadParts, PolicyText, Proposal, RangeEntry, RangeItem, Ranges,
+    ReadItem, ReadSet, Upgrade, Value, Version, WriteItem, WriteSet,
 };
 use std::alloc::Global;
 use wasm_profile::Profile;
@@ -78,11 +79,11 @@ fn writes_of(alloc: Global, words: &str) -> Result<WriteSet, CaseFault> {
     WriteSet::new(writes).ok_or(CaseFault::BadLine)
 }
 
-/// The upgrade that a word says, or else the call with an empty argument.
+/// The upgrade or the amendment that a word says, or else the call with an empty argument.
 fn proposal_of(alloc: Global, nonce: [u8; 16], words: &str) -> Result<Proposal, CaseFault> {
     let nonce = nonce_of(nonce, words)?;
-    match definition_in(alloc, words)? {
-        Some(definition) => upgrade_to(alloc, definition, nonce),
+    match change_in(alloc, nonce, words)? {
+        Some(proposal) => Ok(proposal),
         None => call_with(alloc, empty_value(alloc), nonce),
     }
 }
@@ -98,30 +99,61 @@ fn nonce_of(nonce: [u8; 16], words: &str) -> Result<[u8; 16], CaseFault> {
     Ok(nonce)
 }
 
-/// What an upgrade among the words defines. A bad line where a word says nothing.
-fn definition_in(alloc: Global, words: &str) -> Result<Option<Definition>, CaseFault> {
-    let mut definition = None;
+/// The upgrade or the amendment among the words. A bad line where a word says nothing.
+fn change_in(alloc: Global, nonce: [u8; 16], words: &str) -> Result<Option<Proposal>, CaseFault> {
+    let mut change = None;
     for word in words.split_whitespace() {
         let (kind, text) = word.split_once(':').ok_or(CaseFault::BadLine)?;
         if !matches!(kind, "r" | "q" | "w" | "d" | "n" | "e") {
-            definition = Some(definition_of(alloc, kind, text)?);
+            change = Some(change_of(alloc, nonce, kind, text)?);
         }
     }
-    Ok(definition)
+    Ok(change)
 }
 
-/// The upgrade of the chaincode to a definition.
-pub fn upgrade_to(
+/// The amendment of a word that begins with `a:`, or the upgrade of another one.
+pub fn change_of(
     alloc: Global,
-    definition: Definition,
     nonce: [u8; 16],
+    kind: &str,
+    text: &str,
 ) -> Result<Proposal, CaseFault> {
+    if kind == "a" {
+        let membership = membership_of(alloc, text)?;
+        return Ok(Proposal::Amend(Amend { membership, nonce }));
+    }
+    let definition = definition_of(alloc, kind, text)?;
     let chaincode = chaincode_name(alloc)?;
     Ok(Proposal::Upgrade(Upgrade {
         chaincode,
         definition,
         nonce,
     }))
+}
+
+/// `SERIAL,NAMES,POLICY`, where `+` stands between the names and each member keeps its key.
+fn membership_of(alloc: Global, text: &str) -> Result<Membership, CaseFault> {
+    let (serial, rest) = text.split_once(',').ok_or(CaseFault::BadLine)?;
+    let (names, policy) = rest.split_once(',').ok_or(CaseFault::BadLine)?;
+    let Ok(serial) = serial.parse::<u32>() else {
+        return Err(CaseFault::BadLine);
+    };
+    let members = members_of(alloc, names)?;
+    let policy = policy_text_of(alloc, policy)?;
+    Ok(Membership {
+        serial,
+        members,
+        policy,
+    })
+}
+
+fn members_of(alloc: Global, names: &str) -> Result<Members, CaseFault> {
+    let mut members = Vec::new(alloc);
+    for name in names.split('+') {
+        let (name, key) = (org_of(alloc, name)?, MemberKey::Kept);
+        members.push(Member { name, key })?;
+    }
+    Members::new(members).ok_or(CaseFault::BadLine)
 }
 
 /// The call of the chaincode with an argument.
@@ -134,25 +166,29 @@ pub fn call_with(alloc: Global, argument: Value, nonce: [u8; 16]) -> Result<Prop
     }))
 }
 
-/// The profile of an upgrade's first word: `u` for 1, `u2` for 2.
-fn profile_of(kind: &str) -> Result<Profile, CaseFault> {
+/// Whether a definition is open, and its profile: `u` and `u2` are closed ones of profile 1 and 2,
+/// `u17` and `u18` open ones.
+fn form_of(kind: &str) -> Result<(bool, Profile), CaseFault> {
     match kind {
-        "u" => Ok(Profile::Core1),
-        "u2" => Ok(Profile::SignExtension),
+        "u" => Ok((false, Profile::Core1)),
+        "u2" => Ok((false, Profile::SignExtension)),
+        "u17" => Ok((true, Profile::Core1)),
+        "u18" => Ok((true, Profile::SignExtension)),
         _ => Err(CaseFault::BadLine),
     }
 }
 
 /// `BYTE,FUEL,POLICY` behind such a word, where each byte of the digest is the same.
-pub fn definition_of(alloc: Global, kind: &str, text: &str) -> Result<Definition, CaseFault> {
+fn definition_of(alloc: Global, kind: &str, text: &str) -> Result<Definition, CaseFault> {
     let (byte, rest) = text.split_once(',').ok_or(CaseFault::BadLine)?;
     let (fuel, policy) = rest.split_once(',').ok_or(CaseFault::BadLine)?;
-    let profile = profile_of(kind)?;
+    let (is_open, profile) = form_of(kind)?;
     let digest = [number_of(byte)?; 32];
     let fuel = fuel_of(fuel)?;
     let policy = policy_text_of(alloc, policy)?;
     Ok(Definition {
         profile,
+        is_open,
         digest,
         fuel,
         policy,

@@ -15,7 +15,7 @@ fn printed(alloc: Global, order: &OrderRefusal) -> Result<String, AllocError> {
         "{order}, {}, {}, {}, {}",
         CommitRefusal::AtEnd,
         FinishRefusal::from(SimRefusal::Stale),
-        FinishRefusal::from(TakeRefusal::NoEntry),
+        FinishRefusal::from(TakeRefusal::NotEntered),
         FinishRefusal::from(AllocError)
     )
 }
@@ -36,10 +36,10 @@ fn printed_of_seats(alloc: Global) -> Result<String, AllocError> {
     format!(in alloc;
         "{}, {}, {}, {}, {}, {}",
         OpenRefusal::Memory,
-        TakeRefusal::NoEntry,
+        TakeRefusal::NotEntered,
         TakeRefusal::Memory,
         SeatsRefusal::NoPlace,
-        SeatsRefusal::NoEntry,
+        SeatsRefusal::NotEntered,
         SeatsRefusal::from(AllocError)
     )
 }

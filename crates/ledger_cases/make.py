@@ -1,0 +1,285 @@
+#!/usr/bin/env python3
+"""Writes the last groups of `stdin` and `stdout`: open definitions, memberships, amendments and modules files.
+
+Bytes are put together by docs/FORMATS.md, ids and tags made by `hashlib` and `hmac`; the rest follows docs/RULES.md.
+"""
+import hashlib
+import hmac
+import json
+import pathlib
+from collections.abc import Callable
+
+HERE = pathlib.Path(__file__).parent
+FIRST = "# wire: open definitions"
+
+Row = tuple[str, str]
+
+M2 = "4146715e99eba415ef0805fd0978db6de1a469951cd8ea428eb534c835b0327e"
+B_KEY = "d75a980182b10ab7d54bfed3c964073a0ee172f3daa62325af021a68f707511a"
+NONCE = "000102030405060708090a0b0c0d0e0f"
+NO_NONCE = bytes(16)
+UPGRADED, AMENDED = b"\0kv", b"\0"
+SEVEN = "0061736d010000000105016000017f03020100070a0106696e766f6b6500000a0601040041070b"
+PUTS = ("0061736d01000000010d0260047f7f7f7f017f6000017f02140106666162726963097075745f7374617465000003020101050301000107"
+        "0a0106696e766f6b6500010a11010f00410041014101410110001a41000b0b08010041000b026131")
+
+
+def short(data: bytes) -> bytes:
+    return bytes([len(data)]) + data
+
+
+def long(data: bytes) -> bytes:
+    return len(data).to_bytes(2, "big") + data
+
+
+def definition(form: int, digest: bytes, fuel: int, policy: str) -> bytes:
+    return bytes([form]) + digest + fuel.to_bytes(4, "big") + long(policy.encode())
+
+
+def member(name: str, public: str = "") -> bytes:
+    return short(name.encode()) + (b"\1" + bytes.fromhex(public) if public else b"\0")
+
+
+def membership(serial: int, members: list[bytes], policy: str) -> bytes:
+    return b"\1" + serial.to_bytes(4, "big") + bytes([len(members)]) + b"".join(members) + long(policy.encode())
+
+
+def upgrade(value: bytes) -> bytes:
+    return b"\0" + short(b"kv") + value + NO_NONCE
+
+
+def amendment(value: bytes, nonce: bytes = NO_NONCE) -> bytes:
+    return b"\x80" + value + nonce
+
+
+def payload(proposal: bytes, key: bytes, value: bytes, version: bytes = b"") -> bytes:
+    """The payload that reads a key, absent where no version is given, and puts a value there."""
+    read = short(key) + (b"\1" + version if version else b"\0")
+    return proposal + bytes(2) + b"\0\1" + read + bytes(2) + b"\0\1" + short(key) + b"\1" + long(value)
+
+
+def same(text: str) -> str:
+    return f"{text}, same bytes"
+
+
+def of_bytes(proposal: bytes, whole: bytes, text: str) -> list[Row]:
+    """What a payload is, the id of its proposal, and A's tag under the key `Jefe`."""
+    return [
+        (f"payload {whole.hex()}", same(text)),
+        (f"tx_id {whole.hex()}", hashlib.sha256(proposal).hexdigest()),
+        (f"tag 4a656665 {whole.hex()}", hmac.digest(b"Jefe", whole, "sha256").hex()),
+    ]
+
+
+def put(key: bytes, value: bytes, seen: str = "-") -> str:
+    return f"r:0x{key.hex()}@{seen} w:0x{key.hex()}=0x{value.hex()}"
+
+
+def definitions() -> list[Row]:
+    rest = "07*32 00000047 0003 274127"
+    opened = definition(17, bytes.fromhex(M2), 141, "'A'")
+    rows = [(f"definition {form} {rest}", same(f"definition := {int(form, 16)} {'07' * 32} 71 'A'")) for form in ("11", "12")]
+    rows += [(f"definition {form} {rest}", "refused 303") for form in ("10", "13", "21", "81", "91")]
+    rows += [
+        ("definition 11", "refused 301"),
+        ("definition 11 07*32 00000000 0003 274127", "refused 304"),
+        ("definition 12 07*32 00000047 0000", "refused 304"),
+        (f"definition 11 {rest} 00", "refused 305"),
+        (f"definition {opened.hex()}", same(f"definition := 17 {M2} 141 'A'")),
+    ]
+    proposal = upgrade(opened)
+    rows += of_bytes(proposal, payload(proposal, UPGRADED, opened), f"kv := 17 {M2} 141 'A' {put(UPGRADED, opened)}")
+    return rows + [(f"payload 00 026b76 {form} 07*32", "refused 303") for form in ("10", "13")]
+
+
+def memberships() -> list[Row]:
+    kept = "0141 00 0142 00"
+    sixteen = [bytes([97 + place]) * 32 for place in range(16)]
+    greatest = membership(2**32 - 1, [member(name.decode(), B_KEY) for name in sixteen], "~" * 1024)
+    shown = ",".join(f"{name.decode()}={B_KEY}" for name in sixteen)
+    return [
+        ("membership 01 00000001 01 0141 00 0003 274127", same("1 A 'A'")),
+        ("membership 01 00000000 01 0141 00 0003 274127", same("0 A 'A'")),
+        (f"membership 01 00000002 02 {kept} 0003 274127", same("2 A,B 'A'")),
+        (f"membership 01 00000002 02 0141 00 0142 01 {B_KEY} 000b 4f52282741272c27422729", same(f"2 A,B={B_KEY} OR('A','B')")),
+        (f"membership {greatest.hex()}", same(f"4294967295 {shown} {'~' * 1024}")),
+        ("membership 01 00000001 02 0142 00 0141 00 0003 274127", "refused 303"),
+        ("membership 01 00000001 02 0141 00 0141 00 0003 274127", "refused 303"),
+        (f"membership 01 00000001 02 0141 00 0141 01 {B_KEY} 0003 274127", "refused 303"),
+        ("membership 00 00000001 01 0141 00 0003 274127", "refused 303"),
+        ("membership 02 00000001 01 0141 00 0003 274127", "refused 303"),
+        ("membership 01 00000001 01 0141 02 0003 274127", "refused 303"),
+        ("membership 01 00000001 01 012f 00 0003 274127", "refused 303"),
+        ("membership 01 00000001 01 0141 00 0003 271f27", "refused 303"),
+        ("membership 01 00000001 00 0003 274127", "refused 304"),
+        ("membership 01 00000001 11 0141 00 0003 274127", "refused 304"),
+        ("membership 01 00000001 01 00 00 0003 274127", "refused 304"),
+        ("membership 01 00000001 01 21 41*33 00 0003 274127", "refused 304"),
+        ("membership 01 00000001 01 0141 00 0000", "refused 304"),
+        ("membership 01 00000001 01 0141 00 0401 7e*1025", "refused 304"),
+        ("membership 00*0", "refused 301"),
+        ("membership 01 000000", "refused 301"),
+        ("membership 01 00000001", "refused 301"),
+        ("membership 01 00000001 01 0141 01 07*31", "refused 301"),
+        ("membership 01 00000001 01 0141 00 0003 2741", "refused 301"),
+        ("membership 01 00000001 01 0141 00 0003 274127 00", "refused 305"),
+    ]
+
+
+def amendments() -> list[Row]:
+    first = membership(1, [member("A")], "'A'")
+    second = membership(2, [member("A"), member("B", B_KEY)], "OR('A','B')")
+    version = (2).to_bytes(4, "big") + bytes(4)
+    rows = of_bytes(amendment(first), payload(amendment(first), AMENDED, first), f"members := 1 A 'A' {put(AMENDED, first)}")
+    rows += of_bytes(
+        amendment(second),
+        payload(amendment(second), AMENDED, second, version),
+        f"members := 2 A,B={B_KEY} OR('A','B') {put(AMENDED, second, '2.0')}",
+    )
+    whole = payload(amendment(first, b"\2" * 16), AMENDED, first)
+    return rows + [
+        (f"payload {whole.hex()}", same(f"members := 1 A 'A' nonce {'02' * 16} {put(AMENDED, first)}")),
+        ("payload 80", "refused 301"),
+        (f"payload 80 {first.hex()} 00*15", "refused 301"),
+        (f"payload {whole.hex()} 00", "refused 305"),
+        ("payload 80 02", "refused 303"),
+        ("payload 80 01 00000001 00", "refused 304"),
+        ("payload 7f", "refused 304"),
+        ("payload 81", "refused 304"),
+    ]
+
+
+def endorsements() -> list[Row]:
+    def opened(form: int, policy: str) -> str:
+        return put(UPGRADED, definition(form, b"\x08" * 32, 71, policy))
+
+    def behind(policy: str) -> str:
+        return f"r:0x006b76@1.0 / w:0x006b76=0x{definition(17, bytes([8]) * 32, 71, policy).hex()}"
+
+    cases = [
+        (f"A/A 'A' | u17:8,71,'B' {opened(17, chr(39) + 'B' + chr(39))}", True),
+        (f"A/A 'A' | u18:8,71,'B' {opened(18, QB)}", True),
+        (f"A/A 'A' | u17:7,71,'B' {put(UPGRADED, definition(17, bytes([7]) * 32, 71, QB))}", True),
+        (f"B/B 'A' | u17:8,71,'B' {opened(17, QB)}", False),
+        (f"A/A 'A' | u17:8,71,'B' {opened(1, QB)}", False),
+        (f"A/A 'A' | u17:8,71,'B' {opened(18, QB)}", False),
+        (f"A/A 'A' | u17:8,71,'C' {opened(17, QC)}", False),
+        (f"A/A 'A' | u17:8,71,OR('A','C') {opened(17, 'OR(' + QA + ',' + QC + ')')}", False),
+        (f"A/A 'A' | u17:8,71,OR( {opened(17, 'OR(')}", False),
+        (f"B/B 'A' | {behind(QB)}", True),
+        (f"A/A 'A' | {behind(QB)}", False),
+        (f"A/A 'A' | {behind('OR(' + QA + ',' + QC + ')')}", True),
+        (f"A/A 'A' | {behind(QC)}", False),
+        (f"C/C 'A' | {behind(QC)}", False),
+        (f"A/A 'A' | {behind('OR(')}", False),
+        (f"A/A 'A' | a:1,A,'A' {put(AMENDED, membership(1, [member('A')], QA))}", False),
+        (f"A/A,B/B 'A' | a:1,A+B,'A' {put(AMENDED, membership(1, [member('A'), member('B')], QA))}", False),
+        (f"A/A 'A' | a:2,A,'A' {put(AMENDED, membership(2, [member('A')], QA))}", False),
+        ("A/A 'A' | a:1,A,'A' r:0x006b76@-", False),
+        (f"A/A 'A' | r:0x006b76@- / w:0x00=0x{membership(1, [member('B')], QB).hex()}", True),
+    ]
+    return [(f"endorsed A,B {case}", "true" if endorsed else "false") for case, endorsed in cases]
+
+
+def simulations() -> list[Row]:
+    call = "kv() r:0x006b76@{} w:a=1"
+
+    def upgraded(form: int, fuel: int, policy: str) -> str:
+        value = definition(form, b"\7" * 32, fuel, policy)
+        return f"kv := {form} {'07' * 32} {fuel} {policy} {put(UPGRADED, value)}"
+
+    cases = [
+        ("u17:7,71,'A' | ", f"{upgraded(17, 71, QA)} / {call.format('1.0')}"),
+        ("u17:7,71,'Z' | ", f"{upgraded(17, 71, QZ)} / {call.format('1.0')}"),
+        ("u17:7,70,'A' | ", f"{upgraded(17, 70, QA)} / refused 403"),
+        ("u17:8,71,'A' | ", f"refused 406 / {call.format('-')}"),
+        ("u18:7,71,'A'", "refused 406"),
+        ("u17:7,71,'A", "refused 407"),
+        ("u17:7,71,OutOf(2,'Z')", "refused 407"),
+        ("u17:8,71,'A", "refused 406"),
+        ("a:1,A,'A' | ", f"refused 408 / {call.format('-')}"),
+        ("a:2,A,'Z'", "refused 408"),
+    ]
+    return [(f"simulate kv 71 {PUTS} | {case}", answer) for case, answer in cases]
+
+
+Changes = dict[str, object]
+
+
+def line(fields: Changes, without: str = "") -> str:
+    return "event " + json.dumps({name: held for name, held in fields.items() if name != without}, separators=(",", ":"))
+
+
+def begins() -> list[Row]:
+    """Begins of upgrades to open definitions, and of amendments."""
+    opened: Changes = {"do": "begin", "fuel": 141, "module": M2, "nonce": NONCE, "peer": 0, "policy": QA, "profile": 17,
+                       "seat": 3, "upgrade": "kv"}
+    b: Changes = {"name": "B", "public": B_KEY}
+    amend: Changes = {"do": "begin", "members": [{"name": "A"}, b], "nonce": NONCE, "peer": 0, "policy": "OR('A','B')", "seat": 3,
+                      "serial": 2}
+    read: Callable[[str], str] = lambda text: f"begin 0.3 members := {text} {NONCE}"
+    many = [{"name": chr(65 + place)} for place in range(17)]
+    rows = [(line(opened | {"profile": form}), f"begin 0.3 kv := {form} {M2} 141 'A' {NONCE}") for form in (17, 18)]
+    rows += [(line(opened | {"profile": form}), "bad line") for form in (16, 19, 33, 273, 2**32 + 17, "17", 17.0)]
+    rows += [
+        (line(amend), read(f"2 A,B={B_KEY} OR('A','B')")),
+        (line(dict(reversed(amend.items())) | {"members": [{"name": "A"}, dict(reversed(b.items()))]}), read(f"2 A,B={B_KEY} OR('A','B')")),
+        (line(amend | {"members": [{"name": "A"}, b | {"public": B_KEY.upper()}]}), read(f"2 A,B={B_KEY} OR('A','B')")),
+        (line(amend | {"members": [{"name": "A"}], "policy": QA, "serial": 0}), read("0 A 'A'")),
+        (line(amend | {"members": many[:16], "policy": QZ, "serial": 2**32 - 1}), read(f"4294967295 {','.join('ABCDEFGHIJKLMNOP')} 'Z'")),
+    ]
+    wrong: list[Changes] = [{"serial": held} for held in (-1, 1.0, 2**32, 2**64, "1", None)]
+    wrong += [{"members": held} for held in ([], many, {"name": "A"}, "A", ["A"], [[]], [{}], [{"public": B_KEY}], [{"name": 1}])]
+    wrong += [{"members": [{"name": "B"}, {"name": "A"}]}, {"members": [{"name": "A"}, {"name": "A"}]}]
+    wrong += [{"members": [{"name": name}]} for name in ("", "A" * 33, "A/")]
+    wrong += [{"members": [b | {"public": held}]} for held in ("", "-", B_KEY[:62], B_KEY + "00", B_KEY[:63], "x" * 64, 1, None)]
+    wrong += [{"members": [b | {"key": "4a656665"}]}, {"members": [{"name": "A", "kept": True}]}]
+    wrong += [{"nonce": NONCE[:30]}, {"policy": ""}, {"policy": "~" * 1025}, {"peer": -1}, {"seat": "3"}, {"do": "amend"}]
+    wrong += [{"upgrade": "kv"}, {"chaincode": "kv"}, {"more": 1}]
+    rows += [(line(amend | change), "bad line") for change in wrong]
+    return rows + [(line(amend, without), "bad line") for without in amend]
+
+
+def modules() -> list[Row]:
+    digest = hashlib.sha256(bytes.fromhex(SEVEN)).hexdigest()
+    entry = f'{{"module":"{SEVEN}","profile":1}}'
+
+    def of(count: int) -> str:
+        return "modules [" + ",".join([entry] * count) + "]"
+
+    refused = [
+        (801, ["", "[", "[]]", "modules"]),
+        (802, ["{}", "null", entry, "[1]", "[[]]", "[{}]", f'[{{"module":"{SEVEN}"}}]', '[{"profile":1}]', f'[{{"module":"{SEVEN}","name":"kv","profile":1}}]',
+               '[{"module":1,"profile":1}]', '[{"module":"0","profile":1}]', '[{"module":"0x","profile":1}]', f'[{{"module":"{SEVEN}","profile":"1"}}]']),
+        (803, [f'[{{"module":"{SEVEN}","profile":{number}}}]' for number in (0, 3, 17, 257)]),
+        (804, [f'[{{"module":"{held}","profile":1}}]' for held in ("", "00", "0061736d", "0061736d01000000")] + [f'[{entry},{{"module":"00","profile":2}}]']),
+    ]
+    rows = [(of(count), f"read modules={count}" + f" {digest}" * count) for count in (0, 1, 64)] + [(of(65), "refused 803")]
+    rows += [(f'modules [{entry},{{"profile":2,"module":"{SEVEN.upper()}"}}]', f"read modules=2 {digest} {digest}/2")]
+    return rows + [(f"modules {text}", f"refused {number}") for number, texts in refused for text in texts]
+
+
+QA, QB, QC, QZ = "'A'", "'B'", "'C'", "'Z'"
+
+GROUPS: list[tuple[str, Callable[[], list[Row]]]] = [
+    (f"{FIRST} begin with 17 and 18, by the profile; with 16, 19 or another byte there is none (303)", definitions),
+    ("# wire: a membership is the byte 01, a serial number, 1 to 16 members, each a name and a key, whose names ascend, and a policy's text", memberships),
+    ("# wire: an amendment is the byte 80, a membership and a nonce; no name has so many bytes", amendments),
+    ("# endorsement_policy: an upgrade to an open definition needs a policy of organisations, and no module that is installed; a call under one"
+     " falls under its text, whatever that names. An amendment is endorsed by nobody", endorsements),
+    ("# simulator: an open definition is of a module at hand (406) and of a policy, whatever it names (407); an amendment is 408", simulations),
+    ("# json_events: upgrades to open definitions, and amendments", begins),
+    ("# json_genesis: a modules file: 0 to 64 modules, and what is refused", modules),
+]
+
+
+def main() -> None:
+    groups = [(title, make()) for title, make in GROUPS]
+    for name, part in (("stdin", 0), ("stdout", 1)):
+        kept = (HERE / name).read_text().split(f"\n{FIRST}")[0].rstrip("\n")
+        lines = [text for title, rows in groups for text in ("", title, *(row[part] for row in rows))]
+        (HERE / name).write_text("\n".join([kept, *lines]) + "\n")
+
+
+if __name__ == "__main__":
+    main()
