@@ -163,7 +163,7 @@ def genesis_file(file: str, program: str | None = None) -> str:
     return text_of(genesis)
 
 
-def text_of(genesis: dict) -> str:
+def text_of(genesis: dict | list) -> str:
     return json.dumps(genesis, indent=1) + "\n"
 
 

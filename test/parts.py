@@ -6,8 +6,10 @@ import re
 import sys
 from collections.abc import Callable
 
+import explaining
 import keygen
 import members
+import modules_files
 import networks
 from calling import find_pieces
 from pages import Block, Typist, blocks_of
@@ -158,8 +160,16 @@ def keys(report: Report, at: Setting) -> None:
     keygen.try_keygen(report, at.tree, at.room, at.env)
 
 
+def numbers(report: Report, at: Setting) -> None:
+    explaining.try_explain(report, at.tree, at.env)
+
+
 def network(report: Report, at: Setting) -> None:
     networks.try_networks(report, at.tree, at.room, at.env)
+
+
+def modules(report: Report, at: Setting) -> None:
+    modules_files.try_modules(report, at.tree, at.room, at.env)
 
 
 def calling(report: Report, at: Setting) -> None:
@@ -167,5 +177,5 @@ def calling(report: Report, at: Setting) -> None:
 
 
 # Those that take long come first.
-PARTS: list[Callable[[Report, Setting], None]] = [roles, page, chaincode, by_hand, tutorial, readme, formats, network, keys, scripts,
-                                                  calling]
+PARTS: list[Callable[[Report, Setting], None]] = [roles, page, chaincode, by_hand, tutorial, readme, formats, network, modules, numbers,
+                                                  keys, scripts, calling]

@@ -1,0 +1,36 @@
+"""A modules file: modules that a command has at hand beside those of its genesis file (docs/INPUT.md, "Modules file")."""
+import re
+
+from network import MOST_MODULE_BYTES, Mistake, ask, quoted, reason, text_of
+
+# How many modules a modules file has at most.
+MOST_HELD = 64
+# What the program says of a module that it refuses.
+REFUSED = re.compile(r"^(refused .*)$", re.MULTILINE)
+
+
+def modules_file(words: list[str], program: str) -> str:
+    """The text of a file with the modules of these words, each the name of a file, and `:2` where its profile is 2."""
+    if len(words) > MOST_HELD:
+        raise Mistake(f"a modules file has up to {MOST_HELD} modules, and {len(words)} are named")
+    return text_of([module(*divided(word), program) for word in words])
+
+
+def divided(word: str) -> tuple[str, int]:
+    """The name of the file, and the profile: 1 where none is named."""
+    name, mark, profile = word.rpartition(":")
+    return (name, int(profile)) if mark and profile in ("1", "2") else (word, 1)
+
+
+def module(name: str, profile: int, program: str) -> dict[str, object]:
+    """An entry of the file, of a module that the program takes."""
+    try:
+        with open(name, "rb") as file:
+            data = file.read(MOST_MODULE_BYTES + 1)
+    except OSError as error:
+        raise Mistake(f"the module {quoted(name)} cannot be read: {reason(error)}") from error
+    said = ask(program, "check", name, "--profile", profile)
+    if said.status:
+        why = REFUSED.search(said.out)
+        raise Mistake(f"{quoted(name)} is no valid module of profile {profile}: {why[1] if why else f'status {said.status}'}")
+    return {"module": data.hex(), "profile": profile}
