@@ -7,6 +7,10 @@ of the line among those that were made then, from 0.
 
 Only the first version of a key counts. An overwriting and a deletion are no entries, so that nobody who writes changes
 what was read.
+
+Three kinds of lines count only in entries whose keys begin as `HOMES` says. Elsewhere they are nothing: they are not handed
+on. They have a number all the same, so that the index of a line does not depend on what the others say. By this the roles
+of etcd, which go by keys, tell who may write which kind of line.
 """
 import base64
 import http.client
@@ -21,6 +25,8 @@ from collections.abc import Iterator
 from urllib.parse import urlsplit
 
 PREFIX = "log/"
+# How the key of an entry begins in which a line counts that is the first of these, or begins with one of the others.
+HOMES = {b"tick": b"log/tick-", b"seen ": b"log/seen-", b"genesis ": b"log/genesis"}
 # How long one node may take for an answer before another one is asked, and all of them, in seconds.
 NODE_SECONDS = 2.0
 PATIENCE = 30.0
@@ -70,6 +76,11 @@ class Log:
             "success": [{"request_put": {"key": key, "value": value}}],
         })
         return made.get("succeeded", False)
+
+    def read(self, name: str) -> str | None:
+        """The lines of the entry of this name as they are now, or none. Somebody may have overwritten it since it was ordered."""
+        found = self._ask("/v3/kv/range", PATIENCE, {"key": _base64((PREFIX + name).encode())}).get("kvs")
+        return base64.b64decode(found[0].get("value", "")).decode(errors="replace") if found else None
 
     def reach(self) -> None:
         """Asks each node once whether it is there, until one answers. It need not be able to take an entry."""
@@ -184,11 +195,20 @@ class Watch:
             if entry["mod_revision"] != self.revision:
                 self.revision, self.lines = entry["mod_revision"], 0
             if event.get("type", PUT) == PUT and entry["version"] == 1:
+                key = base64.b64decode(entry["key"])
                 for mark in base64.b64decode(entry.get("value", "")).split(b"\n"):
-                    # Any byte is a character, the same on each machine, so that each line is UTF-8.
-                    lines.append(f"{self.revision}.{self.lines} {mark.decode('latin-1')}\n".encode())
+                    if counts_in(key, mark):
+                        # Any byte is a character, the same on each machine, so that each line is UTF-8.
+                        lines.append(f"{self.revision}.{self.lines} {mark.decode('latin-1')}\n".encode())
                     self.lines += 1
         return lines
+
+
+def counts_in(key: bytes, mark: bytes) -> bool:
+    """Whether a line counts in an entry of this key."""
+    word, blank, _ = mark.partition(b" ")
+    home = HOMES.get(word + blank)
+    return home is None or key.startswith(home)
 
 
 if __name__ == "__main__":

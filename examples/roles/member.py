@@ -1,7 +1,7 @@
 #!/usr/bin/env python3
 """One organisation's member of a ledger whose log is in etcd: its replica of the orderer, and its committer.
 
-    member.py ORG GENESIS STORE ENDPOINTS [--seen BLOCKS] [--wait SECONDS] [--past-forks] [--program FILE]
+    member.py ORG GENESIS STORE ENDPOINTS [--keys FILE] [--seen BLOCKS] [--wait SECONDS] [--past-forks] [--program FILE]
 
 ENDPOINTS are the URLs of etcd's nodes, with commas between. The log goes through two filters, joined by pipes, so that who
 is slow holds back who is fast:
@@ -14,10 +14,13 @@ It puts two kinds of entries into the log itself. `tick-<n>` asks for block n wh
 (0.5); there is one at most, whichever member asks first. `seen-<org>-<n>` says, once in so many BLOCKS (64), which hash the
 header of block n has here, and each member compares that with its own. Where one differs, two members were given different
 logs, or someone lies: the member ends, or, with --past-forks, says so and goes on.
+
+It is an endorser of ORG, begun here beside the store, that says which hash a block has. It signs that by the key file of
+--keys where ORG has a public key; without one nothing is told. Whoever says something in the name of an organisation with a
+public key, and has not signed it, is not heard.
 """
 import argparse
 import collections
-import hashlib
 import pathlib
 import queue
 import re
@@ -36,13 +39,16 @@ from program import NoProgram, find
 
 # A chain has no block above this one.
 LAST_BLOCK = 65535
-# The hex of a block's header.
-HEADER_DIGITS = 2 * 68
 # How long etcd may take to put a tick or a hash, and after how long it is asked again where it did not, in seconds.
 SHORT_PATIENCE = 3.0
 PAUSE = 5.0
 # The lines of the log that members write beside envelopes and ticks, with their index: all skip them (300).
-MEMBERS_LINE = re.compile(rb"(\S+) (?:genesis [0-9a-f]{64}|seen [A-Za-z0-9_]{1,32} [0-9]{1,5} [0-9a-f]{64})\n")
+SEEN = rb"seen [A-Za-z0-9_]{1,32} [0-9]{1,5} [0-9a-f]{64}(?: [0-9a-f]{128})?"
+MEMBERS_LINE = re.compile(rb"(\S+) (?:genesis [0-9a-f]{64}|%b)\n" % SEEN)
+
+
+class NotSaid(Exception):
+    """The endorser does not say which hash a block has."""
 
 
 def say(text: str) -> None:
@@ -69,11 +75,14 @@ class Member:
         self.awaited: tuple[int, float | None] = (1, None)
         # The block that was asked for by ticks, how many, and when the last one was.
         self.asked = (0, 0, 0.0)
-        # Hashes of blocks that are not committed yet, by their numbers, and those that are to be told.
-        self.hashes: dict[int, str] = {}
+        # Numbers of blocks that were committed here and whose hashes are to be told, and the lines that tell them.
+        self.unsaid: queue.SimpleQueue[int] = queue.SimpleQueue()
         self.untold: collections.deque[tuple[int, str]] = collections.deque()
+        # The organisation's endorser, once there is something to say.
+        self.endorser: subprocess.Popen[bytes] | None = None
         works = (self.feed, self.pass_blocks, self.follow_commits)
         self.threads = [threading.Thread(target=self.do, args=(work,), daemon=True) for work in works]
+        self.threads.append(threading.Thread(target=self.say_hashes, daemon=True))
         # Why it ends.
         self.ended: queue.SimpleQueue[str] = queue.SimpleQueue()
 
@@ -98,8 +107,10 @@ class Member:
     def stop(self) -> None:
         """Ends all processes."""
         self.watch.close()
-        self.order.kill()
-        self.order.wait()
+        for process in (self.order, self.endorser):
+            if process:
+                process.kill()
+                process.wait()
         try:
             # It ends behind the last block that it was given.
             self.commit.wait(timeout=10)
@@ -135,11 +146,12 @@ class Member:
         try:
             for line in self.order.stdout:
                 match line.split():
-                    case [b"block", number, block]:
-                        self.note_hash(int(number), block)
-                        self.commit.stdin.write(line)
-                        self.commit.stdin.flush()
+                    case [b"block", number, _]:
+                        self.hand_to_commit(line)
                         self.awaited = (int(number) + 1, None)
+                    case [b"seen", *_]:
+                        # It is signed, which the committer judges.
+                        self.hand_to_commit(line)
                     case [b"read", _, waiting]:
                         number, since = self.awaited
                         self.awaited = (number, None if waiting == b"0" else since or time.monotonic())
@@ -148,7 +160,7 @@ class Member:
                         # What members tell each other is skipped so by all.
                         self.members_lines.remove(index)
                     case [b"forked", org, number] if not self.words.past_forks:
-                        return f"forked: {org.decode()} has another block {number.decode()}"
+                        return forked(org, number)
                     case _:
                         say(line.decode())
             return f"order ended with status {self.order.wait()}"
@@ -160,19 +172,44 @@ class Member:
     def follow_commits(self) -> str:
         """Says what the committer says, but of blocks that it knew."""
         for line in self.commit.stdout:
-            word, number, *_ = line.split() + [b""]
-            if word != b"known":
-                say(line.decode())
-            if word in (b"known", b"committed"):
-                seen = self.hashes.pop(int(number), None)
-                if seen and word == b"committed":
-                    self.untold.append((int(number), seen))
+            match line.split():
+                case [b"known", _]:
+                    continue
+                case [b"forked", org, number] if not self.words.past_forks:
+                    return forked(org, number)
+                case [b"committed", number, *_] if int(number) % self.words.seen == 0:
+                    self.unsaid.put(int(number))
+            say(line.decode())
         return f"commit ended with status {self.commit.wait()}"
 
-    def note_hash(self, number: int, block: bytes) -> None:
-        if number % self.words.seen == 0:
-            header = bytes.fromhex(block[:HEADER_DIGITS].decode())
-            self.hashes[number] = hashlib.sha256(header).hexdigest()
+    def say_hashes(self) -> None:
+        """Has the endorser say which hashes blocks have. Once it does not, no more are told."""
+        try:
+            while True:
+                number = self.unsaid.get()
+                self.untold.append((number, self.seen(number)))
+        except (NotStarted, NotSaid) as error:
+            say(f"tells no hashes of blocks: {error}")
+
+    def seen(self, number: int) -> str:
+        """What the organisation says of a block that its store has."""
+        if self.endorser is None:
+            keys = ["--keys", self.words.keys] if self.words.keys else []
+            self.endorser = start(self.words.program, "endorse", self.words.genesis, self.words.org, self.words.store, *keys)
+        try:
+            self.endorser.stdin.write(b"seen %d\n" % number)
+            self.endorser.stdin.flush()
+        except BrokenPipeError:
+            # What it said last tells why.
+            pass
+        answer = self.endorser.stdout.readline().decode().rstrip("\n")
+        if not answer.startswith("seen "):
+            raise NotSaid(f"the endorser says: {answer}" if answer else "the endorser has ended")
+        return answer
+
+    def hand_to_commit(self, line: bytes) -> None:
+        self.commit.stdin.write(line)
+        self.commit.stdin.flush()
 
     def close_commit(self) -> None:
         try:
@@ -201,17 +238,21 @@ class Member:
     def tell(self) -> None:
         """Tells the others the hashes of blocks that were committed here."""
         while self.untold:
-            number, seen = self.untold[0]
-            name = f"seen-{self.words.org}-{number}"
-            self.log.append(name, [f"seen {self.words.org} {number} {seen}"], SHORT_PATIENCE)
+            number, line = self.untold[0]
+            self.log.append(f"seen-{self.words.org}-{number}", [line], SHORT_PATIENCE)
             say(f"told the hash of block {number}")
             self.untold.popleft()
+
+
+def forked(org: bytes, number: bytes) -> str:
+    return f"forked: {org.decode()} has another block {number.decode()}"
 
 
 def main() -> int:
     parser = argparse.ArgumentParser(description=__doc__.split("\n", 1)[0])
     for name in ("org", "genesis", "store", "endpoints"):
         parser.add_argument(name)
+    parser.add_argument("--keys", metavar="FILE")
     parser.add_argument("--seen", type=int, default=64, metavar="BLOCKS")
     parser.add_argument("--wait", type=float, default=0.5, metavar="SECONDS")
     parser.add_argument("--past-forks", action="store_true")
