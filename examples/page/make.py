@@ -14,8 +14,11 @@ import sys
 ORGS = ["Maker", "Carrier", "Shop"]
 POLICY = "OutOf(2,'Maker','Carrier','Shop')"
 CHAINCODE = "assets"
-DEFINITION_KEY = b"\0" + CHAINCODE.encode()
+DEFINITION_KEY, MEMBERSHIP_KEY = b"\0" + CHAINCODE.encode(), b"\0"
+# Those that are installed, and one that was written later. A profile is of a closed definition, or of an open one.
 MODULES = [hashlib.sha256(name).digest() for name in (b"first", b"second")]
+LATER = hashlib.sha256(b"later").digest()
+CLOSED, OPEN = 1, 17
 VALID, NOT_ENDORSED, CONFLICT, PHANTOM, DUPLICATE = range(5)
 HOSTILE = b"</script><img src=x onerror=\"document.title='escaped'\">"
 
@@ -56,7 +59,17 @@ def definition_bytes(it):
     return bytes([it["profile"]]) + field(it, "module") + struct.pack(">I", it["fuel"]) + long(it["policy"].encode())
 
 
+def member_bytes(it):
+    return short(it["name"].encode()) + optional(it.get("public"), bytes.fromhex)
+
+
+def membership_bytes(it):
+    return b"\1" + struct.pack(">I", it["serial"]) + few(it["members"], member_bytes) + long(it["policy"].encode())
+
+
 def proposal_bytes(tx):
+    if "amend" in tx:
+        return b"\x80" + membership_bytes(tx["amend"]) + field(tx, "nonce")
     if "upgrade" in tx:
         return b"\0" + short(tx["chaincode"].encode()) + definition_bytes(tx["upgrade"]) + field(tx, "nonce")
     return short(tx["chaincode"].encode()) + long(field(tx, "arg")) + field(tx, "nonce")
@@ -105,22 +118,31 @@ class Chain:
     def version(self, key):
         return self.state[key][0] if key in self.state else None
 
-    def transaction(self, reads=(), ranges=(), writes=(), orgs=ORGS[:2], argument=b"", upgrade=None):
-        """A transaction of this moment, with right tags of these organisations; those behind a ! are wrong."""
+    def transaction(self, reads=(), ranges=(), writes=(), orgs=ORGS[:2], argument=b""):
+        """A call of this moment, with right tags of these organisations; those behind a ! are wrong."""
+        call = {"chaincode": CHAINCODE, "arg": argument.hex()}
+        return self.proposed(call, {DEFINITION_KEY, *reads}, ranges, writes, orgs)
+
+    def proposed(self, what, reads, ranges, writes, orgs):
+        """The same of a call, an upgrade or an amendment, with all that it reads."""
         self.made += 1
-        what = {"arg": argument.hex()} if upgrade is None else {"upgrade": upgrade}
         tags = [(org.lstrip("!"), digest(f"{org} {self.made}".encode()), not org.startswith("!")) for org in orgs]
-        tx = {"id": "", "flag": 0, "chaincode": CHAINCODE, **what, "nonce": "%032x" % self.made, "result": "",
-              "reads": [{"key": key.hex(), "version": self.version(key)} for key in sorted({DEFINITION_KEY, *reads})],
+        tx = {"id": "", "flag": 0, **what, "nonce": "%032x" % self.made, "result": "",
+              "reads": [{"key": key.hex(), "version": self.version(key)} for key in sorted(reads)],
               "ranges": [{"start": a.hex(), "end": b.hex(), "limit": n, "entries": self.entries(a, b, n)} for a, b, n in ranges],
               "writes": [{"key": key.hex(), "value": None if value is None else value.hex()} for key, value in sorted(writes)],
               "endorsements": [{"org": org, "tag": tag, "right": right} for org, tag, right in tags]}
         tx["id"] = digest(proposal_bytes(tx))
         return tx
 
-    def upgrade(self, module, policy=POLICY, orgs=ORGS[:2]):
-        upgrade = {"profile": 1, "module": module.hex(), "fuel": 100000, "policy": policy}
-        return self.transaction(writes=[(DEFINITION_KEY, definition_bytes(upgrade))], orgs=orgs, upgrade=upgrade)
+    def upgrade(self, module, policy=POLICY, orgs=ORGS[:2], profile=CLOSED):
+        upgrade = {"profile": profile, "module": module.hex(), "fuel": 100000, "policy": policy}
+        what, write = {"chaincode": CHAINCODE, "upgrade": upgrade}, (DEFINITION_KEY, definition_bytes(upgrade))
+        return self.proposed(what, [DEFINITION_KEY], [], [write], orgs)
+
+    def amendment(self, members, policy=POLICY, orgs=ORGS):
+        amend = {"serial": 1, "members": members, "policy": policy}
+        return self.proposed({"amend": amend}, [MEMBERSHIP_KEY], [], [(MEMBERSHIP_KEY, membership_bytes(amend))], orgs)
 
     def entries(self, start, end, limit):
         keys = sorted(key for key in self.state if key[0] and start <= key and (not end or key < end))
@@ -129,14 +151,20 @@ class Chain:
     def flag(self, tx):
         if tx["id"] in self.ids:
             return DUPLICATE
-        is_policy = "upgrade" not in tx or tx["upgrade"]["policy"] == POLICY
-        if len({it["org"] for it in tx["endorsements"] if it["right"]}) < 2 or not is_policy:
+        if len({it["org"] for it in tx["endorsements"] if it["right"]}) < 2 or not self.is_usable(tx):
             return NOT_ENDORSED
         if any(self.version(field(it, "key")) != it["version"] for it in tx["reads"]):
             return CONFLICT
         if any(self.entries(field(it, "start"), field(it, "end"), it["limit"]) != it["entries"] for it in tx["ranges"]):
             return PHANTOM
         return VALID
+
+    def is_usable(self, tx):
+        """Whether it is a call, or an upgrade to a definition that can be used. Nobody endorses an amendment."""
+        if "upgrade" not in tx:
+            return "amend" not in tx
+        is_there = tx["upgrade"]["profile"] == OPEN or field(tx["upgrade"], "module") in MODULES
+        return is_there and tx["upgrade"]["policy"] == POLICY
 
     def add(self, *txs):
         """Puts transactions into the next block."""
@@ -190,6 +218,10 @@ def some_transaction(chain, chance, before):
         return chance.choice(before)
     if kind < 0.18:
         return chain.upgrade(chance.choice(MODULES))
+    if kind < 0.19:
+        return chain.upgrade(LATER, profile=chance.choice([CLOSED, OPEN, OPEN]))
+    if kind < 0.195:
+        return chain.amendment([{"name": "Maker"}])
     other = key_of(chance.randrange(400))
     return chain.transaction(reads=[key, other], writes=[(key, value)], argument=b"transfer " + key + b" " + value)
 
@@ -208,7 +240,22 @@ def hostile():
     """A chain with markup wherever a chain can hold text."""
     chain = Chain()
     chain.add(chain.transaction(reads=[b"<b>key"], writes=[(b"<b>key", HOSTILE)], argument=HOSTILE))
-    chain.add(chain.upgrade(MODULES[1], policy=HOSTILE.decode()))
+    chain.add(chain.upgrade(MODULES[1], policy=HOSTILE.decode()), chain.upgrade(LATER, policy=HOSTILE.decode(), profile=OPEN))
+    chain.add(chain.amendment([{"name": "Maker"}], policy=HOSTILE.decode()))
+    return chain
+
+
+def later():
+    """A chain of code and members that the genesis file does not have: an open upgrade and a call behind it, and upgrades
+    and an amendment that nobody may endorse."""
+    chain = Chain()
+    chain.add(chain.transaction(writes=[(b"a", b"1")]), chain.upgrade(LATER, profile=OPEN))
+    chain.add(
+        chain.transaction(reads=[b"a"], writes=[(b"a", b"2")]),
+        chain.upgrade(LATER),
+        chain.upgrade(LATER, policy="'Depot'", profile=OPEN),
+        chain.upgrade(LATER, policy="'Maker' ", profile=OPEN),
+        chain.amendment([{"name": "Carrier"}, {"name": "Depot", "public": "5a" * 32}], policy="OR('Carrier','Depot')"))
     return chain
 
 

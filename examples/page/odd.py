@@ -1,8 +1,9 @@
 """Makes chains of odd envelopes for the page's test: the ledger itself flags them.
 
 Each round hands some envelopes to `./ledger run`, on the state that it printed after the last round. They claim reads,
-ranges and writes that no peer made, name keys that are kept for definitions, propose upgrades of every form, and carry
-right tags and wrong ones of both kinds: one organisation has a shared key, and two have public ones.
+ranges and writes that no peer made, name keys that are kept for definitions and the membership, propose upgrades of every
+form, to closed definitions and to open ones, and amendments, and carry right tags and wrong ones of both kinds: one
+organisation has a shared key, and two have public ones.
 """
 import hashlib
 import hmac
@@ -25,6 +26,7 @@ SEEDS = {name: bytes.fromhex((EXAMPLE_KEYS / f"{name.lower()}.key").read_text())
 GENESIS = {**EXAMPLE, "orgs": [{"name": "Maker", "key": SHARED_KEY.hex()}, *EXAMPLE["orgs"][1:]], "peers": ["Maker"], "count": 40}
 DIGESTS = [hashlib.sha256(bytes.fromhex(it["module"])).hexdigest() for it in EXAMPLE["chaincodes"] + EXAMPLE["modules"]]
 NAMES = ["assets", "other", "third"]
+MEMBERS = ["Carrier", "Depot", "Maker", "Shop", "a", "a_"]
 SHOWN = [b"a", b"a\0", b"ab", b"b", b"b\xff", b"c", b"\1", b"\xff"]
 POLICIES = [
     "'Maker'", "'Shop'", "OR('Maker','Carrier')", "AND('Maker', 'Shop')", "OutOf( 2 ,'Maker' , 'Carrier','Shop' )",
@@ -87,7 +89,7 @@ class Odd:
     def endorsed(self, tx):
         """The transaction with tags, of which some are wrong, of nobody or there twice."""
         payload = make.envelope_bytes({**tx, "endorsements": []})[:-1]
-        tags, count = [], 8 if "upgrade" in tx else self.chance.choice([0, 1, 2, 3, 3, 4, 5, 6])
+        tags, count = [], self.chance.choice([0, 1, 2, 3, 3, 4, 5, 6]) if "arg" in tx else 8
         for org in self.chance.choices(["Maker", "Carrier", "Shop", "Nobody"], weights=[6, 6, 6, 1], k=count):
             tags.append({"org": org, "tag": self.tag(org, payload).hex()})
         self.made += 1
@@ -99,7 +101,7 @@ class Odd:
         reads = {*self.chance.sample(SHOWN, self.chance.randrange(3)), *([own] if self.often(0.95) else [])}
         writes = set(self.chance.sample(SHOWN, self.chance.randrange(3)))
         if not self.often(0.93):
-            self.chance.choice([reads, writes]).add(b"\0" + self.chance.choice(NAMES).encode())
+            self.chance.choice([reads, writes]).add(b"\0" + self.chance.choice(["", *NAMES]).encode())
         return {"chaincode": name, "arg": (b"call %d" % self.made).hex(), "nonce": "%032x" % self.made, "result": "",
                 "reads": [{"key": key.hex(), "version": self.version(key)} for key in sorted(reads)],
                 "ranges": self.ranges(), "writes": self.writes(writes)}
@@ -109,7 +111,7 @@ class Odd:
         own = b"\0" + name.encode()
         module = self.chance.choice(DIGESTS) if self.often(0.9) else "ab" * 32
         policy = self.chance.choice(POLICIES if self.often(0.6) else NO_POLICIES)
-        profile, fuel = 1 if self.often(0.9) else 2, self.chance.choice([1, 71, 10000000])
+        profile, fuel = self.chance.choices([1, 17, 2, 18], weights=[6, 5, 1, 1])[0], self.chance.choice([1, 71, 10000000])
         definition = {"profile": profile, "module": module, "fuel": fuel, "policy": policy}
         put = make.definition_bytes(definition if self.often(0.95) else {**definition, "fuel": 5})
         tx = {"chaincode": name, "upgrade": definition, "nonce": "%032x" % self.made, "result": "" if self.often(0.95) else "00",
@@ -121,10 +123,22 @@ class Odd:
             tx["writes"].append({"key": b"b".hex(), "value": "00"})
         return tx
 
+    def member(self, name):
+        return {"name": name} if self.often(0.5) else {"name": name, "public": self.chance.randbytes(32).hex()}
+
+    def amendment(self):
+        names = sorted(self.chance.sample(MEMBERS, self.chance.randrange(1, 5)))
+        policy, serial = self.chance.choice(POLICIES + NO_POLICIES), self.chance.choice([0, 1, 2, 2**32 - 1])
+        amend, own = {"serial": serial, "members": list(map(self.member, names)), "policy": policy}, make.MEMBERSHIP_KEY
+        return {"amend": amend, "nonce": "%032x" % self.made, "result": "", "ranges": [],
+                "reads": [{"key": own.hex(), "version": self.version(own)}],
+                "writes": [{"key": own.hex(), "value": make.membership_bytes(amend).hex()}]}
+
     def envelope(self):
         if self.earlier and not self.often(0.96):
             return self.chance.choice(self.earlier)
-        tx = self.endorsed(self.call() if self.often(0.8) else self.upgrade())
+        propose = self.chance.choices([self.call, self.upgrade, self.amendment], weights=[16, 4, 1])[0]
+        tx = self.endorsed(propose())
         self.earlier.append(tx)
         return tx
 
