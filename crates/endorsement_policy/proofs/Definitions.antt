@@ -19,7 +19,7 @@ use Rattle.fab_types.specs.Spelling.{definition_bytes}
 use Rattle.fab_types.specs.Within.{IsDefinition}
 use Rattle.wire.proofs.Codec.{whole_known, whole_read}
 use Rattle.wire.proofs.DefinitionLaws.{definition}
-use Rattle.policy_language.specs.GoodSets.{needs_someone}
+use Rattle.policy_language.specs.GoodSets.{Names, needs_someone}
 use Rattle.endorsement_policy.specs.Endorsed.{defined_policy}
 use Rattle.endorsement_policy.specs.Installed.{Installed, IsPlaced, id_of, names_for, names_known, place_for, place_of, used_at, usable_by, usable_in}
 use Rattle.policy_language.specs.Limits.{IsText}
@@ -117,22 +117,22 @@ module _ (i : Installed) (d : Definition) (u : Usable) (is : usable_by i d ≡ O
   pub spelled : IsPolicyText d.policy → IsText (names_for i d) u.policy d.policy
   spelled limits = whole_found (names_for i d) d.policy u.policy limits.1 parts.policy_is
 
-  -- where its names are known, it is a policy of the organisations
-  pub of_known : IsPolicyText d.policy → names_known i d ≡ true → IsText i.orgs u.policy d.policy
-  of_known limits = by_kind d.is_open (spelled limits)
+  -- where it is open and its names are known, it is a policy of those organisations
+  pub of_known : (orgs : Names) → IsPolicyText d.policy → d.is_open ≡ true → names_known orgs d ≡ true → IsText orgs u.policy d.policy
+  of_known orgs limits = by_kind d.is_open (spelled limits)
     where
-      by_found : (o : Option Policy) → policy_in_text i.orgs d.policy ≡ o → IsText (names_in_text d.policy) u.policy d.policy → is_some o ≡ true →
-          IsText i.orgs u.policy d.policy
+      by_found : (o : Option Policy) → policy_in_text orgs d.policy ≡ o → IsText (names_in_text d.policy) u.policy d.policy → is_some o ≡ true →
+          IsText orgs u.policy d.policy
       by_found None is h known = absurd cc
       by_found (Some p) is h known =
-          let k = whole_found i.orgs d.policy p limits.1 is in
-          let same_policy = same (names_in_text d.policy) d.policy p u.policy (own_names i.orgs p d.policy k) h in
-          subst (λ (q : Policy). IsText i.orgs q d.policy) same_policy k
+          let k = whole_found orgs d.policy p limits.1 is in
+          let same_policy = same (names_in_text d.policy) d.policy p u.policy (own_names orgs p d.policy k) h in
+          subst (λ (q : Policy). IsText orgs q d.policy) same_policy k
 
-      by_kind : (b : Bool) → IsText (cond b (names_in_text d.policy) i.orgs) u.policy d.policy →
-          (not b || is_some (policy_in_text i.orgs d.policy)) ≡ true → IsText i.orgs u.policy d.policy
-      by_kind true h known = by_found (policy_in_text i.orgs d.policy) refl h known
-      by_kind false h known = h
+      by_kind : (b : Bool) → IsText (cond b (names_in_text d.policy) i.orgs) u.policy d.policy → b ≡ true →
+          (not b || is_some (policy_in_text orgs d.policy)) ≡ true → IsText orgs u.policy d.policy
+      by_kind true h is known = by_found (policy_in_text orgs d.policy) refl h known
+      by_kind false h is known = absurd cc
 
   pub placed : IsPlaced i d u.place × (u.fuel ≡ d.fuel)
   placed = (placed_at i d u.place parts.place_is, parts.fuel_is)

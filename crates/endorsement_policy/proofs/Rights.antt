@@ -13,14 +13,17 @@ use Rattle.fab_types.specs.declared.envelope.Envelope.{Envelope}
 use Rattle.ledger_model.specs.Chain.{Bytes}
 use Rattle.ledger_model.specs.Defined.{definition_by}
 use Rattle.ledger_model.specs.Views.{Plain}
+use Rattle.fab_types.specs.Memberships.{membership_key}
 use Rattle.policy_language.specs.GoodSets.{Name, Names, is_satisfied, needs_someone}
 use Rattle.endorsement_policy.specs.Installed.{names_known, usable_by}
 use Rattle.policy_language.specs.declared.policy.Policy.{Policy}
 use Rattle.endorsement_policy.specs.declared.rules.ChaincodePolicy.{ChaincodePolicy}
 use Rattle.endorsement_policy.specs.Endorsed.{Listed, do_need_someone, is_policy_of, is_right, right_orgs, is_met_by, listed_policy}
-use Rattle.endorsement_policy.specs.Endorsed.{defined_policy, policy_in, reads_own, names_no_other, is_upgrade_payload, is_endorsed_as, is_endorsed}
-use Rattle.endorsement_policy.specs.Endorsed.{CarriesRight}
+use Rattle.endorsement_policy.specs.Endorsed.{defined_policy, policy_in, reads_own, names_no_other, is_amend_payload, is_upgrade_payload, org_names}
+use Rattle.endorsement_policy.specs.Endorsed.{is_endorsed_as, is_endorsed, CarriesRight}
+use Rattle.endorsement_policy.specs.Membership.{is_next, listed_in}
 use Rattle.endorsement_policy.proofs.Definitions.{defined_needs}
+use Rattle.endorsement_policy.proofs.Stands.{standing_needs}
 
 both : (a b : Bool) → (a && b) ≡ true → (a ≡ true) × (b ≡ true)
 both true b e = (refl, e)
@@ -87,14 +90,17 @@ by_someone (proposal.Call c) r m e need upgrade met =
     (both (reads_own e.payload && names_no_other e.payload) (is_met_by (right_orgs r.orgs e) (policy_in r m c.chaincode)) met).1
 by_someone (proposal.Upgrade u) r m e need upgrade met =
     met_by_someone (Some r.upgrade) (right_orgs r.orgs e) (λ p is. subst (λ (z : Policy). needs_someone z ≡ true) (same_Some r.upgrade p is) upgrade)
-    (both (is_upgrade_payload u e.payload && is_ok (usable_by r.installed u.definition) && names_known r.installed u.definition)
+    (both (is_upgrade_payload u e.payload && is_ok (usable_by r.installed u.definition) && names_known (org_names r.orgs) u.definition)
     (is_satisfied r.upgrade (right_orgs r.orgs e)) met).1
-by_someone (proposal.Amend a) r m e need upgrade met = absurd cc
+by_someone (proposal.Amend a) r m e need upgrade met =
+    met_by_someone (Some r.upgrade) (right_orgs r.orgs e) (λ p is. subst (λ (z : Policy). needs_someone z ≡ true) (same_Some r.upgrade p is) upgrade)
+    (both (is_amend_payload a e.payload && is_next r.installed.orgs (get m membership_key) a.membership) (is_satisfied r.upgrade (right_orgs r.orgs e)) met).1
 
 pub carries : (r : Listed) (m : Plain) (e : Envelope) → do_need_someone r.policies ≡ true → needs_someone r.upgrade ≡ true → is_endorsed r m e ≡ true →
-    CarriesRight r.orgs e
+    CarriesRight (listed_in r m).orgs e
 carries r m e need upgrade met =
-    elim (none_or_one (is_right r.orgs e.payload) e.endorsements) [
-      | inl h ↦ absurd (by_someone e.payload.proposal r m e need upgrade met (ap (map (λ x. x.org)) h))
+    let l = listed_in r m in
+    elim (none_or_one (is_right l.orgs e.payload) e.endorsements) [
+      | inl h ↦ absurd (by_someone e.payload.proposal l m e need (standing_needs r m upgrade) met (ap (map (λ x. x.org)) h))
       | inr h ↦ record { place = h.place; endorsement = h.one; stands = h.there; right = h.passes }
     ]

@@ -11,6 +11,8 @@ use Rattle.org_keys.proofs.organisation.Organisation.TheSendSync as organisation
 use Rattle.endorsement_policy.specs.contracts.rules.ChaincodePolicy as chaincode_policy_type
 use Rattle.endorsement_policy.specs.contracts.rules.Rules as rules_type
 use Rattle.endorsement_policy.specs.contracts.source.Known as known_type
+use Rattle.endorsement_policy.specs.contracts.standing.Amended as amended_type
+use Rattle.endorsement_policy.specs.contracts.standing.Standing as standing_type
 use Rattle.endorsement_policy.specs.contracts.judge.Judge as judge_type
 use Rattle.endorsement_policy.proofs.installed.Installed.TheSendSync as installed
 
@@ -29,5 +31,11 @@ sync_policy = search (sendable, crosses, org_name.the_sync, policy_knot.crosses)
 sync_known : (ℓ : NamedLft) → IsSync (known_type.the_row ℓ)
 sync_known ℓ = search (sendable, crosses, name.the_sync, sync_policy, sync_policy_field) depth 30
 
+sync_amended : IsSync amended_type.the_row
+sync_amended = search (sendable, crosses, organisation.the_sync, sync_policy_field) depth 30
+
+sync_standing : (ℓ : NamedLft) → IsSync (standing_type.the_row ℓ)
+sync_standing ℓ = search (sendable, crosses, sync_rules, sync_amended) depth 30
+
 pub sync_judge : (ℓ : NamedLft) → IsSync (judge_type.the_row ℓ)
-sync_judge ℓ = search (sendable, crosses, sync_rules, snapshot.the_sync, sync_known) depth 30
+sync_judge ℓ = search (sendable, crosses, sync_rules, sync_standing, snapshot.the_sync, sync_known) depth 30

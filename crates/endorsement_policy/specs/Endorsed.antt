@@ -1,11 +1,14 @@
 -- Whose tags are right, and which envelopes are endorsed.
 use Rattle.std.specs.Prelude.{◌≡◌, ℕ, List, [], ◌∷◌, Option, Some, None, Bool, true, false, ◌&&◌, ◌||◌, map, option_map, bytes_eq, slice_get}
+use Rattle.std.specs.FinMap.{get}
 use Rattle.std.specs.List.{find, filter, list_all, list_any}
 use Rattle.std.specs.Result.{is_ok}
 use Rattle.fab_types.specs.Order.{is_shown}
+use Rattle.fab_types.specs.Memberships.{membership_key}
 use Rattle.fab_types.specs.Proposals.{definition_key, own_key}
 use Rattle.fab_types.specs.declared.items.ReadItem.{ReadItem}
 use Rattle.fab_types.specs.declared.items.WriteItem.{WriteItem}
+use Rattle.fab_types.specs.declared.proposal.Amend.{Amend}
 use Rattle.fab_types.specs.declared.proposal.Call.{Call}
 use Rattle.fab_types.specs.declared.proposal.Upgrade.{Upgrade}
 use Rattle.fab_types.specs.declared.proposal.Proposal.{Proposal}
@@ -17,38 +20,24 @@ use Rattle.fab_types.specs.declared.tag.Tag.{Tag}
 use Rattle.org_keys.specs.Keys.{is_right_by}
 use Rattle.org_keys.specs.Signers.{Seeds, tag_for}
 use Rattle.org_keys.specs.declared.organisation.OrgKey.{OrgKey}
-use Rattle.fab_types.specs.Spelling.{definition_bytes, payload_bytes}
+use Rattle.fab_types.specs.Spelling.{definition_bytes, membership_bytes, payload_bytes}
 use Rattle.ledger_model.specs.Defined.{definition_in}
 use Rattle.ledger_model.specs.Views.{Plain}
-use Rattle.policy_language.specs.GoodSets.{Name, Names, is_satisfied, needs_someone}
+use Rattle.policy_language.specs.GoodSets.{Name, Names, is_satisfied}
 use Rattle.endorsement_policy.specs.Installed.{Installed, names_known, usable_by, usable_in}
+pub use Rattle.endorsement_policy.specs.Listed.{Listed, is_org, is_policy_of, do_need_someone}
+use Rattle.endorsement_policy.specs.Membership.{is_next, listed_in}
 use Rattle.policy_language.specs.declared.policy.Policy.{Policy}
 use Rattle.org_keys.specs.declared.organisation.Organisation.{Organisation}
 use Rattle.endorsement_policy.specs.declared.rules.ChaincodePolicy.{ChaincodePolicy}
-
--- the organisations with their keys, the policies of chaincodes by the genesis, the policy of upgrades, and what every peer has installed
-pub record Listed : Type 0 where
-  pub orgs : List Organisation
-  pub policies : List ChaincodePolicy
-  pub upgrade : Policy
-  pub installed : Installed
-
-abbrev pub is_org : Name → Organisation → Bool
-is_org name o = bytes_eq o.name name
-
-abbrev pub is_policy_of : Name → ChaincodePolicy → Bool
-is_policy_of chaincode p = bytes_eq p.chaincode chaincode
-
-abbrev pub do_need_someone : List ChaincodePolicy → Bool
-do_need_someone ps = list_all (λ p. needs_someone p.policy) ps
 
 -- an organisation's key, if it is known
 abbrev pub key_of : List Organisation → Name → Option OrgKey
 key_of orgs name = option_map (λ o. o.key) (find (is_org name) orgs)
 
--- what an organisation puts on a payload in a state, by its key and the seeds at hand; no state changes the keys that are listed
+-- what an organisation puts on a payload in a state, by the seeds at hand and the key that it has there
 abbrev pub seal_of : Listed → Seeds → Plain → Name → Payload → Endorsement
-seal_of listed seeds m org p = record { org = org; tag = tag_for seeds (key_of listed.orgs org) (payload_bytes p) }
+seal_of listed seeds m org p = record { org = org; tag = tag_for seeds (key_of (listed_in listed m).orgs org) (payload_bytes p) }
 
 -- the organisation is known, and this is its tag on those bytes
 abbrev pub is_tag_of : Option Organisation → List ℕ → Tag → Bool
@@ -114,11 +103,20 @@ abbrev pub is_none : {X : Type 0} → List X → Bool
 is_none [] = true
 is_none (x ∷ xs) = false
 
--- an upgrade reads the key of the definition and no more, answers nothing, and puts the new definition there
+-- one key is read and no more, nothing is answered, and the value is put at that key
+abbrev pub is_put_payload : (key value : List ℕ) → Payload → Bool
+is_put_payload key value p = is_one_read key p.reads && is_none p.ranges && is_none p.result && is_one_put key value p.writes
+
+-- an upgrade puts the new definition at its key
 abbrev pub is_upgrade_payload : Upgrade → Payload → Bool
-is_upgrade_payload u p =
-    let key = definition_key u.chaincode in
-    is_one_read key p.reads && is_none p.ranges && is_none p.result && is_one_put key (definition_bytes u.definition) p.writes
+is_upgrade_payload u p = is_put_payload (definition_key u.chaincode) (definition_bytes u.definition) p
+
+-- an amendment puts the new membership at its key
+abbrev pub is_amend_payload : Amend → Payload → Bool
+is_amend_payload a p = is_put_payload membership_key (membership_bytes a.membership) p
+
+abbrev pub org_names : List Organisation → Names
+org_names orgs = map (λ o. o.name) orgs
 
 -- a call falls under the policy that its chaincode has in the state, whose definition it read
 abbrev pub is_call_endorsed : Listed → Plain → Call → Envelope → Bool
@@ -128,18 +126,23 @@ is_call_endorsed r m c e =
 -- an upgrade to a definition that can be used falls under the policy of upgrades, whatever the chaincode's own policy is
 abbrev pub is_upgrade_endorsed : Listed → Upgrade → Envelope → Bool
 is_upgrade_endorsed r u e =
-    is_upgrade_payload u e.payload && is_ok (usable_by r.installed u.definition) && names_known r.installed u.definition
+    is_upgrade_payload u e.payload && is_ok (usable_by r.installed u.definition) && names_known (org_names r.orgs) u.definition
     && is_satisfied r.upgrade (right_orgs r.orgs e)
 
--- no amendment is endorsed yet: who the members are is what the genesis says
+-- an amendment to the next membership falls under the policy that stands, whatever the new one is
+abbrev pub is_amend_endorsed : Listed → Plain → Amend → Envelope → Bool
+is_amend_endorsed r m a e =
+    is_amend_payload a e.payload && is_next r.installed.orgs (get m membership_key) a.membership && is_satisfied r.upgrade (right_orgs r.orgs e)
+
+-- by the organisations and the policy of upgrades that are listed here
 abbrev pub is_endorsed_as : Proposal → Listed → Plain → Envelope → Bool
 is_endorsed_as (proposal.Call c) r m e = is_call_endorsed r m c e
 is_endorsed_as (proposal.Upgrade u) r m e = is_upgrade_endorsed r u e
-is_endorsed_as (proposal.Amend a) r m e = false
+is_endorsed_as (proposal.Amend a) r m e = is_amend_endorsed r m a e
 
--- in a state, under what is listed, the organisations of which the envelope carries a right tag suffice
+-- in a state, the organisations of which the envelope carries a right tag suffice: by who stands there
 abbrev pub is_endorsed : Listed → Plain → Envelope → Bool
-is_endorsed r m e = is_endorsed_as e.payload.proposal r m e
+is_endorsed r m e = is_endorsed_as e.payload.proposal (listed_in r m) m e
 
 -- a right tag stands on the envelope
 pub record CarriesRight (orgs : List Organisation) (e : Envelope) : Type 0 where

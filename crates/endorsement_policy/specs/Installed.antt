@@ -54,9 +54,9 @@ used_at (Some place) fuel (Some policy) = Ok (record { place = place; fuel = fue
 abbrev pub usable_by : Installed → Definition → Result Usable DefinitionFault
 usable_by i d = used_at (place_for i d) d.fuel (policy_in_text (names_for i d) d.policy)
 
--- its policy is of organisations that are known, which is so of each closed definition that can be used
-abbrev pub names_known : Installed → Definition → Bool
-names_known i d = not d.is_open || is_some (policy_in_text i.orgs d.policy)
+-- the policy of an open definition is one of these organisations
+abbrev pub names_known : Names → Definition → Bool
+names_known orgs d = not d.is_open || is_some (policy_in_text orgs d.policy)
 
 -- what the bytes of a definition come to, where they spell one that can be used
 abbrev pub usable_in : Installed → List ℕ → Option Usable

@@ -6,13 +6,15 @@ use Rattle.ledger_model.specs.Chain.{Chain, history}
 use Rattle.ledger_model.specs.State.{state}
 use Rattle.ledger_model.specs.Views.{Plain, values_of}
 use Rattle.policy_language.specs.GoodSets.{Name}
-use Rattle.endorsement_policy.specs.Endorsed.{Listed, is_endorsed, policy_in}
+use Rattle.endorsement_policy.specs.Endorsed.{Listed, is_endorsed_as, policy_in}
+use Rattle.endorsement_policy.specs.Membership.{listed_in}
 use Rattle.policy_language.specs.declared.policy.Policy.{Policy}
+use Rattle.org_keys.specs.declared.organisation.Organisation.{Organisation}
 use Rattle.endorsement_policy.specs.declared.source.Source.{Source}
 use Rattle.endorsement_policy.specs.declared.source.Source.TheVariants.{Genesis, Defined, Nowhere}
 use Rattle.endorsement_policy.specs.declared.source.Known.{Known}
 
--- what is listed, and the chain before their block
+-- what is listed, with those who stand before their block, and the chain before it
 pub record Judge : Type 0 where
   pub listed : Listed
   pub chain : Chain
@@ -21,8 +23,16 @@ pub record Judge : Type 0 where
 abbrev pub plain_after : Chain → Plain
 plain_after chain = values_of (state (history chain))
 
+-- the organisations that stand behind a chain
+abbrev pub orgs_behind : Listed → Chain → List Organisation
+orgs_behind r chain = (listed_in r (plain_after chain)).orgs
+
 abbrev pub judges : Judge → Envelope → Bool
-judges j e = is_endorsed j.listed (plain_after j.chain) e
+judges j e = is_endorsed_as e.payload.proposal j.listed (plain_after j.chain) e
+
+-- who judges a block behind a chain
+abbrev pub judge_behind : Listed → Chain → Judge
+judge_behind r chain = record { listed = listed_in r (plain_after chain); chain = chain }
 
 -- the policy of a chaincode, as the judge finds it
 abbrev pub judged_policy : Judge → Name → Option Policy

@@ -5,7 +5,7 @@ ghost use Rattle.ledger_model.specs.Chain.{history};
 ghost use Rattle.ledger_model.specs.State.{state};
 ghost use Rattle.ledger_model.specs.Views.{values_of};
 ghost use Rattle.endorsement_policy.specs.Endorsed.{is_endorsed, right_orgs};
-ghost use Rattle.endorsement_policy.specs.Judge.{judges};
+ghost use Rattle.endorsement_policy.specs.Judge.{judges, orgs_behind};
 
 use crate::judge::Judge;
 use crate::rules::Rules;
@@ -18,7 +18,9 @@ use world_state::Snapshot;
 ///
 /// A call falls under the policy that its chaincode has there, and is to have read the key of its
 /// chaincode's definition, and to name no other key that is not shown. An upgrade falls under the
-/// policy of upgrades, and is to put a definition that can be used.
+/// policy of upgrades, and is to put a definition that can be used. An amendment falls under that
+/// policy too, and is to put the next membership. Whose tags are right, and which policy of
+/// upgrades stands, is by the membership in the state, else by the genesis.
 pub fn is_endorsed(
     alloc: Global,
     rules: &Rules,
@@ -47,8 +49,9 @@ pub fn check_plain(
     check_with_first(alloc, rules, snapshot, envelopes, &[])
 }
 
-/// The same where it is known of each envelope which organisations' tags on it are right, as
-/// `right_orgs_of_blocks` tells: no tag is computed. The only error is want of memory.
+/// The same where it is known of each envelope which of the organisations that stand have right
+/// tags on it, as `right_orgs_of_blocks` tells: no tag is computed. The only error is want of
+/// memory.
 pub fn check_with_right_orgs(
     alloc: Global,
     rules: &Rules,
@@ -56,7 +59,7 @@ pub fn check_with_right_orgs(
     envelopes: &[Envelope],
     right: &[OrgSet],
 ) -> Result<Vec<bool>, AllocError>
-    requires { right.now ≡ map (right_orgs rules.now.orgs) envelopes.now }
+    requires { right.now ≡ map (right_orgs (orgs_behind rules.now snapshot.now)) envelopes.now }
     ensures { IfOk result (λ v. v.items
         ≡ map (is_endorsed rules.now (values_of (state (history snapshot.now))))
         envelopes.now) }
@@ -73,7 +76,8 @@ fn check_with_first(
     right: &[OrgSet],
 ) -> Result<Vec<bool>, AllocError>
     requires { right.now
-        ≡ take (length right.now) (map (right_orgs rules.now.orgs) envelopes.now) }
+        ≡ take (length right.now)
+        (map (right_orgs (orgs_behind rules.now snapshot.now)) envelopes.now) }
     ensures { IfOk result (λ v. v.items
         ≡ map (is_endorsed rules.now (values_of (state (history snapshot.now))))
         envelopes.now) }

@@ -148,28 +148,17 @@ impl Installed {
     }
 
     /// Whether an upgrade may put a definition: it can be used, and its policy is of organisations
-    /// that are known. The only error is want of memory.
+    /// of these names, if it is open. The only error is want of memory.
     pub(crate) fn may_be_put(
         &self,
         alloc: Global,
+        names: &[OrgName],
         definition: &Definition,
     ) -> Result<bool, AllocError>
         ensures { IfOk result (λ b. b ≡ (is_ok (usable_by self.now definition.now)
-            && names_known self.now definition.now)) }
+            && names_known names.now definition.now)) }
     {
-        Ok(self.usable(alloc, definition)?.is_ok() && self.names_known(alloc, definition)?)
-    }
-
-    /// Whether the policy of a definition is of organisations that are known, if it is open. The
-    /// only error is want of memory.
-    fn names_known(&self, alloc: Global, definition: &Definition) -> Result<bool, AllocError>
-        ensures { IfOk result (λ b. b ≡ names_known self.now definition.now) }
-    {
-        if !definition.is_open {
-            return Ok(true);
-        }
-        let text = definition.policy.as_slice();
-        Ok(policy_in_text(alloc, text, &self.orgs)?.is_some())
+        Ok(self.usable(alloc, definition)?.is_ok() && are_names_known(alloc, names, definition)?)
     }
 
     /// How the definition that these bytes spell is used. None where they spell none, or one that
@@ -197,4 +186,20 @@ impl Clone for Installed {
             orgs: self.orgs.clone()?,
         })
     }
+}
+
+/// Whether the policy of a definition is of organisations of these names, if it is open. The only
+/// error is want of memory.
+fn are_names_known(
+    alloc: Global,
+    names: &[OrgName],
+    definition: &Definition,
+) -> Result<bool, AllocError>
+    ensures { IfOk result (λ b. b ≡ names_known names.now definition.now) }
+{
+    if !definition.is_open {
+        return Ok(true);
+    }
+    let text = definition.policy.as_slice();
+    Ok(policy_in_text(alloc, text, names)?.is_some())
 }

@@ -1,24 +1,34 @@
 //! The judge of a block's envelopes.
 
-ghost use Rattle.std.specs.Prelude.{◌≡◌, IfOk, IfSome, option_map};
-ghost use Rattle.endorsement_policy.specs.Endorsed.{is_call_endorsed, is_met_by, is_upgrade_endorsed, right_orgs};
-ghost use Rattle.endorsement_policy.specs.Judge.{judged_policy, judges, plain_after, policy_from};
+ghost use Rattle.std.specs.Prelude.{◌≡◌, ◌&&◌, IfOk, IfSome, option_map};
+ghost use Rattle.std.specs.Result.{is_ok};
+ghost use Rattle.std.specs.FinMap.{get};
+ghost use Rattle.fab_types.specs.Memberships.{membership_key};
+ghost use Rattle.endorsement_policy.specs.Endorsed.{is_amend_endorsed, is_call_endorsed, is_met_by, is_upgrade_endorsed, org_names, right_orgs};
+ghost use Rattle.endorsement_policy.specs.Installed.{names_known, usable_by};
+ghost use Rattle.endorsement_policy.specs.Judge.{judge_behind, judged_policy, judges, plain_after, policy_from};
+ghost use Rattle.endorsement_policy.specs.Membership.{is_next};
+ghost use Rattle.policy_language.specs.GoodSets.{is_satisfied};
 
 use crate::evaluate::satisfied;
-use crate::payloads::{is_upgrade_payload, names_no_other, reads_own};
+use crate::membership::{is_next, membership_value};
+use crate::payloads::{is_amend_payload, is_upgrade_payload, names_no_other, reads_own};
 use crate::rules::Rules;
 use crate::source::{Known, Source};
+use crate::standing::Standing;
 use crate::tags::right_orgs;
-use fab_types::{Call, Envelope, Name, Proposal, Upgrade};
+use fab_types::{Amend, Call, Definition, Envelope, Membership, Name, Proposal, Upgrade};
 use policy_language::{OrgSet, Policy};
 use std::alloc::{AllocError, Global};
 use std::marker::Model;
 use world_state::Snapshot;
 
-/// The rules, the state before a block, and the policies of the chaincodes that the block calls.
+/// The rules, the state before a block, who stands there, and the policies of the chaincodes that
+/// the block calls.
 #[derive(Drop)]
 pub(crate) struct Judge<'a> {
     rules: &'a Rules,
+    standing: Standing<'a>,
     snapshot: &'a Snapshot,
     known: Vec<Known<'a>>,
 }
@@ -26,32 +36,40 @@ pub(crate) struct Judge<'a> {
 impl<'a> Model for Judge<'a> {
     ghost use Rattle.policy_language.specs.Tree.{policies_code};
     ghost use Rattle.endorsement_policy.specs.Judge.{AreRight, Judge};
+    ghost use Rattle.endorsement_policy.specs.Membership.{with_standing};
     ghost use Rattle.std.specs.Coded.{codes};
 
     ghost Value = { Judge };
 
     ghost coded = { Prim.hlevel (codes, policies_code) };
 
-    ghost view = { λ j. record { listed = j.rules.now; chain = j.snapshot.now } };
+    ghost view = { λ j. record {
+      listed = with_standing j.rules.now j.standing;
+      chain = j.snapshot.now;
+    } };
 
-    ghost invariant = { λ j. AreRight (record { listed = j.rules.now; chain = j.snapshot.now })
-        j.known.items };
+    ghost invariant = { λ j. AreRight (record {
+      listed = with_standing j.rules.now j.standing;
+      chain = j.snapshot.now;
+    }) j.known.items };
 }
 
 impl<'a> Judge<'a> {
-    /// A judge who has looked up the policy of each chaincode that these envelopes call, once. The
-    /// only error is want of memory.
+    /// A judge who has looked up who stands, and the policy of each chaincode that these envelopes
+    /// call, once. The only error is want of memory.
     pub(crate) fn new(
         alloc: Global,
         rules: &'a Rules,
         snapshot: &'a Snapshot,
         envelopes: &'a [Envelope],
     ) -> Result<Judge<'a>, AllocError>
-        ensures { IfOk result (λ j. j ≡ record { listed = rules.now; chain = snapshot.now }) }
+        ensures { IfOk result (λ j. j ≡ judge_behind rules.now snapshot.now) }
     {
+        let standing = Standing::of(alloc, rules, snapshot)?;
         let known = Vec::new(alloc);
         let mut judge = Judge {
             rules,
+            standing,
             snapshot,
             known,
         };
@@ -107,7 +125,7 @@ impl<'a> Judge<'a> {
         match envelope.payload.proposal() {
             Proposal::Call(call) => self.is_call_endorsed(alloc, call, envelope, right),
             Proposal::Upgrade(upgrade) => self.is_upgrade_endorsed(alloc, upgrade, envelope, right),
-            Proposal::Amend(_) => Ok(false),
+            Proposal::Amend(amend) => self.is_amend_endorsed(alloc, amend, envelope, right),
         }
     }
 
@@ -129,10 +147,10 @@ impl<'a> Judge<'a> {
             return Ok(false);
         }
         if let Some(source) = self.known(&call.chaincode) {
-            return is_met_by(alloc, self.rules, source.policy(), envelope, right);
+            return is_met_by(alloc, &self.standing, source.policy(), envelope, right);
         }
         let source = Source::of(alloc, self.rules, self.snapshot, &call.chaincode)?;
-        is_met_by(alloc, self.rules, source.policy(), envelope, right)
+        is_met_by(alloc, &self.standing, source.policy(), envelope, right)
     }
 
     /// Whether an envelope with an upgrade is endorsed.
@@ -151,12 +169,72 @@ impl<'a> Judge<'a> {
         if !is_upgrade_payload(alloc, upgrade, &envelope.payload)? {
             return Ok(false);
         }
-        let installed = self.rules.installed();
-        if !installed.may_be_put(alloc, &upgrade.definition)? {
+        if !self.may_be_put(alloc, &upgrade.definition)? {
             return Ok(false);
         }
-        let policy = Some(self.rules.upgrade());
-        is_met_by(alloc, self.rules, policy, envelope, right)
+        self.is_agreed(alloc, envelope, right)
+    }
+
+    /// Whether an upgrade may put a definition.
+    fn may_be_put(&self, alloc: Global, definition: &Definition) -> Result<bool, AllocError>
+        ensures { IfOk result (λ b. b
+            ≡ (is_ok (usable_by self.now.listed.installed definition.now)
+            && names_known (org_names self.now.listed.orgs) definition.now)) }
+    {
+        let names = self.standing.names(alloc)?;
+        let installed = self.rules.installed();
+        installed.may_be_put(alloc, &names, definition)
+    }
+
+    /// Whether an envelope with an amendment is endorsed.
+    fn is_amend_endorsed(
+        &self,
+        alloc: Global,
+        amend: &Amend,
+        envelope: &Envelope,
+        right: Option<&OrgSet>,
+    ) -> Result<bool, AllocError>
+        requires { IfSome right
+            (λ orgs. orgs.now ≡ right_orgs self.now.listed.orgs envelope.now) }
+        ensures { IfOk result (λ b. b
+            ≡ is_amend_endorsed self.now.listed (plain_after self.now.chain) amend.now
+            envelope.now) }
+    {
+        if !is_amend_payload(alloc, amend, &envelope.payload)? {
+            return Ok(false);
+        }
+        if !self.is_next(alloc, &amend.membership)? {
+            return Ok(false);
+        }
+        self.is_agreed(alloc, envelope, right)
+    }
+
+    /// Whether the organisations of which the envelope carries a right tag satisfy the policy that
+    /// upgrades and amendments need.
+    fn is_agreed(
+        &self,
+        alloc: Global,
+        envelope: &Envelope,
+        right: Option<&OrgSet>,
+    ) -> Result<bool, AllocError>
+        requires { IfSome right
+            (λ orgs. orgs.now ≡ right_orgs self.now.listed.orgs envelope.now) }
+        ensures { IfOk result (λ b. b
+            ≡ is_satisfied self.now.listed.upgrade
+            (right_orgs self.now.listed.orgs envelope.now)) }
+    {
+        let policy = Some(self.standing.upgrade());
+        is_met_by(alloc, &self.standing, policy, envelope, right)
+    }
+
+    /// Whether a membership may come next in the state.
+    fn is_next(&self, alloc: Global, membership: &Membership) -> Result<bool, AllocError>
+        ensures { IfOk result (λ b. b
+            ≡ is_next self.now.listed.installed.orgs
+            (get (plain_after self.now.chain) membership_key) membership.now) }
+    {
+        let names = self.rules.installed().orgs();
+        is_next(alloc, names, membership_value(self.snapshot), membership)
     }
 }
 
@@ -164,14 +242,14 @@ impl<'a> Judge<'a> {
 /// is computed where there is none, or where it is known whose tags are right.
 fn is_met_by(
     alloc: Global,
-    rules: &Rules,
+    standing: &Standing<'_>,
     policy: Option<&Policy>,
     envelope: &Envelope,
     right: Option<&OrgSet>,
 ) -> Result<bool, AllocError>
-    requires { IfSome right (λ orgs. orgs.now ≡ right_orgs rules.now.orgs envelope.now) }
+    requires { IfSome right (λ orgs. orgs.now ≡ right_orgs standing.now.orgs envelope.now) }
     ensures { IfOk result (λ b. b
-        ≡ is_met_by (right_orgs rules.now.orgs envelope.now)
+        ≡ is_met_by (right_orgs standing.now.orgs envelope.now)
         (option_map (λ p. p.now) policy.entry)) }
 {
     let Some(policy) = policy else {
@@ -180,6 +258,6 @@ fn is_met_by(
     if let Some(orgs) = right {
         return Ok(satisfied(policy, orgs));
     }
-    let orgs = right_orgs(alloc, rules, envelope)?;
+    let orgs = right_orgs(alloc, standing.organisations(), envelope)?;
     Ok(satisfied(policy, &orgs))
 }

@@ -1,14 +1,18 @@
 //! Laws of definitions and of endorsed envelopes.
 
-ghost use Rattle.std.specs.Prelude.{◌≡◌, List, true, ℕ, Some, Ok};
+ghost use Rattle.std.specs.Prelude.{◌≡◌, List, true, ℕ, Some, None, Ok};
+ghost use Rattle.std.specs.FinMap.{get};
+ghost use Rattle.fab_types.specs.Memberships.{membership_key};
 ghost use Rattle.fab_types.specs.Limits.{IsPolicyText};
 ghost use Rattle.fab_types.specs.declared.definition.Definition.{Definition};
 ghost use Rattle.fab_types.specs.declared.envelope.Envelope.{Envelope};
 ghost use Rattle.ledger_model.specs.Views.{Plain};
 ghost use Rattle.fab_types.specs.Spelling.{definition_bytes};
 ghost use Rattle.fab_types.specs.Within.{IsDefinition};
-ghost use Rattle.endorsement_policy.specs.Endorsed.{CarriesRight, is_endorsed};
+ghost use Rattle.endorsement_policy.specs.Endorsed.{CarriesRight, Listed, is_endorsed};
+ghost use Rattle.endorsement_policy.specs.Membership.{listed_in};
 ghost use Rattle.endorsement_policy.specs.Installed.{Installed, IsPlaced, names_for, names_known, place_for, usable_by, usable_in};
+ghost use Rattle.policy_language.specs.GoodSets.{Names};
 ghost use Rattle.policy_language.specs.Limits.{IsText};
 ghost use Rattle.endorsement_policy.specs.declared.installed.ModulePlace.{ModulePlace};
 ghost use Rattle.endorsement_policy.specs.declared.installed.Usable.{Usable};
@@ -16,25 +20,31 @@ ghost use Rattle.policy_language.specs.declared.policy.Policy.{Policy};
 
 use crate::rules::Rules;
 
-/// Where an envelope is endorsed, in whatever state, a right tag stands on it.
+/// Where an envelope is endorsed, in whatever state, a right tag of who stands there is on it.
 pub fn an_endorsed_envelope_carries_a_right_tag(rules: &Rules)
     ensures { (m : Plain) (e : Envelope) → is_endorsed rules.now m e ≡ true →
-        CarriesRight rules.now.orgs e }
+        CarriesRight (listed_in rules.now m).orgs e }
 {
     let _policies = rules.policies();
     let _upgrade = rules.upgrade();
 }
 
+/// In a state without a membership those of the genesis stand.
+pub fn unamended()
+    ensures { (r : Listed) (m : Plain) → get m membership_key ≡ None → listed_in r m ≡ r }
+{}
+
 /// A definition that can be used has a text that spells its policy within the limits (`spelled`),
-/// of the organisations where its names are known (`known`), and its digest and its profile are
-/// those of the module that it means (`placed`); where it means one and the text spells a policy,
-/// that is what is found (`found`). What bytes come to is what the one definition that they spell
-/// comes to (`read`, `again`).
+/// of any organisations where it is open and their names are all that it has (`known`), and its
+/// digest and its profile are those of the module that it means (`placed`); where it means one and
+/// the text spells a policy, that is what is found (`found`). What bytes come to is what the one
+/// definition that they spell comes to (`read`, `again`).
 pub fn usable_definitions_are_spelled()
     ensures spelled { (i : Installed) (d : Definition) (u : Usable) → usable_by i d ≡ Ok u →
         IsPolicyText d.policy → IsText (names_for i d) u.policy d.policy }
-    ensures known { (i : Installed) (d : Definition) (u : Usable) → usable_by i d ≡ Ok u →
-        IsPolicyText d.policy → names_known i d ≡ true → IsText i.orgs u.policy d.policy }
+    ensures known { (i : Installed) (orgs : Names) (d : Definition) (u : Usable) →
+        usable_by i d ≡ Ok u → IsPolicyText d.policy → d.is_open ≡ true →
+        names_known orgs d ≡ true → IsText orgs u.policy d.policy }
     ensures placed { (i : Installed) (d : Definition) (u : Usable) → usable_by i d ≡ Ok u →
         IsPlaced i d u.place × (u.fuel ≡ d.fuel) }
     ensures found { (i : Installed) (d : Definition) (place : ModulePlace) (p : Policy) →

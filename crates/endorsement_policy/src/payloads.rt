@@ -1,12 +1,11 @@
-//! What the payloads of calls and of upgrades may name.
+//! What the payloads of calls, upgrades and amendments may name.
 
 ghost use Rattle.std.specs.Prelude.{◌≡◌, IfOk};
-ghost use Rattle.fab_types.specs.Proposals.{definition_key};
-ghost use Rattle.endorsement_policy.specs.Endorsed.{is_one_put, is_one_read, is_upgrade_payload, is_value, names_no_other, reads_no_other, reads_own, writes_shown};
+ghost use Rattle.endorsement_policy.specs.Endorsed.{is_amend_payload, is_one_put, is_one_read, is_put_payload, is_upgrade_payload, is_value, names_no_other, reads_no_other, reads_own, writes_shown};
 
-use fab_types::{Name, Payload, ReadItem, Upgrade, Value, WriteItem, is_shown};
+use fab_types::{Amend, Key, Payload, ReadItem, Upgrade, Value, WriteItem, is_shown};
 use std::alloc::{AllocError, Global};
-use wire::encode_definition;
+use wire::{encode_definition, encode_membership};
 
 /// Whether the key that the proposal is about is read.
 pub(crate) fn reads_own(payload: &Payload) -> bool
@@ -42,8 +41,8 @@ pub(crate) fn names_no_other(payload: &Payload) -> bool
     reads_no_other(payload) && writes_shown(payload)
 }
 
-/// Whether this is what an upgrade makes: it reads the key of the definition and no more, answers
-/// nothing, and puts the new definition there. The only error is want of memory.
+/// Whether this is what an upgrade makes: it puts the new definition at its key. The only error is
+/// want of memory.
 pub(crate) fn is_upgrade_payload(
     alloc: Global,
     upgrade: &Upgrade,
@@ -51,31 +50,51 @@ pub(crate) fn is_upgrade_payload(
 ) -> Result<bool, AllocError>
     ensures { IfOk result (λ b. b ≡ is_upgrade_payload upgrade.now payload.now) }
 {
+    let key = Key::of_definition(&upgrade.chaincode);
     let definition = encode_definition(alloc, &upgrade.definition)?;
-    Ok(
-        is_one_read(&upgrade.chaincode, payload.reads().as_slice())
-            && payload.ranges().as_slice().is_empty()
-            && payload.result().as_slice().is_empty()
-            && is_one_put(&upgrade.chaincode, &definition, payload.writes().as_slice()),
-    )
+    Ok(is_put_payload(&key, &definition, payload))
 }
 
-/// Whether the key of the definition is read, and nothing else.
-fn is_one_read(chaincode: &Name, reads: &[ReadItem]) -> bool
-    ensures { result ≡ is_one_read (definition_key chaincode.now) reads.now }
+/// Whether this is what an amendment makes: it puts the new membership at its key. The only error
+/// is want of memory.
+pub(crate) fn is_amend_payload(
+    alloc: Global,
+    amend: &Amend,
+    payload: &Payload,
+) -> Result<bool, AllocError>
+    ensures { IfOk result (λ b. b ≡ is_amend_payload amend.now payload.now) }
+{
+    let key = Key::of_membership();
+    let membership = encode_membership(alloc, &amend.membership)?;
+    Ok(is_put_payload(&key, &membership, payload))
+}
+
+/// Whether one key is read and no more, nothing is answered, and these bytes are put at that key.
+fn is_put_payload(key: &Key, bytes: &[u8], payload: &Payload) -> bool
+    ensures { result ≡ is_put_payload key.now bytes.now payload.now }
+{
+    is_one_read(key, payload.reads().as_slice())
+        && payload.ranges().as_slice().is_empty()
+        && payload.result().as_slice().is_empty()
+        && is_one_put(key, bytes, payload.writes().as_slice())
+}
+
+/// Whether this key is read, and nothing else.
+fn is_one_read(key: &Key, reads: &[ReadItem]) -> bool
+    ensures { result ≡ is_one_read key.now reads.now }
 {
     match reads {
-        [read] => read.key.is_of_definition(chaincode),
+        [read] => read.key.as_slice() == key.as_slice(),
         _ => false,
     }
 }
 
-/// Whether these bytes are put at the key of the definition, and nothing else is written.
-fn is_one_put(chaincode: &Name, bytes: &[u8], writes: &[WriteItem]) -> bool
-    ensures { result ≡ is_one_put (definition_key chaincode.now) bytes.now writes.now }
+/// Whether these bytes are put at this key, and nothing else is written.
+fn is_one_put(key: &Key, bytes: &[u8], writes: &[WriteItem]) -> bool
+    ensures { result ≡ is_one_put key.now bytes.now writes.now }
 {
     match writes {
-        [write] => write.key.is_of_definition(chaincode) && is_value(bytes, &write.value),
+        [write] => write.key.as_slice() == key.as_slice() && is_value(bytes, &write.value),
         _ => false,
     }
 }

@@ -2,12 +2,13 @@
 
 ghost use Rattle.std.specs.Prelude.{◌≡◌, ◌↔◌, true, IsSome, IfSome, option_map};
 ghost use Rattle.std.specs.List.{find};
-ghost use Rattle.endorsement_policy.specs.Endorsed.{do_need_someone, is_org, is_policy_of, is_tag_of};
+ghost use Rattle.endorsement_policy.specs.Listed.{do_need_someone, is_org, is_policy_of};
 ghost use Rattle.policy_language.specs.GoodSets.{needs_someone};
 
 use crate::evaluate::is_satisfied_by;
 use crate::installed::Installed;
-use fab_types::{Endorsement, Name, OrgName};
+use crate::organisations::find_organisation;
+use fab_types::{Name, OrgName};
 use org_keys::Organisation;
 use policy_language::Policy;
 use std::marker::Model;
@@ -20,8 +21,8 @@ pub struct ChaincodePolicy {
 }
 
 /// The organisations with their keys, the policy of each chaincode by the genesis, the policy of
-/// upgrades, and what every peer has installed. Of several of one name the first counts. Each
-/// policy needs at least one endorsement.
+/// upgrades and amendments, and what every peer has installed. Of several of one name the first
+/// counts. Each policy needs at least one endorsement.
 #[derive(Drop)]
 pub struct Rules {
     organisations: Vec<Organisation>,
@@ -32,7 +33,7 @@ pub struct Rules {
 
 impl Model for Rules {
     ghost use Rattle.std.specs.Prelude.{◌≡◌, true};
-    ghost use Rattle.endorsement_policy.specs.Endorsed.{Listed, do_need_someone};
+    ghost use Rattle.endorsement_policy.specs.Listed.{Listed, do_need_someone};
     ghost use Rattle.policy_language.specs.GoodSets.{needs_someone};
     ghost use Rattle.policy_language.specs.Tree.{policies_code};
     ghost use Rattle.std.specs.Coded.{codes};
@@ -98,6 +99,13 @@ impl Rules {
         })
     }
 
+    /// The organisations.
+    pub fn organisations(&self) -> &[Organisation]
+        ensures { result.now ≡ self.now.orgs }
+    {
+        &self.organisations
+    }
+
     /// The policies of chaincodes.
     pub fn policies(&self) -> &[ChaincodePolicy]
         ensures value { result.now ≡ self.now.policies }
@@ -106,7 +114,7 @@ impl Rules {
         &self.policies
     }
 
-    /// The policy of upgrades.
+    /// The policy of upgrades and amendments.
     pub fn upgrade(&self) -> &Policy
         ensures value { result.now ≡ self.now.upgrade }
         ensures needed { needs_someone self.now.upgrade ≡ true }
@@ -125,7 +133,7 @@ impl Rules {
     pub fn organisation(&self, name: &OrgName) -> Option<&Organisation>
         ensures { option_map (λ o. o.now) result ≡ find (is_org name.now) self.now.orgs }
     {
-        self.organisations.iter().find(|o| is_named(o, name))
+        find_organisation(&self.organisations, name)
     }
 
     /// The policy of this chaincode.
@@ -135,25 +143,6 @@ impl Rules {
     {
         self.policies.iter().find(|p| p.is_of(chaincode))
     }
-
-    /// Whether the organisation that an endorsement names is known, and the tag is its tag on these
-    /// bytes.
-    pub fn is_tag(&self, endorsement: &Endorsement, bytes: &[u8]) -> bool
-        ensures { result
-            ≡ is_tag_of (find (is_org endorsement.now.org) self.now.orgs) bytes.now
-            endorsement.now.tag }
-    {
-        match self.organisation(&endorsement.org) {
-            Some(organisation) => organisation.key.is_right(bytes, &endorsement.tag),
-            None => false,
-        }
-    }
-}
-
-fn is_named(organisation: &Organisation, name: &OrgName) -> bool
-    ensures { result ≡ is_org name.now organisation.now }
-{
-    organisation.name.as_slice() == name.as_slice()
 }
 
 impl ChaincodePolicy {

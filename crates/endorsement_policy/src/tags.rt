@@ -4,8 +4,9 @@ ghost use Rattle.std.specs.Prelude.{◌≡◌, ◌≤◌, [], ◌∷◌, IfOk, m
 ghost use Rattle.std.specs.Thread.{IsSync};
 ghost use Rattle.endorsement_policy.specs.Endorsed.{right_orgs};
 
-use crate::rules::Rules;
+use crate::organisations::is_tag;
 use fab_types::Envelope;
+use org_keys::Organisation;
 use policy_language::OrgSet;
 use std::alloc::{AllocError, Global};
 use std::thread::{Threads, join};
@@ -13,18 +14,18 @@ use std::thread::{Threads, join};
 /// A thread is not worth its start for fewer envelopes.
 const FEW: usize = 8;
 
-/// The organisations of which the envelope carries a right tag.
+/// Those of these organisations of which the envelope carries a right tag.
 pub(crate) fn right_orgs(
     alloc: Global,
-    rules: &Rules,
+    organisations: &[Organisation],
     envelope: &Envelope,
 ) -> Result<OrgSet, AllocError>
-    ensures { IfOk result (λ orgs. orgs ≡ right_orgs rules.now.orgs envelope.now) }
+    ensures { IfOk result (λ orgs. orgs ≡ right_orgs organisations.now envelope.now) }
 {
     let bytes = envelope.payload.bytes();
     let mut names = Vec::new(alloc);
     for endorsement in envelope.endorsements.as_slice() {
-        if rules.is_tag(endorsement, bytes) {
+        if is_tag(organisations, endorsement, bytes) {
             names.push(endorsement.org.clone()?)?;
         }
     }
@@ -34,14 +35,14 @@ pub(crate) fn right_orgs(
 /// The same of each envelope of a block.
 fn right_orgs_of_block(
     alloc: Global,
-    rules: &Rules,
+    organisations: &[Organisation],
     envelopes: &[Envelope],
 ) -> Result<Vec<OrgSet>, AllocError>
-    ensures { IfOk result (λ v. v.items ≡ map (right_orgs rules.now.orgs) envelopes.now) }
+    ensures { IfOk result (λ v. v.items ≡ map (right_orgs organisations.now) envelopes.now) }
 {
     let mut right = Vec::with_capacity(alloc, envelopes.len())?;
     for envelope in envelopes {
-        right.push(right_orgs(alloc, rules, envelope)?)?;
+        right.push(right_orgs(alloc, organisations, envelope)?)?;
     }
     Ok(right)
 }
@@ -49,15 +50,15 @@ fn right_orgs_of_block(
 /// The same of each envelope of each block, by one thread.
 fn right_orgs_in_turn(
     alloc: Global,
-    rules: &Rules,
+    organisations: &[Organisation],
     blocks: &[&[Envelope]],
 ) -> Result<Vec<Vec<OrgSet>>, AllocError>
     ensures { IfOk result (λ v. map (λ right. right.items) v.items
-        ≡ map (λ block. map (right_orgs rules.now.orgs) block.now) blocks.now) }
+        ≡ map (λ block. map (right_orgs organisations.now) block.now) blocks.now) }
 {
     let mut all = Vec::with_capacity(alloc, blocks.len())?;
     for block in blocks {
-        all.push(right_orgs_of_block(alloc, rules, *block)?)?;
+        all.push(right_orgs_of_block(alloc, organisations, *block)?)?;
     }
     Ok(all)
 }
@@ -68,16 +69,16 @@ fn right_orgs_in_turn(
 fn right_orgs_by_parts<R: Threads + Sync>(
     rt: &R,
     alloc: Global,
-    rules: &Rules,
+    organisations: &[Organisation],
     envelopes: &[Envelope],
     workers: usize,
 ) -> Result<Vec<OrgSet>, AllocError>
     requires least { 1 ≤ workers }
     requires greatest { workers ≤ 16 }
-    ensures { IfOk result (λ v. v.items ≡ map (right_orgs rules.now.orgs) envelopes.now) }
+    ensures { IfOk result (λ v. v.items ≡ map (right_orgs organisations.now) envelopes.now) }
 {
     if workers == 1 || envelopes.len() < FEW {
-        return right_orgs_of_block(alloc, rules, envelopes);
+        return right_orgs_of_block(alloc, organisations, envelopes);
     }
     let front_workers = workers / 2;
     let back_workers = workers - front_workers;
@@ -85,12 +86,14 @@ fn right_orgs_by_parts<R: Threads + Sync>(
     let (front, back) = envelopes.split_at(cut);
     let front_part = move || -> Result<Vec<OrgSet>, AllocError>
         requires { IsSync R.row × (1 ≤ front_workers) × (front_workers ≤ 16) }
-        ensures { IfOk result (λ v. v.items ≡ map (right_orgs rules.entry.now.orgs) front.entry.now) }
-    { right_orgs_by_parts(rt, alloc, rules, front, front_workers) };
+        ensures { IfOk result
+            (λ v. v.items ≡ map (right_orgs organisations.entry.now) front.entry.now) }
+    { right_orgs_by_parts(rt, alloc, organisations, front, front_workers) };
     let back_part = move || -> Result<Vec<OrgSet>, AllocError>
         requires { IsSync R.row × (1 ≤ back_workers) × (back_workers ≤ 16) }
-        ensures { IfOk result (λ v. v.items ≡ map (right_orgs rules.entry.now.orgs) back.entry.now) }
-    { right_orgs_by_parts(rt, alloc, rules, back, back_workers) };
+        ensures { IfOk result
+            (λ v. v.items ≡ map (right_orgs organisations.entry.now) back.entry.now) }
+    { right_orgs_by_parts(rt, alloc, organisations, back, back_workers) };
     let (low, high) = join(rt, front_part, back_part);
     let mut all = low?;
     let mut rest = high?;
@@ -102,46 +105,47 @@ fn right_orgs_by_parts<R: Threads + Sync>(
 fn right_orgs_of_one<R: Threads + Sync>(
     rt: &R,
     alloc: Global,
-    rules: &Rules,
+    organisations: &[Organisation],
     envelopes: &[Envelope],
     workers: usize,
 ) -> Result<Vec<Vec<OrgSet>>, AllocError>
     requires least { 1 ≤ workers }
     requires greatest { workers ≤ 16 }
     ensures { IfOk result (λ v. map (λ right. right.items) v.items
-        ≡ map (right_orgs rules.now.orgs) envelopes.now ∷ []) }
+        ≡ map (right_orgs organisations.now) envelopes.now ∷ []) }
 {
-    let right = right_orgs_by_parts(rt, alloc, rules, envelopes, workers)?;
+    let right = right_orgs_by_parts(rt, alloc, organisations, envelopes, workers)?;
     let mut all = Vec::with_capacity(alloc, 1)?;
     all.push(right)?;
     Ok(all)
 }
 
-/// For each envelope of each block the organisations of which it carries a right tag, by 1 to 16
-/// workers at once: the same for every number of them. Each takes a part of the blocks, one as
-/// large as another, or of one block's envelopes. The caller is one of the workers, and does the
+/// For each envelope of each block those of these organisations of which it carries a right tag, by
+/// 1 to 16 workers at once: the same for every number of them. Each takes a part of the blocks, one
+/// as large as another, or of one block's envelopes. The caller is one of the workers, and does the
 /// part of one that cannot be started. The only error is want of memory.
 ///
-/// What is found depends on no state, so that the tags of many blocks can be judged at once, and
-/// each block then by `check_with_right_orgs` on the state before it.
+/// What is found depends on no state but by the organisations, so that the tags of many blocks can
+/// be judged at once for who stands before the first of them, and each block then by
+/// `check_with_right_orgs` on the state before it, as long as they stand.
 #[cycle(workers)]
 pub fn right_orgs_of_blocks<R: Threads + Sync>(
     rt: &R,
     alloc: Global,
-    rules: &Rules,
+    organisations: &[Organisation],
     blocks: &[&[Envelope]],
     workers: usize,
 ) -> Result<Vec<Vec<OrgSet>>, AllocError>
     requires least { 1 ≤ workers }
     requires greatest { workers ≤ 16 }
     ensures { IfOk result (λ v. map (λ right. right.items) v.items
-        ≡ map (λ block. map (right_orgs rules.now.orgs) block.now) blocks.now) }
+        ≡ map (λ block. map (right_orgs organisations.now) block.now) blocks.now) }
 {
     if let [block] = blocks {
-        return right_orgs_of_one(rt, alloc, rules, block, workers);
+        return right_orgs_of_one(rt, alloc, organisations, block, workers);
     }
     if workers == 1 || blocks.is_empty() {
-        return right_orgs_in_turn(alloc, rules, blocks);
+        return right_orgs_in_turn(alloc, organisations, blocks);
     }
     let front_workers = workers / 2;
     let back_workers = workers - front_workers;
@@ -150,13 +154,13 @@ pub fn right_orgs_of_blocks<R: Threads + Sync>(
     let front_share = move || -> Result<Vec<Vec<OrgSet>>, AllocError>
         requires { IsSync R.row × (1 ≤ front_workers) × (front_workers ≤ 16) }
         ensures { IfOk result (λ v. map (λ right. right.items) v.items
-            ≡ map (λ block. map (right_orgs rules.entry.now.orgs) block.now) front.entry.now) }
-    { right_orgs_of_blocks(rt, alloc, rules, front, front_workers) };
+            ≡ map (λ block. map (right_orgs organisations.entry.now) block.now) front.entry.now) }
+    { right_orgs_of_blocks(rt, alloc, organisations, front, front_workers) };
     let back_share = move || -> Result<Vec<Vec<OrgSet>>, AllocError>
         requires { IsSync R.row × (1 ≤ back_workers) × (back_workers ≤ 16) }
         ensures { IfOk result (λ v. map (λ right. right.items) v.items
-            ≡ map (λ block. map (right_orgs rules.entry.now.orgs) block.now) back.entry.now) }
-    { right_orgs_of_blocks(rt, alloc, rules, back, back_workers) };
+            ≡ map (λ block. map (right_orgs organisations.entry.now) block.now) back.entry.now) }
+    { right_orgs_of_blocks(rt, alloc, organisations, back, back_workers) };
     let (low, high) = join(rt, front_share, back_share);
     let mut all = low?;
     let mut rest = high?;

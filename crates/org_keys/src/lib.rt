@@ -10,6 +10,6 @@ mod signers;
 mod tag_key;
 
 pub use organisation::{OrgKey, Organisation};
-pub use public_key::PublicKey;
+pub use public_key::{PublicKey, is_public_key};
 pub use signers::Signers;
 pub use tag_key::TagKey;

@@ -6,6 +6,7 @@ ghost use Rattle.org_keys.specs.Keys.{is_right_by};
 use crate::public_key::PublicKey;
 use crate::tag_key::TagKey;
 use fab_types::{OrgName, Tag};
+use std::alloc::AllocError;
 
 /// The key by which an organisation's tags are checked. It has no `Debug`, so that no shared key is
 /// printed.
@@ -36,5 +37,27 @@ impl OrgKey {
             }
             (OrgKey::Shared(_), Tag::Ed25519(_)) | (OrgKey::Public(_), Tag::Hmac(_)) => false,
         }
+    }
+}
+
+impl Clone for OrgKey {
+    ghost is_clone = { λ a b. b ≡ a };
+
+    fn clone(&self) -> Result<OrgKey, AllocError> {
+        match self {
+            OrgKey::Shared(key) => Ok(OrgKey::Shared(key.clone()?)),
+            OrgKey::Public(key) => Ok(OrgKey::Public(key.clone()?)),
+        }
+    }
+}
+
+impl Clone for Organisation {
+    ghost is_clone = { λ a b. b ≡ a };
+
+    fn clone(&self) -> Result<Organisation, AllocError> {
+        Ok(Organisation {
+            name: self.name.clone()?,
+            key: self.key.clone()?,
+        })
     }
 }

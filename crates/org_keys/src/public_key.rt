@@ -1,8 +1,10 @@
 //! Public keys.
 
-ghost use Rattle.std.specs.Prelude.{◌≡◌, ◌↔◌, IsSome, IfSome, length};
+ghost use Rattle.std.specs.Prelude.{◌≡◌, ◌↔◌, true, is_some, IsSome, IfSome, length};
 ghost use Rattle.ed25519.specs.Signing.{IsPublicKey};
+ghost use Rattle.org_keys.specs.Keys.{is_public_key};
 
+use std::alloc::AllocError;
 use std::marker::Model;
 
 /// A public key of Ed25519 (RFC 8032, section 5.1.5): the encoding of a point that is not of small
@@ -23,13 +25,22 @@ impl Model for PublicKey {
     ghost invariant = { λ k. IsPublicKey k.bytes };
 }
 
+/// Whether 32 bytes are the encoding of a point that is not of small order.
+pub fn is_public_key(bytes: &[u8; 32]) -> bool
+    ensures decided { result ≡ is_public_key bytes.now }
+    ensures point { result ≡ true ↔ IsPublicKey bytes.now }
+{
+    ed25519::is_public_key(bytes)
+}
+
 impl PublicKey {
     /// The key of these bytes. None where they are no point, or one of small order.
     pub fn new(bytes: [u8; 32]) -> Option<PublicKey>
         ensures accepted { IsSome result ↔ IsPublicKey bytes }
+        ensures decided { is_some result ≡ is_public_key bytes }
         ensures value { IfSome result (λ k. k ≡ bytes) }
     {
-        if !ed25519::is_public_key(&bytes) {
+        if !is_public_key(&bytes) {
             return None;
         }
         Some(PublicKey { bytes })
@@ -42,5 +53,13 @@ impl PublicKey {
         ensures point { IsPublicKey self.now }
     {
         &self.bytes
+    }
+}
+
+impl Clone for PublicKey {
+    ghost is_clone = { λ a b. b ≡ a };
+
+    fn clone(&self) -> Result<PublicKey, AllocError> {
+        Ok(PublicKey { bytes: self.bytes })
     }
 }

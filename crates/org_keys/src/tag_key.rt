@@ -3,6 +3,7 @@
 ghost use Rattle.std.specs.Prelude.{◌≡◌, ◌↔◌, IsSome, IfSome};
 ghost use Rattle.org_keys.specs.TagKeys.{IsTagKey};
 
+use std::alloc::AllocError;
 use std::marker::Model;
 
 /// The secret key under which an organisation makes its tags: 1 to 128 bytes. It has no `Debug`, so
@@ -41,5 +42,15 @@ impl TagKey {
         ensures limits { IsTagKey self.now }
     {
         &self.bytes
+    }
+}
+
+impl Clone for TagKey {
+    ghost is_clone = { λ a b. b ≡ a };
+
+    fn clone(&self) -> Result<TagKey, AllocError> {
+        Ok(TagKey {
+            bytes: self.bytes.clone()?,
+        })
     }
 }

@@ -5,7 +5,7 @@ pub returns-clause-spelled : goal.returns-clause-spelled
 returns-clause-spelled c = λ i d u is limits. spelled i d u is limits
 
 pub returns-clause-known : goal.returns-clause-known
-returns-clause-known c = λ i d u is limits known. of_known i d u is limits known
+returns-clause-known c = λ i orgs d u is limits is_open known. of_known i d u is orgs limits is_open known
 
 pub returns-clause-placed : goal.returns-clause-placed
 returns-clause-placed c = λ i d u is. placed i d u is

@@ -7,7 +7,7 @@ use Rattle.endorsement_policy.proofs.tags.+parts.Goals as goal
 
 pub returns : goal.returns
 returns g t c =
-    let right = right_orgs c.args.rules.now.orgs in
+    let right = right_orgs c.args.organisations.now in
     let front = c.split_at.result.0.now in
     let back = c.split_at.result.1.now in
     let low = IfOk-at_ok (λ (v : Vec Names Global). v.items ≡ map right front) c.in_ok-all.was c.join-low.ensures.first in

@@ -6,7 +6,7 @@ use Rattle.endorsement_policy.proofs.tags.+workers.Goals as goal
 
 pub returns : goal.returns
 returns g t c =
-    let right = right_in c.args.rules.now.orgs in
+    let right = right_in c.args.organisations.now in
     let front = c.split_at.result.0.now in
     let back = c.split_at.result.1.now in
     let low = IfOk-at_ok (λ (v : Vec (Vec Names Global) Global). map found_in v.items ≡ map right front) c.in_ok-all.was c.join-low.ensures.first in

@@ -5,5 +5,5 @@ use Rattle.endorsement_policy.proofs.tags.right_orgs.Given as goal
 
 abbrev pub invariant-loop-endorsement : goal.invariant-loop-endorsement
 invariant-loop-endorsement l =
-    l.names.items ++ map (λ e. e.org) (filter (is_right l.rules.orgs l.envelope.payload) (drop l.endorsement-index l.endorsement-items)) ≡
-    right_orgs l.rules.orgs l.envelope
+    l.names.items ++ map (λ e. e.org) (filter (is_right l.organisations l.envelope.payload) (drop l.endorsement-index l.endorsement-items)) ≡
+    right_orgs l.organisations l.envelope

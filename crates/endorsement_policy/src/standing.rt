@@ -1,0 +1,201 @@
+//! Who the organisations are before a block.
+
+ghost use Rattle.std.specs.Prelude.{◌≡◌, [], Some, None, IfOk, option_map};
+ghost use Rattle.std.specs.List.{find};
+ghost use Rattle.endorsement_policy.specs.Endorsed.{is_org, org_names};
+ghost use Rattle.endorsement_policy.specs.Judge.{plain_after};
+ghost use Rattle.endorsement_policy.specs.Membership.{org_by_key, orgs_by, standing_by, standing_in};
+ghost use Rattle.fab_types.specs.declared.membership.MemberKey.TheVariants.{Kept, Public};
+
+use crate::membership::{membership_policy, membership_value, usable_membership};
+use crate::organisations::find_organisation;
+use crate::rules::Rules;
+use fab_types::{Member, MemberKey, Membership, OrgName};
+use org_keys::{OrgKey, Organisation, PublicKey};
+use policy_language::Policy;
+use std::alloc::{AllocError, Global};
+use std::marker::Model;
+use world_state::Snapshot;
+
+/// The organisations that the members of a membership are, and its policy.
+#[derive(Drop)]
+pub(crate) struct Amended {
+    pub(crate) organisations: Vec<Organisation>,
+    pub(crate) upgrade: Policy,
+}
+
+/// Who the organisations are before a block, and whose endorsements upgrades and amendments need:
+/// those of the membership in the state, where one stands there that can be used, else those of the
+/// genesis.
+#[derive(Drop)]
+pub struct Standing<'a> {
+    rules: &'a Rules,
+    amended: Option<Amended>,
+}
+
+impl<'a> Model for Standing<'a> {
+    ghost use Rattle.policy_language.specs.Tree.{policies_code};
+    ghost use Rattle.endorsement_policy.specs.Membership.{Standing, kept_as};
+    ghost use Rattle.std.specs.Coded.{codes};
+
+    ghost Value = { Standing };
+
+    ghost coded = { Prim.hlevel (codes, policies_code) };
+
+    ghost view = { λ s. kept_as s.rules.now s.amended };
+}
+
+impl<'a> Standing<'a> {
+    /// Who stands in a state. The only error is want of memory.
+    pub fn of(
+        alloc: Global,
+        rules: &'a Rules,
+        snapshot: &Snapshot,
+    ) -> Result<Standing<'a>, AllocError>
+        ensures { IfOk result (λ s. s ≡ standing_in rules.now (plain_after snapshot.now)) }
+    {
+        let names = rules.installed().orgs();
+        match usable_membership(alloc, names, membership_value(snapshot))? {
+            Some(membership) => Standing::by_membership(alloc, rules, &membership),
+            None => Ok(Standing::by_genesis(rules)),
+        }
+    }
+
+    /// Those of a membership, or of the genesis where there is none. The only error is want of
+    /// memory.
+    pub fn after(
+        alloc: Global,
+        rules: &'a Rules,
+        membership: Option<&Membership>,
+    ) -> Result<Standing<'a>, AllocError>
+        ensures { IfOk result
+            (λ s. s ≡ standing_by rules.now (option_map (λ m. m.now) membership.entry)) }
+    {
+        match membership {
+            Some(membership) => Standing::by_membership(alloc, rules, membership),
+            None => Ok(Standing::by_genesis(rules)),
+        }
+    }
+
+    /// Those of the genesis.
+    fn by_genesis(rules: &'a Rules) -> Standing<'a>
+        ensures { result ≡ standing_by rules.now None }
+    {
+        Standing {
+            rules,
+            amended: None,
+        }
+    }
+
+    /// Those of a membership that can be used.
+    pub(crate) fn by_membership(
+        alloc: Global,
+        rules: &'a Rules,
+        membership: &Membership,
+    ) -> Result<Standing<'a>, AllocError>
+        ensures { IfOk result (λ s. s ≡ standing_by rules.now (Some membership.now)) }
+    {
+        let Some(upgrade) = membership_policy(alloc, membership)? else {
+            return Ok(Standing::by_genesis(rules));
+        };
+        let organisations = organisations_by(alloc, rules, membership.members.as_slice())?;
+        let amended = Amended {
+            organisations,
+            upgrade,
+        };
+        Ok(Standing {
+            rules,
+            amended: Some(amended),
+        })
+    }
+
+    /// The organisations.
+    pub fn organisations(&self) -> &[Organisation]
+        ensures { result.now ≡ self.now.orgs }
+    {
+        match &self.amended {
+            Some(amended) => &amended.organisations,
+            None => self.rules.organisations(),
+        }
+    }
+
+    /// The organisation of this name.
+    pub fn organisation(&self, name: &OrgName) -> Option<&Organisation>
+        ensures { option_map (λ o. o.now) result ≡ find (is_org name.now) self.now.orgs }
+    {
+        find_organisation(self.organisations(), name)
+    }
+
+    /// The policy of upgrades and amendments.
+    pub fn upgrade(&self) -> &Policy
+        ensures { result.now ≡ self.now.upgrade }
+    {
+        match &self.amended {
+            Some(amended) => &amended.upgrade,
+            None => self.rules.upgrade(),
+        }
+    }
+
+    /// The organisations' names. The only error is want of memory.
+    pub(crate) fn names(&self, alloc: Global) -> Result<Vec<OrgName>, AllocError>
+        ensures { IfOk result (λ v. v.items ≡ org_names self.now.orgs) }
+    {
+        let organisations = self.organisations();
+        let mut names = Vec::with_capacity(alloc, organisations.len())?;
+        for organisation in organisations {
+            names.push(organisation.name.clone()?)?;
+        }
+        Ok(names)
+    }
+}
+
+/// The organisations that members are. The only error is want of memory.
+fn organisations_by(
+    alloc: Global,
+    rules: &Rules,
+    members: &[Member],
+) -> Result<Vec<Organisation>, AllocError>
+    ensures { IfOk result (λ v. v.items ≡ orgs_by rules.now.orgs members.now) }
+{
+    let mut organisations = Vec::with_capacity(alloc, members.len())?;
+    for member in members {
+        if let Some(organisation) = organisation_of(rules, member)? {
+            organisations.push(organisation)?;
+        }
+    }
+    Ok(organisations)
+}
+
+/// The organisation that a member is. The only error is want of memory.
+fn organisation_of(rules: &Rules, member: &Member) -> Result<Option<Organisation>, AllocError>
+    ensures { IfOk result
+        (λ o. o ≡ org_by_key rules.now.orgs member.now.name member.now.key) }
+{
+    match member.key {
+        MemberKey::Kept => kept_organisation(rules, &member.name),
+        MemberKey::Public(bytes) => own_organisation(&member.name, bytes),
+    }
+}
+
+/// The one of the genesis that has this name, with its key.
+fn kept_organisation(rules: &Rules, name: &OrgName) -> Result<Option<Organisation>, AllocError>
+    ensures { IfOk result (λ o. o ≡ org_by_key rules.now.orgs name.now Kept) }
+{
+    match rules.organisation(name) {
+        Some(organisation) => Ok(Some(organisation.clone()?)),
+        None => Ok(None),
+    }
+}
+
+/// The one of this name and this public key. None where the bytes are no key to take in.
+fn own_organisation(name: &OrgName, bytes: [u8; 32]) -> Result<Option<Organisation>, AllocError>
+    ensures { IfOk result (λ o. o ≡ org_by_key [] name.now (Public bytes)) }
+{
+    let Some(key) = PublicKey::new(bytes) else {
+        return Ok(None);
+    };
+    Ok(Some(Organisation {
+        name: name.clone()?,
+        key: OrgKey::Public(key),
+    }))
+}
