@@ -1,21 +1,13 @@
--- What is sealed by the values behind an endorser's references is sealed by the endorser.
+-- What an endorser answers that simulates by the book behind its reference.
 use Rattle.std.proofs.Common.{◌≡◌, Ok, sym, ap, ◌∙◌}
 use Rattle.fab_types.specs.declared.proposal.Proposal.{Proposal}
 use Rattle.fab_types.specs.Payloads.{Payload}
 use Rattle.fab_types.specs.declared.envelope.Endorsement.{Endorsement}
-use Rattle.ledger_model.specs.Chain.{Bytes, Chain}
-use Rattle.ledger_model.specs.Views.{Plain}
-use Rattle.org_keys.specs.Signers.{Seeds}
-use Rattle.endorsement_policy.specs.Endorsed.{Listed, seal_of}
+use Rattle.ledger_model.specs.Chain.{Chain}
 use Rattle.chaincode_book.specs.Books.{Book}
 use Rattle.simulator.specs.Execution.{exec_of}
 use Rattle.simulator.specs.Answers.{payload_or_refusal}
 use Rattle.endorser.specs.Endorsing.{sealed_by}
-
-module _ (rules listed : Listed) (signers seeds : Seeds) (m : Plain) (org : Bytes) (payload : Payload) (e : Endorsement) where
-  pub sealed : rules ≡ listed → signers ≡ seeds → e ≡ seal_of rules signers m org payload → e ≡ seal_of listed seeds m org payload
-  sealed r s is =
-      is ∙ ap (λ l. seal_of l signers m org payload) r ∙ ap (λ l. seal_of listed l m org payload) s
 
 pub endorsed : (held book : Book) (p : Proposal) (chain : Chain) (payload : Payload) (seal : Payload → Endorsement) (e : Endorsement) → held ≡ book →
     payload_or_refusal (exec_of held) p chain ≡ Ok payload → e ≡ seal payload → sealed_by seal (payload_or_refusal (exec_of book) p chain) ≡ Ok (payload, e)

@@ -6,6 +6,7 @@ ghost use Rattle.ledger_model.specs.Chain.{history};
 ghost use Rattle.ledger_model.specs.State.{state};
 ghost use Rattle.simulator.specs.Answers.{Answers};
 ghost use Rattle.endorsement_policy.specs.Endorsed.{seal_of};
+ghost use Rattle.endorsement_policy.specs.Judge.{plain_after};
 ghost use Rattle.endorser.specs.Endorsing.{endorsing_of, simulated_on, endorsed_on, IsEndorsed};
 ghost use Rattle.endorser.specs.Rechecks.{IsRecheckRefused};
 
@@ -15,7 +16,7 @@ use endorsement_policy::Rules;
 use fab_types::{Endorsement, OrgName, Payload, Proposal};
 use org_keys::Signers;
 use simulator::{Book, SimRefusal, simulate};
-use std::alloc::Global;
+use std::alloc::{AllocError, Global};
 use std::sync::Arc;
 use world_state::Snapshot;
 
@@ -31,8 +32,8 @@ pub struct Endorser {
 }
 
 impl Endorser {
-    /// An endorser of an organisation. Tags of one that the rules do not list, or whose seed is not
-    /// at hand, are made with the empty key and count for nothing. It takes no memory.
+    /// An endorser of an organisation. Tags of one that is no member in the state, or whose seed is
+    /// not at hand, are made with the empty key and count for nothing. It takes no memory.
     pub fn new(
         alloc: Global,
         book: Arc<Book>,
@@ -84,7 +85,7 @@ impl Endorser {
             (λ r. IsRecheckRefused (state (history newest.now)) payload.now r) }
     {
         recheck(self.alloc, payload, newest)?;
-        Ok(seal(&self.rules, &self.signers, &self.org, payload)?)
+        Ok(self.seal(newest, payload)?)
     }
 
     /// Simulates a proposal on a snapshot's state and endorses the payload there, where nothing is
@@ -99,7 +100,23 @@ impl Endorser {
         ensures { Answers (endorsed_on (endorsing_of self.now) proposal.now snapshot.now) result }
     {
         let payload = simulate(self.alloc, &self.book, snapshot, proposal)?;
-        let endorsement = seal(&self.rules, &self.signers, &self.org, &payload)?;
+        let endorsement = self.seal(snapshot, &payload)?;
         Ok((payload, endorsement))
+    }
+
+    /// What is put on a payload in a snapshot's state.
+    fn seal(&self, snapshot: &Snapshot, payload: &Payload) -> Result<Endorsement, AllocError>
+        ensures { IfOk result
+            (λ e. e
+            ≡ (endorsing_of self.now).seal (plain_after snapshot.now) payload.now) }
+    {
+        seal(
+            self.alloc,
+            &self.rules,
+            &self.signers,
+            snapshot,
+            &self.org,
+            payload,
+        )
     }
 }

@@ -1,31 +1,44 @@
 //! What organisations put on payloads.
 
-ghost use Rattle.std.specs.Prelude.{◌≡◌, IfOk};
-ghost use Rattle.endorsement_policy.specs.Endorsed.{seal_of};
-ghost use Rattle.ledger_model.specs.Views.{Plain};
+ghost use Rattle.std.specs.Prelude.{◌≡◌, IfOk, option_map};
+ghost use Rattle.endorsement_policy.specs.Endorsed.{key_of, seal_of};
+ghost use Rattle.endorsement_policy.specs.Judge.{plain_after};
 
-use endorsement_policy::Rules;
+use endorsement_policy::{Rules, Standing};
 use fab_types::{Endorsement, OrgName, Payload};
-use org_keys::Signers;
-use std::alloc::AllocError;
+use org_keys::{OrgKey, Signers};
+use std::alloc::{AllocError, Global};
+use world_state::Snapshot;
 
 /// An organisation's endorsement of a payload: what the seeds at hand put on its bytes for who has
-/// the key that the rules list, in every state. The error is of memory.
+/// the key that the organisation has in this snapshot's state, by the membership there, else by the
+/// genesis. The error is of memory.
 pub fn seal(
+    alloc: Global,
     rules: &Rules,
     signers: &Signers,
+    snapshot: &Snapshot,
     org: &OrgName,
     payload: &Payload,
 ) -> Result<Endorsement, AllocError>
     ensures { IfOk result
-        (λ e. (m : Plain) → e ≡ seal_of rules.now signers.now m org.now payload.now) }
+        (λ e. e
+        ≡ seal_of rules.now signers.now (plain_after snapshot.now) org.now payload.now) }
 {
-    let key = match rules.organisation(org) {
-        Some(organisation) => Some(&organisation.key),
-        None => None,
-    };
+    let standing = Standing::of(alloc, rules, snapshot)?;
+    let key = key_of(&standing, org);
     Ok(Endorsement {
         org: org.clone()?,
         tag: signers.tag(key, payload.bytes()),
     })
+}
+
+/// The key that an organisation has by who stands. None where it is no member.
+fn key_of<'s>(standing: &'s Standing<'_>, org: &OrgName) -> Option<&'s OrgKey>
+    ensures { option_map (λ k. k.now) result ≡ key_of standing.now.orgs org.now }
+{
+    match standing.organisation(org) {
+        Some(organisation) => Some(&organisation.key),
+        None => None,
+    }
 }

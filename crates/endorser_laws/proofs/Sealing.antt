@@ -13,6 +13,7 @@ use Rattle.org_keys.specs.declared.organisation.OrgKey.{OrgKey}
 use Rattle.org_keys.specs.declared.organisation.OrgKey.TheVariants as key
 use Rattle.org_keys.specs.declared.organisation.Organisation.{Organisation}
 use Rattle.endorsement_policy.specs.Endorsed.{is_org, is_tag_of}
+use Rattle.endorsement_policy.specs.Membership.{listed_in}
 use Rattle.endorser_laws.specs.Laws.{SealedIsRight}
 
 module _ (law : SignedIsVerified) (bytes : List ℕ) where
@@ -41,4 +42,4 @@ module _ (law : SignedIsVerified) (bytes : List ℕ) where
   by_organisation seeds (Some o) = by_key seeds o.key
 
 pub sealed_is_right : SignedIsVerified → SealedIsRight
-sealed_is_right law listed seeds m org payload = by_organisation law (payload_bytes payload) seeds (find (is_org org) listed.orgs)
+sealed_is_right law listed seeds m org payload = by_organisation law (payload_bytes payload) seeds (find (is_org org) (listed_in listed m).orgs)

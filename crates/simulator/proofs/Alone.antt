@@ -14,6 +14,7 @@ use Rattle.ledger_model.specs.Defined.{IsAlone, called, upgraded, definition_key
 use Rattle.wasm_ast.specs.declared.module.Module.{Module}
 use Rattle.wasm_typing.specs.ModuleRules.{IsValid}
 use Rattle.endorsement_policy.specs.Installed.{place_of, usable_in}
+use Rattle.endorsement_policy.specs.Membership.{is_next}
 use Rattle.endorsement_policy.specs.declared.installed.ModuleId.{ModuleId}
 use Rattle.endorsement_policy.specs.declared.installed.ModulePlace.{ModulePlace}
 use Rattle.endorsement_policy.specs.declared.installed.ModulePlace.TheVariants as at
@@ -22,7 +23,7 @@ use Rattle.host_api.specs.Executing as host
 use Rattle.chaincode_book.specs.declared.book.Chaincode.{Chaincode}
 use Rattle.chaincode_book.specs.declared.book.Held.{Held}
 use Rattle.chaincode_book.specs.Books.{Book, AreValid, modules_of, chaincode_at, installed_module, module_at_hand}
-use Rattle.simulator.specs.Execution.{Defined, Executable, execute, executable_at, executable_by, executable_definition, genesis_executable, not_executed, upgrade_ending, usable_executable, with_fuel, exec_of}
+use Rattle.simulator.specs.Execution.{Defined, Executable, amend_ending, put_of, execute, executable_at, executable_by, executable_definition, genesis_executable, not_executed, upgrade_ending, usable_executable, with_fuel, exec_of}
 
 all_found : {X : Type 0} (P : X → Type 0) (test : X → Bool) (xs : List X) → AllByRecursion P xs → IfSome (find test xs) P
 all_found P test [] h = tt
@@ -88,6 +89,9 @@ module _ (book : Book) (valid : AreValid book) where
 not_executed_alone : (ending : ledger.Ending) → IsAlone (not_executed ending)
 not_executed_alone ending = record { truthful = λ m. record { reads = tt; ranges = tt }; only = λ m n h. refl }
 
+put_alone : (key value : Bytes) (ending : ledger.Ending) → IsAlone (λ m. put_of key value ending)
+put_alone key value ending = record { truthful = λ m. record { reads = tt; ranges = tt }; only = λ m n h. refl }
+
 -- what is known of each valid module
 module _ (alone : (wasm : Module) (fuel : ℕ) (argument : Bytes) → IsValid wasm → host.ReadsAlone wasm fuel argument) where
   executed_alone : (found : Option Defined) → IsFit found → (argument : Bytes) → IsAlone (execute found argument)
@@ -107,4 +111,7 @@ module _ (alone : (wasm : Module) (fuel : ℕ) (argument : Bytes) → IsValid wa
         (λ value. executed_alone (executable_by book c.chaincode value) (executable_fit book valid c.chaincode value) c.argument)
     each_alone (proposal.Upgrade u) =
         upgrades (definition_key u.chaincode) (definition_bytes u.definition) (upgrade_ending (executable_definition book u.definition))
-    each_alone (proposal.Amend a) = upgrades membership_key (membership_bytes a.membership) ledger.BadMembership
+    each_alone (proposal.Amend a) =
+        let bytes = membership_bytes a.membership in
+        let ends : Option Bytes → ledger.Ending = λ value. amend_ending (is_next book.installed.orgs value a.membership) in
+        calls membership_key (λ value m. put_of membership_key bytes (ends value)) (λ value. put_alone membership_key bytes (ends value))

@@ -3,7 +3,8 @@ use Rattle.std.proofs.Common.{◌≡◌, ◌⊎◌, inl, inr, ℕ, Bool, true, f
 use Rattle.std.specs.Prelude.{◌||◌, not}
 use Rattle.std.specs.Option.{option_and_then}
 use Rattle.std.specs.FinMap.{get}
-use Rattle.fab_types.specs.Spelling.{definition_bytes}
+use Rattle.fab_types.specs.Memberships.{membership_key}
+use Rattle.fab_types.specs.Spelling.{definition_bytes, membership_bytes}
 use Rattle.fab_types.specs.declared.definition.Definition.{Definition}
 use Rattle.fab_types.specs.declared.proposal.Proposal.{Proposal}
 use Rattle.fab_types.specs.declared.proposal.Proposal.TheVariants as proposal
@@ -21,7 +22,8 @@ use Rattle.endorsement_policy.specs.declared.installed.ModulePlace.TheVariants a
 use Rattle.endorsement_policy.specs.declared.installed.Usable.{Usable}
 use Rattle.chaincode_book.specs.declared.book.Chaincode.{Chaincode}
 use Rattle.chaincode_book.specs.Books.{Book, modules_of, chaincode_at, module_at_hand}
-use Rattle.simulator.specs.Execution.{Defined, IsPartOf, exec_of, execute, executable_at, executable_by, executable_definition, is_at_hand, spelled_executable, upgrade_ending, usable_executable, with_fuel}
+use Rattle.endorsement_policy.specs.Membership.{is_next}
+use Rattle.simulator.specs.Execution.{Defined, IsPartOf, amend_ending, exec_of, execute, executable_at, executable_by, executable_definition, is_at_hand, spelled_executable, upgrade_ending, usable_executable, with_fuel}
 
 -- the same, or as where something is missing
 abbrev IsAlike : {X : Type 0} → (missing part whole : X) → Type 0
@@ -93,4 +95,7 @@ module _ (part whole : Book) (is : IsPartOf part whole) where
       let run : Result Usable DefinitionFault → ledger.Outcome =
       λ r. upgraded (definition_key u.chaincode) (definition_bytes u.definition) (upgrade_ending r) m in
       ends_alike (run (Err fault.NotInstalled)) _ _ refl (alike_made run (Err fault.NotInstalled) _ _ (definition_alike u.definition))
-  exec_alike (proposal.Amend a) m = inl refl
+  exec_alike (proposal.Amend a) m =
+      let run : Installed → ledger.Outcome =
+      λ i. upgraded membership_key (membership_bytes a.membership) (amend_ending (is_next i.orgs (get m membership_key) a.membership)) m in
+      inl (ap run is.installed)

@@ -1,8 +1,10 @@
--- The refusals 401 and 406 to 408 are told exactly where what is proposed is not defined, not at hand, has a bad policy or is an amendment.
+-- The refusals 401 and 406 to 408 are told exactly where what is proposed is not defined, not at hand, has a bad policy or may not come next.
 use Rattle.std.proofs.Common.{◌≡◌, ℕ, Bool, true, false, cond, [], ◌∷◌, Option, Some, None, Result, Ok, Err, refl, ap, ◌∙◌, subst}
 use Rattle.std.specs.Prelude.{◌==◌}
 use Rattle.std.specs.FinMap.{get}
 use Rattle.fab_types.specs.Payloads.{Payload}
+use Rattle.fab_types.specs.Memberships.{membership_key}
+use Rattle.fab_types.specs.declared.proposal.Amend.{Amend}
 use Rattle.fab_types.specs.declared.proposal.Call.{Call}
 use Rattle.fab_types.specs.declared.proposal.Upgrade.{Upgrade}
 use Rattle.fab_types.specs.declared.proposal.Proposal.{Proposal}
@@ -15,6 +17,7 @@ use Rattle.ledger_model.specs.Defined.{definition_key}
 use Rattle.wasm_meaning.specs.Values.{Answer, Next, Branch, Returns, Trapped, Spent, Stuck}
 use Rattle.wasm_meaning.specs.Fine.{IsEnding}
 use Rattle.wasm_meaning.specs.Laws.NeverStuck.{invocation_ends}
+use Rattle.endorsement_policy.specs.Membership.{is_next}
 use Rattle.endorsement_policy.specs.declared.installed.Usable.{Usable}
 use Rattle.endorsement_policy.specs.declared.fault.DefinitionFault.{DefinitionFault}
 use Rattle.endorsement_policy.specs.declared.fault.DefinitionFault.TheVariants as fault
@@ -24,7 +27,7 @@ use Rattle.host_api.specs.Executing.{outcome_of, execution}
 use Rattle.host_api.specs.Parts.{parts_of}
 use Rattle.host_api.specs.declared.recorder.Parts.{Parts}
 use Rattle.chaincode_book.specs.Books.{Book, AreValid}
-use Rattle.simulator.specs.Execution.{Defined, HasBadPolicy, IsAmendment, IsNotAtHand, IsUnknown, execute, executable_definition, executable_in, exec_of, upgrade_ending}
+use Rattle.simulator.specs.Execution.{Defined, HasBadPolicy, IsNotAtHand, IsNotNext, IsUnknown, amend_ending, execute, executable_definition, executable_in, exec_of, upgrade_ending}
 use Rattle.simulator.specs.Answers.{SimRefusal, Answers, IsToldWhere, done_or_refusal}
 use Rattle.simulator.specs.declared.refusal.SimRefusal.TheVariants as refusal
 use Rattle.simulator.proofs.Alone.{IsFit, executable_fit}
@@ -57,7 +60,7 @@ abbrev Says : {X : Type 0} → Book → Plain → Proposal → Result X SimRefus
 Says book m p (Err refusal.UnknownChaincode) = IsUnknown book m p
 Says book m p (Err refusal.NotInstalled) = IsNotAtHand book m p
 Says book m p (Err refusal.BadPolicy) = HasBadPolicy book p
-Says book m p (Err refusal.BadMembership) = IsAmendment p
+Says book m p (Err refusal.BadMembership) = IsNotNext book m p
 Says book m p _ = Unit {0}
 
 -- what an execution that was done or refused says, where x is what it gives
@@ -78,6 +81,11 @@ module _ {X : Type 0} (x : X) (book : Book) (m : Plain) where
   upgrade_says u (Err fault.NotInstalled) e = e
   upgrade_says u (Err fault.BadPolicy) e = e
 
+  amend_says : (a : Amend) (b : Bool) → is_next book.installed.orgs (get m membership_key) a.membership ≡ b →
+      Says book m (proposal.Amend a) (done_or_refusal (amend_ending b) x)
+  amend_says a true e = tt
+  amend_says a false e = e
+
   found_says : (c : Call) (found : Option Defined) → executable_in book m c.chaincode ≡ found → IsFit found →
       Says book m (proposal.Call c) (done_or_refusal (execute found c.argument m).ending x)
   found_says c None e fit = e
@@ -91,7 +99,7 @@ module _ {X : Type 0} (x : X) (book : Book) (m : Plain) where
   exec_says valid (proposal.Call c) =
       found_says c (executable_in book m c.chaincode) refl (executable_fit book valid c.chaincode (get m (definition_key c.chaincode)))
   exec_says valid (proposal.Upgrade u) = upgrade_says u (executable_definition book u.definition) refl
-  exec_says valid (proposal.Amend a) = tt
+  exec_says valid (proposal.Amend a) = amend_says a (is_next book.installed.orgs (get m membership_key) a.membership) refl
 
 -- and what is so of a proposal makes its ending
 unknown_ends : (book : Book) (m : Plain) (p : Proposal) → IsUnknown book m p → (exec_of book p m).ending ≡ ledger.Unknown
@@ -112,11 +120,11 @@ bad_policy_ends book m (proposal.Call c) h = absurd h
 bad_policy_ends book m (proposal.Upgrade u) h = ap upgrade_ending h
 bad_policy_ends book m (proposal.Amend a) h = absurd h
 
-amendment_ends : (book : Book) (m : Plain) (p : Proposal) → IsAmendment p → (exec_of book p m).ending ≡ ledger.BadMembership
+not_next_ends : (book : Book) (m : Plain) (p : Proposal) → IsNotNext book m p → (exec_of book p m).ending ≡ ledger.BadMembership
 unfolding exec_of
-amendment_ends book m (proposal.Call c) h = absurd h
-amendment_ends book m (proposal.Upgrade u) h = absurd h
-amendment_ends book m (proposal.Amend a) h = refl
+not_next_ends book m (proposal.Call c) h = absurd h
+not_next_ends book m (proposal.Upgrade u) h = absurd h
+not_next_ends book m (proposal.Amend a) h = ap amend_ending h
 
 module _ {X : Type 0} (book : Book) (valid : AreValid book) (m : Plain) (p : Proposal) (x : X) (result : Result X SimRefusal) where
   abbrev wanted : Result X SimRefusal
@@ -139,8 +147,8 @@ module _ {X : Type 0} (book : Book) (valid : AreValid book) (m : Plain) (p : Pro
   pub bad_policy_told : Answers wanted result → IsToldWhere refusal.BadPolicy (HasBadPolicy book p) result
   bad_policy_told = told_where refusal.BadPolicy ledger.BadPolicy refl (λ a. a) (bad_policy_ends book m p)
 
-  pub bad_membership_told : Answers wanted result → IsToldWhere refusal.BadMembership (IsAmendment p) result
-  bad_membership_told = told_where refusal.BadMembership ledger.BadMembership refl (λ a. a) (amendment_ends book m p)
+  pub bad_membership_told : Answers wanted result → IsToldWhere refusal.BadMembership (IsNotNext book m p) result
+  bad_membership_told = told_where refusal.BadMembership ledger.BadMembership refl (λ a. a) (not_next_ends book m p)
 
 -- the same of what is made of the parts that were executed on the state after a chain
 module _ (make : Parts → Payload) (book : Book) (valid : AreValid book) (chain : Chain) (p : Proposal) (executed : Result Parts SimRefusal) where
@@ -166,5 +174,5 @@ module _ (make : Parts → Payload) (book : Book) (valid : AreValid book) (chain
     pub then_bad_policy : IsToldWhere refusal.BadPolicy (HasBadPolicy book p) result
     then_bad_policy = bad_policy_told book valid (values_of after) p (make (parts_of after comes_to.seen)) result then_answers
 
-    pub then_bad_membership : IsToldWhere refusal.BadMembership (IsAmendment p) result
+    pub then_bad_membership : IsToldWhere refusal.BadMembership (IsNotNext book (values_of after) p) result
     then_bad_membership = bad_membership_told book valid (values_of after) p (make (parts_of after comes_to.seen)) result then_answers

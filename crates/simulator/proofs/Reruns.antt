@@ -21,7 +21,8 @@ use Rattle.host_api.specs.Executing.{outcome_of, execution}
 use Rattle.host_api.specs.Parts.{parts_of}
 use Rattle.host_api.specs.declared.recorder.Parts.{Parts}
 use Rattle.chaincode_book.specs.Books.{Book}
-use Rattle.simulator.specs.Execution.{Defined, executable_by, executable_definition, execute, exec_of, upgrade_ending}
+use Rattle.endorsement_policy.specs.Membership.{is_next}
+use Rattle.simulator.specs.Execution.{Defined, amend_ending, executable_by, executable_definition, execute, exec_of, upgrade_ending}
 use Rattle.simulator.proofs.Endings.{map_ok, answers_made}
 use Rattle.simulator.specs.Answers.{SimRefusal, Answers, done_or_refusal, Rerun, rerun_of, rerun_or_refusal, told_by, told_in}
 
@@ -65,7 +66,8 @@ exec_asks book (proposal.Call c) m =
     read_asks m key (execute found c.argument m) (executed_asks found c.argument m)
 exec_asks book (proposal.Upgrade u) m =
     upgraded_asks m (definition_key u.chaincode) (definition_bytes u.definition) (upgrade_ending (executable_definition book u.definition))
-exec_asks book (proposal.Amend a) m = upgraded_asks m membership_key (membership_bytes a.membership) ledger.BadMembership
+exec_asks book (proposal.Amend a) m =
+    upgraded_asks m membership_key (membership_bytes a.membership) (amend_ending (is_next book.installed.orgs (get m membership_key) a.membership))
 
 -- ---- what is told of questions on a state with versions and without
 

@@ -1,6 +1,7 @@
 -- What executing a proposal on a plain state comes to, by a book.
-use Rattle.std.specs.Prelude.{◌≡◌, ◌||◌, ℕ, Bool, Option, Some, None, Result, Ok, Err, option_map, slice_get, is_some, not, if◌then◌else◌}
+use Rattle.std.specs.Prelude.{◌≡◌, ◌||◌, ℕ, Bool, true, false, [], ◌∷◌, Option, Some, None, Result, Ok, Err, option_map, slice_get, is_some, not, if◌then◌else◌}
 use Rattle.std.specs.Option.{option_and_then}
+use Rattle.std.specs.FinMap.{get}
 use Rattle.fab_types.specs.declared.proposal.Proposal.{Proposal}
 use Rattle.fab_types.specs.declared.proposal.Proposal.TheVariants as proposal
 use Rattle.fab_types.specs.Memberships.{membership_key}
@@ -13,6 +14,7 @@ use Rattle.ledger_model.specs.Execution.{Outcome, Exec}
 use Rattle.ledger_model.specs.Defined.{definition_key, definition_by, definition_in, called, upgraded}
 use Rattle.wasm_ast.specs.declared.module.Module.{Module}
 use Rattle.endorsement_policy.specs.Installed.{id_of, usable_by, usable_in}
+use Rattle.endorsement_policy.specs.Membership.{is_next}
 use Rattle.endorsement_policy.specs.declared.installed.ModuleId.{ModuleId}
 use Rattle.endorsement_policy.specs.declared.installed.ModulePlace.{ModulePlace}
 use Rattle.endorsement_policy.specs.declared.installed.ModulePlace.TheVariants as at
@@ -96,13 +98,25 @@ upgrade_ending (Ok u) = ledger.Done
 upgrade_ending (Err fault.NotInstalled) = ledger.NotInstalled
 upgrade_ending (Err fault.BadPolicy) = ledger.BadPolicy
 
--- A call reads the key of its chaincode's definition and executes by what it has; an upgrade reads the key and puts its definition there. No
--- amendment is the next membership yet: who the members are is what the genesis says.
+-- how an amendment ends, by whether its membership may come next
+abbrev pub amend_ending : Bool → ledger.Ending
+amend_ending true = ledger.Done
+amend_ending false = ledger.BadMembership
+
+-- nothing is read, and a value is put at a key
+abbrev pub put_of : (key value : Bytes) → ledger.Ending → Outcome
+put_of key value ending =
+    record { ending = ending; seen = record { reads = []; ranges = []; result = []; writes = record { key = key; value = Some value } ∷ [] } }
+
+-- A call reads the key of its chaincode's definition and executes by what it has; an upgrade reads the key and puts its definition there; an
+-- amendment reads the key of the membership and puts its own there, if that may come next.
 unfoldable pub exec_of : Book → Exec
 exec_of book (proposal.Call c) = called (definition_key c.chaincode) (λ value. execute (executable_by book c.chaincode value) c.argument)
 exec_of book (proposal.Upgrade u) =
     upgraded (definition_key u.chaincode) (definition_bytes u.definition) (upgrade_ending (executable_definition book u.definition))
-exec_of book (proposal.Amend a) = upgraded membership_key (membership_bytes a.membership) ledger.BadMembership
+exec_of book (proposal.Amend a) =
+    called membership_key (λ value m.
+    put_of membership_key (membership_bytes a.membership) (amend_ending (is_next book.installed.orgs value a.membership)))
 
 -- a call of a chaincode that has no definition that can be used
 abbrev pub IsUnknown : Book → Plain → Proposal → Type 0
@@ -122,11 +136,11 @@ HasBadPolicy book (proposal.Call c) = ⊥
 HasBadPolicy book (proposal.Upgrade u) = executable_definition book u.definition ≡ Err fault.BadPolicy
 HasBadPolicy book (proposal.Amend a) = ⊥
 
--- any amendment
-abbrev pub IsAmendment : Proposal → Type 0
-IsAmendment (proposal.Call c) = ⊥
-IsAmendment (proposal.Upgrade u) = ⊥
-IsAmendment (proposal.Amend a) = Unit {0}
+-- an amendment to a membership that may not come next
+abbrev pub IsNotNext : Book → Plain → Proposal → Type 0
+IsNotNext book m (proposal.Call c) = ⊥
+IsNotNext book m (proposal.Upgrade u) = ⊥
+IsNotNext book m (proposal.Amend a) = is_next book.installed.orgs (get m membership_key) a.membership ≡ false
 
 -- the same genesis, and what is at hand in the one is the same in the other
 pub record IsPartOf (part whole : Book) : Type 0 where

@@ -19,7 +19,7 @@ pub enum SimRefusal {
     NotInstalled,
     /// The policy of an upgrade's definition is refused.
     BadPolicy,
-    /// An amendment is not the next membership.
+    /// The membership of an amendment is not the next, or cannot be used.
     BadMembership,
     /// The execution was cut off, after it had used this fuel.
     Trapped { kind: Trap, used: u64 },

@@ -1,6 +1,7 @@
 //! The simulation of a proposal, and its rerun.
 
 ghost use Rattle.std.specs.Prelude.{◌≡◌, ◌≤◌, IfOk, length, true};
+ghost use Rattle.std.specs.FinMap.{get};
 ghost use Rattle.std.specs.List.{list_all};
 ghost use Rattle.fab_types.specs.Order.{is_shown};
 ghost use Rattle.fab_types.specs.declared.proposal.Proposal.TheVariants as proposals;
@@ -8,13 +9,15 @@ ghost use Rattle.ledger_model.specs.Chain.{history};
 ghost use Rattle.ledger_model.specs.State.{state};
 ghost use Rattle.ledger_model.specs.Views.{values_of};
 ghost use Rattle.ledger_model.specs.Execution.{Done};
-ghost use Rattle.ledger_model.specs.Defined.{definition_key, upgraded};
-ghost use Rattle.fab_types.specs.Spelling.{definition_bytes};
+ghost use Rattle.ledger_model.specs.Defined.{upgraded};
+ghost use Rattle.fab_types.specs.Memberships.{membership_key};
+ghost use Rattle.fab_types.specs.Spelling.{definition_bytes, membership_bytes};
+ghost use Rattle.endorsement_policy.specs.Membership.{is_next};
 ghost use Rattle.world_state.specs.Writing.{as_state};
 ghost use Rattle.host_api.specs.Plain.{plain_of};
 ghost use Rattle.host_api.specs.Parts.{parts_of};
 ghost use Rattle.host_api.specs.Executing.{outcome};
-ghost use Rattle.simulator.specs.Execution.{HasBadPolicy, IsAmendment, IsNotAtHand, IsUnknown, exec_of, is_at_hand};
+ghost use Rattle.simulator.specs.Execution.{HasBadPolicy, IsNotAtHand, IsNotNext, IsUnknown, exec_of, is_at_hand};
 ghost use Rattle.simulator.specs.Answers.{Answers, IsToldWhere, done_or_refusal, parts_or_refusal, payload_or_refusal, rerun_or_refusal, told_in};
 ghost use Rattle.simulator.specs.Success.{success_of};
 ghost use Rattle.simulator.specs.declared.refusal.SimRefusal.TheVariants.{UnknownChaincode, NotInstalled, BadPolicy, BadMembership};
@@ -22,27 +25,28 @@ ghost use Rattle.simulator.specs.declared.refusal.SimRefusal.TheVariants.{Unknow
 use crate::executable::{Executable, Found, find_executable};
 use crate::refusal::SimRefusal;
 use chaincode_book::Book;
-use endorsement_policy::ModuleId;
+use endorsement_policy::{ModuleId, is_next};
 use fab_types::{
-    Call, Definition, Key, Payload, PayloadParts, Proposal, Ranges, ReadItem, ReadSet, Upgrade,
-    Value, WriteItem, WriteSet,
+    Amend, Call, Definition, Key, Payload, PayloadParts, Proposal, Ranges, ReadItem, ReadSet,
+    Upgrade, Value, WriteItem, WriteSet,
 };
 use host_api::{Parts, PlainMap, Recorder, View, look_up};
 use interp::{Outcome, run};
 use std::alloc::{AllocError, Global};
-use wire::encode_definition;
+use wire::{encode_definition, encode_membership};
 use world_state::Snapshot;
 
 /// The payload of a proposal on a snapshot's state. A call is executed once, on a fresh instance
 /// and by the definition of its chaincode: its payload has the read of the definition's key in
-/// front. An upgrade's payload reads that key and puts the new definition there. What was read has
-/// the versions of that state.
+/// front. An upgrade's payload reads that key and puts the new definition there, an amendment's
+/// reads the key of the membership and puts the new one there. What was read has the versions of
+/// that state.
 ///
 /// A call is refused where its chaincode has no definition that can be used (401) or an open one
 /// whose module is not at hand (406), where the execution traps (402), runs out of fuel (403) or
 /// returns a status that is not 0 (404); an upgrade where its module is not installed, or not at
-/// hand if it is open (406), or its policy is refused (407); an amendment always (408); and each
-/// for want of memory (9).
+/// hand if it is open (406), or its policy is refused (407); an amendment where its membership is
+/// not the next, or cannot be used (408); and each for want of memory (9).
 pub fn simulate(
     alloc: Global,
     book: &Book,
@@ -56,7 +60,8 @@ pub fn simulate(
     ensures not_installed { IsToldWhere NotInstalled
         (IsNotAtHand book.now (values_of (state (history snapshot.now))) proposal.now) result }
     ensures bad_policy { IsToldWhere BadPolicy (HasBadPolicy book.now proposal.now) result }
-    ensures bad_membership { IsToldWhere BadMembership (IsAmendment proposal.now) result }
+    ensures bad_membership { IsToldWhere BadMembership
+        (IsNotNext book.now (values_of (state (history snapshot.now))) proposal.now) result }
 {
     let _valid = book.chaincodes();
     let parts = execute(alloc, book, snapshot, proposal)?;
@@ -89,7 +94,8 @@ pub fn rerun(
     ensures not_installed { IsToldWhere NotInstalled
         (IsNotAtHand book.now (plain_of state.now) proposal.now) result }
     ensures bad_policy { IsToldWhere BadPolicy (HasBadPolicy book.now proposal.now) result }
-    ensures bad_membership { IsToldWhere BadMembership (IsAmendment proposal.now) result }
+    ensures bad_membership { IsToldWhere BadMembership
+        (IsNotNext book.now (plain_of state.now) proposal.now) result }
 {
     let _valid = book.chaincodes();
     execute(alloc, book, state, proposal)
@@ -108,7 +114,7 @@ fn execute<V: View>(
     match proposal {
         Proposal::Call(call) => execute_call(alloc, book, view, call),
         Proposal::Upgrade(upgrade) => execute_upgrade(alloc, book, view, upgrade),
-        Proposal::Amend(_) => Err(SimRefusal::BadMembership),
+        Proposal::Amend(amend) => execute_amend(alloc, book, view, amend),
     }
 }
 
@@ -186,7 +192,43 @@ fn execute_upgrade<V: View>(
         return Err(SimRefusal::NotInstalled);
     }
     let _usable = book.installed().usable(alloc, &upgrade.definition)??;
-    Ok(put_definition(alloc, view, upgrade)?)
+    let value = definition_value(alloc, upgrade)?;
+    Ok(put(alloc, view, Key::of_definition(&upgrade.chaincode), value)?)
+}
+
+/// The same of an amendment.
+#[tactic(auto, unfolding(crate::specs::Execution::exec_of))]
+fn execute_amend<V: View>(
+    alloc: Global,
+    book: &Book,
+    view: &V,
+    amend: &Amend,
+) -> Result<Parts, SimRefusal>
+    ensures { Answers
+        (parts_or_refusal (exec_of book.now (proposals.Amend amend.now)) (V.state view.now))
+        result }
+{
+    if !is_next_on(alloc, book, view, amend)? {
+        return Err(SimRefusal::BadMembership);
+    }
+    let value = membership_value(alloc, amend)?;
+    Ok(put(alloc, view, Key::of_membership(), value)?)
+}
+
+/// Whether the membership of an amendment may come next on a view of the state.
+fn is_next_on<V: View>(
+    alloc: Global,
+    book: &Book,
+    view: &V,
+    amend: &Amend,
+) -> Result<bool, AllocError>
+    ensures { IfOk result (λ b. b
+        ≡ is_next book.now.installed.orgs (get (values_of (V.state view.now)) membership_key)
+        amend.now.membership) }
+{
+    let key = Key::of_membership();
+    let (value, _) = look_up(view, &key);
+    is_next(alloc, book.installed().orgs(), value, &amend.membership)
 }
 
 /// Whether the module of a definition is at hand, if it is open.
@@ -196,17 +238,14 @@ pub fn is_at_hand(book: &Book, definition: &Definition) -> bool
     !definition.is_open || book.at_hand(&ModuleId::of(definition)).is_some()
 }
 
-/// What an upgrade to a definition that can be used reads and writes.
-fn put_definition<V: View>(alloc: Global, view: &V, upgrade: &Upgrade) -> Result<Parts, AllocError>
+/// What is read and written where a value is put at a key, which is read.
+fn put<V: View>(alloc: Global, view: &V, key: Key, value: Value) -> Result<Parts, AllocError>
     ensures { IfOk result
         (λ p. p
         ≡ parts_of (V.state view.now)
-        (upgraded (definition_key upgrade.now.chaincode) (definition_bytes upgrade.now.definition)
-        Done (values_of (V.state view.now))).seen) }
+        (upgraded key value Done (values_of (V.state view.now))).seen) }
 {
-    let key = Key::of_definition(&upgrade.chaincode);
     let (_, version) = look_up(view, &key);
-    let value = definition_value(alloc, upgrade)?;
     let write = WriteItem {
         key: key.clone()?,
         value: Some(value),
@@ -224,5 +263,13 @@ fn definition_value(alloc: Global, upgrade: &Upgrade) -> Result<Value, AllocErro
     ensures { IfOk result (λ v. v ≡ definition_bytes upgrade.now.definition) }
 {
     let bytes = encode_definition(alloc, &upgrade.definition)?;
+    Ok(Value::new(bytes).unwrap())
+}
+
+/// The bytes of an amendment's membership: at most 2,088.
+fn membership_value(alloc: Global, amend: &Amend) -> Result<Value, AllocError>
+    ensures { IfOk result (λ v. v ≡ membership_bytes amend.now.membership) }
+{
+    let bytes = encode_membership(alloc, &amend.membership)?;
     Ok(Value::new(bytes).unwrap())
 }
