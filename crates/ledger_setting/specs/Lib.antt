@@ -1,3 +1,4 @@
 pub mod Rule
 pub mod Limits
 pub mod Judging
+pub mod Amended

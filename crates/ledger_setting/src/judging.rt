@@ -5,6 +5,7 @@ ghost use Rattle.ledger_model.specs.Chain.{history};
 ghost use Rattle.ledger_model.specs.State.{state};
 ghost use Rattle.ledger_model.specs.Views.{values_of};
 ghost use Rattle.endorsement_policy.specs.Endorsed.{is_endorsed, right_orgs};
+ghost use Rattle.endorsement_policy.specs.Judge.{orgs_behind};
 ghost use Rattle.committer.specs.Fits.{Fits, IsRefused, blocks_of};
 ghost use Rattle.ledger_setting.specs.Judging.{IsJudged, next_by};
 ghost use Rattle.ledger_setting.specs.Rule.{table_of};
@@ -38,8 +39,9 @@ pub fn judge(
     judge_with(alloc, rules, snapshot, block, None)
 }
 
-/// The same where it may be known of each envelope which organisations' tags on it are right, as
-/// `right_orgs_of_blocks` tells. Where it is, no tag is computed.
+/// The same where it may be known of each envelope which of the organisations that stand behind the
+/// snapshot have right tags on it, as `right_orgs_of_blocks` tells. Where it is, no tag is
+/// computed.
 pub fn judge_with(
     alloc: Global,
     rules: &Rules,
@@ -48,7 +50,8 @@ pub fn judge_with(
     right: Option<&[OrgSet]>,
 ) -> Result<Judged, CommitRefusal>
     requires { IfSome right
-        (λ orgs. orgs.now ≡ map (right_orgs rules.now.orgs) block.now.envelopes) }
+        (λ orgs. orgs.now
+        ≡ map (right_orgs (orgs_behind rules.now snapshot.now)) block.now.envelopes) }
     ensures judged { IfOk result
         (λ judged. IsJudged (table_of rules.now) snapshot.now block.now judged) }
     ensures refused { IfErr result
@@ -84,13 +87,29 @@ pub fn judge_by_workers<T: Threads + Sync>(
 {
     check_fits(alloc, snapshot, block)?;
     let envelopes = block.envelopes.as_slice();
-    let (rt, count) = (workers.rt(), workers.count().min(envelopes.len().max(1)));
-    let endorsed = check_all(rt, alloc, rules, snapshot, envelopes, count, &NoGate)?;
+    let endorsed = check_by_workers(workers, alloc, rules, snapshot, envelopes)?;
     Ok(judge_checked(alloc, rules, snapshot, block, &endorsed)?)
 }
 
-/// For each envelope whether it is endorsed. It may be known of each which organisations' tags on
-/// it are right. The only error is want of memory.
+/// For each envelope whether it is endorsed, by workers at once: the same for every number of them.
+/// The only error is want of memory.
+pub fn check_by_workers<T: Threads + Sync>(
+    workers: &Workers<'_, T>,
+    alloc: Global,
+    rules: &Rules,
+    snapshot: &Snapshot,
+    envelopes: &[Envelope],
+) -> Result<Vec<bool>, AllocError>
+    ensures { IfOk result (λ v. v.items
+        ≡ map (is_endorsed rules.now (values_of (state (history snapshot.now))))
+        envelopes.now) }
+{
+    let (rt, count) = (workers.rt(), workers.count().min(envelopes.len().max(1)));
+    check_all(rt, alloc, rules, snapshot, envelopes, count, &NoGate)
+}
+
+/// For each envelope whether it is endorsed. It may be known of each which of the organisations
+/// that stand have right tags on it. The only error is want of memory.
 fn check_with(
     alloc: Global,
     rules: &Rules,
@@ -98,7 +117,9 @@ fn check_with(
     envelopes: &[Envelope],
     right: Option<&[OrgSet]>,
 ) -> Result<Vec<bool>, AllocError>
-    requires { IfSome right (λ orgs. orgs.now ≡ map (right_orgs rules.now.orgs) envelopes.now) }
+    requires { IfSome right
+        (λ orgs. orgs.now
+        ≡ map (right_orgs (orgs_behind rules.now snapshot.now)) envelopes.now) }
     ensures { IfOk result (λ v. v.items
         ≡ map (is_endorsed rules.now (values_of (state (history snapshot.now))))
         envelopes.now) }

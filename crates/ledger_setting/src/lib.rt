@@ -1,11 +1,15 @@
 //! What the peers of a ledger go by: what a system begins with, the rule by which they judge, and
-//! the commit of a block under it. And what an audit of a chain says.
+//! the commit of a block under it. And what an audit of a chain says, and by whom members are made.
 #![tactic(auto)]
 
 mod genesis;
 mod judging;
+mod laws;
 mod verdict;
 
 pub use genesis::Genesis;
-pub use judging::{commit, commit_by_workers, judge, judge_by_workers, judge_checked, judge_with};
+pub use judging::{
+    check_by_workers, commit, commit_by_workers, judge, judge_by_workers, judge_checked, judge_with,
+};
+pub use laws::memberships_are_amended;
 pub use verdict::Audit;

@@ -1,24 +1,40 @@
 //! Records whose blocks are still to be judged.
 
-ghost use Rattle.std.specs.Prelude.{◌≡◌, [], ◌∷◌, IfSome, MatchOption};
-ghost use Rattle.store_replay.specs.Tags.{AreRightTags, right_in_record};
+ghost use Rattle.std.specs.Prelude.{◌≡◌, true, [], ◌∷◌, IfOk, IfSome, MatchOption};
+ghost use Rattle.std.specs.FinMap.{get};
+ghost use Rattle.fab_types.specs.Memberships.{membership_key};
+ghost use Rattle.endorsement_policy.specs.Judge.{orgs_behind, plain_after};
+ghost use Rattle.store_replay.specs.Tags.{AreRightTags, IsKnown, right_in_record};
 
 use crate::tags::TagChecks;
 use crate::watch::Watch;
-use endorsement_policy::Rules;
-use fab_types::CommittedBlock;
+use endorsement_policy::{Rules, membership_value};
+use fab_types::{CommittedBlock, Value};
 use policy_language::OrgSet;
-use std::alloc::Global;
+use std::alloc::{AllocError, Global};
 use std::collections::VecDeque;
 use std::thread::Threads;
 use world_state::Snapshot;
 
-/// Records whose blocks are still to be judged, and what is known of the first of them: whose tags
-/// in them are right.
+/// Records whose blocks are still to be judged, and what is known of the first of them: which of
+/// the organisations that stand have right tags in them. Who stands is by the value at the key of
+/// the membership, which is kept beside it: behind a block that amends the membership, what is
+/// known is thrown away.
 #[derive(Drop)]
 pub struct Pending {
     records: VecDeque<CommittedBlock>,
     right: VecDeque<Vec<OrgSet>>,
+    value: Option<Value>,
+}
+
+/// The value that the key of the membership has behind a chain. The error is of memory.
+fn standing_value(snapshot: &Snapshot) -> Result<Option<Value>, AllocError>
+    ensures { IfOk result (λ v. v ≡ get (plain_after snapshot.now) membership_key) }
+{
+    match membership_value(snapshot) {
+        Some(value) => Ok(Some(value.clone()?)),
+        None => Ok(None),
+    }
 }
 
 impl Pending {
@@ -30,11 +46,12 @@ impl Pending {
         Pending {
             records: VecDeque::from_vec(records),
             right: VecDeque::new(alloc),
+            value: None,
         }
     }
 
     /// Takes the next record, which is to be put behind a chain, and what is known of it. Where
-    /// nothing is known of what is left, tags are looked at first.
+    /// nothing is known of what is left for who stands there, tags are looked at first.
     pub fn next<T: Threads + Sync, V: Watch>(
         &mut self,
         tags: &TagChecks<'_, T, V>,
@@ -42,19 +59,21 @@ impl Pending {
         rules: &Rules,
         snapshot: &Snapshot,
     ) -> Option<(CommittedBlock, Option<Vec<OrgSet>>)>
-        requires known { AreRightTags rules.now.orgs self.old.right.items self.old.records.items }
-        ensures known { AreRightTags rules.now.orgs self.new.right.items self.new.records.items }
+        requires known { IsKnown rules.now self.old }
+        ensures known { IsKnown rules.now self.new }
         ensures next { MatchOption result (self.old.records.items ≡ [])
             (λ p. self.old.records.items ≡ p.0 ∷ self.new.records.items) }
         ensures right { IfSome result
-            (λ p. IfSome p.1 (λ v. v.items ≡ right_in_record rules.now.orgs p.0)) }
+            (λ p. IfSome p.1
+            (λ v. v.items ≡ right_in_record (orgs_behind rules.now snapshot.now) p.0)) }
     {
         self.look_ahead(tags, alloc, rules, snapshot);
         let stored = self.records.pop_front()?;
         Some((stored, self.right.pop_front()))
     }
 
-    /// Looks at the tags of the first records, where nothing is known of them.
+    /// Looks at the tags of the first records, where nothing is known of them for who stands behind
+    /// the chain.
     fn look_ahead<T: Threads + Sync, V: Watch>(
         &mut self,
         tags: &TagChecks<'_, T, V>,
@@ -62,15 +81,41 @@ impl Pending {
         rules: &Rules,
         snapshot: &Snapshot,
     )
-        requires known { AreRightTags rules.now.orgs self.old.right.items self.old.records.items }
-        ensures known { AreRightTags rules.now.orgs self.new.right.items self.new.records.items }
+        requires known { IsKnown rules.now self.old }
+        ensures known { IsKnown rules.now self.new }
+        // It is known for who stands behind the chain.
+        ensures here { AreRightTags (orgs_behind rules.now snapshot.now) self.new.right.items
+            self.new.records.items }
         ensures records { self.new.records.items ≡ self.old.records.items }
     {
-        if !self.right.is_empty() {
+        if self.is_known_behind(snapshot) {
             return;
         }
+        let Ok(value) = standing_value(snapshot) else {
+            self.right = VecDeque::new(alloc);
+            return;
+        };
         let (front, _) = self.records.as_slices();
         let right = tags.right_tags(alloc, rules, snapshot, front);
         self.right = VecDeque::from_vec(right);
+        self.value = value;
+    }
+
+    /// Whether something is known for who stands behind a chain.
+    fn is_known_behind(&self, snapshot: &Snapshot) -> bool
+        ensures { result ≡ true → self.now.value ≡ get (plain_after snapshot.now) membership_key }
+    {
+        !self.right.is_empty() && self.has_value_of(snapshot)
+    }
+
+    /// Whether the key of the membership has behind a chain the value that is kept.
+    fn has_value_of(&self, snapshot: &Snapshot) -> bool
+        ensures { result ≡ true → self.now.value ≡ get (plain_after snapshot.now) membership_key }
+    {
+        match (&self.value, membership_value(snapshot)) {
+            (None, None) => true,
+            (Some(kept), Some(value)) => kept.as_slice() == value.as_slice(),
+            _ => false,
+        }
     }
 }

@@ -5,6 +5,7 @@ ghost use Rattle.committer.specs.Fits.{IsRefused, blocks_of};
 ghost use Rattle.ledger_setting.specs.Judging.{IsJudged};
 ghost use Rattle.ledger_setting.specs.Rule.{table_of};
 ghost use Rattle.store_replay.specs.Replay.{HasTheFlags, IsPushed};
+ghost use Rattle.endorsement_policy.specs.Judge.{orgs_behind};
 ghost use Rattle.store_replay.specs.Tags.{right_in_record};
 
 use committer::CommitRefusal;
@@ -16,7 +17,8 @@ use std::alloc::Global;
 use world_state::{Judged, Snapshot};
 
 /// What the block of a record is judged to be behind a chain, and whether the record has these
-/// flags. It may be known whose tags in it are right. It refuses as `judge` does.
+/// flags. It may be known whose tags in it are right, of those who stand behind the chain. It
+/// refuses as `judge` does.
 pub fn judge_record(
     alloc: Global,
     rules: &Rules,
@@ -24,7 +26,9 @@ pub fn judge_record(
     stored: &CommittedBlock,
     right: Option<&[OrgSet]>,
 ) -> Result<(Judged, bool), CommitRefusal>
-    requires { IfSome right (λ orgs. orgs.now ≡ right_in_record rules.now.orgs stored.now) }
+    requires { IfSome right
+        (λ orgs. orgs.now
+        ≡ right_in_record (orgs_behind rules.now snapshot.now) stored.now) }
     ensures judged { IfOk result
         (λ t. IsJudged (table_of rules.now) snapshot.now stored.now.block t.0) }
     ensures flags { IfOk result
@@ -49,7 +53,8 @@ pub fn push(
     stored: CommittedBlock,
     right: Option<Vec<OrgSet>>,
 ) -> Result<bool, CommitRefusal>
-    requires { IfSome right (λ orgs. orgs.items ≡ right_in_record rules.now.orgs stored) }
+    requires { IfSome right
+        (λ orgs. orgs.items ≡ right_in_record (orgs_behind rules.now snapshot.old) stored) }
     ensures pushed { IfOk result
         (λ is_same. IsPushed (table_of rules.now) snapshot.old stored is_same snapshot.new) }
     ensures unchanged { OnErr result (snapshot.new ≡ snapshot.old) }

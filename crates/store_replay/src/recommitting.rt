@@ -8,6 +8,7 @@ ghost use Rattle.ledger_setting.specs.Judging.{IsJudged};
 ghost use Rattle.ledger_setting.specs.Rule.{table_of};
 ghost use Rattle.store_replay.specs.Lawful.{AreLawful, IsNextRefused, IsRecommitRefused};
 ghost use Rattle.store_replay.specs.Replay.{HasTheFlags};
+ghost use Rattle.endorsement_policy.specs.Judge.{orgs_behind};
 ghost use Rattle.store_replay.specs.Tags.{right_in_record};
 
 use crate::pending::Pending;
@@ -43,7 +44,9 @@ fn judge_as_stored(
     stored: &CommittedBlock,
     right: Option<&[OrgSet]>,
 ) -> Result<Judged, RecommitRefusal>
-    requires { IfSome right (λ orgs. orgs.now ≡ right_in_record rules.now.orgs stored.now) }
+    requires { IfSome right
+        (λ orgs. orgs.now
+        ≡ right_in_record (orgs_behind rules.now snapshot.now) stored.now) }
     ensures judged { IfOk result
         (λ judged. IsJudged (table_of rules.now) snapshot.now stored.now.block judged) }
     ensures flags { OnOk result (HasTheFlags (table_of rules.now) snapshot.now stored.now true) }
@@ -82,8 +85,8 @@ pub fn recommit_next(
     recommit_with(alloc, rules, snapshot, stored, None)
 }
 
-/// The same where it may be known of each envelope which organisations' tags on it are right. Where
-/// it is, no tag is computed.
+/// The same where it may be known of each envelope which of the organisations that stand behind the
+/// chain have right tags on it. Where it is, no tag is computed.
 fn recommit_with(
     alloc: Global,
     rules: &Rules,
@@ -91,7 +94,8 @@ fn recommit_with(
     stored: CommittedBlock,
     right: Option<Vec<OrgSet>>,
 ) -> Result<(), RecommitRefusal>
-    requires { IfSome right (λ orgs. orgs.items ≡ right_in_record rules.now.orgs stored) }
+    requires { IfSome right
+        (λ orgs. orgs.items ≡ right_in_record (orgs_behind rules.now snapshot.old) stored) }
     ensures chain { OnOk result (snapshot.new ≡ snapshot.old ++ stored ∷ []) }
     ensures lawful { OnOk result (AreLawful (table_of rules.now) snapshot.old (stored ∷ [])) }
     ensures unchanged { OnErr result (snapshot.new ≡ snapshot.old) }

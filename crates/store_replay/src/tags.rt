@@ -1,10 +1,11 @@
 //! Whose tags on the envelopes of records are right, before their blocks are judged.
 
 ghost use Rattle.std.specs.Prelude.{◌≡◌, ◌≤◌, IfOk, length, map};
+ghost use Rattle.endorsement_policy.specs.Judge.{orgs_behind};
 ghost use Rattle.store_replay.specs.Tags.{AreRightTags, right_in_record};
 
 use crate::watch::Watch;
-use endorsement_policy::{Rules, Workers, right_orgs_of_blocks};
+use endorsement_policy::{Rules, Standing, Workers, right_orgs_of_blocks};
 use fab_types::{Block, CommittedBlock};
 use policy_language::OrgSet;
 use std::alloc::{AllocError, Global};
@@ -32,9 +33,10 @@ impl<'a, T, V> TagChecks<'a, T, V> {
 }
 
 impl<T: Threads + Sync, V: Watch> TagChecks<'_, T, V> {
-    /// For the first of these records, in turn, of each envelope of its block the organisations of
-    /// which it carries a right tag. The records are to be put behind the chain. It may be told of
-    /// none: then the tags are checked as the first one's block is judged.
+    /// For the first of these records, in turn, of each envelope of its block those of the
+    /// organisations that stand behind the chain of which it carries a right tag. The records are
+    /// to be put behind the chain. It may be told of none: then the tags are checked as the first
+    /// one's block is judged.
     pub(crate) fn right_tags(
         &self,
         alloc: Global,
@@ -42,7 +44,7 @@ impl<T: Threads + Sync, V: Watch> TagChecks<'_, T, V> {
         snapshot: &Snapshot,
         records: &[CommittedBlock],
     ) -> Vec<Vec<OrgSet>>
-        ensures { AreRightTags rules.now.orgs result.items records.now }
+        ensures { AreRightTags (orgs_behind rules.now snapshot.now) result.items records.now }
     {
         self.watch.reached(snapshot.height());
         if self.workers.count() == 1 {
@@ -62,10 +64,10 @@ fn right_in_stretch<T: Threads + Sync>(
     snapshot: &Snapshot,
     records: &[CommittedBlock],
 ) -> Vec<Vec<OrgSet>>
-    ensures { AreRightTags rules.now.orgs result.items records.now }
+    ensures { AreRightTags (orgs_behind rules.now snapshot.now) result.items records.now }
 {
     let count = fitting(alloc, snapshot, records);
-    match right_of_all(workers, alloc, rules, &records[..count]) {
+    match right_of_all(workers, alloc, rules, snapshot, &records[..count]) {
         Ok(right) => right,
         Err(_) => Vec::new(alloc),
     }
@@ -110,20 +112,30 @@ fn is_next(alloc: Global, last: Option<&Block>, block: &Block) -> bool {
     }
 }
 
-/// What workers find of each of these records. The error is of memory.
+/// What workers find of each of these records for who stands behind the chain. The error is of
+/// memory.
 fn right_of_all<T: Threads + Sync>(
     workers: &Workers<'_, T>,
     alloc: Global,
     rules: &Rules,
+    snapshot: &Snapshot,
     records: &[CommittedBlock],
 ) -> Result<Vec<Vec<OrgSet>>, AllocError>
     ensures { IfOk result
         (λ v. map (λ right. right.items) v.items
-        ≡ map (right_in_record rules.now.orgs) records.now) }
+        ≡ map (right_in_record (orgs_behind rules.now snapshot.now)) records.now) }
 {
+    let standing = Standing::of(alloc, rules, snapshot)?;
     let mut envelopes = Vec::with_capacity(alloc, records.len())?;
     for stored in records {
         envelopes.push(stored.block().envelopes.as_slice())?;
     }
-    right_orgs_of_blocks(workers.rt(), alloc, rules, &envelopes, workers.count())
+    let organisations = standing.organisations();
+    right_orgs_of_blocks(
+        workers.rt(),
+        alloc,
+        organisations,
+        &envelopes,
+        workers.count(),
+    )
 }

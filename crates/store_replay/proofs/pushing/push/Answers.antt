@@ -1,5 +1,6 @@
 use Rattle.ledger_setting.specs.Rule.{table_of}
 use Rattle.store_replay.proofs.Pushed.{grown}
+use Rattle.endorsement_policy.specs.Judge.{orgs_behind}
 use Rattle.store_replay.proofs.RightTags.{of_lent}
 use Rattle.store_replay.proofs.pushing.push.Goals as goal
 
@@ -15,4 +16,5 @@ returns-clause-pushed c =
     }
 
 pub judge_record-requires : goal.judge_record-requires
-judge_record-requires c = of_lent c.args.rules.now.orgs c.args.stored c.args.right c.as_deref.result c.requires c.as_deref.ensures.value
+judge_record-requires c =
+    of_lent (orgs_behind c.args.rules.now c.args.snapshot.now) c.args.stored c.args.right c.as_deref.result c.requires c.as_deref.ensures.value

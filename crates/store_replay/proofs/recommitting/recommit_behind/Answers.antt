@@ -4,6 +4,7 @@ use Rattle.ledger_model.specs.Chain.{Chain}
 use Rattle.ledger_setting.specs.Rule.{table_of}
 use Rattle.store_replay.specs.Lawful.{AreLawful, IsRecommitRefused}
 use Rattle.store_replay.proofs.Lawful.{lawful_joined, lawful_more, refused_at}
+use Rattle.store_replay.specs.Tags.{orgs_at}
 use Rattle.store_replay.proofs.RightTags.{of_none}
 use Rattle.store_replay.proofs.recommitting.recommit_behind.Goals as goal
 
@@ -13,7 +14,7 @@ records-init g c = record {
   all = search rules;
   chain = search rules;
   lawful = search rules;
-  known = of_none c.args.rules.now.orgs _ _ c.new-pending.ensures.known;
+  known = of_none (orgs_at c.args.rules.now c.new-pending.result.value) _ _ c.new-pending.ensures.known;
 }
 
 pub records-preserved : goal.records-preserved

@@ -2,7 +2,7 @@ use Rattle.std.proofs.Common.{◌≡◌, ◌++◌, List, length}
 use Rattle.fab_types.specs.Committed.{Committed}
 use Rattle.ledger_setting.specs.Rule.{table_of}
 use Rattle.store_replay.specs.Lawful.{AreLawful}
-use Rattle.store_replay.specs.Tags.{AreRightTags}
+use Rattle.store_replay.specs.Tags.{IsKnown}
 use Rattle.store_replay.proofs.recommitting.recommit_behind.Given as goal
 
 abbrev pub invariant-records : goal.invariant-records
@@ -11,7 +11,7 @@ invariant-records g l = record {
   all : l.fn.records.items ≡ done ++ l.pending.records.items;
   chain : l.snapshot ≡ l.fn.snapshot ++ done;
   lawful : AreLawful (table_of l.rules) l.fn.snapshot done;
-  known : AreRightTags l.rules.orgs l.pending.right.items l.pending.records.items;
+  known : IsKnown l.rules l.pending;
 }
 
 abbrev pub decreases-records : goal.decreases-records

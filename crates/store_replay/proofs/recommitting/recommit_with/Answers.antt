@@ -1,5 +1,6 @@
 use Rattle.ledger_setting.specs.Rule.{table_of}
 use Rattle.store_replay.proofs.Pushed.{stands}
+use Rattle.endorsement_policy.specs.Judge.{orgs_behind}
 use Rattle.store_replay.proofs.RightTags.{of_lent}
 use Rattle.store_replay.proofs.recommitting.recommit_with.Goals as goal
 
@@ -9,4 +10,5 @@ returns-clause-chain c =
     c.in_ok-judged.ensures.judged c.in_ok-judged.ensures.flags c.in_ok-extend.ensures.extended
 
 pub judge_as_stored-requires : goal.judge_as_stored-requires
-judge_as_stored-requires c = of_lent c.args.rules.now.orgs c.args.stored c.args.right c.as_deref.result c.requires c.as_deref.ensures.value
+judge_as_stored-requires c =
+    of_lent (orgs_behind c.args.rules.now c.args.snapshot.now) c.args.stored c.args.right c.as_deref.result c.requires c.as_deref.ensures.value

@@ -3,6 +3,7 @@ use Rattle.ledger_model.specs.Chain.{Chain}
 use Rattle.ledger_setting.specs.Rule.{table_of}
 use Rattle.store_replay.specs.Replay.{IsUnfit}
 use Rattle.store_replay.proofs.Going.{GoesOn, at_none, goes_on, stops, ends}
+use Rattle.store_replay.specs.Tags.{orgs_at}
 use Rattle.store_replay.proofs.RightTags.{of_none}
 use Rattle.store_replay.proofs.replaying.commit_all.Goals as goal
 use Rattle.store_replay.proofs.replaying.commit_all.Goals.{in_default, in-Some+in-Err}
@@ -10,7 +11,7 @@ use Rattle.store_replay.proofs.replaying.commit_all.Goals.{in_default, in-Some+i
 pub records-init : goal.records-init
 records-init g c = record {
   goes_on = search rules;
-  known = of_none c.args.rules.now.orgs _ _ c.new-pending.ensures.known;
+  known = of_none (orgs_at c.args.rules.now c.new-pending.result.value) _ _ c.new-pending.ensures.known;
   fits = search rules;
 }
 

@@ -1,7 +1,10 @@
 use Rattle.std.proofs.Common.{arith, ◌≡◌, ◌∙◌, ap, subst, map, IfOk, List}
 use Rattle.fab_types.specs.declared.block.Block.{Block}
 use Rattle.fab_types.specs.declared.envelope.Envelope.{Envelope}
+use Rattle.org_keys.specs.declared.organisation.Organisation.{Organisation}
 use Rattle.endorsement_policy.specs.Endorsed.{right_orgs}
+use Rattle.endorsement_policy.specs.Judge.{orgs_behind}
+use Rattle.endorsement_policy.specs.Membership.{Standing}
 use Rattle.endorsement_policy.proofs.RightOrgs.{more_blocks, right_in}
 use Rattle.policy_language.specs.GoodSets.{Names}
 use Rattle.store_replay.specs.Tags.{right_in_record}
@@ -10,15 +13,18 @@ use Rattle.store_replay.proofs.tags.right_of_all.Goals as goal
 
 pub loop-stored-preserved : goal.loop-stored-preserved
 loop-stored-preserved g c =
-    let orgs = c.args.rules.now.orgs in
+    let orgs = orgs_behind c.args.rules.now c.args.snapshot.now in
     let same : c.as_slice.result.now ≡ c.stored-item.result.block.envelopes = c.as_slice.ensures.value ∙ ap (λ (b : Block). b.envelopes) c.block.ensures in
     rw c.in_ok-push.ensures.items (more_blocks (right_in orgs) (right_in_record orgs) c.loop-stored.envelopes.items c.args.records.now
-    c.loop-stored.stored-index c.stored-item.result _ (omega arith) c.stored-item.is (ap (λ (es : List Envelope). map (right_orgs orgs) es) same) c.loop-stored.invariant)
+    c.loop-stored.stored-index c.stored-item.result _ (omega arith) c.stored-item.is (ap (λ (es : List Envelope). map (right_orgs orgs) es) same)
+    c.loop-stored.invariant)
 
 pub returns : goal.returns
 returns g c =
-    let orgs = c.args.rules.now.orgs in
-    let given = ap (map (right_in orgs)) c.deref.ensures.value in
+    let orgs = orgs_behind c.args.rules.now c.args.snapshot.now in
+    let stand : c.organisations-organisations.result.now ≡ orgs =
+    c.organisations-organisations.ensures ∙ ap (λ (s : Standing). s.orgs) c.in_ok-standing.ensures in
+    let given = ap (λ (os : List Organisation). map (right_in os) c.deref.result.now) stand ∙ ap (map (right_in orgs)) c.deref.ensures.value in
     let all = given ∙ all_of (right_in orgs) (right_in_record orgs) c.loop-stored.envelopes.items c.args.records.now c.loop-stored.stored-index (omega arith)
     c.loop-stored.invariant in
     subst (λ (found : List (List Names)). IfOk c.right_orgs_of_blocks.result (λ v. map (λ right. right.items) v.items ≡ found)) all
