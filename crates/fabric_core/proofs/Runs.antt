@@ -1,23 +1,23 @@
 -- What is handed out in a run was made on a chain that the run's chain begins, or that begins it.
 use Rattle.std.proofs.Common.{◌≡◌, ℕ, zero, suc, ◌+◌, Bool, true, false, cond, List, [], ◌∷◌, ◌++◌, take, drop, length, Option, Some, None, Result, Ok}
 use Rattle.std.proofs.Common.{Err, option_map, refl, sym, ap, ◌∙◌, subst, ◌⊎◌, inl, inr, append_assoc, append-nil, slice_get, nat_lt, ◌≤◌, ◌<◌, arith, OnOk}
-use Rattle.std.proofs.Common.{OnErr, is_err, length-append}
+use Rattle.std.proofs.Common.{OnErr, is_err}
 use Rattle.std.proofs.lemmas.List.{take-append-drop}
 use Rattle.fab_types.specs.declared.proposal.Proposal.{Proposal}
 use Rattle.fab_types.specs.Payloads.{Payload}
-use Rattle.ledger_model.specs.Chain.{Bytes, Envelope, Committed, Chain, Placed, placed_from, history}
-use Rattle.ledger_model.specs.Views.{Versioned, Plain, values_of}
+use Rattle.ledger_model.specs.Chain.{Bytes, Envelope, Committed, Chain, Placed, history}
+use Rattle.ledger_model.specs.Views.{Versioned, values_of}
 use Rattle.mvcc_validate.specs.Current.{is_current}
 use Rattle.ledger_model.specs.State.{state}
 use Rattle.ledger_model.specs.Execution.{Unknown, NotInstalled, BadPolicy, BadMembership, Trapped, Spent, Status, Done, Exec, ReadsAlone, payload_of}
-use Rattle.ledger_model.specs.Serial.{IsPrefix, IsHandedOut, AllHandedOut}
-use Rattle.ledger_model.specs.Judged.{BlockRule, AllEndorsed, AreEndorsed, block_of, judged_chain}
+use Rattle.ledger_model.specs.Serial.{IsPrefix, IsHandedOut}
+use Rattle.ledger_model.specs.Judged.{BlockRule, judged_chain}
 use Rattle.fab_types.specs.declared.block.Block.{Block}
 use Rattle.fab_types.specs.declared.envelope.Endorsement.{Endorsement}
 use Rattle.wire.specs.Ids.{id_of}
 use Rattle.org_keys.specs.Signers.{Seeds}
-use Rattle.endorsement_policy.specs.Endorsed.{Listed, is_right, is_endorsed, CarriesRight}
-use Rattle.ledger_setting.specs.Rule.{table_of}
+use Rattle.endorsement_policy.specs.Endorsed.{Listed, is_endorsed}
+use Rattle.ledger_setting.specs.Rule.{right_of, table_of}
 use Rattle.ledger_model.proofs.Judged.{flags_judged, judged_onto-append, judged_grows, judged_current, judged_endorsed}
 use Rattle.ledger_model.proofs.Reruns.{reruns_and_map, reruns_same}
 use Rattle.simulator.specs.Answers.{done_or_refusal, payload_or_refusal}
@@ -30,7 +30,8 @@ use Rattle.fabric_core.specs.System.{Rules, Noted, PeerState, World, Event, Begi
 use Rattle.fabric_core.specs.System.{Endorsed, Queued, QueueFull, Nothing, Ordered, Cut, TooLarge, NoBlockLeft, chain_at, begin_seat, begin, finish_reply}
 use Rattle.fabric_core.specs.System.{finish_seat, finish, commit_next, commit, at_peer, submit, IsTakenIn, TakesFront, IsTicked, IsStep, AreSteps, chain_of}
 use Rattle.fabric_core.specs.Inside.{rules_of}
-use Rattle.fabric_core.specs.Headline.{IsRun, queue_after, marks_in, marks_of, IsHonest, IsGenuine, IsUnforged}
+use Rattle.fabric_core.specs.Headline.{IsRun, queue_after, marks_in, marks_of, IsAmong, IsHonest}
+use Rattle.fabric_core.proofs.Genuine.{DoCarry, all_genuine, all_handed}
 use Rattle.fabric_core.proofs.Lists.{take_next}
 
 -- one list begins another
@@ -246,81 +247,39 @@ handed_out r w n p h =
       payload = h.made.payload;
     }
 
-all_handed_out : (is_right : Payload → Endorsement → Bool) (r : Rules) (w : World) (es : List Event) (replies : List Reply) (new : World) →
-    AreSteps r w es replies new → (n : ℕ) (ts : List Placed) → IsGenuine is_right replies ts → AllHandedOut r.exec (chain_at r new n) ts
-all_handed_out is_right r w es replies new steps n [] h = tt
-all_handed_out is_right r w es replies new steps n (t ∷ ts) h = (
-  (λ v. let a = h.0 v in handed_out r new n t.envelope.payload (run_gives r w es replies new steps a.given.0 t.envelope.payload a.endorsement a.given.1)),
-  all_handed_out is_right r w es replies new steps n ts h.1,
-)
-
--- where no tag was forged, those that a policy wants were handed out: in a block, and then in what follows it
-genuine_first : (listed : Listed) (endorsed : Envelope → Bool) (replies : List Reply) (ts us : List Placed) →
-    ((e : Envelope) → endorsed e ≡ true → CarriesRight listed.orgs e) → AllEndorsed endorsed ts → IsUnforged (is_right listed.orgs) replies (ts ++ us) →
-    (IsUnforged (is_right listed.orgs) replies us → IsGenuine (is_right listed.orgs) replies us) → IsGenuine (is_right listed.orgs) replies (ts ++ us)
-genuine_first listed endorsed replies [] us carries h k rest = rest k
-genuine_first listed endorsed replies (t ∷ ts) us carries h k rest = (
-  (λ v.
-      let c = carries t.envelope (h.0 v) in
-      record {
-        endorsement = c.endorsement;
-        stands = (c.place, c.stands);
-        right = c.right;
-        given = k.0 v c.endorsement (c.place, c.stands) c.right;
-      }),
-  genuine_first listed endorsed replies ts us carries h.1 k.1 rest,
-)
-
--- block by block, by the policies that hold before each
-genuine_of : (listed : Listed) (endorsed : List Placed → Envelope → Bool) (replies : List Reply) (before chain : Chain) →
-    ((ts : List Placed) (e : Envelope) → endorsed ts e ≡ true → CarriesRight listed.orgs e) → AreEndorsed endorsed before chain →
-    IsUnforged (is_right listed.orgs) replies (placed_from (length before + 1) chain) →
-    IsGenuine (is_right listed.orgs) replies (placed_from (length before + 1) chain)
-genuine_of listed endorsed replies before [] carries h k = tt
-genuine_of listed endorsed replies before (c ∷ cs) carries h k =
-    let ts = history before in
-    let longer = length-append before (c ∷ []) in
-    let next : length (before ++ c ∷ []) + 1 ≡ suc (length before + 1) = omega (arith, longer) in
-    genuine_first listed (endorsed ts) replies (block_of before c) (placed_from (suc (length before + 1)) cs) (carries ts) h.0 k
-    (λ u. subst (λ n. IsGenuine (is_right listed.orgs) replies (placed_from n cs)) next
-    (genuine_of listed endorsed replies (before ++ c ∷ []) cs carries h.1
-    (subst (λ n. IsUnforged (is_right listed.orgs) replies (placed_from n cs)) (sym next) u)))
-
--- whatever the state, an endorsed envelope carries a right tag
-abbrev pub DoCarry : Listed → Type 0
-DoCarry listed = (m : Plain) (e : Envelope) → is_endorsed listed m e ≡ true → CarriesRight listed.orgs e
-
 -- the chain of a height is honest
 honest_at : (exec : Exec) → ReadsAlone exec → (listed : Listed) → DoCarry listed →
     (seeds : Seeds) (capacity : ℕ) (w : World) (es : List Event) (replies : List Reply) (new : World) →
     AreSteps (rules_of exec listed seeds capacity) w es replies new → (n : ℕ) →
-    IsHonest exec (table_of listed) (is_right listed.orgs) replies (chain_at (rules_of exec listed seeds capacity) new n)
+    IsHonest exec (table_of listed) (right_of listed) replies (chain_at (rules_of exec listed seeds capacity) new n)
 honest_at exec alone listed carries seeds capacity w es replies new steps n =
     let r = rules_of exec listed seeds capacity in
     let blocks = new.orderer.chain in
     let chain = chain_at r new n in
     let flags = flags_judged (table_of listed) (take n blocks) in
     let endorsed : List Placed → Envelope → Bool = λ before. is_endorsed listed (values_of (state before)) in
+    let given : (p : Payload) (x : Endorsement) → IsAmong (Endorsed p x) replies → IsHandedOut exec chain p =
+    λ p x among. handed_out r new n p (run_gives r w es replies new steps among.0 p x among.1) in
     record {
       flags = flags;
       serial = λ genuine.
-          let handed = all_handed_out (is_right listed.orgs) r w es replies new steps n (history chain) genuine in
+          let handed = all_handed exec (right_of listed) replies chain given [] chain genuine in
           let now = judged_current id_of endorsed chain flags in
           let both = reruns_and_map exec chain alone now handed in
           record { agree = both.0; same = reruns_same exec chain alone now handed; map = both.1 };
       genuine = λ unforged.
           let all = judged_endorsed id_of endorsed [] chain flags in
-          genuine_of listed endorsed replies [] chain (λ before. carries (values_of (state before))) all unforged;
+          all_genuine listed replies [] chain carries all unforged;
     }
 
 honest_if : (exec : Exec) → ReadsAlone exec → (listed : Listed) → DoCarry listed →
     (seeds : Seeds) (capacity : ℕ) (w : World) (es : List Event) (replies : List Reply) (new : World) →
     AreSteps (rules_of exec listed seeds capacity) w es replies new →
     (o : Option PeerState) (chain : Chain) → option_map (λ q. chain_at (rules_of exec listed seeds capacity) new q.height) o ≡ Some chain →
-    IsHonest exec (table_of listed) (is_right listed.orgs) replies chain
+    IsHonest exec (table_of listed) (right_of listed) replies chain
 honest_if exec alone listed carries seeds capacity w es replies new steps None chain e = absurd (cc)
 honest_if exec alone listed carries seeds capacity w es replies new steps (Some q) chain e =
-    subst (IsHonest exec (table_of listed) (is_right listed.orgs) replies) (same_Some _ _ e)
+    subst (IsHonest exec (table_of listed) (right_of listed) replies) (same_Some _ _ e)
     (honest_at exec alone listed carries seeds capacity w es replies new steps q.height)
 
 -- one step more
@@ -504,6 +463,6 @@ run_part r orgs seats limits reorder events replies w refused i law start steps 
 pub honest_of : (exec : Exec) → ReadsAlone exec → (listed : Listed) → DoCarry listed →
     (seeds : Seeds) (capacity : ℕ) (orgs : List Bytes) (seats : ℕ) (limits : Limits) (reorder : Bool) (events : List Event) (replies : List Reply) (w : World)
     (refused : Bool) → IsRun (rules_of exec listed seeds capacity) orgs seats limits reorder events replies w refused → (peer : ℕ) (chain : Chain) →
-    chain_of (rules_of exec listed seeds capacity) w peer ≡ Some chain → IsHonest exec (table_of listed) (is_right listed.orgs) replies chain
+    chain_of (rules_of exec listed seeds capacity) w peer ≡ Some chain → IsHonest exec (table_of listed) (right_of listed) replies chain
 honest_of exec alone listed carries seeds capacity orgs seats limits reorder events replies w refused run peer chain is =
     honest_if exec alone listed carries seeds capacity (opening orgs seats limits reorder) run.done replies w run.steps (slice_get w.peers peer) chain is

@@ -10,7 +10,8 @@ use Rattle.ledger_model.specs.Views.{values_of}
 use Rattle.ledger_model.specs.State.{state}
 use Rattle.ledger_model.specs.Execution.{Exec}
 use Rattle.ledger_model.specs.Serial.{AllAgree, AllSame, serial}
-use Rattle.ledger_model.specs.Judged.{BlockRule, AreFlagsBy}
+use Rattle.ledger_model.specs.Judged.{BlockRule, AreFlagsBy, block_of}
+use Rattle.ledger_setting.specs.Rule.{RightRule}
 use Rattle.batch_cutter.specs.Division.{Limits, Mark, message, timeout}
 use Rattle.orderer.specs.Ordering.{IsOrdered}
 use Rattle.fabric_core.specs.System.{Rules, World, Event, Submit, Take, Tick, Reply, Queued, TooLarge, NoBlockLeft, Endorsed, opening, AreSteps}
@@ -80,6 +81,15 @@ IsUnforged is_right replies (t ∷ ts) =
     IsAmong (Endorsed t.envelope.payload x) replies)
     × IsUnforged is_right replies ts
 
+-- the same of the blocks behind `before`, each by whose tags are right before it
+abbrev pub AreGenuine : RightRule → List Reply → Chain → Chain → Type 0
+AreGenuine right replies before [] = Unit {0}
+AreGenuine right replies before (c ∷ cs) = IsGenuine (right (history before)) replies (block_of before c) × AreGenuine right replies (before ++ c ∷ []) cs
+
+abbrev pub AreUnforged : RightRule → List Reply → Chain → Chain → Type 0
+AreUnforged right replies before [] = Unit {0}
+AreUnforged right replies before (c ∷ cs) = IsUnforged (right (history before)) replies (block_of before c) × AreUnforged right replies (before ++ c ∷ []) cs
+
 -- Each VALID transaction, executed again alone on the plain state just before its place, agrees with its
 -- payload, and that rerun is the very execution that the Finish made, values included. The state without
 -- its versions is that of the serial run.
@@ -88,12 +98,12 @@ pub record IsSerial (exec : Exec) (chain : Chain) : Type 0 where
   pub same : AllSame exec chain empty (history chain)
   pub map : values_of (state (history chain)) ≡ serial exec (history chain)
 
--- A chain of a run: each flag is the rule's, where each VALID transaction has a tag that was handed out it
--- is serial, and they have where no tag was forged.
-pub record IsHonest (exec : Exec) (rule : BlockRule) (is_right : Payload → Endorsement → Bool) (replies : List Reply) (chain : Chain) : Type 0 where
+-- A chain of a run: each flag is the rule's, where each VALID transaction has a right tag that was handed out it
+-- is serial, and they have where no right tag was forged. Which tags are right is by what stands before their block.
+pub record IsHonest (exec : Exec) (rule : BlockRule) (right : RightRule) (replies : List Reply) (chain : Chain) : Type 0 where
   pub flags : AreFlagsBy rule [] chain
-  pub serial : IsGenuine is_right replies (history chain) → IsSerial exec chain
-  pub genuine : IsUnforged is_right replies (history chain) → IsGenuine is_right replies (history chain)
+  pub serial : AreGenuine right replies [] chain → IsSerial exec chain
+  pub genuine : AreUnforged right replies [] chain → AreGenuine right replies [] chain
 
 -- In each block a transaction is a conflict only where a read or a range of it differed already in the state before that
 -- block.

@@ -10,9 +10,11 @@
 //!
 //! Chaincode is run by `simulator`, payloads are rechecked and sealed by `endorser`, envelopes are
 //! checked by `endorsement_policy`, ordered by `orderer`, and blocks committed by `committer`.
+//! Who checks them, one thread or several workers, changes no answer.
 #![tactic(auto)]
 
 mod auditing;
+mod checks;
 mod event;
 mod laws;
 mod peer;

@@ -14,9 +14,10 @@ ghost use Rattle.simulator.specs.Execution.{exec_of};
 ghost use Rattle.fabric_core.specs.System.{IsCommitted, fresh, begin, finish_reply, finish};
 ghost use Rattle.fabric_core.specs.Inside.{peer_of, IsPeerRight};
 
+use crate::checks::Checks;
 use crate::event::Reply;
 use chaincode_book::Book;
-use endorsement_policy::{Rules, check_plain};
+use endorsement_policy::Rules;
 use endorser::{recheck, seal};
 use fab_types::{Block, Flag, OrgName, Payload, Proposal};
 use ledger_setting::judge_checked;
@@ -43,18 +44,20 @@ pub struct Peer {
 }
 
 /// What the next block is judged to be, and its flags once more. The error is of memory.
-fn judged(
+fn judged<C: Checks>(
+    checks: &C,
     alloc: Global,
     rules: &Rules,
     snapshot: &Snapshot,
     block: &Block,
 ) -> Result<(Judged, Vec<Flag>), AllocError>
+    requires ready { C.ready checks.now }
     requires fits { Fits (blocks_of snapshot.now) block.now }
     ensures judged { IfOk result
         (λ t. IsJudged (table_of rules.now) snapshot.now block.now t.0) }
     ensures flags { IfOk result (λ t. t.1.items ≡ t.0.flags.items) }
 {
-    let endorsed = check_plain(alloc, rules, snapshot, block.envelopes.as_slice())?;
+    let endorsed = checks.check(alloc, rules, snapshot, block.envelopes.as_slice())?;
     let judged = judge_checked(alloc, rules, snapshot, block, &endorsed)?;
     let flags = judged.flags.to_vec(alloc)?;
     Ok((judged, flags))
@@ -115,7 +118,8 @@ impl Peer {
         }
     }
 
-    /// The reply with a payload: with the tag of the peer's organisation, or that it is stale.
+    /// The reply with a payload: with the tag of the peer's organisation, by the key that it has in
+    /// the newest state, or that it is stale.
     fn endorsed(
         &self,
         alloc: Global,
@@ -129,9 +133,10 @@ impl Peer {
             (seal_of rules.now signers.now (values_of (state (history self.now.snapshot.value)))
             self.now.org) (Ok payload)) }
     {
-        match recheck(alloc, &payload, &self.snapshot) {
+        let newest: &Snapshot = &self.snapshot;
+        match recheck(alloc, &payload, newest) {
             Ok(()) => {
-                let endorsement = seal(rules, signers, &self.org, &payload)?;
+                let endorsement = seal(alloc, rules, signers, newest, &self.org, &payload)?;
                 Ok(Reply::Endorsed(payload, endorsement))
             }
             Err(SimRefusal::Stale) => Ok(Reply::Refused(SimRefusal::Stale)),
@@ -174,12 +179,14 @@ impl Peer {
     }
 
     /// Puts the next block on the chain, with its flags.
-    pub fn commit(
+    pub fn commit<C: Checks>(
         &mut self,
+        checks: &C,
         alloc: Global,
         rules: &Rules,
         block: Block,
     ) -> Result<Reply, AllocError>
+        requires ready { C.ready checks.now }
         requires next { Fits (blocks_of self.old.snapshot.value) block }
         ensures reply { IfOk result
             (λ reply. reply
@@ -202,7 +209,7 @@ impl Peer {
         ensures unchanged { OnErr result (self.new ≡ self.old) }
     {
         let newest: &Snapshot = &self.snapshot;
-        let (judged, flags) = judged(alloc, rules, newest, &block)?;
+        let (judged, flags) = judged(checks, alloc, rules, newest, &block)?;
         let snapshot = newest.followed_by(alloc, block, judged)?;
         let flags = Seq::new(flags);
         let height = snapshot.height();

@@ -4,8 +4,7 @@ ghost use Rattle.std.specs.Prelude.{◌≡◌, ◌++◌, ◌∷◌, [], ℕ, tru
 ghost use Rattle.ledger_model.specs.Chain.{Chain};
 ghost use Rattle.fab_types.specs.declared.block.Block.{Block};
 ghost use Rattle.committer.specs.Fits.{Fits, blocks_of};
-ghost use Rattle.ledger_setting.specs.Rule.{table_of};
-ghost use Rattle.endorsement_policy.specs.Endorsed.{is_right};
+ghost use Rattle.ledger_setting.specs.Rule.{right_of, table_of};
 ghost use Rattle.simulator.specs.Execution.{exec_of};
 ghost use Rattle.fabric_core.specs.System.{Reply, chain_of};
 ghost use Rattle.ledger_setting.specs.Limits.{limits_of};
@@ -70,7 +69,7 @@ pub fn run(alloc: Global, genesis: &Genesis, events: &[Event]) -> Result<Ran, Al
         ran.system.world peer
         ≡ Some chain →
         IsHonest (exec_of genesis.now.book.value) (table_of genesis.now.rules.value)
-        (is_right genesis.now.rules.value.orgs) ran.replies.items chain) }
+        (right_of genesis.now.rules.value) ran.replies.items chain) }
     ensures conflicts { IfOk result
         (λ ran. genesis.now.reorder ≡ true → (peer : ℕ) (chain : Chain) →
         chain_of

@@ -10,10 +10,11 @@ ghost use Rattle.fabric_core.specs.System.{opening, Begin, Finish, Submit, Take,
 ghost use Rattle.simulator.specs.Execution.{exec_of};
 ghost use Rattle.fabric_core.specs.Inside.{rules_of, TakesStep, KeepsRules};
 
+use crate::checks::{Alone, Checks};
 use crate::event::{Event, Reply};
 use crate::peer::Peer;
 use chaincode_book::Book;
-use endorsement_policy::Rules;
+use endorsement_policy::{Rules, Workers};
 use fab_types::limits::LAST_BLOCK;
 use fab_types::{Block, Envelope, Proposal};
 use ledger_setting::Genesis;
@@ -25,6 +26,7 @@ use std::collections::VecDeque;
 use std::fmt::{self, Debug, Formatter, Write};
 use std::marker::Model;
 use std::sync::Arc;
+use std::thread::Threads;
 use world_state::Snapshot;
 
 /// Peers, the queue, and the orderer. Contracts see the book, the rules, the seeds at hand, the
@@ -204,7 +206,8 @@ impl System {
         }
     }
 
-    fn commit(&mut self, peer: usize) -> Result<Reply, AllocError>
+    fn commit<C: Checks>(&mut self, checks: &C, peer: usize) -> Result<Reply, AllocError>
+        requires { C.ready checks.now }
         ensures step { IfOk result
             (λ reply. TakesStep self.old self.new (Commit peer) reply) }
         ensures keeps { KeepsRules self.old self.new }
@@ -219,11 +222,36 @@ impl System {
             return Ok(Reply::Nothing);
         }
         let block = blocks[height].clone()?;
-        self.peers[peer].commit(self.alloc, &*self.rules, block)
+        self.peers[peer].commit(checks, self.alloc, &*self.rules, block)
     }
 
     /// One step. Where memory is refused, nothing changes, and there was no step.
     pub fn step(&mut self, event: Event) -> Result<Reply, AllocError>
+        ensures step { IfOk result
+            (λ reply. TakesStep self.old self.new event reply) }
+        ensures keeps { KeepsRules self.old self.new }
+        ensures unchanged { OnErr result (self.new ≡ self.old) }
+    {
+        self.step_with(&Alone, event)
+    }
+
+    /// The same step, where the envelopes of a block that a peer commits are checked by workers at
+    /// once.
+    pub fn step_by_workers<T: Threads + Sync>(
+        &mut self,
+        workers: &Workers<'_, T>,
+        event: Event,
+    ) -> Result<Reply, AllocError>
+        ensures step { IfOk result
+            (λ reply. TakesStep self.old self.new event reply) }
+        ensures keeps { KeepsRules self.old self.new }
+        ensures unchanged { OnErr result (self.new ≡ self.old) }
+    {
+        self.step_with(workers, event)
+    }
+
+    fn step_with<C: Checks>(&mut self, checks: &C, event: Event) -> Result<Reply, AllocError>
+        requires { C.ready checks.now }
         ensures step { IfOk result
             (λ reply. TakesStep self.old self.new event reply) }
         ensures keeps { KeepsRules self.old self.new }
@@ -239,7 +267,7 @@ impl System {
             Event::Submit(envelope) => self.submit(envelope),
             Event::Take => self.take(),
             Event::Tick => self.tick(),
-            Event::Commit { peer } => self.commit(peer),
+            Event::Commit { peer } => self.commit(checks, peer),
         }
     }
 

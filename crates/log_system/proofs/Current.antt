@@ -13,7 +13,7 @@ use Rattle.ledger_model.specs.Flags.{entries_at, ranges_current, reads_current, 
 use Rattle.ledger_model.specs.Views.{Versioned}
 use Rattle.mvcc_validate.specs.Current.{is_current}
 use Rattle.simulator.specs.Answers.{done_or_refusal}
-use Rattle.log_roles.specs.Following.{sealed_by}
+use Rattle.endorser.specs.Endorsing.{sealed_by}
 use Rattle.fabric_core.specs.System.{finish_reply}
 use Rattle.log_system.specs.OneSystem.{reply_of}
 

@@ -1,30 +1,29 @@
 -- The chain of a machine is honest: what makes it serial are the endorsements that machines answered.
-use Rattle.std.proofs.Common.{◌≡◌, ◌⊎◌, ◌+◌, ℕ, zero, suc, Bool, true, List, [], ◌∷◌, ◌++◌, take, length, length-append, Option, Some}
-use Rattle.std.proofs.Common.{Result, Ok, refl}
-use Rattle.std.proofs.Common.{sym, ap, subst, slice_get, arith}
+use Rattle.std.proofs.Common.{◌≡◌, ◌⊎◌, ℕ, zero, suc, Bool, List, [], ◌∷◌, take, length, Option, Some, Result, Ok, refl, sym, ap, subst, slice_get, arith}
 use Rattle.fab_types.specs.declared.envelope.Endorsement.{Endorsement}
 use Rattle.fab_types.specs.Payloads.{Payload}
 use Rattle.fab_types.specs.declared.proposal.Proposal.{Proposal}
 use Rattle.orderer.specs.Ordering.{Ordering}
 use Rattle.orderer.specs.declared.report.BatchReport.{BatchReport}
 use Rattle.wire.specs.Ids.{id_of}
-use Rattle.ledger_model.specs.Chain.{Bytes, Chain, Envelope, Placed, history, placed_from}
+use Rattle.ledger_model.specs.Chain.{Bytes, Chain, Envelope, Placed, history}
 use Rattle.ledger_model.specs.Execution.{Unknown, NotInstalled, BadPolicy, BadMembership, Trapped, Spent, Status, Done, ReadsAlone, payload_of}
-use Rattle.ledger_model.specs.Judged.{AllEndorsed, AreEndorsed, AreFlagsBy, block_of}
-use Rattle.ledger_model.specs.Serial.{AllHandedOut, IsHandedOut, IsPrefix}
+use Rattle.ledger_model.specs.Judged.{AreFlagsBy}
+use Rattle.ledger_model.specs.Serial.{IsHandedOut, IsPrefix}
 use Rattle.ledger_model.specs.State.{state}
-use Rattle.ledger_model.specs.Views.{Plain, values_of}
+use Rattle.ledger_model.specs.Views.{values_of}
 use Rattle.ledger_model.proofs.Judged.{flags_judged, judged_current, judged_endorsed}
 use Rattle.ledger_model.proofs.Reruns.{reruns_and_map, reruns_same}
-use Rattle.endorsement_policy.specs.Endorsed.{CarriesRight, Listed, is_endorsed, is_right}
-use Rattle.ledger_setting.specs.Rule.{table_of}
+use Rattle.endorsement_policy.specs.Endorsed.{is_endorsed}
+use Rattle.ledger_setting.specs.Rule.{right_of, table_of}
 use Rattle.simulator.specs.Answers.{done_or_refusal}
 use Rattle.simulator.specs.Execution.{exec_of}
 use Rattle.simulator.specs.declared.refusal.SimRefusal.{SimRefusal}
 use Rattle.log_orderer.specs.Log.{ReadsEach}
-use Rattle.log_roles.specs.Following.{endorsed_on, sealed_by}
-use Rattle.fabric_core.specs.declared.event.Reply.{Reply}
-use Rattle.fabric_core.specs.Headline.{IsAmong, IsGenuine, IsHonest, IsUnforged}
+use Rattle.endorser.specs.Endorsing.{endorsed_on, sealed_by}
+use Rattle.fabric_core.specs.declared.event.Reply.TheVariants.{Endorsed}
+use Rattle.fabric_core.specs.Headline.{IsAmong, IsHonest}
+use Rattle.fabric_core.proofs.Genuine.{DoCarry, all_genuine, all_handed}
 use Rattle.log_system.specs.Machines.{Act, Endorses, AreMachines, Does, DoesEach, Machine, Setting, endorsing_at, unread}
 use Rattle.log_system.specs.OneSystem.{IsAnswered, replies_of_machines}
 use Rattle.log_system.proofs.Acting.{IsBehind, IsFirstOf, acted}
@@ -82,57 +81,9 @@ module _ (behind : IsBehind) (s : Setting) (lines : List (List ℕ)) (told : Lis
       let on = answered_on m.org [] m.chain m.acts q (Ok (p, x)) refl does h.2.1.0 h.2.1.1 in
       made_on s m.org q on.0 chain p x (one_begins (table_of s.listed) log.chain on.0 chain on.1 is) on.2
 
-  all_handed : (machines : List Machine) (chain : Chain) (is_ok : Payload → Endorsement → Bool) → AreMachines s lines machines →
-      IsFirstOf (table_of s.listed) log.chain chain → (ts : List Placed) → IsGenuine is_ok (replies_of_machines machines) ts →
-      AllHandedOut (exec_of s.book) chain ts
-  all_handed machines chain is_ok are is [] h = tt
-  all_handed machines chain is_ok are is (t ∷ ts) h = (
-    (λ v.
-        let a = h.0 v in
-        let p = t.envelope.payload in
-        handed machines chain p a.endorsement are is (machines_given machines p a.endorsement a.given)),
-    all_handed machines chain is_ok are is ts h.1,
-  )
-
--- ---- where no tag was forged, those that a policy wants were handed out
-
-genuine_block : (listed : Listed) (endorsed : Envelope → Bool) (replies : List Reply) (ts us : List Placed) →
-    ((e : Envelope) → endorsed e ≡ true → CarriesRight listed.orgs e) → AllEndorsed endorsed ts → IsUnforged (is_right listed.orgs) replies (ts ++ us) →
-    (IsUnforged (is_right listed.orgs) replies us → IsGenuine (is_right listed.orgs) replies us) → IsGenuine (is_right listed.orgs) replies (ts ++ us)
-genuine_block listed endorsed replies [] us carries h unforged rest = rest unforged
-genuine_block listed endorsed replies (t ∷ ts) us carries h unforged rest = (
-  (λ v.
-      let c = carries t.envelope (h.0 v) in
-      record {
-        endorsement = c.endorsement;
-        stands = (c.place, c.stands);
-        right = c.right;
-        given = unforged.0 v c.endorsement (c.place, c.stands) c.right;
-      }),
-  genuine_block listed endorsed replies ts us carries h.1 unforged.1 rest,
-)
-
-genuine_chain : (listed : Listed) (endorsed : List Placed → Envelope → Bool) (replies : List Reply) (before chain : Chain) →
-    ((ts : List Placed) (e : Envelope) → endorsed ts e ≡ true → CarriesRight listed.orgs e) → AreEndorsed endorsed before chain →
-    IsUnforged (is_right listed.orgs) replies (placed_from (length before + 1) chain) →
-    IsGenuine (is_right listed.orgs) replies (placed_from (length before + 1) chain)
-genuine_chain listed endorsed replies before [] carries h unforged = tt
-genuine_chain listed endorsed replies before (c ∷ cs) carries h unforged =
-    let ts = history before in
-    let longer = length-append before (c ∷ []) in
-    let next : length (before ++ c ∷ []) + 1 ≡ suc (length before + 1) = omega (arith, longer) in
-    genuine_block listed (endorsed ts) replies (block_of before c) (placed_from (suc (length before + 1)) cs) (carries ts) h.0 unforged
-    (λ u. subst (λ n. IsGenuine (is_right listed.orgs) replies (placed_from n cs)) next
-    (genuine_chain listed endorsed replies (before ++ c ∷ []) cs carries h.1
-    (subst (λ n. IsUnforged (is_right listed.orgs) replies (placed_from n cs)) (sym next) u)))
-
--- whatever the state, an endorsed envelope carries a right tag
-abbrev pub CarryRight : Listed → Type 0
-CarryRight listed = (m : Plain) (e : Envelope) → is_endorsed listed m e ≡ true → CarriesRight listed.orgs e
-
 pub honest_machine : IsBehind → (s : Setting) (lines : List (List ℕ)) (told : List (Option (List BatchReport))) (log : Ordering) (machines : List Machine)
-    (m : Machine) → ReadsAlone (exec_of s.book) → CarryRight s.listed → ReadsEach (unread s) lines told log → AreMachines s lines machines →
-    IsAmong m machines → IsHonest (exec_of s.book) (table_of s.listed) (is_right s.listed.orgs) (replies_of_machines machines) m.chain
+    (m : Machine) → ReadsAlone (exec_of s.book) → DoCarry s.listed → ReadsEach (unread s) lines told log → AreMachines s lines machines →
+    IsAmong m machines → IsHonest (exec_of s.book) (table_of s.listed) (right_of s.listed) (replies_of_machines machines) m.chain
 honest_machine behind s lines told log machines m alone carries reads are there =
     let exec = exec_of s.book in
     let chain = m.chain in
@@ -142,14 +93,16 @@ honest_machine behind s lines told log machines m alone carries reads are there 
     subst (λ (c : Chain). AreFlagsBy (table_of s.listed) [] c) (sym first) (flags_judged (table_of s.listed) (take (length chain) log.chain))
     in
     let endorsed : List Placed → Envelope → Bool = λ before. is_endorsed s.listed (values_of (state before)) in
+    let given : (p : Payload) (x : Endorsement) → IsAmong (Endorsed p x) replies → IsHandedOut exec chain p =
+    λ p x among. handed behind s lines told log reads machines chain p x are first (machines_given machines p x among) in
     record {
       flags = flags;
       serial = λ genuine.
-          let out = all_handed behind s lines told log reads machines chain (is_right s.listed.orgs) are first (history chain) genuine in
+          let out = all_handed exec (right_of s.listed) replies chain given [] chain genuine in
           let now = judged_current id_of endorsed chain flags in
           let both = reruns_and_map exec chain alone now out in
           record { agree = both.0; same = reruns_same exec chain alone now out; map = both.1 };
       genuine = λ unforged.
           let all = judged_endorsed id_of endorsed [] chain flags in
-          genuine_chain s.listed endorsed replies [] chain (λ before. carries (values_of (state before))) all unforged;
+          all_genuine s.listed replies [] chain carries all unforged;
     }

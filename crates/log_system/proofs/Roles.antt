@@ -25,7 +25,7 @@ use Rattle.simulator.specs.declared.refusal.SimRefusal.TheVariants as refusal
 use Rattle.store_replay.specs.Lawful.{AreLawful}
 use Rattle.log_orderer.specs.Log.{ReadsEach}
 use Rattle.log_roles.specs.Committing.{Receives}
-use Rattle.log_roles.specs.Following.{endorsed_on, sealed_by}
+use Rattle.endorser.specs.Endorsing.{endorsed_on, sealed_by}
 use Rattle.log_roles.specs.declared.receiving.Received.TheVariants as received
 use Rattle.log_system.proofs.Firsts.{log_linked}
 use Rattle.log_system.specs.Machines.{Does, Endorses, IsRead, Joins, Setting, endorsing_at, endorsing_with, unread}

@@ -16,7 +16,7 @@ use Rattle.chaincode_book.specs.Books.{Book}
 use Rattle.simulator.specs.declared.refusal.SimRefusal.{SimRefusal}
 use Rattle.log_orderer.specs.Log.{ReadsEach}
 use Rattle.log_roles.specs.Committing.{Commits}
-use Rattle.log_roles.specs.Following.{Endorsing, endorsed_on}
+use Rattle.endorser.specs.Endorsing.{Endorsing, endorsed_on}
 use Rattle.fabric_core.specs.System.{fresh_orderer}
 
 -- What is one on all machines: what the genesis fixes with all the modules that any of them has at hand, and what each organisation puts on a

@@ -15,15 +15,14 @@ ghost use Rattle.ledger_model.specs.Serial.{IsPrefix};
 ghost use Rattle.ledger_model.specs.Views.{Plain};
 ghost use Rattle.committer.specs.Fits.{Fits, blocks_of};
 ghost use Rattle.chaincode_book.specs.Books.{Book};
-ghost use Rattle.endorsement_policy.specs.Endorsed.{is_right};
-ghost use Rattle.ledger_setting.specs.Rule.{table_of};
+ghost use Rattle.ledger_setting.specs.Rule.{right_of, table_of};
 ghost use Rattle.simulator.specs.Answers.{Answers};
 ghost use Rattle.simulator.specs.Execution.{IsPartOf, exec_of};
 ghost use Rattle.simulator.specs.declared.refusal.SimRefusal.{SimRefusal};
 ghost use Rattle.simulator.specs.declared.refusal.SimRefusal.TheVariants as refusal;
 ghost use Rattle.store_replay.specs.Lawful.{AreLawful};
 ghost use Rattle.log_roles.specs.Committing.{Receives};
-ghost use Rattle.log_roles.specs.Following.{endorsed_on};
+ghost use Rattle.endorser.specs.Endorsing.{endorsed_on};
 ghost use Rattle.log_roles.specs.declared.receiving.Received.TheVariants as received;
 ghost use Rattle.fabric_core.specs.System.{chain_of_first};
 ghost use Rattle.fabric_core.specs.Headline.{ConflictsAreOlder, IsAmong, IsHonest};
@@ -116,8 +115,8 @@ pub fn machines_follow_the_log()
 
 /// Each machine's chain is honest, whatever organisations put on payloads, where what was handed
 /// out is what the machines answered: its flags are the table's, and where each VALID transaction
-/// has a right tag that a machine answered for this very payload, as they have where no tag was
-/// forged, it is serial.
+/// has a right tag that a machine answered for this very payload, as they have where no right tag
+/// was forged, it is serial. Which tags are right is by who stands before their block.
 pub fn machines_are_honest(book: &Book, rules: &Rules)
     ensures { (seal : Plain → Bytes → Payload → Endorsement) (limits : Limits) (reorder : Bool)
         (lines : List (List ℕ)) (answers : List (Option (List BatchReport))) (log : Ordering)
@@ -140,7 +139,7 @@ pub fn machines_are_honest(book: &Book, rules: &Rules)
           reorder = reorder;
         }) lines machines →
         IsAmong m machines →
-        IsHonest (exec_of book.now) (table_of rules.now) (is_right rules.now.orgs)
+        IsHonest (exec_of book.now) (table_of rules.now) (right_of rules.now)
         (replies_of_machines machines) m.chain }
 {
     log_laws();

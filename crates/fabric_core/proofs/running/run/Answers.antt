@@ -13,7 +13,8 @@ use Rattle.fabric_core.proofs.Lists.{get_here}
 use Rattle.wire.specs.Ids.{id_of}
 use Rattle.fabric_core.proofs.Conflicts.{older_run}
 use Rattle.fabric_core.proofs.Fitting.{fits_if}
-use Rattle.fabric_core.proofs.Runs.{DoCarry, ok_of, err_of, run_more, run_all, run_part, honest_of}
+use Rattle.fabric_core.proofs.Genuine.{DoCarry}
+use Rattle.fabric_core.proofs.Runs.{ok_of, err_of, run_more, run_all, run_part, honest_of}
 use Rattle.fabric_core.proofs.running.run.Goals as goal
 use Rattle.fabric_core.proofs.running.run.Goals.{else-loop-event-test, then-loop-event-test+then-is_err}
 

@@ -15,6 +15,10 @@ returns-in-Ok c =
     let now = state (history c.args.self.now.snapshot.value) in
     let tag = seal_of c.args.rules.now c.args.signers.now (values_of now) c.args.self.now.org p in
     let current : is_current now p ≡ true =
-    subst (λ (newest : Chain). is_current (state (history newest)) p ≡ true) c.deref.ensures c.in-Ok.ensures.current in
-    ap (λ (x : Endorsement). Endorsed p x) (c.in_ok-endorsement-in-Ok.ensures (values_of now))
+    subst (λ (newest : Chain). is_current (state (history newest)) p ≡ true) c.deref-newest.ensures c.in-Ok.ensures.current in
+    let sealed =
+    c.in_ok-endorsement-in-Ok.ensures
+    ∙ ap (λ (newest : Chain). seal_of c.args.rules.now c.args.signers.now (values_of (state (history newest))) c.args.self.now.org p) c.deref-newest.ensures
+    in
+    ap (λ (x : Endorsement). Endorsed p x) sealed
     ∙ sym (ap (λ (b : Bool). if b then (Endorsed p tag) else (Refused refusal.Stale)) current)
