@@ -5,3 +5,6 @@ mod Sizing
 mod Parting
 mod Telling
 mod Taking
+mod Recut
+mod Fresh
+mod Recutting

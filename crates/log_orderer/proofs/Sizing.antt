@@ -129,7 +129,7 @@ and_true : (test : Bool) → (test && true) ≡ test
 and_true true = refl
 and_true false = refl
 
-others_wait : (gone : List ℕ) (n k : ℕ) → k < n → waits (all_but gone n) k ≡ not (has_place gone k)
+pub others_wait : (gone : List ℕ) (n k : ℕ) → k < n → waits (all_but gone n) k ≡ not (has_place gone k)
 others_wait gone n k within =
     gone_wait gone (replicate n true) k
     ∙ ap (λ (b : Bool). not (has_place gone k) && b) (get_or-replicate n k true false within)
@@ -212,7 +212,7 @@ adds_sized reorder old new batch report adds = sized reorder batch adds.order re
 
 -- ---- an envelope alone
 
-no_loop : (batch : List Envelope) (k : ℕ) → edge_of batch k k ≡ false
+pub no_loop : (batch : List Envelope) (k : ℕ) → edge_of batch k k ≡ false
 unfolding apart
 no_loop batch k = rw (eq-eqb k k refl) refl
 

@@ -7,3 +7,4 @@ pub mod Ids
 pub mod Told
 pub mod Cutting
 pub mod Asking
+pub mod Marks

@@ -4,10 +4,11 @@ ghost use Rattle.std.specs.Prelude.{◌≡◌, ◌≤◌, ◌++◌, [], ℕ, Lis
 ghost use Rattle.batch_cutter.specs.Division.{Mark};
 ghost use Rattle.fab_types.specs.declared.envelope.Envelope.{Envelope};
 ghost use Rattle.orderer.specs.Adding.{BeginsWith};
-ghost use Rattle.orderer.specs.Ordering.{Ordering};
+ghost use Rattle.orderer.specs.Ordering.{AreLimits, IsOpening, Ordering};
 ghost use Rattle.orderer.specs.declared.report.BatchReport.{BatchReport};
 ghost use Rattle.log_orderer.specs.Lines.{IsMark};
 ghost use Rattle.log_orderer.specs.Log.{Reads, ReadsEach};
+ghost use Rattle.log_orderer.specs.Marks.{CutsAgain};
 
 use fab_types::limits::LAST_BLOCK;
 use orderer::ordering_laws;
@@ -38,3 +39,12 @@ pub fn log_laws()
     ordering_laws();
     spellings_differ();
 }
+
+/// A chain that a log made is cut again of its own marks, with reordering or without: who has read
+/// nothing, and reads them, has that chain, and nothing waits.
+pub fn a_chain_is_cut_again()
+    ensures { (unread made : Ordering) (lines : List (List ℕ))
+        (answers : List (Option (List BatchReport))) → IsOpening unread →
+        AreLimits unread.limits → ReadsEach unread lines answers made →
+        CutsAgain unread made.chain }
+{}

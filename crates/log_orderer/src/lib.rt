@@ -2,7 +2,8 @@
 //!
 //! Each line of a log is an envelope in hex or the word `tick`. [`Replica::read`] does what the
 //! line asks for, or skips the line (`specs/Log.antt`). What is skipped depends on the line and on
-//! what was read before it alone, so that all who read one log make one chain ([`log_laws`]).
+//! what was read before it alone, so that all who read one log make one chain ([`log_laws`]). Where
+//! the log is lost, the marks of the chain make it again ([`a_chain_is_cut_again`]).
 #![tactic(auto)]
 
 mod asked;
@@ -12,6 +13,6 @@ mod replica;
 mod skip;
 
 pub use batch::LogBatch;
-pub use laws::log_laws;
+pub use laws::{a_chain_is_cut_again, log_laws};
 pub use replica::{LineReport, Replica};
 pub use skip::Skip;

@@ -2,8 +2,8 @@
 //! step.
 //!
 //! A [`Committer`] puts the blocks of a log at the end of a peer's chain; a block that the chain
-//! has already is compared with it. A [`Follower`] keeps the chain of a store that grows, and
-//! endorses proposals on the state after it. Who receives one list of blocks has one chain
+//! has already is compared with it. A [`ChainFollower`] keeps the chain of a store that grows, for
+//! whoever endorses or answers on the state after it. Who receives one list of blocks has one chain
 //! ([`peers_agree`]).
 #![tactic(auto)]
 
@@ -13,7 +13,7 @@ mod lookup;
 mod receiving;
 mod refusal;
 
-pub use following::Follower;
+pub use following::ChainFollower;
 pub use laws::peers_agree;
 pub use receiving::{Committer, Received};
 pub use refusal::ReceiveRefusal;

@@ -1,17 +1,19 @@
 //! The chain of a peer that receives the blocks of a log.
 
-ghost use Rattle.std.specs.Prelude.{◌≡◌, ◌<◌, ◌-◌, IfNone, length, option_map, slice_get};
+ghost use Rattle.std.specs.Prelude.{◌≡◌, ◌<◌, ◌-◌, IfNone, IfOk, length, option_map, slice_get};
 ghost use Rattle.std.specs.Arc.{arc_value};
+ghost use Rattle.endorsement_policy.specs.Judge.{plain_after};
+ghost use Rattle.endorsement_policy.specs.Membership.{standing_in};
 ghost use Rattle.ledger_setting.specs.Rule.{table_of};
 ghost use Rattle.log_roles.specs.Committing.{block_at, committed_chain, own_hash};
 ghost use Rattle.log_roles.specs.Committing.{rules_of, Receives};
 
 use crate::lookup::block_at;
 use crate::refusal::ReceiveRefusal;
-use endorsement_policy::{Rules, Workers};
+use endorsement_policy::{Rules, Standing, Workers};
 use fab_types::{Block, CommittedBlock, Header};
 use ledger_setting::commit_by_workers;
-use std::alloc::Global;
+use std::alloc::{AllocError, Global};
 use std::sync::Arc;
 use std::thread::Threads;
 use wire::header_hash;
@@ -104,6 +106,15 @@ impl Committer {
         ensures { option_map (λ c. c.now) result ≡ block_at (committed_chain self.now) number }
     {
         block_at(&self.snapshot, number)
+    }
+
+    /// Who stands in the state after the chain. The only error is want of memory.
+    pub fn standing(&self) -> Result<Standing<'_>, AllocError>
+        ensures { IfOk result
+            (λ s. s
+            ≡ standing_in (rules_of self.now) (plain_after (committed_chain self.now))) }
+    {
+        Standing::of(self.alloc, &self.rules, &self.snapshot)
     }
 
     /// The last block with its flags. None where there is no block. It takes no memory.

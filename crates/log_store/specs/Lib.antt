@@ -1,3 +1,4 @@
+pub mod Reading
 pub mod Following
 pub mod Refusals
 pub mod Storing

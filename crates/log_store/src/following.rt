@@ -3,27 +3,25 @@
 ghost use Rattle.std.specs.Prelude.{◌≡◌, [], IsTrue, IfOk, OnOk, option_map};
 ghost use Rattle.std.specs.Arc.{arc_value};
 ghost use Rattle.endorsement_policy.specs.Endorsed.{seal_of};
+ghost use Rattle.endorsement_policy.specs.Judge.{plain_after};
+ghost use Rattle.endorsement_policy.specs.Membership.{standing_in};
+ghost use Rattle.endorser.specs.Endorsing.{endorsed_on};
 ghost use Rattle.simulator.specs.Answers.{Answers};
 ghost use Rattle.log_roles.specs.Committing.{block_at};
-ghost use Rattle.log_roles.specs.Following.{endorsed_on};
 ghost use Rattle.log_store.specs.Following.{IsFollowed, bytes_read, endorses_by, read_chain};
 
+use crate::reading::StoreReader;
 use crate::refusal::StoreRefusal;
-use block_store::{CountedRead, RecordReader};
-use endorsement_policy::Rules;
+use endorsement_policy::{Rules, Standing};
+use endorser::Endorser;
 use fab_types::{CommittedBlock, Endorsement, OrgName, Payload, Proposal};
-use log_roles::Follower;
 use org_keys::Signers;
 use simulator::{Book, SimRefusal};
 use std::alloc::{AllocError, Global};
 use std::io::Read;
 use std::sync::Arc;
 use std::thread::Threads;
-use store_devices::Counted;
 use store_replay::{TagChecks, Watch};
-
-/// So many bytes at most are asked of the file at a time.
-const PIECE: usize = 65_536;
 
 /// An endorser on the state after a store, which is read as it grows.
 ///
@@ -31,14 +29,15 @@ const PIECE: usize = 65_536;
 /// by (`endorses_by`), and the bytes that it has read (`bytes_read`).
 #[derive(Drop)]
 pub struct StoreFollower<R: Drop> {
-    follower: Follower,
-    records: RecordReader,
-    file: Counted<R>,
-    piece: Vec<u8>,
+    endorser: Endorser,
+    reader: StoreReader<R>,
+    alloc: Global,
 }
 
 impl<R: Read + Drop> StoreFollower<R> {
-    /// An endorser of an organisation that has read nothing of a store.
+    /// An endorser of an organisation that has read nothing of a store. Tags of one that is no
+    /// member in the state, or whose seed is not at hand, are made with the empty key and count for
+    /// nothing.
     pub fn new(
         alloc: Global,
         book: Arc<Book>,
@@ -57,12 +56,12 @@ impl<R: Read + Drop> StoreFollower<R> {
               seal = λ m. seal_of (arc_value rules) (arc_value signers) m org;
             }) }
     {
-        let piece = vec![in alloc; 0u8; PIECE]?;
+        let reader = StoreReader::new(alloc, file)?;
+        let endorser = Endorser::new(alloc, book, rules, signers, org);
         Ok(StoreFollower {
-            follower: Follower::new(alloc, book, rules, signers, org),
-            records: RecordReader::new(alloc),
-            file: Counted::new(file),
-            piece,
+            endorser,
+            reader,
+            alloc,
         })
     }
 
@@ -78,22 +77,10 @@ impl<R: Read + Drop> StoreFollower<R> {
     ) -> Result<(), StoreRefusal>
         requires followed { IsFollowed self.old }
         ensures followed { OnOk result (IsFollowed self.new) }
-        ensures all { OnOk result (IsTrue self.new.file.is_at_end) }
+        ensures all { OnOk result (IsTrue self.new.reader.file.is_at_end) }
         ensures same { endorses_by self.new ≡ endorses_by self.old }
     {
-        for _ in 0..u64::MAX {
-            let count = self.file.read(&mut self.piece)?;
-            if count == 0 {
-                return Ok(());
-            }
-            let records = self.records.feed(&self.piece[..count])?;
-            self.follower.follow_all(tags, records)?;
-            if self.records.is_damaged() {
-                return Err(StoreRefusal::Damaged(self.records.next()));
-            }
-        }
-        // So many pieces no file has.
-        Err(StoreRefusal::File)
+        self.reader.catch_up(tags, self.endorser.rules())
     }
 
     /// Simulates a proposal on the state after the records that were read, and endorses the
@@ -103,13 +90,22 @@ impl<R: Read + Drop> StoreFollower<R> {
     pub fn endorse(&self, proposal: &Proposal) -> Result<(Payload, Endorsement), SimRefusal>
         ensures { Answers (endorsed_on (endorses_by self.now) proposal.now (read_chain self.now)) result }
     {
-        self.follower.endorse(proposal)
+        self.endorser.endorse(self.reader.snapshot(), proposal)
+    }
+
+    /// Who stands in the state after the records that were read. The only error is want of memory.
+    pub fn standing(&self) -> Result<Standing<'_>, AllocError>
+        ensures { IfOk result
+            (λ s. s
+            ≡ standing_in (endorses_by self.now).listed (plain_after (read_chain self.now))) }
+    {
+        Standing::of(self.alloc, self.endorser.rules(), self.reader.snapshot())
     }
 
     /// The block of this number that was read, with its flags. None where there is none, as of 0.
     pub fn block(&self, number: u32) -> Option<&CommittedBlock>
         ensures { option_map (λ c. c.now) result ≡ block_at (read_chain self.now) number }
     {
-        self.follower.block(number)
+        self.reader.block(number)
     }
 }

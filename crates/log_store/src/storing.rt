@@ -2,6 +2,8 @@
 
 ghost use Rattle.std.specs.Prelude.{◌≡◌, ℕ, List, [], ◌∷◌, ◌++◌, ◌-◌, IfErr, IfOk, Ok, OnOk, length, option_map, slice_get};
 ghost use Rattle.std.specs.Arc.{arc_value};
+ghost use Rattle.endorsement_policy.specs.Judge.{plain_after};
+ghost use Rattle.endorsement_policy.specs.Membership.{standing_in};
 ghost use Rattle.fab_types.specs.Committed.{Committed};
 ghost use Rattle.ledger_model.specs.Chain.{Chain};
 ghost use Rattle.ledger_setting.specs.Rule.{table_of};
@@ -13,10 +15,10 @@ ghost use Rattle.log_store.specs.Storing.{IsOfMachine, IsReceiveRefused, IsStore
 
 use crate::refusal::StoreRefusal;
 use block_store::{End, Loaded, append, load};
-use endorsement_policy::{Rules, Workers};
+use endorsement_policy::{Rules, Standing, Workers};
 use fab_types::{Block, CommittedBlock};
 use log_roles::{Committer, Received};
-use std::alloc::Global;
+use std::alloc::{AllocError, Global};
 use std::fs::OpenFile;
 use std::io::{Read, Seek, Write};
 use std::sync::Arc;
@@ -110,6 +112,14 @@ impl<D: Read + Write + Seek + OpenFile + Drop> StoredChain<D> {
         ensures { option_map (λ c. c.now) result ≡ block_at (stored_chain self.now) number }
     {
         self.committer.block(number)
+    }
+
+    /// Who stands in the state after the chain. The only error is want of memory.
+    pub fn standing(&self) -> Result<Standing<'_>, AllocError>
+        ensures { IfOk result
+            (λ s. s ≡ standing_in (rules_of self.now) (plain_after (stored_chain self.now))) }
+    {
+        self.committer.standing()
     }
 
     /// The last block with its flags. None where there is no block.
