@@ -19,21 +19,26 @@ use Rattle.org_keys.specs.declared.organisation.OrgKey.{OrgKey}
 use Rattle.org_keys.specs.declared.organisation.OrgKey.TheVariants as key
 use Rattle.org_keys.specs.declared.organisation.Organisation.{Organisation}
 use Rattle.endorsement_policy.specs.declared.rules.ChaincodePolicy.{ChaincodePolicy}
-use Rattle.endorsement_policy.specs.Endorsed.{key_of, listed_policy}
+use Rattle.endorsement_policy.specs.Endorsed.{Listed, key_of, listed_policy}
 use Rattle.chaincode_book.specs.declared.book.Chaincode.{Chaincode}
 use Rattle.ledger_setting.specs.declared.genesis.Genesis.{Genesis}
 use Rattle.serde_json.specs.Data.{Data, depth, items_depth, string, object, member, no_members}
 use Rattle.serde_json.specs.View.{items_of}
 use Rattle.fab_types.specs.Spelling.{payload_bytes}
 use Rattle.json_chain.specs.Texts.{pairs_json, value_json}
-use Rattle.json_chain.specs.Memberships.{member_json, membership_json, with_key}
+use Rattle.json_chain.specs.Memberships.{kept_json, member_json, membership_json, standing_json, with_key}
 use Rattle.json_chain.specs.Sets.{entry_json, range_json, read_json, seen_json, write_json}
-use Rattle.json_chain.specs.Transactions.{endorsement_json, proposal_json, transaction_json}
+use Rattle.fab_types.specs.Payloads.{Payload}
+use Rattle.ledger_model.specs.Chain.{Placed}
+use Rattle.json_chain.specs.Transactions.{endorsement_json, payload_json, placed_transaction_json, proposal_json, transaction_json, with_place}
+use Rattle.json_chain.specs.Transactions.{with_proposal, with_rest}
 use Rattle.json_chain.specs.Blocks.{block_json}
 use Rattle.json_chain.specs.Genesis.{chaincode_json, module_json, named_json, org_json, policy_json, genesis_json}
+use Rattle.wire.specs.Ids.{id_of}
 use Rattle.json_chain.specs.Entries.{placed_write_json}
+use Rattle.json_chain.specs.Writes.{did_json}
 
-items_low : {A : Type 0} (json : A → Data) (n : ℕ) → ((x : A) → depth (json x) ≤ n) → (xs : List A) → items_depth (items_of (map json xs)) ≤ n
+pub items_low : {A : Type 0} (json : A → Data) (n : ℕ) → ((x : A) → depth (json x) ≤ n) → (xs : List A) → items_depth (items_of (map json xs)) ≤ n
 items_low json n low [] = omega arith
 items_low json n low (x ∷ xs) = omega (arith, low x, items_low json n low xs)
 
@@ -69,6 +74,10 @@ member_low m = key_low m.name m.key
 
 membership_low : (s : Membership) → depth (membership_json s) ≤ 3
 membership_low s = omega (arith, items_low member_json 1 member_low s.members)
+
+pub standing_low : (r : Listed) (s : Option Membership) → depth (standing_json r s) ≤ 3
+standing_low r None = omega (arith, items_low kept_json 1 (λ o. omega arith) r.orgs)
+standing_low r (Some s) = membership_low s
 
 proposal_low : (p : Proposal) (flag : Flag) (a b c d e f : Data) → depth a ≤ 4 → depth b ≤ 4 → depth c ≤ 4 → depth d ≤ 4 → depth e ≤ 4 → depth f ≤ 4 →
     depth (proposal_json p flag a b c d e f) ≤ 5
@@ -121,3 +130,45 @@ genesis_low g =
 
 pub placed_write_low : (id : List ℕ) (block place : ℕ) (key : List ℕ) (value : Option (List ℕ)) → depth (placed_write_json id block place key value) ≤ 1
 placed_write_low id block place key value = omega (arith, value_low value)
+
+pub did_low : (t : Placed) (key : List ℕ) (w : Version × Option (List ℕ)) → depth (did_json t key w) ≤ 1
+did_low t key w = omega (arith, placed_write_low (id_of t.envelope.payload.proposal) w.0.block w.0.place key w.1)
+
+pub payload_low : (p : Payload) → depth (payload_json p) ≤ 5
+payload_low p =
+    omega (arith, items_low range_json 3 range_low p.ranges, items_low read_json 1 read_low p.reads, items_low write_json 1 write_low p.writes)
+
+-- a transaction with its place, by its proposal
+placed_low : (p : Proposal) (orgs : List Organisation) (e : Envelope) (flag : Flag) (block place : ℕ)
+    → depth (object (with_rest orgs e flag (with_proposal p (with_place block place no_members)))) ≤ 5
+placed_low (proposal.Call x) orgs e flag block place =
+    let q = e.payload in
+    omega (
+      arith,
+      items_low (endorsement_json orgs (payload_bytes q)) 1 (λ x. omega arith) e.endorsements,
+      items_low range_json 3 range_low q.ranges,
+      items_low read_json 1 read_low q.reads,
+      items_low write_json 1 write_low q.writes,
+    )
+placed_low (proposal.Upgrade u) orgs e flag block place =
+    let q = e.payload in
+    omega (
+      arith,
+      items_low (endorsement_json orgs (payload_bytes q)) 1 (λ x. omega arith) e.endorsements,
+      items_low range_json 3 range_low q.ranges,
+      items_low read_json 1 read_low q.reads,
+      items_low write_json 1 write_low q.writes,
+    )
+placed_low (proposal.Amend x) orgs e flag block place =
+    let q = e.payload in
+    omega (
+      arith,
+      membership_low x.membership,
+      items_low (endorsement_json orgs (payload_bytes q)) 1 (λ x. omega arith) e.endorsements,
+      items_low range_json 3 range_low q.ranges,
+      items_low read_json 1 read_low q.reads,
+      items_low write_json 1 write_low q.writes,
+    )
+
+pub placed_transaction_low : (orgs : List Organisation) (t : Placed) → depth (placed_transaction_json orgs t) ≤ 5
+placed_transaction_low orgs t = placed_low t.envelope.payload.proposal orgs t.envelope t.flag t.version.block t.version.place

@@ -4,6 +4,7 @@ pub mod Sets
 pub mod Memberships
 pub mod Transactions
 pub mod Blocks
+pub mod Standing
 pub mod Genesis
 pub mod Entries
 pub mod Endings

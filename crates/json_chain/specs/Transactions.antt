@@ -17,6 +17,7 @@ use Rattle.fab_types.specs.Spelling.{form_of, payload_bytes}
 use Rattle.fab_types.specs.Tags.{tag_bytes}
 use Rattle.endorsement_policy.specs.Endorsed.{is_org, is_tag_of}
 use Rattle.org_keys.specs.declared.organisation.Organisation.{Organisation}
+use Rattle.ledger_model.specs.Chain.{Placed}
 use Rattle.serde_json.specs.Data.{Data, boolean, number, unsigned, string, Members, object, member, no_members, put}
 use Rattle.json_chain.specs.Texts.{hex_json, list_json}
 use Rattle.json_chain.specs.Memberships.{membership_json}
@@ -95,3 +96,26 @@ abbrev pub with_rest : List Organisation → Envelope → Flag → Members → M
 with_rest orgs e flag ms =
     with_payload e.payload (put (codes "id") (hex_json (id_of e.payload.proposal)) (put (codes "flag") (number (unsigned (flag_number flag)))
     (put (codes "endorsements") (endorsements_json orgs e) ms)))
+
+-- what a proposal has alone
+abbrev pub with_proposal : Proposal → Members → Members
+with_proposal (proposal.Call c) ms = with_call c ms
+with_proposal (proposal.Upgrade u) ms = with_upgrade u ms
+with_proposal (proposal.Amend a) ms = with_amend a ms
+
+-- ---- beside blocks
+
+-- what a payload read, gave and would write
+abbrev pub payload_json : Payload → Data
+payload_json p =
+    object (member (codes "ranges") (list_json range_json p.ranges) (member (codes "reads") (list_json read_json p.reads)
+    (member (codes "result") (hex_json p.result) (member (codes "writes") (list_json write_json p.writes) no_members))))
+
+-- the number of a block, and a place in it
+abbrev pub with_place : (block place : ℕ) → Members → Members
+with_place block place ms = put (codes "place") (number (unsigned place)) (put (codes "block") (number (unsigned block)) ms)
+
+-- what a transaction is in its block, with the number of the block and its place there
+abbrev pub placed_transaction_json : List Organisation → Placed → Data
+placed_transaction_json orgs t =
+    object (with_rest orgs t.envelope t.flag (with_proposal t.envelope.payload.proposal (with_place t.version.block t.version.place no_members)))

@@ -1,9 +1,10 @@
--- The line of a write to a key.
-use Rattle.std.specs.Prelude.{◌≡◌, ℕ, List, Option, Some, String, option_map, string_bytes}
+-- What transactions wrote to a key, and the line of a write.
+use Rattle.std.specs.Prelude.{◌≡◌, ℕ, List, Option, Some, String, map, option_map, option_to_list, string_bytes}
+use Rattle.std.specs.List.{flat_map}
 use Rattle.std.specs.declared.alloc.Global.{Global}
 use Rattle.fab_types.specs.declared.envelope.Envelope.{Envelope}
 use Rattle.fab_types.specs.declared.flag.Flag.{Flag}
-use Rattle.ledger_model.specs.Chain.{Placed}
+use Rattle.ledger_model.specs.Chain.{Placed, Version}
 use Rattle.ledger_model.specs.State.{write_of}
 use Rattle.wire.specs.Ids.{id_of}
 use Rattle.serde_json.specs.Data.{Data}
@@ -12,6 +13,18 @@ use Rattle.json_chain.specs.Entries.{placed_write_json}
 
 abbrev pub placed_at : Envelope → Flag → (block place : ℕ) → Placed
 placed_at e flag block place = record { version = record { block = block; place = place }; envelope = e; flag = flag }
+
+-- a transaction that did this to a key, at its place
+abbrev pub did_json : Placed → List ℕ → Version × Option (List ℕ) → Data
+did_json t key w = placed_write_json (id_of t.envelope.payload.proposal) w.0.block w.0.place key w.1
+
+-- what a transaction did to a key, if it did anything
+abbrev pub write_json : List ℕ → Placed → List Data
+write_json key t = map (did_json t key) (option_to_list (write_of t key))
+
+-- what transactions did to a key, in their order
+abbrev pub writes_json : List ℕ → List Placed → List Data
+writes_json key ts = flat_map (write_json key) ts
 
 -- the value that a line reads as, if there is a line
 abbrev pub read_line : Option (String Global) → Option (Option Data)

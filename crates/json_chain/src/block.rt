@@ -8,25 +8,25 @@ ghost use Rattle.json_chain.specs.Members.{members_in};
 
 use crate::object::Object;
 use crate::transaction::transaction_of;
-use endorsement_policy::Rules;
 use fab_types::{CommittedBlock, Envelope, Flag, Header};
+use org_keys::Organisation;
 use serde_json::Value;
 use std::alloc::{AllocError, Global};
 use wire::header_hash;
 
 /// A block with its hashes, its transactions and their flags, and which of their tags are right
-/// under these rules. The only error is want of memory.
-pub(crate) fn block_of(
+/// under the keys of these organisations. The only error is want of memory.
+pub fn block_of(
     alloc: Global,
-    rules: &Rules,
+    organisations: &[Organisation],
     committed: &CommittedBlock,
 ) -> Result<Value, AllocError>
-    ensures { IfOk result (λ v. view v ≡ block_json rules.now.orgs committed.now) }
+    ensures { IfOk result (λ v. view v ≡ block_json organisations.now committed.now) }
 {
     let mut object = Object::new(alloc);
     put_header(&mut object, &committed.block().header)?;
     let envelopes = committed.block().envelopes.as_slice();
-    let transactions = transactions_of(alloc, rules, envelopes, committed.flags())?;
+    let transactions = transactions_of(alloc, organisations, envelopes, committed.flags())?;
     object.put("txs", transactions)?;
     Ok(object.into_value())
 }
@@ -45,18 +45,18 @@ fn put_header(object: &mut Object, header: &Header) -> Result<(), AllocError>
 /// The transactions of a block, each with its flag.
 fn transactions_of(
     alloc: Global,
-    rules: &Rules,
+    organisations: &[Organisation],
     envelopes: &[Envelope],
     flags: &[Flag],
 ) -> Result<Value, AllocError>
     requires one_each { length flags.now ≡ length envelopes.now }
     ensures { IfOk result
         (λ v. view v
-        ≡ array (items_of (transactions_json rules.now.orgs envelopes.now flags.now))) }
+        ≡ array (items_of (transactions_json organisations.now envelopes.now flags.now))) }
 {
     let mut values = Vec::new(alloc);
     for place in 0..envelopes.len() {
-        let transaction = transaction_of(alloc, rules, &envelopes[place], flags[place])?;
+        let transaction = transaction_of(alloc, organisations, &envelopes[place], flags[place])?;
         values.push(transaction)?;
     }
     Ok(Value::Array(values))

@@ -23,7 +23,7 @@ use serde_json::Value;
 use std::alloc::{AllocError, Global};
 
 /// What a ledger begins with, but for the shared keys. The only error is want of memory.
-pub(crate) fn genesis_of(alloc: Global, genesis: &Genesis) -> Result<Value, AllocError>
+pub fn genesis_of(alloc: Global, genesis: &Genesis) -> Result<Value, AllocError>
     ensures { IfOk result (λ v. view v ≡ genesis_json genesis.now) }
 {
     let mut object = Object::new(alloc);

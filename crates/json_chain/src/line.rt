@@ -8,24 +8,26 @@ ghost use Rattle.json_chain.specs.Blocks.{block_json};
 ghost use Rattle.json_chain.specs.Endings.{ending_json};
 ghost use Rattle.json_chain.specs.Entries.{entry_json};
 ghost use Rattle.json_chain.specs.Genesis.{genesis_json};
+ghost use Rattle.json_chain.specs.Memberships.{standing_behind};
 ghost use Rattle.json_chain.specs.Writes.{IsWriteLine};
 
 use crate::block::block_of;
 use crate::ending::{Finding, ending_of};
-use crate::entries::{entry_of, write_of};
+use crate::entries::{entry_of, written_of};
 use crate::genesis::genesis_of;
 use crate::placed::Placed;
-use crate::writes::written_to;
+use crate::standing::standing_of;
 use block_store::End;
 use endorsement_policy::Rules;
-use fab_types::{CommittedBlock, Flag, Key, Version};
+use fab_types::{CommittedBlock, Key, Version};
 use ledger_setting::Genesis;
+use org_keys::Organisation;
 use serde_json::Value;
 use std::alloc::{AllocError, Global};
-use wire::payload_id;
+use world_state::Snapshot;
 
-/// A value as a line, which is read back as the value.
-fn line_of(alloc: Global, value: &Value) -> Result<String, AllocError>
+/// A value as a line, which is read back as the value. The only error is want of memory.
+pub fn line_of(alloc: Global, value: &Value) -> Result<String, AllocError>
     requires { depth (view value.now) ≤ max_depth }
     ensures { IfOk result (λ s. read (string_bytes s) ≡ Some (view value.now)) }
 {
@@ -40,16 +42,29 @@ pub fn genesis_line(alloc: Global, genesis: &Genesis) -> Result<String, AllocErr
 }
 
 /// A block with its hashes, its transactions and their flags, and which of their tags are right
-/// under these rules. The only error is want of memory.
+/// under the keys of these organisations. The only error is want of memory.
 pub fn block_line(
     alloc: Global,
-    rules: &Rules,
+    organisations: &[Organisation],
     committed: &CommittedBlock,
 ) -> Result<String, AllocError>
     ensures { IfOk result
-        (λ s. read (string_bytes s) ≡ Some (block_json rules.now.orgs committed.now)) }
+        (λ s. read (string_bytes s) ≡ Some (block_json organisations.now committed.now)) }
 {
-    line_of(alloc, &block_of(alloc, rules, committed)?)
+    line_of(alloc, &block_of(alloc, organisations, committed)?)
+}
+
+/// What stands in the state after a chain: the membership there, where one stands that can be used,
+/// else what the genesis says. The only error is want of memory.
+pub fn standing_line(
+    alloc: Global,
+    rules: &Rules,
+    snapshot: &Snapshot,
+) -> Result<String, AllocError>
+    ensures { IfOk result
+        (λ s. read (string_bytes s) ≡ Some (standing_behind rules.now snapshot.now)) }
+{
+    line_of(alloc, &standing_of(alloc, rules, snapshot)?)
 }
 
 /// What is found of a chain of so many blocks, and how its store ends. The only error is want of
@@ -79,8 +94,8 @@ pub fn entry_line(
     line_of(alloc, &entry_of(alloc, key, value, version)?)
 }
 
-/// What a transaction wrote to a key. None where it is not VALID or does not write the key. The only
-/// error is want of memory.
+/// What a transaction wrote to a key. None where it is not VALID or does not write the key. The
+/// only error is want of memory.
 pub fn write_line(
     alloc: Global,
     placed: &Placed<'_>,
@@ -90,14 +105,8 @@ pub fn write_line(
         (IsWriteLine placed.now.envelope.now placed.now.flag key.now placed.now.block
         placed.now.place) }
 {
-    if !matches!(placed.flag, Flag::Valid) {
-        return Ok(None);
-    }
-    let payload = &placed.envelope.payload;
-    let Some(value) = written_to(payload.writes().as_slice(), key) else {
+    let Some(value) = written_of(alloc, placed, key)? else {
         return Ok(None);
     };
-    let id = payload_id(payload);
-    let value = write_of(alloc, &id, placed, key, value)?;
     Ok(Some(line_of(alloc, &value)?))
 }

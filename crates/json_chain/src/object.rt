@@ -14,7 +14,7 @@ use std::alloc::{AllocError, Global};
 /// An object that is being made. A function that puts several members in borrows it, and so owns
 /// nothing where one of them fails.
 #[derive(Drop)]
-pub(crate) struct Object {
+pub struct Object {
     alloc: Global,
     members: Map<String, Value>,
 }
@@ -55,7 +55,7 @@ impl Object {
     }
 
     /// Puts a member in that is shown as JSON.
-    pub fn put_json<T: ToJson>(&mut self, name: &str, item: &T) -> Result<(), AllocError>
+    pub(crate) fn put_json<T: ToJson>(&mut self, name: &str, item: &T) -> Result<(), AllocError>
         ensures { OnOk result
             (members_in self.new ≡ with_member name.now (T.json item.now) (members_in self.old)) }
     {
@@ -63,7 +63,7 @@ impl Object {
     }
 
     /// Puts a member in that is a list of what is shown as JSON.
-    pub fn put_list<T: ToJson>(&mut self, name: &str, items: &[T]) -> Result<(), AllocError>
+    pub(crate) fn put_list<T: ToJson>(&mut self, name: &str, items: &[T]) -> Result<(), AllocError>
         ensures { OnOk result
             (members_in self.new
             ≡ with_member name.now (list_json T.json items.now) (members_in self.old)) }

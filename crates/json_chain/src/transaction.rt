@@ -7,48 +7,106 @@ ghost use Rattle.json_chain.specs.Texts.{list_json};
 ghost use Rattle.fab_types.specs.Spelling.{form_of};
 ghost use Rattle.json_chain.specs.Transactions.{amend_json, of_parts, call_json, definition_json, endorsement_json, endorsements_json, transaction_json, upgrade_json};
 ghost use Rattle.json_chain.specs.Transactions.{with_amend, with_call, with_payload, with_rest, with_upgrade};
+ghost use Rattle.json_chain.specs.Transactions.{payload_json, placed_transaction_json, with_place, with_proposal};
+ghost use Rattle.json_chain.specs.Writes.{placed_at};
 
 use crate::object::Object;
+use crate::placed::Placed;
 use crate::sets;
 use crate::texts::{name_of, policy_of};
 use crate::to_json::ToJson;
-use endorsement_policy::Rules;
+use endorsement_policy::is_tag;
 use fab_types::{Amend, Call, Definition, Endorsement, Envelope, Flag, Payload, Proposal, Upgrade};
+use org_keys::Organisation;
 use serde_json::Value;
 use std::alloc::{AllocError, Global};
 use wire::payload_id;
 
-/// A transaction, its flag, and which of its tags are right under these rules. The only error is
-/// want of memory.
+/// A transaction, its flag, and which of its tags are right under the keys of these organisations.
+/// The only error is want of memory.
 pub(crate) fn transaction_of(
     alloc: Global,
-    rules: &Rules,
+    organisations: &[Organisation],
     envelope: &Envelope,
     flag: Flag,
 ) -> Result<Value, AllocError>
-    ensures { IfOk result (λ v. view v ≡ transaction_json rules.now.orgs envelope.now flag) }
+    ensures { IfOk result (λ v. view v ≡ transaction_json organisations.now envelope.now flag) }
 {
     match envelope.payload.proposal() {
-        Proposal::Call(call) => call_of(alloc, rules, envelope, flag, call),
-        Proposal::Upgrade(upgrade) => upgrade_of(alloc, rules, envelope, flag, upgrade),
-        Proposal::Amend(amend) => amend_of(alloc, rules, envelope, flag, amend),
+        Proposal::Call(call) => call_of(alloc, organisations, envelope, flag, call),
+        Proposal::Upgrade(upgrade) => upgrade_of(alloc, organisations, envelope, flag, upgrade),
+        Proposal::Amend(amend) => amend_of(alloc, organisations, envelope, flag, amend),
     }
+}
+
+/// A transaction as in its block, by the keys of these organisations, with the number of the block
+/// and its place there. The only error is want of memory.
+pub fn placed_transaction_of(
+    alloc: Global,
+    organisations: &[Organisation],
+    placed: &Placed<'_>,
+) -> Result<Value, AllocError>
+    ensures { IfOk result
+        (λ v. view v
+        ≡ placed_transaction_json organisations.now
+        (placed_at placed.now.envelope.now placed.now.flag placed.now.block placed.now.place)) }
+{
+    let mut object = Object::new(alloc);
+    put_place(&mut object, placed.block, placed.place)?;
+    put_proposal(&mut object, placed.envelope.payload.proposal())?;
+    put_rest(
+        alloc,
+        &mut object,
+        organisations,
+        placed.envelope,
+        placed.flag,
+    )?;
+    Ok(object.into_value())
+}
+
+/// Puts in the number of a block, and a place in it.
+fn put_place(object: &mut Object, block: usize, place: usize) -> Result<(), AllocError>
+    ensures { OnOk result (members_in object.new ≡ with_place block place (members_in object.old)) }
+{
+    object.put("block", Value::from(block))?;
+    object.put("place", Value::from(place))
+}
+
+/// Puts in what a proposal has alone.
+fn put_proposal(object: &mut Object, proposal: &Proposal) -> Result<(), AllocError>
+    ensures { OnOk result
+        (members_in object.new ≡ with_proposal proposal.now (members_in object.old)) }
+{
+    match proposal {
+        Proposal::Call(call) => put_call(object, call),
+        Proposal::Upgrade(upgrade) => put_upgrade(object, upgrade),
+        Proposal::Amend(amend) => put_amend(object, amend),
+    }
+}
+
+/// What a payload read, gave and would write. The only error is want of memory.
+pub fn payload_of(alloc: Global, payload: &Payload) -> Result<Value, AllocError>
+    ensures { IfOk result (λ v. view v ≡ payload_json payload.now) }
+{
+    let mut object = Object::new(alloc);
+    put_payload(&mut object, payload)?;
+    Ok(object.into_value())
 }
 
 /// A transaction of this call.
 fn call_of(
     alloc: Global,
-    rules: &Rules,
+    organisations: &[Organisation],
     envelope: &Envelope,
     flag: Flag,
     call: &Call,
 ) -> Result<Value, AllocError>
     ensures { IfOk result
-        (λ v. view v ≡ of_parts (call_json call.now flag) rules.now.orgs envelope.now) }
+        (λ v. view v ≡ of_parts (call_json call.now flag) organisations.now envelope.now) }
 {
     let mut object = Object::new(alloc);
     put_call(&mut object, call)?;
-    put_rest(alloc, &mut object, rules, envelope, flag)?;
+    put_rest(alloc, &mut object, organisations, envelope, flag)?;
     Ok(object.into_value())
 }
 
@@ -64,17 +122,17 @@ fn put_call(object: &mut Object, call: &Call) -> Result<(), AllocError>
 /// A transaction of this upgrade.
 fn upgrade_of(
     alloc: Global,
-    rules: &Rules,
+    organisations: &[Organisation],
     envelope: &Envelope,
     flag: Flag,
     upgrade: &Upgrade,
 ) -> Result<Value, AllocError>
     ensures { IfOk result
-        (λ v. view v ≡ of_parts (upgrade_json upgrade.now flag) rules.now.orgs envelope.now) }
+        (λ v. view v ≡ of_parts (upgrade_json upgrade.now flag) organisations.now envelope.now) }
 {
     let mut object = Object::new(alloc);
     put_upgrade(&mut object, upgrade)?;
-    put_rest(alloc, &mut object, rules, envelope, flag)?;
+    put_rest(alloc, &mut object, organisations, envelope, flag)?;
     Ok(object.into_value())
 }
 
@@ -91,17 +149,17 @@ fn put_upgrade(object: &mut Object, upgrade: &Upgrade) -> Result<(), AllocError>
 /// A transaction of this amendment.
 fn amend_of(
     alloc: Global,
-    rules: &Rules,
+    organisations: &[Organisation],
     envelope: &Envelope,
     flag: Flag,
     amend: &Amend,
 ) -> Result<Value, AllocError>
     ensures { IfOk result
-        (λ v. view v ≡ of_parts (amend_json amend.now flag) rules.now.orgs envelope.now) }
+        (λ v. view v ≡ of_parts (amend_json amend.now flag) organisations.now envelope.now) }
 {
     let mut object = Object::new(alloc);
     put_amend(&mut object, amend)?;
-    put_rest(alloc, &mut object, rules, envelope, flag)?;
+    put_rest(alloc, &mut object, organisations, envelope, flag)?;
     Ok(object.into_value())
 }
 
@@ -117,16 +175,19 @@ fn put_amend(object: &mut Object, amend: &Amend) -> Result<(), AllocError>
 fn put_rest(
     alloc: Global,
     object: &mut Object,
-    rules: &Rules,
+    organisations: &[Organisation],
     envelope: &Envelope,
     flag: Flag,
 ) -> Result<(), AllocError>
     ensures { OnOk result
         (members_in object.new
-        ≡ with_rest rules.now.orgs envelope.now flag (members_in object.old)) }
+        ≡ with_rest organisations.now envelope.now flag (members_in object.old)) }
 {
     let payload = &envelope.payload;
-    object.put("endorsements", endorsements_of(alloc, rules, envelope)?)?;
+    object.put(
+        "endorsements",
+        endorsements_of(alloc, organisations, envelope)?,
+    )?;
     object.put("flag", Value::from(flag.number()))?;
     object.put_hex("id", &payload_id(payload))?;
     put_payload(object, payload)
@@ -169,42 +230,54 @@ impl ToJson for Definition {
 }
 
 /// The endorsements of a transaction, each with whether its tag is right.
-fn endorsements_of(alloc: Global, rules: &Rules, envelope: &Envelope) -> Result<Value, AllocError>
-    ensures { IfOk result (λ v. view v ≡ endorsements_json rules.now.orgs envelope.now) }
+fn endorsements_of(
+    alloc: Global,
+    organisations: &[Organisation],
+    envelope: &Envelope,
+) -> Result<Value, AllocError>
+    ensures { IfOk result (λ v. view v ≡ endorsements_json organisations.now envelope.now) }
 {
     let bytes = envelope.payload.bytes();
-    endorsements_over(alloc, rules, bytes, envelope.endorsements.as_slice())
+    endorsements_over(
+        alloc,
+        organisations,
+        bytes,
+        envelope.endorsements.as_slice(),
+    )
 }
 
 /// The same over a payload of these bytes.
 fn endorsements_over(
     alloc: Global,
-    rules: &Rules,
+    organisations: &[Organisation],
     bytes: &[u8],
     items: &[Endorsement],
 ) -> Result<Value, AllocError>
     ensures { IfOk result
-        (λ v. view v ≡ list_json (endorsement_json rules.now.orgs bytes.now) items.now) }
+        (λ v. view v ≡ list_json (endorsement_json organisations.now bytes.now) items.now) }
 {
     let mut values = Vec::new(alloc);
     for item in items {
-        values.push(endorsement_of(alloc, rules, bytes, item)?)?;
+        values.push(endorsement_of(alloc, organisations, bytes, item)?)?;
     }
     Ok(Value::Array(values))
 }
 
 fn endorsement_of(
     alloc: Global,
-    rules: &Rules,
+    organisations: &[Organisation],
     bytes: &[u8],
     endorsement: &Endorsement,
 ) -> Result<Value, AllocError>
     ensures { IfOk result
-        (λ v. view v ≡ endorsement_json rules.now.orgs bytes.now endorsement.now) }
+        (λ v. view v ≡ endorsement_json organisations.now bytes.now endorsement.now) }
 {
     let mut object = Object::new(alloc);
     object.put_json("org", &endorsement.org)?;
-    object.put("right", Value::from(rules.is_tag(endorsement, bytes)))?;
+    object.put(
+        "right",
+        Value::from(is_tag(organisations, endorsement, bytes)),
+    )?;
     object.put_hex("tag", endorsement.tag.as_slice())?;
     Ok(object.into_value())
 }

@@ -6,7 +6,9 @@ ghost use Rattle.serde_json.specs.View.{view, items_view, members_view};
 ghost use Rattle.json_events.specs.Spelling.{amend_members, begin_object, call_members, commit_object, finish_object, hex_object, seat_members, upgrade_members, use_object, word_object};
 ghost use Rattle.json_events.specs.Spelling.{kept_object, public_object};
 
-use json_fields::{Fields, fields, is_end, items, take, take_number, take_text, take_word};
+use json_fields::{
+    Fields, fields, is_end, items, take, take_list, take_number, take_text, take_word,
+};
 use serde_json::Value;
 
 /// A peer and one of its seats.
@@ -171,16 +173,6 @@ pub(crate) fn begun_upgrade_fields(value: &Value) -> Option<(Place, UpgradeField
         chaincode,
     };
     Some((Place { peer, seat }, fields))
-}
-
-/// Takes the first field that is left, which has this name and holds a list, and gives its items.
-fn take_list<'a>(left: &mut Fields<'a>, name: &str) -> Option<&'a [Value]>
-    ensures { MatchOption result
-        ((ds : Items) (rest : Members) → members_view left.old ≢ member name.now (array ds) rest)
-        (λ vs. members_view left.old
-        ≡ member name.now (array (items_view vs.now)) (members_view left.new)) }
-{
-    items(take(left, name)?)
 }
 
 /// What the fields of an amendment hold.

@@ -45,8 +45,9 @@ pub fn read_proposal(alloc: Global, line: &str) -> Result<Proposal, BadLine>
     proposal_of(alloc, &value)
 }
 
-/// The JSON value that a line is.
-fn value_of(alloc: Global, line: &str) -> Result<Value, BadLine>
+/// The JSON value that a line is. `NoForm` only where it is none; `Memory` where a growth was
+/// refused.
+pub fn value_of(alloc: Global, line: &str) -> Result<Value, BadLine>
     ensures ok { IfOk result (λ v. read line.now ≡ Some (view v)) }
     ensures refused { IfErr result (λ r. NoneIs (λ (d : Data). read line.now ≡ Some d) r) }
 {

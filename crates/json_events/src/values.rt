@@ -19,8 +19,8 @@ use wasm_profile::Profile;
 /// How many endorsements an envelope has at most.
 const MOST_NAMES: usize = 32;
 
-/// The bytes that a text of hex stands for.
-pub(crate) fn bytes_of(alloc: Global, text: &str) -> Result<Vec<u8>, BadLine>
+/// The bytes that a text of hex stands for. `NoForm` only where it stands for none.
+pub fn bytes_of(alloc: Global, text: &str) -> Result<Vec<u8>, BadLine>
     ensures ok { IfOk result (λ bytes. IsHex text.now bytes.items) }
     ensures refused { IfErr result (λ r. NoneIs (IsHex text.now) r) }
 {
@@ -47,8 +47,8 @@ fn argument(alloc: Global, text: &str) -> Result<Bytes, BadLine>
     }
 }
 
-/// The chaincode's name that a text is.
-fn name(text: &str) -> Result<Name, BadLine>
+/// The chaincode's name that a text is. `NoForm` only where it is none.
+pub fn name(text: &str) -> Result<Name, BadLine>
     ensures ok { IfOk result (λ n. (n ≡ text.now) × IsName text.now) }
     ensures refused { IfErr result
         (λ r. NoneIs (λ (n : List ℕ). (n ≡ text.now) × IsName text.now) r) }

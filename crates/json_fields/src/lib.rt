@@ -64,6 +64,17 @@ pub fn take_number(fields: &mut Fields<'_>, name: &str) -> Option<u64>
     number(take(fields, name)?)
 }
 
+/// Takes the first field that is left, which has this name and holds a list, and gives its items.
+/// None in every other case; what is left after that is not said.
+pub fn take_list<'a>(fields: &mut Fields<'a>, name: &str) -> Option<&'a [Value]>
+    ensures { MatchOption result
+        ((ds : Items) (rest : Members) → members_view fields.old ≢ member name.now (array ds) rest)
+        (λ vs. members_view fields.old
+        ≡ member name.now (array (items_view vs.now)) (members_view fields.new)) }
+{
+    items(take(fields, name)?)
+}
+
 /// Takes the first field that is left, and tells whether it has this name and holds this string.
 pub fn take_word(fields: &mut Fields<'_>, name: &str, word: &str) -> bool
     ensures { MatchBool result

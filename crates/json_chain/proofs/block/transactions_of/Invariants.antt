@@ -5,5 +5,5 @@ use Rattle.json_chain.proofs.block.transactions_of.Given as goal
 
 abbrev pub invariant-loop-place : goal.invariant-loop-place
 invariant-loop-place l =
-    map view l.values.items ++ transactions_json l.rules.orgs (drop l.place l.envelopes) (drop l.place l.flags) ≡
-    transactions_json l.rules.orgs l.envelopes l.flags
+    map view l.values.items ++ transactions_json l.organisations (drop l.place l.envelopes) (drop l.place l.flags) ≡
+    transactions_json l.organisations l.envelopes l.flags

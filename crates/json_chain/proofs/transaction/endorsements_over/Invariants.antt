@@ -5,4 +5,5 @@ use Rattle.json_chain.proofs.transaction.endorsements_over.Given as goal
 
 abbrev pub invariant-loop-item : goal.invariant-loop-item
 invariant-loop-item l =
-    map view l.values.items ++ map (endorsement_json l.rules.orgs l.bytes) (drop l.item-index l.items) ≡ map (endorsement_json l.rules.orgs l.bytes) l.items
+    map view l.values.items ++ map (endorsement_json l.organisations l.bytes) (drop l.item-index l.items) ≡
+    map (endorsement_json l.organisations l.bytes) l.items

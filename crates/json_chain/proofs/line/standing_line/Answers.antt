@@ -1,0 +1,13 @@
+use Rattle.std.proofs.Common.{arith}
+use Rattle.std.specs.FinMap.{get}
+use Rattle.fab_types.specs.Memberships.{membership_key}
+use Rattle.endorsement_policy.specs.Judge.{plain_after}
+use Rattle.endorsement_policy.specs.Membership.{usable_membership}
+use Rattle.json_chain.proofs.Depths.{standing_low}
+use Rattle.json_chain.proofs.line.standing_line.Goals as goal
+
+pub line_of-requires : goal.line_of-requires
+line_of-requires c =
+    let r = c.args.rules.now in
+    let found = usable_membership r.installed.orgs (get (plain_after c.args.snapshot.now) membership_key) in
+    rw c.in_ok-standing_of.ensures (omega (arith, standing_low r found))

@@ -1,0 +1,6 @@
+mod OneQuestion
+mod OrgLists
+mod Placing
+mod Refusals
+mod AnswerDepths
+mod Absent

@@ -1,0 +1,9 @@
+use Rattle.std.proofs.Common.{ap, sym, ◌∙◌}
+use Rattle.json_fields.proofs.Rests.{members_in, rest}
+use Rattle.json_questions.proofs.fields.call_fields.Goals as goal
+
+pub returns-in_err-chaincode : goal.returns-in_err-chaincode
+returns-in_err-chaincode c =
+    rw c.from_residual-in_err-chaincode.ensures (λ arg chaincode e.
+    let head = sym c.in_ok-arg.ensures ∙ ap members_in (sym c.in_ok-left.ensures ∙ e) in
+    c.in_err-chaincode.ensures _ _ (ap rest (sym c.if-not-take_word.ensures ∙ ap rest head)))

@@ -1,0 +1,81 @@
+-- What is answered to a question, by a genesis and a chain.
+use Rattle.std.specs.Prelude.{ℕ, ◌-◌, ◌++◌, List, Option, Some, None, Result, Ok, Err, Bool, nat_lt, if◌then◌else◌, bytes_eq, codes, replicate, slice_get}
+use Rattle.std.specs.Fmt.{decimal}
+use Rattle.std.specs.List.{find}
+use Rattle.serde_json.specs.Data.{Data, null, boolean, number, unsigned, string, array, object, member, no_members}
+use Rattle.serde_json.specs.View.{items_of}
+use Rattle.fab_types.specs.Payloads.{Payload}
+use Rattle.fab_types.specs.declared.proposal.Proposal.{Proposal}
+use Rattle.fab_types.specs.declared.proposal.Proposal.TheVariants as proposal
+use Rattle.wire.specs.Ids.{id_of}
+use Rattle.ledger_model.specs.Chain.{Bytes, Chain, Placed, history}
+use Rattle.ledger_model.specs.State.{state, state_at}
+use Rattle.ledger_model.specs.Views.{first}
+use Rattle.policy_language.specs.GoodSets.{is_satisfied}
+use Rattle.endorsement_policy.specs.Endorsed.{Listed, policy_in}
+use Rattle.endorsement_policy.specs.Judge.{plain_after}
+use Rattle.wasm_ast.specs.Traps.{trap_number}
+use Rattle.simulator.specs.Execution.{exec_of}
+use Rattle.simulator.specs.Answers.{payload_or_refusal}
+use Rattle.simulator.specs.RefusalNumber.{refusal_number}
+use Rattle.simulator.specs.declared.refusal.SimRefusal.{SimRefusal}
+use Rattle.simulator.specs.declared.refusal.SimRefusal.TheVariants as refusal
+use Rattle.ledger_setting.specs.declared.genesis.Genesis.{Genesis}
+use Rattle.json_chain.specs.Blocks.{block_json}
+use Rattle.json_chain.specs.Entries.{entries_json, entry_json}
+use Rattle.json_chain.specs.Genesis.{genesis_json}
+use Rattle.json_chain.specs.Memberships.{standing_behind}
+use Rattle.json_chain.specs.Standing.{orgs_before}
+use Rattle.json_chain.specs.Transactions.{payload_json, placed_transaction_json}
+use Rattle.json_chain.specs.Writes.{writes_json}
+use Rattle.json_questions.specs.declared.question.Question.{Question}
+use Rattle.json_questions.specs.declared.question.Question.TheVariants.{Setting, Members, Block, Get, Range, History, Transaction, Satisfied, Call}
+
+-- null where there is nothing to show
+abbrev pub or_null : {A : Type 0} → (A → Data) → Option A → Data
+or_null json None = null
+or_null json (Some x) = json x
+
+-- a transaction of this id
+abbrev pub has_id : Bytes → Placed → Bool
+has_id id t = bytes_eq (id_of t.envelope.payload.proposal) id
+
+-- a call without a nonce
+abbrev pub call_of : (chaincode argument : Bytes) → Proposal
+call_of chaincode argument = proposal.Call (record { chaincode = chaincode; argument = argument; nonce = replicate 16 0 })
+
+-- a status is a word of 32 bits, and written as a signed number (two's complement)
+abbrev pub status_words : ℕ → List ℕ
+status_words n = if nat_lt n 2147483648 then codes "404 status " ++ decimal n else codes "404 status -" ++ decimal (4294967296 - n)
+
+-- what a line `refused ..` says of it behind that word
+abbrev pub refusal_words : SimRefusal → List ℕ
+refusal_words (refusal.Trapped kind used) = codes "402 trap " ++ decimal (trap_number kind)
+refusal_words (refusal.Status status) = status_words status
+refusal_words r = decimal (refusal_number r)
+
+-- the payload of a simulation, or {"refused":"404 status 2"}
+abbrev pub outcome_json : Result Payload SimRefusal → Data
+outcome_json (Ok payload) = payload_json payload
+outcome_json (Err r) = object (member (codes "refused") (string (refusal_words r)) no_members)
+
+-- a transaction at its place in a chain, by who stands before its block
+abbrev pub placed_json : Listed → Chain → Placed → Data
+placed_json r chain t = placed_transaction_json (orgs_before r t.version.block chain) t
+
+-- The answer to a question after a chain: of its blocks, of the state after them, or of a policy in that state
+abbrev pub answer_json : Genesis → Question → Chain → Data
+answer_json g Setting chain = genesis_json g
+answer_json g Members chain = standing_behind g.rules.value chain
+answer_json g (Block n) chain = or_null (block_json (orgs_before g.rules.value n chain)) (slice_get chain (n - 1))
+answer_json g (Get key) chain = or_null (λ e. entry_json key e.0 e.1) (state_at (history chain) key)
+answer_json g (Range start end limit) chain = array (items_of (entries_json (first (state (history chain)) start end limit)))
+answer_json g (History key) chain = array (items_of (writes_json key (history chain)))
+answer_json g (Transaction id) chain = or_null (placed_json g.rules.value chain) (find (has_id id) (history chain))
+answer_json g (Satisfied chaincode orgs) chain =
+    or_null (λ p. boolean (is_satisfied p orgs)) (policy_in g.rules.value (plain_after chain) chaincode)
+answer_json g (Call chaincode argument) chain = outcome_json (payload_or_refusal (exec_of g.book.value) (call_of chaincode argument) chain)
+
+-- {"answer":..,"height":7}: the answer, and how many blocks the chain has
+abbrev pub answered_json : Data → (height : ℕ) → Data
+answered_json answer height = object (member (codes "answer") answer (member (codes "height") (number (unsigned height)) no_members))

@@ -1,0 +1,114 @@
+//! The answer to a question.
+
+ghost use Rattle.std.specs.Prelude.{◌≡◌, ◌-◌, Some, IfOk, length, slice_get, string_bytes};
+ghost use Rattle.serde_json.specs.Read.{read};
+ghost use Rattle.serde_json.specs.View.{view};
+ghost use Rattle.json_chain.specs.Blocks.{block_json};
+ghost use Rattle.json_chain.specs.Standing.{orgs_before};
+ghost use Rattle.json_questions.specs.Answers.{answer_json, answered_json, or_null};
+
+use crate::calling::outcome_of;
+use crate::entries::{entries_of, entry_at};
+use crate::policies::satisfied_of;
+use crate::question::Question;
+use crate::standing::standing_before;
+use crate::transactions::transaction_of;
+use crate::writes::writes_of;
+use endorsement_policy::Rules;
+use fab_types::{BlockNumber, CommittedBlock};
+use json_chain::{Object, block_of, genesis_of, line_of, standing_of};
+use ledger_setting::Genesis;
+use serde_json::Value;
+use std::alloc::{AllocError, Global};
+use world_state::Snapshot;
+
+/// The line of the answer to a question by a genesis, after the chain of a snapshot, and how many
+/// blocks that has. The only error is want of memory.
+pub fn answer_line(
+    alloc: Global,
+    genesis: &Genesis,
+    snapshot: &Snapshot,
+    question: &Question,
+) -> Result<String, AllocError>
+    ensures { IfOk result
+        (λ s. read (string_bytes s)
+        ≡ Some
+        (answered_json (answer_json genesis.now question.now snapshot.now)
+        (length snapshot.now))) }
+{
+    let answer = answer_of(alloc, genesis, snapshot, question)?;
+    line_of(alloc, &answered(alloc, answer, snapshot.height())?)
+}
+
+/// An answer with the height of the chain that it is of.
+fn answered(alloc: Global, answer: Value, height: usize) -> Result<Value, AllocError>
+    ensures { IfOk result (λ v. view v ≡ answered_json (view answer) height) }
+{
+    let mut object = Object::new(alloc);
+    object.put("answer", answer)?;
+    object.put("height", Value::from(height))?;
+    Ok(object.into_value())
+}
+
+/// The answer to a question.
+fn answer_of(
+    alloc: Global,
+    genesis: &Genesis,
+    snapshot: &Snapshot,
+    question: &Question,
+) -> Result<Value, AllocError>
+    ensures { IfOk result (λ v. view v ≡ answer_json genesis.now question.now snapshot.now) }
+{
+    let rules: &Rules = &genesis.rules;
+    match question {
+        Question::Setting => genesis_of(alloc, genesis),
+        Question::Members => standing_of(alloc, rules, snapshot),
+        Question::Block(number) => block_at(alloc, rules, snapshot, *number),
+        Question::Get(key) => entry_at(alloc, snapshot, key),
+        Question::Range { start, end, limit } => entries_of(alloc, snapshot, start, end, *limit),
+        Question::History(key) => writes_of(alloc, snapshot, key),
+        Question::Transaction(id) => transaction_of(alloc, rules, snapshot, id),
+        Question::Satisfied { chaincode, orgs } => {
+            satisfied_of(alloc, rules, snapshot, chaincode, orgs)
+        }
+        Question::Call {
+            chaincode,
+            argument,
+        } => outcome_of(alloc, &genesis.book, snapshot, chaincode, argument),
+    }
+}
+
+/// The block of a number, by who stands before it; null where there is none.
+fn block_at(
+    alloc: Global,
+    rules: &Rules,
+    snapshot: &Snapshot,
+    number: BlockNumber,
+) -> Result<Value, AllocError>
+    ensures { IfOk result
+        (λ v. view v
+        ≡ or_null (block_json (orgs_before rules.now number snapshot.now))
+        (slice_get snapshot.now (number - 1))) }
+{
+    let number = number.get() as usize;
+    let blocks = snapshot.blocks();
+    match blocks.get(number - 1) {
+        Some(block) => block_behind(alloc, rules, snapshot, number, block),
+        None => Ok(Value::Null),
+    }
+}
+
+/// The block of a number, by who stands before it.
+fn block_behind(
+    alloc: Global,
+    rules: &Rules,
+    snapshot: &Snapshot,
+    number: usize,
+    block: &CommittedBlock,
+) -> Result<Value, AllocError>
+    ensures { IfOk result
+        (λ v. view v ≡ block_json (orgs_before rules.now number snapshot.now) block.now) }
+{
+    let standing = standing_before(alloc, rules, snapshot, number)?;
+    block_of(alloc, standing.organisations(), block)
+}

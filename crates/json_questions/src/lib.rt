@@ -1,0 +1,26 @@
+//! Questions about a ledger, a line each, and their answers as JSON.
+//!
+//! [`read_question`] gives the [`Question`] that a line spells, over the data that `serde_json`
+//! reads in it; a line spells at most one ([`a_line_spells_one_question`]). [`answer_line`] is the
+//! line of the answer by a genesis and a chain (`specs/Answers.antt`): of a state it is that after
+//! the chain, and of a policy the one in that state.
+#![tactic(auto)]
+
+mod answer;
+mod calling;
+mod entries;
+mod fields;
+mod laws;
+mod line;
+mod orgs;
+mod policies;
+mod question;
+mod standing;
+mod transactions;
+mod values;
+mod writes;
+
+pub use answer::answer_line;
+pub use laws::a_line_spells_one_question;
+pub use line::read_question;
+pub use question::Question;

@@ -1,0 +1,39 @@
+//! What is asked of a ledger.
+
+use fab_types::{BlockNumber, Bound, Key, Name, Value};
+use policy_language::OrgSet;
+
+/// What is asked of a ledger.
+#[derive(Drop)]
+pub enum Question {
+    /// What its genesis sets.
+    Setting,
+    /// Who stands in the state.
+    Members,
+    /// The block of this number.
+    Block(BlockNumber),
+    /// What a key has in the state.
+    Get(Key),
+    /// The first entries of a range of the state, 1 to 1,000 of them at most: from a start on, or
+    /// from the first key that is shown where it is empty, and below an end, or without a bound
+    /// where it is empty.
+    Range {
+        start: Bound,
+        end: Bound,
+        limit: usize,
+    },
+    /// What VALID transactions wrote to a key.
+    History(Key),
+    /// The first transaction of this id.
+    Transaction([u8; 32]),
+    /// Whether these organisations satisfy the policy of a chaincode.
+    Satisfied {
+        chaincode: Name,
+        orgs: OrgSet,
+    },
+    /// What a call of a chaincode with an argument comes to.
+    Call {
+        chaincode: Name,
+        argument: Value,
+    },
+}
