@@ -73,27 +73,6 @@ pub fn lacks_seed(rules: &Rules, signers: &Signers, org: &OrgName) -> bool
     }
 }
 
-/// Refused where an organisation lacks its seed (808), which is said in words too, and for want of
-/// memory (9).
-pub fn need_secret<F: Files>(
-    alloc: Global,
-    files: &mut F,
-    genesis: &Genesis,
-    org: &OrgName,
-) -> Result<(), Failure>
-    ensures ok { result ≡ Ok tt
-        → lacks_seed genesis.now.rules.value genesis.now.signers.value org.now ≡ false }
-    ensures refused { result ≡ Err NoSecret
-        → lacks_seed genesis.now.rules.value genesis.now.signers.value org.now ≡ true }
-    ensures silent { IfErr result IsSilent }
-{
-    if !lacks_seed(&genesis.rules, &genesis.signers, org) {
-        return Ok(());
-    }
-    remark_missing(alloc, files, org)?;
-    Err(Failure::NoSecret)
-}
-
 /// Refused where one of these organisations lacks its seed (808), the first of which is said in
 /// words too, and for want of memory (9).
 pub fn need_secrets<F: Files>(
@@ -127,7 +106,11 @@ fn first_lacking<'a>(genesis: &Genesis, orgs: &'a [OrgName]) -> Option<&'a OrgNa
 }
 
 /// Says whose seed is missing, and where it is looked for.
-fn remark_missing<F: Files>(alloc: Global, files: &mut F, org: &OrgName) -> Result<(), AllocError> {
+pub fn remark_missing<F: Files>(
+    alloc: Global,
+    files: &mut F,
+    org: &OrgName,
+) -> Result<(), AllocError> {
     let org = String::from_utf8_lossy(alloc, org.as_slice())?;
     let line = format!(in alloc; "no seed of {org} is at hand: name its key file by --keys")?;
     files.remark(&line);

@@ -17,8 +17,8 @@ mod verdict;
 
 pub use failure::Failure;
 pub use files::{FileFault, Files, Target, read_all, read_at_most};
-pub use keys::{keys_in, lacks_seed, need_secret, need_secrets, signers_in};
-pub use lines::{hex_of, id_of, print_committed, print_payload, version_of};
+pub use keys::{keys_in, lacks_seed, need_secrets, remark_missing, signers_in};
+pub use lines::{hex_of, id_of, print_committed, print_line, print_payload, version_of};
 pub use opening::{genesis_holding, genesis_in, modules_in};
 pub use printer::Printer;
 pub use verdict::print_audit;

@@ -1,5 +1,8 @@
-//! What the program prints of a transaction, and of a block that was committed.
+//! Lines, and what the program prints of a transaction, and of a block that was committed.
 
+ghost use Rattle.std.specs.Prelude.{◌<◌, OnOk, string_bytes};
+ghost use Rattle.std.specs.Io.KnownBytes.{Appends};
+ghost use Rattle.cli_lines.specs.Texts.{line};
 ghost use Rattle.cli_lines.specs.Told.{Tells};
 
 use crate::failure::Failure;
@@ -8,6 +11,16 @@ use fab_types::{Flag, Payload, RangeItem, ReadItem, Version, WriteItem};
 use std::alloc::{AllocError, Global};
 use std::io::Write;
 use wire::payload_id;
+
+/// Prints a text and the line's end.
+pub fn print_line<W: Write>(text: &String, out: &mut Printer<'_, W>) -> Result<(), Failure>
+    ensures tells { Tells out.old out.new result }
+    ensures printed { OnOk result (out.old.printed < out.new.printed) }
+    ensures line { OnOk result
+        (Appends out.old.bytes out.new.bytes (line (string_bytes text.now))) }
+{
+    writeln!(out, "{text}")
+}
 
 /// Bytes as lower-case hex; `-` where there are none.
 pub fn hex_of(alloc: Global, bytes: &[u8]) -> Result<String, AllocError> {

@@ -9,10 +9,14 @@ use crate::opening::{opened, order_log};
 use crate::public::public;
 use crate::threading::threads;
 use cli_lines::{Failure, Files, Printer};
-use cli_roles::{LogGenesis, commit, endorse};
+use cli_query::query;
+use cli_roles::{Endorsing, LogGenesis, commit, endorse};
 use cli_session::{RunFiles, run};
-use cli_show::{Asked, Shown, Simulated, Span, audit, check, digest, show, simulate, state, trace};
-use cli_words::{Beginning, Task, Usage, WordsFault, Work, parse};
+use cli_show::{
+    Asked, Part, Shown, Simulated, Span, audit, check, digest, marks, show, simulate, state, trace,
+    version,
+};
+use cli_words::{Beginning, StatePart, Task, Usage, WordsFault, Work, parse};
 use endorsement_policy::Workers;
 use std::alloc::Global;
 use std::io::Write;
@@ -103,6 +107,7 @@ fn carry_out<R: Threads + Wait + Sync + Send + Copy + 'static, F: Files, W: Writ
         Ok(Task::Digest { module, profile }) => digest(alloc, files, module, profile, out),
         Ok(Task::Order { genesis }) => order_log(alloc, files, genesis, out),
         Ok(Task::Public { keys }) => public(alloc, files, keys, out),
+        Ok(Task::Version) => version(alloc, out),
         Ok(Task::Work { begin, work }) => with_genesis(rt, alloc, files, &begin, &work, out),
         Err(WordsFault::Memory) => Err(Failure::Memory),
         Err(WordsFault::Usage) => Err(Failure::Usage),
@@ -153,7 +158,7 @@ fn do_work<R: Threads + Wait + Sync + Send + Copy + 'static, F: Files, W: Write>
                 events,
                 store: *store,
             };
-            run(alloc, files, genesis, &names, out)
+            run(&workers, alloc, files, genesis, &names, out)
         }
         Work::Threads { chaincode, rounds } => {
             threads(rt, alloc, files, genesis, chaincode, *rounds, out)
@@ -166,17 +171,35 @@ fn do_work<R: Threads + Wait + Sync + Send + Copy + 'static, F: Files, W: Write>
             };
             show(&workers, alloc, files, genesis, &Shown { store, span }, out)
         }
-        Work::State { store, at, key } => {
+        Work::State { store, at, part } => {
             let asked = Asked {
                 store,
                 at: *at as usize,
-                key: key.as_ref(),
+                part: part_of(part),
             };
             state(&workers, alloc, files, genesis, &asked, out)
         }
         Work::Trace { call, most } => trace(alloc, genesis, call, *most, out),
         Work::Commit { store } => commit(&workers, alloc, files, log, store, out),
-        Work::Endorse { org, store } => endorse(&workers, alloc, files, log, org, store, out),
+        Work::Endorse { org, store, agrees } => {
+            let asked = Endorsing {
+                org,
+                store,
+                agrees: *agrees,
+            };
+            endorse(&workers, alloc, files, log, &asked, out)
+        }
+        Work::Query { store } => query(&workers, alloc, files, genesis, store, out),
+        Work::Marks { store } => marks(&workers, alloc, files, genesis, store, out),
+    }
+}
+
+/// What is asked for of a state.
+fn part_of(part: &StatePart) -> Part<'_> {
+    match part {
+        StatePart::Entries => Part::Entries,
+        StatePart::Writes(key) => Part::Writes(key),
+        StatePart::Members => Part::Members,
     }
 }
 

@@ -4,7 +4,7 @@
 //!
 //! [`program`] takes the words of the command line, the files by [`Files`], and where lines are
 //! printed. It starts threads for `threads` alone, which is here, as `public` is; the others do
-//! their work in `cli_session`, `cli_show` and `cli_roles`.
+//! their work in `cli_session`, `cli_show`, `cli_roles` and `cli_query`.
 #![tactic(auto)]
 
 mod commands;

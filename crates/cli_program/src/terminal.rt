@@ -8,8 +8,12 @@ use store_replay::Watch;
 /// A line is written once in so many seconds at most.
 const TURN: u64 = 1;
 
-/// Who is not told for so many seconds begins anew.
+/// Who is not told for so many seconds begins anew, but where it is behind so many blocks then.
 const PAUSE: u64 = 2;
+
+/// The blocks that are checked at once where there are that many: a replay goes on behind them,
+/// however long they take.
+const STRETCH: usize = 16;
 
 /// Tells on the standard error how far a replay is, where that is a terminal and the replay takes
 /// more than a second: on one line, which is written again where it stands, and wiped at the end.
@@ -18,11 +22,13 @@ pub struct Terminal<'a> {
     times: Cell<Option<Times>>,
 }
 
-/// When something was written last, or a replay began, and when it was told last.
+/// When something was written last, or a replay began, and when it was told last, of how many
+/// blocks.
 #[derive(Clone, Copy)]
 struct Times {
     written: Instant,
     told: Instant,
+    blocks: usize,
 }
 
 impl<'a> Terminal<'a> {
@@ -49,7 +55,8 @@ impl Watch for Terminal<'_> {
         };
         let mut written = now;
         if let Some(times) = self.times.get() {
-            if now.duration_since(times.told).as_secs() < PAUSE {
+            let is_soon = now.duration_since(times.told).as_secs() < PAUSE;
+            if is_soon || blocks.saturating_sub(times.blocks) >= STRETCH {
                 written = times.written;
             }
         }
@@ -57,7 +64,11 @@ impl Watch for Terminal<'_> {
             let _ = eprint!(self.machine; "\x1b[Kledger: {blocks} blocks are checked\r");
             written = now;
         }
-        self.times.set(Some(Times { written, told: now }));
+        self.times.set(Some(Times {
+            written,
+            told: now,
+            blocks,
+        }));
     }
 }
 

@@ -3,14 +3,14 @@
 ghost use Rattle.std.specs.Prelude.{◌≡◌, IfOk, OnOk, option_map};
 ghost use Rattle.cli_lines.specs.Told.{Tells};
 ghost use Rattle.cli_roles.specs.Seen.{has_hash, is_fork};
-ghost use Rattle.log_store.specs.Storing.{IsStored, stored_chain};
+ghost use Rattle.log_store.specs.Storing.{IsStored, rules_of, stored_chain};
 
 use crate::ending::end;
 use crate::input::InputLines;
 use crate::log_genesis::LogGenesis;
 use crate::seen::{SignedSeen, is_signed, signed_seen_in};
 use cli_lines::{Failure, Files, Printer, print_committed};
-use endorsement_policy::{Rules, Workers};
+use endorsement_policy::Workers;
 use fab_types::{Block, CommittedBlock};
 use hex::FromHexError;
 use log_roles::Received;
@@ -265,7 +265,7 @@ fn print_fork<D: Read + Write + Seek + OpenFile + Drop, W: Write>(
     let Some(seen) = signed_seen_in(line) else {
         return Ok(());
     };
-    if is_fork(alloc, &log.genesis.rules, &log.digest, chain, &seen)? {
+    if is_fork(alloc, &log.digest, chain, &seen)? {
         let org = String::from_utf8_lossy(alloc, seen.org.as_slice())?;
         writeln!(out, "forked {org} {}", seen.number)?;
     }
@@ -273,21 +273,21 @@ fn print_fork<D: Read + Write + Seek + OpenFile + Drop, W: Write>(
 }
 
 /// Whether a block that is said to be seen is told as a fork: the chain has another one of its
-/// number, or none, and it is signed. The signature is judged last.
+/// number, or none, and it is signed by who stands behind the chain. The signature is judged last.
 fn is_fork<D: Read + Write + Seek + OpenFile + Drop>(
     alloc: Global,
-    rules: &Rules,
     genesis: &[u8; 32],
     chain: &StoredChain<D>,
     seen: &SignedSeen,
 ) -> Result<bool, AllocError>
     ensures { IfOk result
-        (λ fork. fork ≡ is_fork rules.now.orgs genesis.now (stored_chain chain.now) seen.now) }
+        (λ fork. fork
+        ≡ is_fork (rules_of chain.now) genesis.now (stored_chain chain.now) seen.now) }
 {
     if has_hash(chain.block(seen.number), &seen.hash) {
         return Ok(false);
     }
-    is_signed(alloc, rules, genesis, seen)
+    is_signed(alloc, &chain.standing()?, genesis, seen)
 }
 
 /// Whether a block is there, and its header has this hash.

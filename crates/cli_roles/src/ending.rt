@@ -7,7 +7,7 @@ use log_store::StoreRefusal;
 use std::io::Write;
 
 /// Prints why a filter ends.
-pub(crate) fn end<W: Write>(refusal: StoreRefusal, out: &mut Printer<'_, W>) -> Failure
+pub fn end<W: Write>(refusal: StoreRefusal, out: &mut Printer<'_, W>) -> Failure
     ensures more { IsMore out.old out.new }
     ensures says { Says out.old out.new result }
 {

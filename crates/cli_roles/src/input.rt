@@ -12,14 +12,14 @@ const CAPACITY: usize = 65_536;
 
 /// A reader of lines.
 #[derive(Drop)]
-pub(crate) struct InputLines<R: Read> {
+pub struct InputLines<R: Read> {
     input: BufReader<R>,
     line: Vec<u8>,
 }
 
 impl<R: Read + Drop> InputLines<R> {
     /// The lines of an input, from where it was read to.
-    pub(crate) fn new(alloc: Global, input: R) -> Result<InputLines<R>, Failure>
+    pub fn new(alloc: Global, input: R) -> Result<InputLines<R>, Failure>
         ensures silent { IfErr result IsSilent }
     {
         Ok(InputLines {
@@ -29,7 +29,7 @@ impl<R: Read + Drop> InputLines<R> {
     }
 
     /// The next line, without its end. None where no whole line is left.
-    pub(crate) fn next(&mut self) -> Result<Option<&[u8]>, Failure>
+    pub fn next(&mut self) -> Result<Option<&[u8]>, Failure>
         ensures silent { IfErr result IsSilent }
     {
         self.line.clear();
@@ -41,7 +41,7 @@ impl<R: Read + Drop> InputLines<R> {
     }
 
     /// Whether a further line was read with the last one.
-    pub(crate) fn is_at_hand(&self) -> bool {
+    pub fn is_at_hand(&self) -> bool {
         self.input.buffer().contains(&b'\n')
     }
 }

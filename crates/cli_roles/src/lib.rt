@@ -9,7 +9,8 @@
 //! Who has a public key signs which blocks it has: `endorse` makes the line, `order` hands it on,
 //! and `commit`, which has the chain, tells where another one is meant.
 //!
-//! The state of each is a type with a contract: `Replica` of `log_orderer`, `StoredChain` and
+//! [`InputLines`] are the lines of such a filter, and [`end`] says why it ends before them. The
+//! state of each is a type with a contract: `Replica` of `log_orderer`, `StoredChain` and
 //! `StoreFollower` of `log_store`.
 #![tactic(auto)]
 
@@ -23,6 +24,8 @@ mod ordering;
 mod seen;
 
 pub use committing::commit;
-pub use endorsing::endorse;
+pub use ending::end;
+pub use endorsing::{Endorsing, endorse};
+pub use input::InputLines;
 pub use log_genesis::LogGenesis;
 pub use ordering::order;

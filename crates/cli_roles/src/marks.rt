@@ -6,7 +6,6 @@ ghost use Rattle.log_orderer.specs.Skipped.{IsSkippedBy};
 ghost use Rattle.cli_roles.specs.Marks.{IsMarkOrNone};
 
 use crate::seen::seen_in;
-use endorsement_policy::Rules;
 use log_orderer::Skip;
 
 /// The index of a line, and its text: what stands before the first space, and behind it.
@@ -22,10 +21,10 @@ pub(crate) fn names_another_genesis(text: &str, digest: &str) -> bool {
     }
 }
 
-/// Whether a text that is no mark leaves open which genesis file counts: it names none,
-/// and tells of no block in a log of these organisations.
-pub(crate) fn leaves_genesis_open(rules: &Rules, text: &str) -> bool {
-    !matches!(text.split_once(' '), Some(("genesis", _))) && seen_in(rules, text).is_none()
+/// Whether a text that is no mark leaves open which genesis file counts: it names none, and tells
+/// of no block that was seen.
+pub(crate) fn leaves_genesis_open(text: &str) -> bool {
+    !matches!(text.split_once(' '), Some(("genesis", _))) && seen_in(text).is_none()
 }
 
 /// Whether a skipped line is an envelope or `tick` all the same.

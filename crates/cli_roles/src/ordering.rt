@@ -108,7 +108,7 @@ impl Ordering {
             return Err(Failure::Printed);
         }
         let is_mark = self.take_text(index, text, out)?;
-        if !is_mark && leaves_genesis_open(&self.rules, text) {
+        if !is_mark && leaves_genesis_open(text) {
             files.remark(LEFT_OPEN);
         }
         writeln!(out, "read {index} {}", self.replica.waiting().len())
@@ -186,12 +186,12 @@ impl Ordering {
     }
 
     /// Prints what becomes of a text by which an organisation says that it has seen a block, if it
-    /// is one: with a signature it is handed on. Without one it counts where there is no public
-    /// key.
+    /// is one: with a signature it is handed on, whoever is named, since members may have come
+    /// later. Without one it counts where the genesis gives no public key.
     fn print_seen<W: Write>(&self, text: &str, out: &mut Printer<'_, W>) -> Result<(), Failure>
         ensures tells { Tells out.old out.new result }
     {
-        let Some(seen) = seen_in(&self.rules, text) else {
+        let Some(seen) = seen_in(text) else {
             return Ok(());
         };
         if seen.signature.is_some() {

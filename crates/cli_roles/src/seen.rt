@@ -3,7 +3,7 @@
 ghost use Rattle.std.specs.Prelude.{◌≡◌, IfOk};
 ghost use Rattle.cli_roles.specs.Seen.{is_signed, seen_bytes};
 
-use endorsement_policy::Rules;
+use endorsement_policy::{Rules, Standing};
 use fab_types::{OrgName, Tag};
 use hex::FromHex;
 use org_keys::OrgKey;
@@ -19,17 +19,17 @@ pub(crate) struct Seen<'a> {
     pub signature: Option<[u8; 64]>,
 }
 
-/// The block that a text says was seen, in a log of these organisations. None where the text is
-/// another one: so is one with a signature whose organisation is not listed with a public key.
-pub(crate) fn seen_in<'a>(rules: &Rules, text: &'a str) -> Option<Seen<'a>> {
+/// The block that a text says was seen. None where the text is another one: so is one with a
+/// signature where no organisation can have the name.
+pub(crate) fn seen_in(text: &str) -> Option<Seen<'_>> {
     let seen = spelled_seen(text)?;
-    if seen.signature.is_some() && !has_public_key(rules, seen.org) {
+    if seen.signature.is_some() && OrgName::from_slice(seen.org.as_bytes()).is_none() {
         return None;
     }
     Some(seen)
 }
 
-/// The block that the words of a text name, whoever is listed.
+/// The block that the words of a text name, whatever the name.
 fn spelled_seen(text: &str) -> Option<Seen<'_>> {
     let Some(("seen", rest)) = text.split_once(' ') else {
         return None;
@@ -102,18 +102,18 @@ pub(crate) fn seen_bytes(
     Ok(bytes)
 }
 
-/// Whether the organisation that says so is listed with a public key, under which its signature is
+/// Whether the organisation that says so stands with a public key, under which its signature is
 /// right, in the ledger whose genesis file has this SHA-256.
 pub(crate) fn is_signed(
     alloc: Global,
-    rules: &Rules,
+    standing: &Standing<'_>,
     genesis: &[u8; 32],
     seen: &SignedSeen,
 ) -> Result<bool, AllocError>
-    ensures { IfOk result (λ signed. signed ≡ is_signed rules.now.orgs genesis.now seen.now) }
+    ensures { IfOk result (λ signed. signed ≡ is_signed standing.now.orgs genesis.now seen.now) }
 {
     let bytes = seen_bytes(alloc, genesis, seen.number, &seen.hash)?;
-    match rules.organisation(&seen.org) {
+    match standing.organisation(&seen.org) {
         Some(organisation) => Ok(
             organisation
                 .key

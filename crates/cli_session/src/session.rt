@@ -8,17 +8,20 @@ use crate::placing::place_of;
 use crate::reading::{Next, next_line};
 use crate::storing::write_store;
 use cli_lines::{Failure, Files, Printer, Target, id_of, need_secrets, print_audit};
+use endorsement_policy::Workers;
 use fab_types::{Endorsement, Payload, Proposal};
 use fabric_core::{Event, Reply, System, audit};
 use json_events::{Action, BadLine, Bindings, read_event};
 use ledger_setting::Genesis;
 use std::alloc::{AllocError, Global};
 use std::io::{BufRead, BufReader, Write};
+use std::thread::Threads;
 use wire::{WireFault, decode_envelope};
 
 /// A system at work, and the endorsements that have a name.
 #[derive(Drop)]
-struct Session {
+struct Session<'a, T> {
+    workers: &'a Workers<'a, T>,
     alloc: Global,
     system: System,
     bindings: Bindings,
@@ -43,8 +46,9 @@ pub struct RunFiles<'a> {
 /// is written. The run is refused before the file is opened where a peer's secret is not at hand
 /// (808). The store's name is looked at before the first line is read: refused (703) where its
 /// file is one that the run reads, and where another one has it. The run has the file for itself
-/// alone until it ends.
-pub fn run<F: Files, W: Write>(
+/// alone until it ends. However many workers check the envelopes of blocks, it prints the same.
+pub fn run<T: Threads + Sync, F: Files, W: Write>(
+    workers: &Workers<'_, T>,
     alloc: Global,
     files: &mut F,
     genesis: &Genesis,
@@ -58,11 +62,12 @@ pub fn run<F: Files, W: Write>(
         return Err(Failure::File);
     };
     let mut lines = BufReader::new(alloc, events)?;
-    run_read(alloc, files, genesis, names, &mut lines, out)
+    run_read(workers, alloc, files, genesis, names, &mut lines, out)
 }
 
 /// The same of the lines of a file, which are read as the run goes.
-fn run_read<F: Files, B: BufRead, W: Write>(
+fn run_read<T: Threads + Sync, F: Files, B: BufRead, W: Write>(
+    workers: &Workers<'_, T>,
     alloc: Global,
     files: &mut F,
     genesis: &Genesis,
@@ -75,14 +80,23 @@ fn run_read<F: Files, B: BufRead, W: Write>(
     match names.store {
         Some(store) => {
             let place = place_of(alloc, files, names, store)?;
-            run_into(alloc, files, genesis, lines, Some(&place.target), out)
+            run_into(
+                workers,
+                alloc,
+                files,
+                genesis,
+                lines,
+                Some(&place.target),
+                out,
+            )
         }
-        None => run_into(alloc, files, genesis, lines, None, out),
+        None => run_into(workers, alloc, files, genesis, lines, None, out),
     }
 }
 
 /// The same, where the chain is written to this place if there is one.
-fn run_into<F: Files, B: BufRead, W: Write>(
+fn run_into<T: Threads + Sync, F: Files, B: BufRead, W: Write>(
+    workers: &Workers<'_, T>,
     alloc: Global,
     files: &mut F,
     genesis: &Genesis,
@@ -94,6 +108,7 @@ fn run_into<F: Files, B: BufRead, W: Write>(
 {
     let system = System::new(alloc, genesis)?;
     let mut session = Session {
+        workers,
         alloc,
         system,
         bindings: Bindings::new(alloc),
@@ -101,7 +116,7 @@ fn run_into<F: Files, B: BufRead, W: Write>(
     session.run_to_end(files, genesis, lines, store, out)
 }
 
-impl Session {
+impl<T: Threads + Sync> Session<'_, T> {
     /// Runs the lines, prints how the first peer stands then, and writes its chain to a store if
     /// there is one.
     fn run_to_end<F: Files, B: BufRead, W: Write>(
@@ -196,7 +211,7 @@ impl Session {
 
     /// The reply to an event, of which no clause here speaks.
     fn reply_to(&mut self, event: Event) -> Result<Reply, AllocError> {
-        self.system.step(event)
+        self.system.step_by_workers(self.workers, event)
     }
 
     /// One step, whose reply is printed.

@@ -10,11 +10,11 @@ use Rattle.ledger_model.specs.Chain.{Bytes}
 use Rattle.cli_lines.specs.Texts.{line}
 use Rattle.cli_show.specs.Lines.{HasLines}
 
-appends_none : (b : Option Bytes) → Appends b b []
+pub appends_none : (b : Option Bytes) → Appends b b []
 appends_none None = tt
 appends_none (Some xs) = sym (append-nil xs)
 
-appends_more : (a b c : Option Bytes) (s t : Bytes) → Appends a b s → Appends b c t → Appends a c (s ++ t)
+pub appends_more : (a b c : Option Bytes) (s t : Bytes) → Appends a b s → Appends b c t → Appends a c (s ++ t)
 appends_more None b c s t h k = tt
 appends_more (Some xs) None c s t h k = absurd h
 appends_more (Some xs) (Some ys) None s t h k = absurd k

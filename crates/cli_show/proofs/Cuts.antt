@@ -5,7 +5,7 @@ use Rattle.std.specs.List.{find}
 use Rattle.std.specs.declared.sync.Arc.{Arc}
 use Rattle.std.specs.declared.alloc.Global.{Global}
 use Rattle.world_state.specs.Shared.{blocks_in}
-use Rattle.cli_show.specs.Spans.{within}
+use Rattle.cli_show.specs.Spans.{before, within}
 
 pub take_within : {A : Type 0} (n : ℕ) (xs : List A) → take (min n (length xs)) xs ≡ take n xs
 take_within zero [] = refl
@@ -68,6 +68,16 @@ cut_blocks {A} from to a b m xs first less then =
     ap (λ (zs : List (Arc A Global)). blocks_in zs) (take_past (length ys - m) (drop m ys) (omega (arith, length-drop m ys)) ∙ rest
     ∙ ap (λ (zs : List (Arc A Global)). drop (from - 1) zs) front)
     ∙ drop_blocks (from - 1) (take to xs) ∙ ap (λ (bs : List A). drop (from - 1) bs) (take_blocks to xs)
+
+-- and those before them
+pub cut_before : {A : Type 0} (from to a b m : ℕ) (xs : List (Arc A Global)) → a ≡ min to (length xs) → b ≡ from - 1 → m ≡ min b (length (take a xs)) →
+    blocks_in (take m (take a xs)) ≡ before from to (blocks_in xs)
+cut_before {A} from to a b m xs first less then =
+    let ys = take a xs in
+    let front : ys ≡ take to xs = ap (λ (n : ℕ). take n xs) first ∙ take_within to xs in
+    let part : take m ys ≡ take (from - 1) ys = ap (λ (n : ℕ). take n ys) then ∙ take_within b ys ∙ ap (λ (n : ℕ). take n ys) less in
+    ap (λ (zs : List (Arc A Global)). blocks_in zs) (part ∙ ap (λ (zs : List (Arc A Global)). take (from - 1) zs) front)
+    ∙ take_blocks (from - 1) (take to xs) ∙ ap (λ (bs : List A). take (from - 1) bs) (take_blocks to xs)
 
 pub taken_length : {A : Type 0} (n : ℕ) (xs : List (Arc A Global)) → n ≤ length xs → length (take n (blocks_in xs)) ≡ n
 taken_length zero [] within = refl

@@ -1,5 +1,5 @@
 -- What `state` answers of a store.
-use Rattle.std.specs.Prelude.{ℕ, List, Option, Some, None, take}
+use Rattle.std.specs.Prelude.{ℕ, List, [], ◌∷◌, Option, Some, None, take}
 use Rattle.std.specs.FinMap.{entries}
 use Rattle.serde_json.specs.Data.{Data}
 use Rattle.block_store.specs.declared.end.End.{End}
@@ -7,10 +7,14 @@ use Rattle.block_store.specs.declared.end.End.TheVariants.{Clean, Torn, Damaged,
 use Rattle.committer.specs.declared.refusal.CommitRefusal.{CommitRefusal}
 use Rattle.ledger_model.specs.Chain.{Chain, history}
 use Rattle.ledger_model.specs.State.{state}
+use Rattle.endorsement_policy.specs.Endorsed.{Listed}
+use Rattle.json_chain.specs.Memberships.{standing_behind}
 use Rattle.store_replay.specs.declared.replaying.Replayed.{Replayed}
 use Rattle.cli_lines.specs.declared.failure.Failure.{Failure}
 use Rattle.cli_lines.specs.declared.failure.Failure.TheVariants.{Flags, Commit, Store}
-use Rattle.cli_show.specs.Lines.{entries_json}
+use Rattle.cli_show.specs.Lines.{entries_json, writes_json}
+use Rattle.cli_show.specs.declared.showing.Part.{Part}
+use Rattle.cli_show.specs.declared.showing.Part.TheVariants as part
 
 abbrev pub end_fault : End → Option Failure
 end_fault Clean = None
@@ -34,3 +38,13 @@ fault_of r = first_fault r.differs r.refused r.end
 -- the entries of the state after the first so many blocks
 abbrev pub state_json : ℕ → Chain → List Data
 state_json at chain = entries_json (entries (state (history (take at chain))))
+
+-- what stands after the first so many blocks
+abbrev pub members_json : Listed → ℕ → Chain → Data
+members_json r at chain = standing_behind r (take at chain)
+
+-- what is asked for of the state after the first so many blocks
+abbrev pub part_json : Listed → Part → ℕ → Chain → List Data
+part_json r part.Entries at chain = state_json at chain
+part_json r (part.Writes key) at chain = writes_json key.now (history (take at chain))
+part_json r part.Members at chain = members_json r at chain ∷ []

@@ -4,3 +4,5 @@ pub mod Missing
 pub mod Findings
 pub mod Modules
 pub mod Answers
+pub mod Version
+pub mod Marks

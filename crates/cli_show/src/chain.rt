@@ -1,18 +1,17 @@
 //! The lines of a chain.
 
-ghost use Rattle.std.specs.Prelude.{◌≡◌, OnOk, map};
+ghost use Rattle.std.specs.Prelude.{◌≡◌, None, OnOk};
 ghost use Rattle.cli_lines.specs.Told.{Tells};
 ghost use Rattle.world_state.specs.Shared.{blocks_in};
-ghost use Rattle.json_chain.specs.Blocks.{block_json};
+ghost use Rattle.json_chain.specs.Standing.{blocks_json, membership_behind};
 ghost use Rattle.cli_show.specs.Lines.{HasLines, chain_json};
-ghost use Rattle.cli_show.specs.Spans.{within};
+ghost use Rattle.cli_show.specs.Spans.{before, within};
 
-use crate::lines::print_line;
 use crate::span::Span;
-use cli_lines::{Failure, Printer};
-use endorsement_policy::Rules;
+use cli_lines::{Failure, Printer, print_line};
+use endorsement_policy::{Rules, Standing};
 use fab_types::CommittedBlock;
-use json_chain::{block_line, genesis_line};
+use json_chain::{amended_by, block_line, genesis_line, membership_behind};
 use ledger_setting::Genesis;
 use std::alloc::Global;
 use std::io::Write;
@@ -20,7 +19,7 @@ use std::sync::Arc;
 use world_state::Snapshot;
 
 /// Prints what a genesis sets, and the blocks of a chain from one number to another, as far as
-/// there are any, each as a line of JSON.
+/// there are any, each as a line of JSON. Which tags are right is by who stands before their block.
 pub fn print_chain<W: Write>(
     alloc: Global,
     genesis: &Genesis,
@@ -30,11 +29,22 @@ pub fn print_chain<W: Write>(
 ) -> Result<(), Failure>
     ensures tells { Tells out.old out.new result }
     ensures lines { OnOk result
-        (HasLines (chain_json genesis.now span.from span.to snapshot.now) out.old.bytes out.new.bytes) }
+        (HasLines (chain_json genesis.now span.from span.to snapshot.now) out.old.bytes
+        out.new.bytes) }
 {
     let line = genesis_line(alloc, genesis)?;
     print_line(&line, out)?;
-    print_blocks(alloc, &genesis.rules, within(snapshot.blocks(), span), out)
+    let blocks = snapshot.blocks();
+    let (earlier, shown) = (before(blocks, span), within(blocks, span));
+    print_blocks(alloc, &genesis.rules, earlier, shown, out)
+}
+
+/// Those of these blocks that stand before what a span holds.
+fn before(blocks: &[Arc<CommittedBlock>], span: Span) -> &[Arc<CommittedBlock>]
+    ensures { blocks_in result.now ≡ before span.from span.to (blocks_in blocks.now) }
+{
+    let blocks = &blocks[..span.to.min(blocks.len())];
+    &blocks[..span.from.saturating_sub(1).min(blocks.len())]
 }
 
 /// Those of these blocks that a span holds.
@@ -45,20 +55,26 @@ fn within(blocks: &[Arc<CommittedBlock>], span: Span) -> &[Arc<CommittedBlock>]
     &blocks[span.from.saturating_sub(1).min(blocks.len())..]
 }
 
+/// Prints blocks that stand behind these earlier ones.
 fn print_blocks<W: Write>(
     alloc: Global,
     rules: &Rules,
+    earlier: &[Arc<CommittedBlock>],
     blocks: &[Arc<CommittedBlock>],
     out: &mut Printer<'_, W>,
 ) -> Result<(), Failure>
     ensures tells { Tells out.old out.new result }
     ensures lines { OnOk result
-        (HasLines (map (block_json rules.now.orgs) (blocks_in blocks.now)) out.old.bytes
-        out.new.bytes) }
+        (HasLines
+        (blocks_json rules.now (membership_behind None (blocks_in earlier.now))
+        (blocks_in blocks.now)) out.old.bytes out.new.bytes) }
 {
+    let mut membership = membership_behind(earlier);
     for committed in blocks {
-        let line = block_line(alloc, rules, committed)?;
+        let standing = Standing::after(alloc, rules, membership)?;
+        let line = block_line(alloc, standing.organisations(), committed)?;
         print_line(&line, out)?;
+        membership = amended_by(membership, committed);
     }
     Ok(())
 }

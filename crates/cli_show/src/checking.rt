@@ -5,8 +5,7 @@ ghost use Rattle.cli_lines.specs.Told.{IsSilent, Tells};
 ghost use Rattle.wasm_file.specs.Modules.{IsDefinedBy};
 ghost use Rattle.cli_show.specs.Modules.{IsChecked, IsDigested, IsNoModule};
 
-use crate::lines::print_line;
-use cli_lines::{Failure, Files, Printer, read_at_most};
+use cli_lines::{Failure, Files, Printer, print_line, read_at_most};
 use sha2::{Digest, Sha256};
 use std::alloc::Global;
 use std::io::Write;

@@ -9,8 +9,7 @@ ghost use Rattle.ledger_model.specs.State.{state};
 ghost use Rattle.cli_show.specs.Lines.{HasLines, entries_json};
 
 use crate::earlier::first_blocks;
-use crate::lines::print_line;
-use cli_lines::{Failure, Printer};
+use cli_lines::{Failure, Printer, print_line};
 use committer::CommitRefusal;
 use fab_types::{Key, Value, Version};
 use json_chain::entry_line;

@@ -4,10 +4,9 @@ ghost use Rattle.std.specs.Prelude.{◌≡◌, ◌<◌, [], IfOk};
 ghost use Rattle.cli_lines.specs.Told.{Tells};
 ghost use Rattle.cli_show.specs.Findings.{EndsBy, Finds, is_good};
 
-use crate::lines::print_line;
 use crate::missing::first_missing;
 use block_store::End;
-use cli_lines::{Failure, Printer};
+use cli_lines::{Failure, Printer, print_line};
 use fabric_core::{Audit, audit};
 use json_chain::{Finding, ending_line};
 use ledger_setting::Genesis;

@@ -1,11 +1,12 @@
-//! The commands of the ledger's program that show a module ([`check`], [`digest`]), a call ([`simulate`], and
-//! [`trace`] step by step) or a store ([`audit`], [`show`] and [`state`]), whose chain is committed
-//! again.
+//! The commands of the ledger's program that show a module ([`check`], [`digest`]), a call
+//! ([`simulate`], and [`trace`] step by step) or a store ([`audit`], [`show`], [`state`] and
+//! [`marks`]), whose chain is committed again. [`version`] tells which program it is.
 //!
 //! `show` and `state` print that chain, and the state after it, as lines of JSON (`json_chain`).
 //! [`print_chain`] prints what the genesis sets and the blocks, and [`print_ending`] what is found
-//! of them. [`print_asked`] answers `state`: [`print_state`] prints the entries of the state after a
-//! block, and [`print_writes`] each write to a key. Contracts say which lines the writer has then (`specs/Lines.antt`).
+//! of them. [`print_asked`] answers `state`: [`print_state`] prints the entries of the state after
+//! a block, [`print_writes`] each write to a key, and [`print_members`] who stands there. Contracts
+//! say which lines the writer has then (`specs/Lines.antt`).
 #![tactic(auto)]
 
 mod auditing;
@@ -14,13 +15,15 @@ mod checking;
 mod earlier;
 mod entries;
 mod findings;
-mod lines;
+mod marking;
+mod members;
 mod missing;
 mod replaying;
 mod showing;
 mod simulation;
 mod span;
 mod tracing;
+mod versioning;
 mod writes;
 
 pub use auditing::audit;
@@ -28,8 +31,11 @@ pub use chain::print_chain;
 pub use checking::{check, digest};
 pub use entries::print_state;
 pub use findings::print_ending;
-pub use showing::{Asked, Shown, print_asked, show, state};
+pub use marking::{marks, print_marks};
+pub use members::print_members;
+pub use showing::{Asked, Part, Shown, print_asked, show, state};
 pub use simulation::{Simulated, simulate};
 pub use span::Span;
 pub use tracing::trace;
+pub use versioning::version;
 pub use writes::print_writes;

@@ -1,20 +1,20 @@
 //! The commands `show` and `state`.
 
-ghost use Rattle.std.specs.Prelude.{◌≡◌, IfSome, OnOk, take};
+ghost use Rattle.std.specs.Prelude.{◌≡◌, IfSome, OnOk};
 ghost use Rattle.cli_lines.specs.Told.{Tells};
-ghost use Rattle.ledger_model.specs.Chain.{history};
-ghost use Rattle.cli_show.specs.Answers.{fault_of, state_json};
-ghost use Rattle.cli_show.specs.Lines.{HasLines, writes_json};
+ghost use Rattle.cli_show.specs.Answers.{fault_of, part_json};
+ghost use Rattle.cli_show.specs.Lines.{HasLines};
 
 use crate::chain::print_chain;
 use crate::entries::print_state;
 use crate::findings::print_ending;
+use crate::members::print_members;
 use crate::replaying::replayed;
 use crate::span::Span;
 use crate::writes::print_writes;
 use block_store::End;
 use cli_lines::{Failure, Files, Printer};
-use endorsement_policy::Workers;
+use endorsement_policy::{Rules, Workers};
 use fab_types::Key;
 use ledger_setting::Genesis;
 use std::alloc::Global;
@@ -29,13 +29,24 @@ pub struct Shown<'a> {
     pub span: Span,
 }
 
-/// What `state` is asked for: the state after the block of this number of the store in the file of a
-/// name, or each write to a key up to it.
+/// What of a state is asked for.
+#[derive(Clone, Copy)]
+pub enum Part<'a> {
+    /// Its entries.
+    Entries,
+    /// Each write to this key up to it.
+    Writes(&'a Key),
+    /// Who stands there.
+    Members,
+}
+
+/// What `state` is asked for: this part of the state after the block of this number of the store in
+/// the file of a name.
 #[derive(Clone, Copy)]
 pub struct Asked<'a> {
     pub store: &'a str,
     pub at: usize,
-    pub key: Option<&'a Key>,
+    pub part: Part<'a>,
 }
 
 /// Prints what the genesis sets, the blocks of a store from one number to another, and what is
@@ -72,7 +83,8 @@ fn print_shown<W: Write>(
     }
 }
 
-/// Prints the state after the block of a number, or each write to a key up to it, as lines of JSON.
+/// Prints the state after the block of a number, each write to a key up to it, or who stands there,
+/// as lines of JSON.
 ///
 /// Refused where a block is stored with other flags than the table's (711), where one does not fit
 /// (601 to 604), and where the store does not end with its last record (701 to 703).
@@ -87,38 +99,38 @@ pub fn state<T: Threads + Sync, F: Files, W: Write>(
     ensures tells { Tells out.old out.new result }
 {
     let replayed = replayed(workers, alloc, files, genesis, asked.store)?;
-    print_asked(alloc, &replayed, asked.at, asked.key, out)
+    print_asked(alloc, &genesis.rules, &replayed, asked.at, asked.part, out)
 }
 
 /// Prints what is asked for of the state after a store, as `state` does.
 pub fn print_asked<W: Write>(
     alloc: Global,
+    rules: &Rules,
     replayed: &Replayed,
     at: usize,
-    key: Option<&Key>,
+    part: Part<'_>,
     out: &mut Printer<'_, W>,
 ) -> Result<(), Failure>
     ensures tells { Tells out.old out.new result }
     ensures refused { IfSome (fault_of replayed.now) (λ failure.
         (result ≡ Err failure) × (out.new ≡ out.old)) }
-    ensures state { key.entry ≡ None → OnOk result
-        (HasLines (state_json at replayed.now.snapshot) out.old.bytes out.new.bytes) }
-    ensures writes { IfSome key.entry (λ k. OnOk result
-        (HasLines (writes_json k.now (history (take at replayed.now.snapshot))) out.old.bytes
-        out.new.bytes)) }
+    ensures lines { OnOk result
+        (HasLines (part_json rules.now part.entry at replayed.now.snapshot) out.old.bytes
+        out.new.bytes) }
 {
     if let Some(failure) = fault_of(replayed) {
         return Err(failure);
     }
-    match key {
-        None => print_state(alloc, &replayed.snapshot, at, out),
-        Some(key) => print_writes(alloc, &replayed.snapshot, key, at, out),
+    match part {
+        Part::Entries => print_state(alloc, &replayed.snapshot, at, out),
+        Part::Writes(key) => print_writes(alloc, &replayed.snapshot, key, at, out),
+        Part::Members => print_members(alloc, rules, &replayed.snapshot, at, out),
     }
 }
 
 /// Why the state after a store is not told: what is wrong with the store first. None where it is
 /// whole, all its blocks fit, and all have the flags of the table.
-fn fault_of(replayed: &Replayed) -> Option<Failure>
+pub(crate) fn fault_of(replayed: &Replayed) -> Option<Failure>
     ensures { result ≡ fault_of replayed.now }
 {
     if let Some(block) = replayed.differs {

@@ -6,8 +6,7 @@ ghost use Rattle.cli_lines.specs.Told.{Tells};
 ghost use Rattle.ledger_model.specs.Chain.{history, transactions_from};
 ghost use Rattle.cli_show.specs.Lines.{HasLines, write_json, writes_json};
 
-use crate::lines::print_line;
-use cli_lines::{Failure, Printer};
+use cli_lines::{Failure, Printer, print_line};
 use fab_types::{CommittedBlock, Key};
 use json_chain::{Placed, write_line};
 use std::alloc::Global;

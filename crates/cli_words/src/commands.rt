@@ -9,9 +9,14 @@ fn word<'a>(alloc: Global, name: &'a str) -> Arg<'a> {
     Arg::new(alloc, name).required(true).action(ArgAction::Set)
 }
 
-/// An option with one value, which may be there once.
-fn option<'a>(alloc: Global, name: &'a str) -> Arg<'a> {
-    Arg::new(alloc, name).long(name).action(ArgAction::Set)
+/// An option with one value, or with none where its value has no name. It may be there once.
+fn option<'a>(alloc: Global, name: &'a str, value: &str) -> Arg<'a> {
+    let action = if value.is_empty() {
+        ArgAction::SetTrue
+    } else {
+        ArgAction::Set
+    };
+    Arg::new(alloc, name).long(name).action(action)
 }
 
 /// A command of this form.
@@ -20,8 +25,8 @@ fn command<'a>(alloc: Global, form: &Form) -> Result<Command<'a>, AllocError> {
     for name in form.words {
         command = command.arg(word(alloc, name))?;
     }
-    for (name, _) in form.options {
-        command = command.arg(option(alloc, name))?;
+    for (name, value) in form.options {
+        command = command.arg(option(alloc, name, value))?;
     }
     Ok(command)
 }

@@ -7,5 +7,5 @@ mod table;
 mod task;
 mod usage;
 
-pub use task::{Beginning, Task, WordsFault, Work, parse};
+pub use task::{Beginning, StatePart, Task, WordsFault, Work, parse};
 pub use usage::Usage;

@@ -8,14 +8,14 @@ pub(crate) struct Form {
     pub(crate) name: &'static str,
     /// The names of its words, all of which have to be there.
     pub(crate) words: &'static [&'static str],
-    /// The names of its options, and of the value of each.
+    /// The names of its options, and of the value of each, which is empty where there is none.
     pub(crate) options: &'static [(&'static str, &'static str)],
     /// What it does, in lines.
     pub(crate) does: &'static str,
 }
 
 /// All commands.
-pub(crate) const COMMANDS: [Form; 13] = [
+pub(crate) const COMMANDS: [Form; 16] = [
     Form {
         name: "check",
         words: &["MODULE"],
@@ -77,10 +77,10 @@ by default), and what audit says of it, one JSON object a line",
     Form {
         name: "state",
         words: &["GENESIS", "STORE"],
-        options: &[("at", "N"), ("key", "HEX")],
+        options: &[("at", "N"), ("key", "HEX"), ("members", "")],
         does: "\
-shows each key of the state after the block of number N (the last one by default), or each
-write to the key HEX up to it, one JSON object a line",
+shows each key of the state after the block of number N (the last one by default), each
+write to the key HEX up to it, or who the members are there, one JSON object a line",
     },
     Form {
         name: "trace",
@@ -108,11 +108,27 @@ commits blocks, which come in line by line as order prints them, to the file STO
     Form {
         name: "endorse",
         words: &["GENESIS", "ORG", "STORE"],
-        options: &[("modules", "FILE"), ("keys", "FILE")],
+        options: &[("modules", "FILE"), ("keys", "FILE"), ("agree", "")],
         does: "\
 endorses proposals, which come in line by line as JSON objects, for the organisation ORG
 on the state after the file STORE, which it reads as it grows; one of a public key signs
-by its seed in the key file",
+by its seed in the key file; amendments are endorsed too where --agree is said",
+    },
+    Form {
+        name: "query",
+        words: &["GENESIS", "STORE"],
+        options: &[("modules", "FILE")],
+        does: "\
+answers questions, which come in line by line as JSON objects, about the chain of the file
+STORE and the state after it, and reads on as the file grows",
+    },
+    Form {
+        name: "marks",
+        words: &["GENESIS", "STORE"],
+        options: &[],
+        does: "\
+prints the marks by which order cuts the blocks of the file STORE from nothing: each
+envelope in hex, and tick behind each block",
     },
     Form {
         name: "public",
@@ -120,5 +136,13 @@ by its seed in the key file",
         options: &[],
         does: "\
 prints the public key of each line of the key file KEYS, in hex",
+    },
+    Form {
+        name: "version",
+        words: &[],
+        options: &[],
+        does: "\
+prints the numbers of this program, of the lines that it speaks, of the ledger's rules and
+of the bytes of stores, as one JSON object",
     },
 ];

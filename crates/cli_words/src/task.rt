@@ -33,6 +33,8 @@ pub enum Task<'a> {
     Public {
         keys: &'a str,
     },
+    /// Tell the numbers of the program, its lines, its rules and its stores.
+    Version,
     /// Do this with the chaincodes, organisations and peers of a genesis.
     Work {
         begin: Beginning<'a>,
@@ -44,7 +46,7 @@ pub enum Task<'a> {
 #[derive(Clone, Copy, Drop)]
 pub struct Beginning<'a> {
     pub genesis: &'a str,
-    /// More modules at hand. `State`, `Trace` and `Commit` have none.
+    /// More modules at hand. `State`, `Trace`, `Commit` and `Marks` have none.
     pub modules: Option<&'a str>,
     /// Seeds at hand. Only `Run`, `Threads` and `Endorse` have them.
     pub keys: Option<&'a str>,
@@ -78,11 +80,11 @@ pub enum Work<'a> {
         from: u32,
         to: u32,
     },
-    /// Show the state after the block of a number, or each write to a key up to it.
+    /// Show this part of the state after the block of a number.
     State {
         store: &'a str,
         at: u32,
-        key: Option<Key>,
+        part: StatePart,
     },
     /// Show this many steps at most of this call, on the empty state.
     Trace {
@@ -98,7 +100,29 @@ pub enum Work<'a> {
     Endorse {
         org: OrgName,
         store: &'a str,
+        /// Whether amendments too.
+        agrees: bool,
     },
+    /// Answer questions that come line by line about the chain of a store that grows, and the state
+    /// after it.
+    Query {
+        store: &'a str,
+    },
+    /// Show the marks by which a store's blocks are cut from nothing.
+    Marks {
+        store: &'a str,
+    },
+}
+
+/// What of a state is shown.
+#[derive(Drop)]
+pub enum StatePart {
+    /// Its entries.
+    Entries,
+    /// Each write to this key up to it.
+    Writes(Key),
+    /// Who stands there.
+    Members,
 }
 
 /// Why the words name no task.
@@ -152,6 +176,7 @@ fn task_of<'a>(alloc: Global, matches: &ArgMatches<'a>) -> Result<Task<'a>, Word
         "digest" => digest(command),
         "order" => order(command),
         "public" => public(command),
+        "version" => Ok(Task::Version),
         name => of_genesis(alloc, name, command),
     }
 }
@@ -208,6 +233,7 @@ fn work_of<'a>(
         "show" => show(command),
         "state" => state(alloc, command),
         "trace" => trace(alloc, command),
+        "marks" => marks(command),
         _ => role_of(name, command),
     }
 }
@@ -251,7 +277,7 @@ fn state<'a>(alloc: Global, command: &ArgMatches<'a>) -> Result<Work<'a>, WordsF
     Ok(Work::State {
         store: text(command, "STORE")?,
         at: command.get_str("at").map_or(Ok(LAST_BLOCK), block)?,
-        key: key(alloc, command.get_str("key"))?,
+        part: state_part(alloc, command)?,
     })
 }
 
@@ -259,6 +285,12 @@ fn trace<'a>(alloc: Global, command: &ArgMatches<'a>) -> Result<Work<'a>, WordsF
     Ok(Work::Trace {
         most: command.get_str("steps").map_or(Ok(MOST_COUNT), count)?,
         call: call(alloc, command, None)?,
+    })
+}
+
+fn marks<'a>(command: &ArgMatches<'a>) -> Result<Work<'a>, WordsFault> {
+    Ok(Work::Marks {
+        store: text(command, "STORE")?,
     })
 }
 
@@ -270,6 +302,10 @@ fn role_of<'a>(name: &str, command: &ArgMatches<'a>) -> Result<Work<'a>, WordsFa
         }),
         "endorse" => Ok(Work::Endorse {
             org: organisation(command)?,
+            store: text(command, "STORE")?,
+            agrees: command.get_flag("agree"),
+        }),
+        "query" => Ok(Work::Query {
             store: text(command, "STORE")?,
         }),
         _ => Err(WordsFault::Usage),
@@ -297,15 +333,19 @@ fn block(digits: &str) -> Result<u32, WordsFault> {
     }
 }
 
-/// The key that hex stands for, where there is a word.
-fn key(alloc: Global, digits: Option<&str>) -> Result<Option<Key>, WordsFault> {
-    let Some(digits) = digits else {
-        return Ok(None);
-    };
-    match Key::new(hex::decode(alloc, digits)?) {
-        Some(key) => Ok(Some(key)),
-        None => Err(WordsFault::Usage),
+/// What of a state the words ask for: of a key and the members one at most.
+fn state_part(alloc: Global, command: &ArgMatches<'_>) -> Result<StatePart, WordsFault> {
+    match (command.get_str("key"), command.get_flag("members")) {
+        (None, false) => Ok(StatePart::Entries),
+        (Some(digits), false) => Ok(StatePart::Writes(key(alloc, digits)?)),
+        (None, true) => Ok(StatePart::Members),
+        (Some(_), true) => Err(WordsFault::Usage),
     }
+}
+
+/// The key that hex stands for.
+fn key(alloc: Global, digits: &str) -> Result<Key, WordsFault> {
+    Key::new(hex::decode(alloc, digits)?).ok_or(WordsFault::Usage)
 }
 
 /// The profile by whose number, `1` or `2`, the words ask for a module. It is 1 where they name none.

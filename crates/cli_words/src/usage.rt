@@ -39,7 +39,11 @@ fn write_words<W: Write>(words: &[&str], f: &mut Formatter<W>) -> fmt::Result {
 /// Writes options, which may be left out.
 fn write_options<W: Write>(options: &[(&str, &str)], f: &mut Formatter<W>) -> fmt::Result {
     for (name, value) in options {
-        write!(f, " [--{name} {value}]")?;
+        if value.is_empty() {
+            write!(f, " [--{name}]")?;
+        } else {
+            write!(f, " [--{name} {value}]")?;
+        }
     }
     Ok(())
 }

@@ -4,10 +4,5 @@ use Rattle.cli_roles.proofs.endorsing.endorse.Goals as goal
 
 pub returns-in_err-lines : goal.returns-in_err-lines
 returns-in_err-lines g c =
-    let p = err_from_is_err_and c.from_residual-in_err-lines.result c.from_residual-in_err-lines.ensures.1 in
+    let p = err_from_is_err_and c.from_residual.result c.from_residual.ensures.1 in
     rw (p.1, p.2) (record { tells = tells_by c.args.out.now c.args.out.now _ (no_less c.args.out.now) c.in_err-lines.ensures.silent })
-
-pub returns-in_err-need_secret : goal.returns-in_err-need_secret
-returns-in_err-need_secret g c =
-    let p = err_from_is_err_and c.from_residual-in_err-need_secret.result c.from_residual-in_err-need_secret.ensures.1 in
-    rw (p.1, p.2) (record { tells = tells_by c.args.out.now c.args.out.now _ (no_less c.args.out.now) c.in_err-need_secret.ensures.silent })

@@ -1,31 +1,75 @@
-use Rattle.std.proofs.Common.{◌≡◌, ◌+◌, ◌++◌, List, [], ◌∷◌, Some, take, map, ap, ◌∙◌, arith, string_bytes}
-use Rattle.std.proofs.lemmas.List.{map-append}
+use Rattle.std.proofs.Common.{◌≡◌, ◌+◌, List, [], ◌∷◌, None, Option, Some, option_map, take, drop, sym, ap, subst, ◌∙◌, arith, rules, string_bytes}
+use Rattle.std.proofs.lemmas.List.{drop_all, drop_more}
+use Rattle.std.specs.declared.sync.Arc.{Arc}
+use Rattle.std.specs.declared.alloc.Global.{Global}
 use Rattle.fab_types.specs.Committed.{Committed}
+use Rattle.fab_types.specs.declared.membership.Membership.{Membership}
+use Rattle.org_keys.specs.declared.organisation.Organisation.{Organisation}
+use Rattle.endorsement_policy.specs.Membership.{Standing, standing_by}
 use Rattle.world_state.specs.Shared.{blocks_in}
+use Rattle.serde_json.specs.Data.{Data}
 use Rattle.serde_json.specs.Read.{read}
 use Rattle.json_chain.specs.Blocks.{block_json}
+use Rattle.json_chain.specs.Standing.{amended_by, blocks_json, membership_behind}
 use Rattle.cli_lines.proofs.Silence.{and_more}
-use Rattle.cli_show.proofs.Behind.{line_behind}
-use Rattle.cli_show.proofs.Cuts.{one_block}
+use Rattle.cli_show.specs.Lines.{HasLines}
+use Rattle.cli_show.proofs.Amending.{left_more, taken_all, taken_more}
+use Rattle.cli_show.proofs.Behind.{line_behind, no_lines}
 use Rattle.cli_show.proofs.chain.print_blocks.Goals as goal
+
+pub loop-committed-init : goal.loop-committed-init
+loop-committed-init g c =
+    let blocks = blocks_in c.args.blocks.now in
+    record {
+      more = search rules;
+      failed = search rules;
+      left = ap (λ (was : Option Membership). blocks_json c.args.rules.now was blocks) (sym c.membership_behind-membership.ensures);
+      lines = no_lines c.args.out.now.bytes;
+    }
 
 pub loop-committed-preserved : goal.loop-committed-preserved
 loop-committed-preserved g c =
-    let i = c.loop-committed.invariant in
+    let inv = c.loop-committed.invariant in
     let k = c.loop-committed.committed-index in
     let xs = c.args.blocks.now in
     let x = c.committed-item.result in
-    let json = block_json c.args.rules.now.orgs in
-    let taken : take (k + 1) (blocks_in xs) ≡ take k (blocks_in xs) ++ x.value ∷ [] =
-    one_block k xs x (omega (arith, c.loop-committed-test.true)) c.committed-item.is in
+    let r = c.args.rules.now in
+    let was = option_map (λ s. s.now) c.loop-committed.membership in
+    let all = blocks_json r (membership_behind None (blocks_in c.args.earlier.now)) (blocks_in xs) in
+    let json = block_json (standing_by r was).orgs x.value in
+    let behind = amended_by was x.value.block.envelopes x.value.flags in
+    let rest = blocks_json r behind (blocks_in (drop (k + 1) xs)) in
+    let here : drop k xs ≡ x ∷ drop (k + 1) xs =
+    drop_more xs k x (omega (arith, c.loop-committed-test.true)) ∙ ap (λ (a : Arc Committed Global). a ∷ drop (k + 1) xs) (sym c.committed-item.is) in
+    let split : drop k all ≡ json ∷ rest = inv.left ∙ ap (λ (ys : List (Arc Committed Global)). blocks_json r was (blocks_in ys)) here in
+    let orgs : c.organisations.result.now ≡ (standing_by r was).orgs =
+    c.organisations.ensures ∙ ap (λ (s : Standing). s.orgs) c.in_ok-standing.ensures in
     let text = string_bytes c.in_ok-line.line in
-    let reads : read text ≡ Some (json x.value) = c.in_ok-line.ensures ∙ ap (λ (b : Committed). Some (json b)) c.deref.ensures in
+    let reads : read text ≡ Some json =
+    c.in_ok-line.ensures ∙ ap (λ (b : Committed). Some (block_json c.organisations.result.now b)) c.deref.ensures
+    ∙ ap (λ (os : List Organisation). Some (block_json os x.value)) orgs in
+    let next : option_map (λ s. s.now) c.amended_by-membership.result ≡ behind =
+    c.amended_by-membership.ensures ∙ ap (λ (b : Committed). amended_by was b.block.envelopes b.flags) c.deref-in-loop-committed.ensures in
     record {
-      more = and_more _ _ _ i.more c.in_ok-print_line.ensures.tells.0;
-      failed = c.in_ok-print_line.ensures.tells.1 ∙ i.failed;
+      more = and_more _ _ _ inv.more c.in_ok-print_line.ensures.tells.0;
+      failed = c.in_ok-print_line.ensures.tells.1 ∙ inv.failed;
+      left =
+          left_more k all json rest split
+          ∙ ap (λ (m : Option Membership). blocks_json r m (blocks_in (drop (k + 1) xs))) (sym next);
       lines =
-          line_behind (map json (take k (blocks_in xs))) (map json (take (k + 1) (blocks_in xs))) (json x.value) text
-          c.args.out.now.bytes c.loop-committed.out.bytes c.print_line.new.out.bytes
-          (ap (λ (bs : List Committed). map json bs) taken ∙ map-append json (take k (blocks_in xs)) (x.value ∷ [])) i.lines reads
-          c.in_ok-print_line.ensures.line;
+          line_behind (take k all) (take (k + 1) all) json text c.args.out.now.bytes c.loop-committed.out.bytes c.print_line.new.out.bytes
+          (taken_more k all json rest split) inv.lines reads c.in_ok-print_line.ensures.line;
     }
+
+pub returns-clause-lines : goal.returns-clause-lines
+returns-clause-lines g c =
+    let inv = c.loop-committed.invariant in
+    let k = c.loop-committed.committed-index in
+    let xs = c.args.blocks.now in
+    let r = c.args.rules.now in
+    let was = option_map (λ s. s.now) c.loop-committed.membership in
+    let all = blocks_json r (membership_behind None (blocks_in c.args.earlier.now)) (blocks_in xs) in
+    let none : drop k all ≡ [] =
+    inv.left
+    ∙ ap (λ (ys : List (Arc Committed Global)). blocks_json r was (blocks_in ys)) (drop_all k xs (omega (arith, c.loop-committed-test.false))) in
+    subst (λ (ds : List Data). HasLines ds c.args.out.now.bytes c.loop-committed.out.bytes) (taken_all k all none) inv.lines

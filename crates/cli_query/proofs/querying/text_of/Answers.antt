@@ -1,0 +1,14 @@
+use Rattle.std.proofs.Common.{◌≡◌, inr, string_bytes}
+use Rattle.std.proofs.lemmas.Result.{IfOk-weaker}
+use Rattle.json_events.specs.declared.action.BadLine.TheVariants.{Memory, NoForm}
+use Rattle.cli_query.specs.Printed.{IsSaid}
+use Rattle.cli_query.proofs.querying.text_of.Goals as goal
+
+other : NoForm ≡ Memory → ⊥
+other e = cc
+
+pub returns-in-Err-NoForm : goal.returns-in-Err-NoForm
+returns-in-Err-NoForm c =
+    let none = rw c.in-Err-NoForm.field-0-is at c.in-Err-NoForm.ensures.refused in
+    IfOk-weaker c.bad_line.result _ (λ s. IsSaid c.args.genesis.now c.args.snapshot.now c.args.line.now c.args.number (string_bytes s))
+    (λ s is. inr (none other, is)) c.bad_line.ensures

@@ -1,0 +1,41 @@
+-- Lines of marks behind lines.
+use Rattle.std.proofs.Common.{◌≡◌, List, [], ◌∷◌, ◌++◌, Option, map, sym, subst, ap, ◌∙◌}
+use Rattle.std.proofs.lemmas.List.{append-nil, map-append}
+use Rattle.std.proofs.lemmas.List.Concat.{flat_map-append}
+use Rattle.std.specs.List.{flat_map}
+use Rattle.std.specs.Io.KnownBytes.{Appends}
+use Rattle.fab_types.specs.Committed.{Committed}
+use Rattle.fab_types.specs.declared.block.Block.{Block}
+use Rattle.ledger_model.specs.Chain.{Bytes, Chain}
+use Rattle.log_orderer.specs.Marks.{block_marks}
+use Rattle.cli_lines.specs.Texts.{line}
+use Rattle.cli_show.specs.Marks.{HasTexts, chain_marks}
+use Rattle.cli_show.proofs.Behind.{appends_more, appends_none}
+
+pub no_texts : (b : Option Bytes) → HasTexts [] b b
+no_texts b = appends_none b
+
+pub more_texts : (ts us : List Bytes) (a b c : Option Bytes) → HasTexts ts a b → HasTexts us b c → HasTexts (ts ++ us) a c
+more_texts ts us a b c h k =
+    subst (λ (s : Bytes). Appends a c s) (sym (flat_map-append line ts us)) (appends_more a b c _ _ h k)
+
+-- one line more
+pub text_behind : (before after : List Bytes) (text : Bytes) (a b c : Option Bytes) → after ≡ before ++ text ∷ [] → HasTexts before a b →
+    Appends b c (line text) → HasTexts after a c
+text_behind before after text a b c longer h k =
+    let one : HasTexts (text ∷ []) b c = subst (λ (s : Bytes). Appends b c s) (sym (append-nil (line text))) k in
+    subst (λ (ts : List Bytes). HasTexts ts a c) (sym longer) (more_texts before (text ∷ []) a b c h one)
+
+-- the marks of one block more
+pub chain_longer : (chain longer : Chain) (c : Committed) → longer ≡ chain ++ c ∷ [] → chain_marks longer ≡ chain_marks chain ++ block_marks c.block
+chain_longer chain longer c is =
+    let blocks = λ (cs : Chain). map (λ (x : Committed). x.block) cs in
+    ap (λ (cs : Chain). chain_marks cs) is
+    ∙ ap (λ (bs : List Block). flat_map block_marks bs) (map-append (λ (x : Committed). x.block) chain (c ∷ []))
+    ∙ flat_map-append block_marks (blocks chain) (c.block ∷ [])
+    ∙ ap (λ (ts : List Bytes). chain_marks chain ++ ts) (append-nil (block_marks c.block))
+
+pub block_behind : (chain longer : Chain) (c : Committed) (a b d : Option Bytes) → longer ≡ chain ++ c ∷ [] → HasTexts (chain_marks chain) a b →
+    HasTexts (block_marks c.block) b d → HasTexts (chain_marks longer) a d
+block_behind chain longer c a b d is h k =
+    subst (λ (ts : List Bytes). HasTexts ts a d) (sym (chain_longer chain longer c is)) (more_texts (chain_marks chain) (block_marks c.block) a b d h k)

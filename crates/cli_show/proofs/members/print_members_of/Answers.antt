@@ -1,0 +1,13 @@
+use Rattle.std.proofs.Common.{[], ◌∷◌, string_bytes}
+use Rattle.json_chain.specs.Memberships.{standing_behind}
+use Rattle.cli_show.proofs.Behind.{on_ok, one_line}
+use Rattle.cli_show.specs.Lines.{HasLines}
+use Rattle.cli_show.proofs.members.print_members_of.Goals as goal
+
+pub returns-clause-line : goal.returns-clause-line
+returns-clause-line g c =
+    let stands = standing_behind c.args.rules.now c.args.snapshot.now in
+    let was = c.args.out.now.bytes in
+    let after = c.print_line.new.out.bytes in
+    on_ok c.print_line.result _ (HasLines (stands ∷ []) was after) (λ h. one_line stands (string_bytes c.in_ok-line.line) was after c.in_ok-line.ensures h)
+    c.print_line.ensures.line

@@ -1,0 +1,47 @@
+//! The command `version`.
+
+ghost use Rattle.std.specs.Prelude.{◌≡◌, [], ◌∷◌, IfOk, OnOk};
+ghost use Rattle.serde_json.specs.View.{view};
+ghost use Rattle.cli_lines.specs.Told.{Tells};
+ghost use Rattle.cli_show.specs.Lines.{HasLines};
+ghost use Rattle.cli_show.specs.Version.{version_json};
+
+use cli_lines::{Failure, Printer, print_line};
+use json_chain::{Object, line_of};
+use serde_json::Value;
+use std::alloc::{AllocError, Global};
+use std::io::Write;
+
+/// The number of this program: another one where it does something else.
+const PROGRAM: u8 = 1;
+
+/// The number of the lines that its filters read and print.
+const LINES: u8 = 1;
+
+/// The number of the ledger's rules: programs of one number make of the same lines the same chain.
+const RULES: u8 = 1;
+
+/// The number of the bytes of a store.
+const STORE: u8 = 1;
+
+/// Prints these numbers as a line of JSON.
+pub fn version<W: Write>(alloc: Global, out: &mut Printer<'_, W>) -> Result<(), Failure>
+    ensures tells { Tells out.old out.new result }
+    ensures line { OnOk result
+        (HasLines (version_json PROGRAM LINES RULES STORE ∷ []) out.old.bytes out.new.bytes) }
+{
+    let line = line_of(alloc, &numbers(alloc)?)?;
+    print_line(&line, out)
+}
+
+/// These numbers.
+fn numbers(alloc: Global) -> Result<Value, AllocError>
+    ensures { IfOk result (λ v. view v ≡ version_json PROGRAM LINES RULES STORE) }
+{
+    let mut object = Object::new(alloc);
+    object.put("lines", Value::from(LINES))?;
+    object.put("program", Value::from(PROGRAM))?;
+    object.put("rules", Value::from(RULES))?;
+    object.put("store", Value::from(STORE))?;
+    Ok(object.into_value())
+}
