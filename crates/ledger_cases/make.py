@@ -156,6 +156,12 @@ def endorsements() -> list[Row]:
     def behind(policy: str) -> str:
         return f"r:0x006b76@1.0 / w:0x006b76=0x{definition(17, bytes([8]) * 32, 71, policy).hex()}"
 
+    def amended(serial: int, names: str, policy: str) -> str:
+        value = membership(serial, [member(name) for name in names.split("+")], policy)
+        return f"a:{serial},{names},{policy} {put(AMENDED, value)}"
+
+    first, only_b = membership(1, [member("A")], QA), membership(1, [member("B")], QB)
+    after_b = f"/ w:0x00=0x{only_b.hex()}"
     cases = [
         (f"A/A 'A' | u17:8,71,'B' {opened(17, chr(39) + 'B' + chr(39))}", True),
         (f"A/A 'A' | u18:8,71,'B' {opened(18, QB)}", True),
@@ -172,11 +178,33 @@ def endorsements() -> list[Row]:
         (f"A/A 'A' | {behind(QC)}", False),
         (f"C/C 'A' | {behind(QC)}", False),
         (f"A/A 'A' | {behind('OR(')}", False),
-        (f"A/A 'A' | a:1,A,'A' {put(AMENDED, membership(1, [member('A')], QA))}", False),
-        (f"A/A,B/B 'A' | a:1,A+B,'A' {put(AMENDED, membership(1, [member('A'), member('B')], QA))}", False),
-        (f"A/A 'A' | a:2,A,'A' {put(AMENDED, membership(2, [member('A')], QA))}", False),
+        (f"A/A 'A' | {amended(1, 'A', QA)}", True),
+        (f"A/A,B/B 'A' | {amended(1, 'A+B', QA)}", True),
+        (f"A/A 'A' | {amended(1, 'B', QB)}", True),
+        (f"B/B 'A' | {amended(1, 'A', QA)}", False),
+        (f"B/B 'A' | {amended(1, 'B', QB)}", False),
+        (f"A/A 'A' | {amended(0, 'A', QA)}", False),
+        (f"A/A 'A' | {amended(2, 'A', QA)}", False),
+        (f"A/A 'A' | {amended(1, 'A+C', QA)}", False),
+        (f"A/A 'A' | {amended(1, 'A', QB)}", False),
+        (f"A/A 'A' | {amended(1, 'A', 'OR(')}", False),
         ("A/A 'A' | a:1,A,'A' r:0x006b76@-", False),
-        (f"A/A 'A' | r:0x006b76@- / w:0x00=0x{membership(1, [member('B')], QB).hex()}", True),
+        (f"A/A 'A' | a:1,A,'A' w:0x00=0x{first.hex()}", False),
+        (f"A/A 'A' | a:1,A,'A' r:0x00@- r:a@- w:0x00=0x{first.hex()}", False),
+        (f"A/A 'A' | {amended(1, 'A', QA)} w:a=1", False),
+        (f"A/A 'A' | a:1,A,'A' {put(AMENDED, only_b)}", False),
+        (f"A/A 'A' | r:0x006b76@- {after_b}", False),
+        (f"A/A OR('A','B') | r:0x006b76@- {after_b}", False),
+        (f"B/B OR('A','B') | r:0x006b76@- {after_b}", True),
+        (f"B/B OR('A','B') | {amended(2, 'A+B', QA)} {after_b}", True),
+        (f"A/A OR('A','B') | {amended(2, 'A+B', QA)} {after_b}", False),
+        (f"B/B OR('A','B') | {amended(1, 'A+B', QA)} {after_b}", False),
+        (f"B/B OR('A','B') | u17:8,71,'B' {opened(17, QB)} {after_b}", True),
+        (f"B/B OR('A','B') | u17:8,71,'A' {opened(17, QA)} {after_b}", False),
+        (f"A/A OR('A','B') | u17:8,71,'B' {opened(17, QB)} {after_b}", False),
+        ("A/A 'A' | r:0x006b76@- / w:0x00=01", True),
+        (f"A/A 'A' | r:0x006b76@- / w:0x00=0x{membership(1, [member('C')], QC).hex()}", True),
+        (f"A/A 'A' | {amended(1, 'A', QA)} / w:0x00=0x{membership(1, [member('C')], QC).hex()}", True),
     ]
     return [(f"endorsed A,B {case}", "true" if endorsed else "false") for case, endorsed in cases]
 
@@ -188,6 +216,9 @@ def simulations() -> list[Row]:
         value = definition(form, b"\7" * 32, fuel, policy)
         return f"kv := {form} {'07' * 32} {fuel} {policy} {put(UPGRADED, value)}"
 
+    def amended(serial: int, seen: str = "-") -> str:
+        return f"members := {serial} A 'A' {put(AMENDED, membership(serial, [member('A')], QA), seen)}"
+
     cases = [
         ("u17:7,71,'A' | ", f"{upgraded(17, 71, QA)} / {call.format('1.0')}"),
         ("u17:7,71,'Z' | ", f"{upgraded(17, 71, QZ)} / {call.format('1.0')}"),
@@ -197,8 +228,14 @@ def simulations() -> list[Row]:
         ("u17:7,71,'A", "refused 407"),
         ("u17:7,71,OutOf(2,'Z')", "refused 407"),
         ("u17:8,71,'A", "refused 406"),
-        ("a:1,A,'A' | ", f"refused 408 / {call.format('-')}"),
-        ("a:2,A,'Z'", "refused 408"),
+        ("a:1,A,'A' | ", f"{amended(1)} / {call.format('-')}"),
+        ("a:1,A,'A' | a:1,A,'A' | a:2,A,'A'", f"{amended(1)} / refused 408 / {amended(2, '1.0')}"),
+        ("a:0,A,'A' | ", f"refused 408 / {call.format('-')}"),
+        ("a:2,A,'A'", "refused 408"),
+        ("a:1,A,'Z'", "refused 408"),
+        ("a:1,A,'A", "refused 408"),
+        ("a:1,B,'B'", "refused 408"),
+        ("a:1,A+B,'A'", "refused 408"),
     ]
     return [(f"simulate kv 71 {PUTS} | {case}", answer) for case, answer in cases]
 
@@ -266,8 +303,10 @@ GROUPS: list[tuple[str, Callable[[], list[Row]]]] = [
     ("# wire: a membership is the byte 01, a serial number, 1 to 16 members, each a name and a key, whose names ascend, and a policy's text", memberships),
     ("# wire: an amendment is the byte 80, a membership and a nonce; no name has so many bytes", amendments),
     ("# endorsement_policy: an upgrade to an open definition needs a policy of organisations, and no module that is installed; a call under one"
-     " falls under its text, whatever that names. An amendment is endorsed by nobody", endorsements),
-    ("# simulator: an open definition is of a module at hand (406) and of a policy, whatever it names (407); an amendment is 408", simulations),
+     " falls under its text, whatever that names. An amendment has to be to the next membership that can be used, and falls under the"
+     " policy that stands; whose tags are right is by who stands", endorsements),
+    ("# simulator: an open definition is of a module at hand (406) and of a policy, whatever it names (407); an amendment is 408 where"
+     " its membership may not come next", simulations),
     ("# json_events: upgrades to open definitions, and amendments", begins),
     ("# json_genesis: a modules file: 0 to 64 modules, and what is refused", modules),
 ]

@@ -1,8 +1,8 @@
 #!/usr/bin/env python3
 """Writes orders*, sizes*, names*, ends.json, scans.jsonl, stranger.jsonl, bytes.jsonl, upgrades*, versions.jsonl,
 predicted.jsonl, profiles*, seatless.json, nobody.json, doubled.json, look.json, extend.wasm, signed*, alone*, second.json,
-forged.jsonl, seen*, asked.txt, open*, modules*, key files and stores beside this file: events with envelopes, genesis
-files, modules files, modules and stores that are laid out here, by docs/FORMATS.md.
+forged.jsonl, seen*, asked.txt, open*, modules*, members*, *questions.jsonl, calls.jsonl, marks*, key files and stores beside
+this file: events with envelopes, genesis files, modules files, modules and stores that are laid out here, by docs/FORMATS.md.
 
 older.store is not among them: the program wrote it when calls did not read their definitions yet. It has the blocks of
 whole.store but for these reads.
@@ -177,6 +177,11 @@ def upgrade(peer, nonce, code, fuel=400, policy="'A'", chaincode="kv", profile=1
     return event("begin", **definition, nonce="%032x" % nonce, peer=peer, seat=0, upgrade=chaincode)
 
 
+def amend(peer, nonce, serial, policy, *members, seat=0):
+    """Begins an amendment: the next membership."""
+    return event("begin", members=members, policy=policy, serial=serial, nonce="%032x" % nonce, peer=peer, seat=seat)
+
+
 def finish(peer, name, seat=0):
     return event("finish", peer=peer, seat=seat, **{"as": name})
 
@@ -344,16 +349,31 @@ genesis("look.json", more=[("look", LOOK, 1)], seats=4)
 # Stores of two blocks that each put `1` at `a`.
 
 
-def record(number, link, flag=0, data_hash=None, one=None):
-    """A block of one envelope as it is stored, behind a header with this hash, and the hash of its own header."""
-    one = one or envelope(call(number, writes=puts(b"a")))
-    data = struct.pack(">HI", 1, len(one)) + one
+def recorded(number, link, envelopes, flags, data_hash=None):
+    """A block as it is stored, behind a header with this hash, and the hash of its own header."""
+    data = struct.pack(">H", len(envelopes)) + b"".join(struct.pack(">I", len(one)) + one for one in envelopes)
     header = struct.pack(">I", number) + link + (data_hash or hashlib.sha256(data).digest())
-    stored = struct.pack(">I", len(header + data)) + header + data + bytes([flag])
+    stored = struct.pack(">I", len(header + data)) + header + data + bytes(flags)
     return stored + hashlib.sha256(stored).digest(), hashlib.sha256(header).digest()
 
 
+def record(number, link, flag=0, data_hash=None, one=None):
+    """The same of a block of one envelope."""
+    return recorded(number, link, [one or envelope(call(number, writes=puts(b"a")))], [flag], data_hash)
+
+
 NO_LINK = bytes(32)
+
+
+def chain(*blocks):
+    """Blocks as they are stored, one behind another: each its envelopes and their flags."""
+    stored, link = [], NO_LINK
+    for number, (envelopes, flags) in enumerate(blocks, 1):
+        kept, link = recorded(number, link, envelopes, flags)
+        stored.append(kept)
+    return stored
+
+
 first, link = record(1, NO_LINK)
 second, _ = record(2, link)
 STORES = {
@@ -570,24 +590,28 @@ def alone(name, begun):
 TO = {"code": GET_PUT_A, "fuel": 141, "profile": 17}
 write("open.jsonl", alone("e1", begin(0, 1)) + alone("e2", upgrade(0, 2, **TO)) + alone("e3", begin(0, 3)))
 # The same upgrade, closed; an open one to a policy of whom nobody knows, which is endorsed, and fails the policy; and an
-# amendment.
-amendment = {"members": [{"name": "A"}], "policy": "'A'", "serial": 1, "nonce": "%032x" % 6}
+# amendment that is not the next.
 write(
     "open-refused.jsonl",
     [upgrade(0, 4, **(TO | {"profile": 1})), finish(0, "e")]
     + alone("e5", upgrade(0, 5, PUT_A, profile=17, policy="'Z'"))
-    + [event("begin", **amendment, peer=0, seat=0), finish(0, "e6")],
+    + [amend(0, 6, 2, "'A'", {"name": "A"}), finish(0, "e6")],
 )
 # Proposals behind that chain, for `endorse`: a call, the upgrade once more, and an amendment.
-asked = [proposal(begin(0, 7)), proposal(upgrade(0, 8, **TO)), json.dumps(amendment, separators=(",", ":"))]
+asked = [proposal(begin(0, 7)), proposal(upgrade(0, 8, **TO)), proposal(amend(0, 6, 1, "'A'", {"name": "A"}))]
 write("open-asked.jsonl", asked)
 
 
-def written(proposed, key, data, reads):
-    """An envelope of a proposal that reads these keys and puts data at one, with A's tag."""
+def putting(proposed, key, data, reads):
+    """A payload of a proposal that reads these keys and puts data at one."""
     out = proposed + value(b"") + struct.pack(">H", len(reads))
     out += b"".join(short(read) + (b"\0" if at is None else b"\1" + version(at)) for read, at in reads)
-    return envelope(out + bytes(2) + struct.pack(">H", 1) + short(key) + b"\1" + value(data))
+    return out + bytes(2) + struct.pack(">H", 1) + short(key) + b"\1" + value(data)
+
+
+def written(*parts):
+    """An envelope of such a payload with A's tag."""
+    return envelope(putting(*parts))
 
 
 # The blocks of open.jsonl with modules.json, for `commit`, and their store.
@@ -599,9 +623,192 @@ opened = [
     written(b"\0" + NAMED + OPENED + bytes.fromhex("%032x" % 2), b"\0kv", OPENED, [(b"\0kv", None)]),
     written(called[1], b"a", b"1", [(b"\0kv", (2, 0)), (b"a", (1, 0))]),
 ]
-before, stored = NO_LINK, []
-for number, one in enumerate(opened, 1):
-    kept, before = record(number, before, one=one)
-    stored.append(kept)
+stored = chain(*(([one], [0]) for one in opened))
 (HERE / "open.store").write_bytes(b"".join(stored))
 blocks("open.txt", *(f"{number} {block(kept)}" for number, kept in enumerate(stored, 1)))
+
+# Memberships: A and B are listed, and each endorses calls; A agrees to upgrades and amendments. C has the second seed.
+genesis("members.json", policy="OR('A','B')", upgrade="'A'")
+A, B, C = {"name": "A"}, {"name": "B"}, {"name": "C", "public": PUBLIC[1].hex()}
+COMMITS = [event("commit", peer=0), event("commit", peer=1)]
+
+
+def by_both(begins):
+    """Has both peers endorse what they begin, and its block committed."""
+    return [begins[0], finish(0, "e1"), begins[1], finish(1, "e2"), *use("e1", "e2"), *COMMITS]
+
+
+# By kept keys: B leaves, comes back, and is then alone. One amendment is not the next.
+members = committed(begin(1, 1), 1) + committed(amend(0, 2, 1, "'A'", A))
+members += committed(begin(1, 3), 1) + committed(begin(0, 4)) + [amend(0, 5, 1, "OR('A','B')", A, B), finish(0, "e")]
+members += committed(amend(0, 6, 2, "OR('A','B')", A, B)) + committed(begin(1, 7), 1)
+members += committed(amend(0, 8, 3, "'B'", B)) + committed(begin(0, 9))
+write("members.jsonl", members)
+
+
+def membership(serial, policy, *members):
+    out = b"\1" + struct.pack(">IB", serial, len(members))
+    for it in members:
+        out += short(it["name"].encode()) + (b"\1" + bytes.fromhex(it["public"]) if "public" in it else b"\0")
+    return out + value(policy.encode())
+
+
+def amending(nonce, serial, policy, *members, at=None):
+    """The payload of an amendment that read this version."""
+    put = membership(serial, policy, *members)
+    return putting(b"\x80" + put + bytes.fromhex("%032x" % nonce), b"\0", put, [(b"\0", at)])
+
+
+def upgrading(nonce, form, policy, at=None):
+    """The payload of an upgrade of `kv` to its own module that read this version."""
+    put = bytes([form]) + hashlib.sha256(PUT_A).digest() + struct.pack(">I", 400) + value(policy.encode())
+    return putting(b"\0" + NAMED + put + bytes.fromhex("%032x" % nonce), b"\0kv", put, [(b"\0kv", at)])
+
+
+TAGS = {
+    "A": lambda data: tag_of("A", hmac.digest(KEYS["A"], data, "sha256")),
+    "old B": lambda data: tag_of("B", hmac.digest(KEYS["B"], data, "sha256")),
+    "no B": lambda data: tag_of("B", hmac.digest(b"", data, "sha256")),
+    "B": lambda data: tag_of("B", rfc8032.sign(SEEDS[0], data)),
+    "C": lambda data: tag_of("C", rfc8032.sign(SEEDS[1], data)),
+}
+
+
+def tagged(data, *signs):
+    return data + bytes([len(signs)]) + b"".join(TAGS[it](data) for it in signs)
+
+
+# C joins, and B has a key of its own in the place of the one that is listed; then C leaves. Of a call that is begun before
+# the new key stands the tag is wrong behind it. A alone agrees, then A or C, and then it needs A and B.
+OWN_B, ANY, BOTH_AGREE = {"name": "B", "public": PUBLIC[0].hex()}, "OR('A','B','C')", "AND('A','B')"
+THIRD = (3, 0)
+joined = [
+    (tagged(upgrading(1, 17, ANY), "A"), 1),
+    (tagged(amending(2, 1, "OR('A','C')", A, B, C), "A"), 0),
+    (tagged(upgrading(3, 17, ANY), "A"), 0),
+    (tagged(call(4, definition=THIRD, writes=puts(b"a")), "C"), 0),
+    (tagged(amending(5, 2, BOTH_AGREE, A, OWN_B, C, at=(2, 0)), "A"), 0),
+    (tagged(call(6, definition=THIRD, writes=puts(b"a")), "old B"), 1),
+    (tagged(call(7, definition=THIRD, writes=puts(b"a")), "B"), 0),
+    (tagged(amending(8, 3, BOTH_AGREE, A, OWN_B, at=(5, 0)), "A"), 1),
+    (tagged(amending(9, 3, BOTH_AGREE, A, OWN_B, at=(5, 0)), "A", "B"), 0),
+    (tagged(call(10, definition=THIRD, writes=puts(b"a")), "C"), 1),
+    (tagged(upgrading(11, 1, "'A'", at=THIRD), "A"), 1),
+    (tagged(upgrading(12, 1, "'A'", at=THIRD), "A", "B"), 0),
+]
+stored = chain(*(([one], [flag]) for one, flag in joined))
+(HERE / "members-keys.store").write_bytes(b"".join(stored))
+(HERE / "members-joined.store").write_bytes(b"".join(stored[:5]))
+blocks("members-keys.txt", *(f"{number} {block(kept)}" for number, kept in enumerate(stored, 1)))
+
+# Between these blocks C and B say by their seeds that the first is another one; behind them B says what is so.
+lies = [seen("C", 1, LIE, SEEDS[1], "members.json"), seen("B", 1, LIE, SEEDS[0], "members.json")]
+told = []
+for number, kept in enumerate(stored[:9], 1):
+    told += [f"block {number} {block(kept)}", *(lies if number in (1, 2, 5, 9) else [])]
+write("members-seen.txt", [*told, seen("B", 1, hashlib.sha256(stored[0][4:72]).digest(), SEEDS[0], "members.json")])
+
+
+def by_hand(number):
+    """Submits the envelope of a block of that chain, and has it committed."""
+    return [event("submit", hex=joined[number - 1][0].hex()), event("take"), *COMMITS]
+
+
+keys = committed(upgrade(0, 1, PUT_A, profile=17, policy=ANY)) + committed(amend(0, 2, 1, "OR('A','C')", A, B, C))
+keys += committed(upgrade(0, 3, PUT_A, profile=17, policy=ANY)) + by_hand(4) + [begin(1, 6), finish(1, "old")]
+keys += committed(amend(0, 5, 2, BOTH_AGREE, A, OWN_B, C)) + use("old") + COMMITS + committed(begin(1, 7), 1)
+keys += committed(amend(0, 8, 3, BOTH_AGREE, A, OWN_B)) + by_both([amend(peer, 9, 3, BOTH_AGREE, A, OWN_B) for peer in (0, 1)])
+keys += by_hand(10) + committed(upgrade(0, 11, PUT_A)) + by_both([upgrade(peer, 12, PUT_A) for peer in (0, 1)])
+write("members-keys.jsonl", keys)
+
+# In one block: an amendment by which B leaves, and B's call behind it; two amendments that are next; an amendment and its
+# copy. Between them B's call, when it has left and when it is back.
+genesis("members-two.json", policy="OR('A','B')", upgrade="'A'", count=2)
+genesis("members-ordered.json", policy="OR('A','B')", upgrade="'A'", count=2, reorder=True)
+two = submitted(amend(0, 1, 1, "'A'", A)) + submitted(begin(1, 2), 1) + COMMITS
+two += submitted(begin(1, 3), 1) + [event("tick"), *COMMITS]
+two += [amend(0, 4, 2, "'A'", A), finish(0, "e4"), amend(0, 5, 2, "OR('A','B')", A, B), finish(0, "e5"), *use("e4"), *use("e5")]
+two += COMMITS + [amend(0, 6, 3, "OR('A','B')", A, B), finish(0, "e6"), *use("e6"), *use("e6"), *COMMITS]
+two += submitted(begin(1, 7), 1) + [event("tick"), *COMMITS]
+write("members-two.jsonl", two)
+copied = tagged(amending(6, 3, "OR('A','B')", A, B, at=(3, 0)), "A")
+batches = [
+    ([tagged(amending(1, 1, "'A'", A), "A"), tagged(call(2, writes=puts(b"a")), "old B")], [0, 0]),
+    ([tagged(call(3, writes=puts(b"a")), "no B")], [1]),
+    ([tagged(amending(4, 2, "'A'", A, at=(1, 0)), "A"), tagged(amending(5, 2, "OR('A','B')", A, B, at=(1, 0)), "A")], [0, 2]),
+    ([copied, copied], [0, 4]),
+    ([tagged(call(7, writes=puts(b"a")), "old B")], [0]),
+]
+(HERE / "members-two.store").write_bytes(b"".join(chain(*batches)))
+
+# Proposals for `endorse`: a call, the amendment of serial number 1 and the one of 3, and whether there is a first block.
+asked = [begin(0, 20), amend(0, 21, 1, "'A'", A), amend(0, 22, 3, "OR('A','C')", A, OWN_B, C)]
+write("members-asked.jsonl", [*map(proposal, asked), "seen 1"])
+
+# Marks of chains, as `order` reads them: those of whole.store, and of members-two.store.
+
+
+def marks_of(*blocks):
+    return [line for envelopes in blocks for line in [*(one.hex() for one in envelopes), "tick"]]
+
+
+write("marks-whole.log", log(marks_of([envelope(call(1, writes=puts(b"a")))], [envelope(call(2, writes=puts(b"a")))])))
+write("marks-two.log", log(marks_of(*(envelopes for envelopes, _ in batches))))
+
+# Questions for `query`: one of each form, in any order of its fields and in hex of either case; and lines that are none.
+ID = "00" * 32
+questions = [
+    {"ask": "setting"},
+    {"ask": "block", "number": 1},
+    {"number": 65535, "ask": "block"},
+    {"ask": "get", "key": "61"},
+    {"ask": "get", "key": "006b76"},
+    {"ask": "get", "key": "6F"},
+    {"ask": "range", "start": "", "end": "", "limit": 1},
+    {"limit": 1000, "end": "62", "start": "61", "ask": "range"},
+    {"ask": "history", "key": "61"},
+    {"ask": "transaction", "id": ID},
+    {"ask": "satisfied", "chaincode": "kv", "orgs": ["A", "B"]},
+    {"ask": "satisfied", "chaincode": "kv", "orgs": []},
+    {"ask": "satisfied", "chaincode": "none", "orgs": ["A"]},
+    {"ask": "call", "chaincode": "kv", "arg": ""},
+    {"ask": "call", "chaincode": "status", "arg": "00"},
+    {"ask": "call", "chaincode": "none", "arg": ""},
+    {"ask": "members"},
+]
+none = [
+    {"ask": "settings"},
+    {"ask": "members", "number": 1},
+    {"ask": "setting", "number": 1},
+    {"ask": "block", "number": 0},
+    {"ask": "block", "number": 65536},
+    {"ask": "block", "number": "1"},
+    {"ask": "get", "key": ""},
+    {"ask": "get", "key": "00" * 65},
+    {"ask": "get", "key": "6"},
+    {"ask": "range", "start": "", "end": "", "limit": 0},
+    {"ask": "range", "start": "", "end": "", "limit": 1001},
+    {"ask": "range", "start": "00" * 65, "end": "", "limit": 1},
+    {"ask": "history", "id": ID},
+    {"ask": "transaction", "id": ID[2:]},
+    {"ask": "satisfied", "chaincode": "kv", "orgs": "A"},
+    {"ask": "satisfied", "chaincode": "kv", "orgs": ["A-"]},
+    {"ask": "satisfied", "chaincode": "kv", "orgs": ["A"] * 33},
+    {"ask": "call", "chaincode": "", "arg": ""},
+    {"ask": "call", "chaincode": "kv", "arg": "-"},
+    {"ask": "call", "chaincode": "kv", "arg": "00" * 4097},
+]
+lines = [json.dumps(it) for it in questions + none]
+write("questions.jsonl", [*lines, "", "[]", "{", lines[0]])
+calls = [json.dumps({"ask": "call", "chaincode": name, "arg": ""}) for name in ("status", "trap", "zero", "kv")]
+write("calls.jsonl", calls)
+one = json.dumps({"ask": "history", "key": "61"})
+write("one-question.jsonl", [one])
+# A question, a line that is no text, and a question without its line's end.
+(HERE / "part-questions.jsonl").write_bytes(one.encode() + b"\n\xff\n" + one.encode())
+# Of the chain of members-keys.store: tags of B under the old key and the new one, and of C.
+called = hashlib.sha256(b"\2kv\0\0" + bytes.fromhex("%032x" % 4)).hexdigest()
+questions = [{"ask": "members"}, {"ask": "block", "number": 6}, {"ask": "block", "number": 7}, {"ask": "transaction", "id": called}]
+questions += [{"ask": "block", "number": 10}, {"ask": "get", "key": "00"}, {"ask": "history", "key": "00"}]
+questions += [{"ask": "range", "start": "", "end": "", "limit": 1000}, {"ask": "satisfied", "chaincode": "kv", "orgs": ["A"]}]
+write("members-questions.jsonl", map(json.dumps, questions))

@@ -1,15 +1,17 @@
 #!/usr/bin/env python3
-"""Compares what `show` and `state` print with what docs/FORMATS.md says of the same stores, read here.
+"""Compares what `show`, `state`, `marks` and `query` print with what docs/FORMATS.md says of the same stores, read here.
 
 usage: shown.py PROGRAM [FILE]
 
-Runs the command lines of ../stdin by a built program, in a copy of this folder. What `show` and `state` print has to be
-what is worked out here, and all that is printed what ../stdout has. It is written to FILE, if one is named.
+Runs the command lines of ../stdin by a built program, in a copy of this folder. What these commands print has to be what is
+worked out here, and all that is printed what ../stdout has. It is written to FILE, if one is named. Lines of `commit`, which
+would write to stores of the folder, are left to cli_cases.
 """
 import hashlib
 import hmac
 import json
 import pathlib
+import re
 import shutil
 import subprocess
 import sys
@@ -25,6 +27,7 @@ FORGED = {"differs.store", "differs-unlinked.store", "unlinked-differs.store"}
 UNENDORSED_BY = {"older.store", "names.json"}
 # Its chaincode reads, and those of the other genesis files only put.
 REREAD = "get.json"
+PUTS = hashlib.sha256(bytes.fromhex(json.loads((HERE / "put.json").read_text())["chaincodes"][0]["module"])).hexdigest()
 # The first byte of a proposal that is an amendment, and what the first byte of a definition that is open has more.
 AMENDMENT, OPEN = 0x80, 16
 
@@ -117,7 +120,7 @@ def is_right(org, payload, tag):
 
 
 def block_of(record, keys):
-    """A block as it is shown, whether its data have the hash in its header, and its stored flags."""
+    """A block as it is shown by who stands before it, whether its data have the hash in its header, and its stored flags."""
     data = Bytes(record)
     header = data.take(68)
     previous, data_hash = header[4:36].hex(), header[36:].hex()
@@ -144,12 +147,25 @@ def records(store):
     return found, "clean"
 
 
-def flags_by_rule(block, stored, genesis_name, store_name):
-    """The flags of a block by the rules. Nobody endorses an amendment."""
+def flags_by_rule(stored, genesis_name, store_name):
+    """The flags of a block by the rules."""
     if {genesis_name, store_name} & UNENDORSED_BY:
         return [UNENDORSED] * len(stored)
-    flags = [VALID] * len(stored) if store_name in FORGED else stored
-    return [UNENDORSED if "amend" in tx else flag for tx, flag in zip(block["txs"], flags)]
+    return [VALID] * len(stored) if store_name in FORGED else stored
+
+
+def amended(blocks):
+    """The membership that the last VALID amendment puts."""
+    txs = [tx for block in blocks for tx in block["txs"] if tx["flag"] == VALID and "amend" in tx]
+    return txs[-1]["amend"] if txs else None
+
+
+def keys_behind(blocks, listed):
+    """The keys of who stands behind blocks, as a genesis file lists them: a member without a key of its own keeps its key."""
+    membership = amended(blocks)
+    if membership is None:
+        return listed
+    return {it["name"]: it if "public" in it else listed[it["name"]] for it in membership["members"]}
 
 
 def lacks_module(tx, at_hand):
@@ -167,16 +183,16 @@ def rerun_of(blocks, genesis_name, store_name, at_hand):
     return "differs 1.0" if genesis_name == REREAD and store_name == "whole.store" else "agrees"
 
 
-def chain_of(store, genesis_name, store_name, keys, at_hand):
+def chain_of(store, genesis_name, store_name, listed, at_hand):
     """The blocks of a store that fit, and what is found of it."""
     stored, end = records(store)
     blocks, link, audit = [], bytes(32).hex(), None
     for record in stored:
-        block, is_whole, flags = block_of(record, keys)
+        block, is_whole, flags = block_of(record, keys_behind(blocks, listed))
         if block["previous"] != link or not is_whole:
             audit = audit or ("refused 602" if block["previous"] != link else "refused 603")
             break
-        ruled = flags_by_rule(block, flags, genesis_name, store_name)
+        ruled = flags_by_rule(flags, genesis_name, store_name)
         if ruled != flags:
             audit = audit or f"flags differ {block['block']}"
         for tx, flag in zip(block["txs"], ruled):
@@ -222,16 +238,155 @@ def entries_of(blocks):
     return [{"key": it["key"], "value": it["value"], "version": f"{it['block']}.{it['place']}"} for it in kept]
 
 
-def shown(words, folder):
+def standing_of(genesis, blocks):
+    """Who stands behind blocks, and by which policy."""
+    if membership := amended(blocks):
+        return membership
+    members = [{"name": it["name"]} for it in genesis["orgs"]]
+    return {"members": members, "policy": genesis["upgrade"].replace(" ", ""), "serial": 0}
+
+
+def marks_of(record):
+    """The marks of a block: its envelopes, and a tick."""
+    data = Bytes(record)
+    data.take(68)
+    return [*data.list(2, lambda: data.hex(4)), "tick"]
+
+
+# What calls of other modules than those that put come to (ends.json).
+ENDS = {"status": "404 status -7", "trap": "402 trap 1", "zero": "402 trap 2"}
+
+
+def definition_of(name, genesis, blocks):
+    """The definition of a chaincode behind blocks, as an upgrade shows it, and the version of its key. None where there is
+    none."""
+    key = "00" + name.encode().hex()
+    entry = next((it for it in entries_of(blocks) if it["key"] == key), None)
+    if entry:
+        return Bytes(bytes.fromhex(entry["value"])).definition(), entry["version"]
+    listed = next((it for it in setting_of(genesis)["chaincodes"] if it["name"] == name), None)
+    return listed and (listed, None)
+
+
+def outcome(name, genesis, blocks, at_hand):
+    """What a call of a chaincode comes to."""
+    found = definition_of(name, genesis, blocks)
+    if found is None:
+        return {"refused": "401"}
+    definition, at = found
+    if (definition["module"], definition["profile"] % OPEN) not in at_hand:
+        return {"refused": "406"}
+    if name in ENDS:
+        return {"refused": ENDS[name]}
+    reads = [{"key": "00" + name.encode().hex(), "version": at}]
+    if definition["module"] != PUTS:
+        version = next((it["version"] for it in entries_of(blocks) if it["key"] == "61"), None)
+        reads.append({"key": "61", "version": version})
+    return {"ranges": [], "reads": reads, "result": "", "writes": [{"key": "61", "value": "31"}]}
+
+
+def is_satisfied(policy, orgs):
+    """Whether these organisations satisfy a policy."""
+    text = re.sub(r"'(\w+)'", lambda it: str(it[1] in orgs), policy)
+    functions = {"AND": lambda *of: all(of), "OR": lambda *of: any(of), "OutOf": lambda n, *of: sum(of) >= n}
+    return eval(text, functions)
+
+
+def is_hex(text, least, most):
+    return isinstance(text, str) and re.fullmatch("([0-9a-fA-F]{2})*", text) is not None and least <= len(text) // 2 <= most
+
+
+def is_bound(text):
+    return is_hex(text, 0, 64)
+
+
+def is_number(number, most):
+    return isinstance(number, int) and 1 <= number <= most
+
+
+def are_names(names):
+    return isinstance(names, list) and len(names) <= 32 and all(re.fullmatch(r"\w{1,32}", it, re.ASCII) for it in names)
+
+
+# The fields of each question, and what each may hold.
+QUESTIONS = {
+    "setting": {},
+    "members": {},
+    "block": {"number": lambda it: is_number(it, 65535)},
+    "get": {"key": lambda it: is_hex(it, 1, 64)},
+    "range": {"start": is_bound, "end": is_bound, "limit": lambda it: is_number(it, 1000)},
+    "history": {"key": lambda it: is_hex(it, 1, 64)},
+    "transaction": {"id": lambda it: is_hex(it, 32, 32)},
+    "satisfied": {"chaincode": lambda it: re.fullmatch("[a-z0-9_-]{1,32}", it), "orgs": are_names},
+    "call": {"chaincode": lambda it: re.fullmatch("[a-z0-9_-]{1,32}", it), "arg": lambda it: is_hex(it, 0, 4096)},
+}
+
+
+def question_of(line):
+    """The question that a line spells. None where it spells none."""
+    try:
+        it = json.loads(line)
+    except ValueError:
+        return None
+    if not isinstance(it, dict) or it.get("ask") not in QUESTIONS:
+        return None
+    fields = QUESTIONS[it["ask"]]
+    return it if {*it} == {"ask", *fields} and all(fits(it[name]) for name, fits in fields.items()) else None
+
+
+def answer(it, genesis, blocks, at_hand):
+    """The answer to a question behind blocks."""
+    match it["ask"]:
+        case "setting":
+            return setting_of(genesis)
+        case "members":
+            return standing_of(genesis, blocks)
+        case "block":
+            return next((block for block in blocks if block["block"] == it["number"]), None)
+        case "get":
+            return next((one for one in entries_of(blocks) if one["key"] == it["key"].lower()), None)
+        case "range":
+            start, end = it["start"].lower(), it["end"].lower()
+            kept = [one for one in entries_of(blocks) if start <= one["key"] and one["key"][:2] != "00"]
+            return [one for one in kept if not end or one["key"] < end][: it["limit"]]
+        case "history":
+            return [one for one in placed_writes(blocks) if one["key"] == it["key"].lower()]
+        case "transaction":
+            placed = ({**tx, "block": block["block"], "place": at} for block in blocks for at, tx in enumerate(block["txs"]))
+            return next((tx for tx in placed if tx["id"] == it["id"].lower()), None)
+        case "satisfied":
+            found = definition_of(it["chaincode"], genesis, blocks)
+            return found and is_satisfied(found[0]["policy"], it["orgs"])
+        case _:
+            return outcome(it["chaincode"], genesis, blocks, at_hand)
+
+
+def answers(lines, genesis, blocks, at_hand):
+    """The lines of `query`."""
+    for number, line in enumerate(lines, 1):
+        question = question_of(line)
+        if question is None:
+            yield f"bad line {number}"
+        else:
+            yield {"answer": answer(question, genesis, blocks, at_hand), "height": len(blocks)}
+
+
+def options_of(words):
+    """The options of a command line; of one without a value it is that it is there."""
+    return {word: value for word, value in zip(words, [*words[1:], ""]) if word.startswith("--")}
+
+
+def shown(words, folder, asked):
     """The lines that a command prints, as values; and its status."""
     command, genesis_name, store_name, *rest = words
-    options = dict(zip(rest[::2], rest[1::2]))
+    options = options_of(rest)
     genesis = json.loads((folder / genesis_name).read_text())
-    keys = {it["name"]: it for it in genesis["orgs"]}
+    listed = {it["name"]: it for it in genesis["orgs"]}
     held = json.loads((folder / options["--modules"]).read_text()) if "--modules" in options else []
     modules = map(installed, [*genesis["chaincodes"], *genesis["modules"], *held])
     at_hand = {(it["module"], it["profile"]) for it in modules}
-    blocks, found = chain_of((folder / store_name).read_bytes(), genesis_name, store_name, keys, at_hand)
+    store = (folder / store_name).read_bytes()
+    blocks, found = chain_of(store, genesis_name, store_name, listed, at_hand)
     if command == "show":
         first, last = int(options.get("--from", 1)), int(options.get("--to", 65535))
         within = [it for it in blocks if first <= it["block"] <= last]
@@ -240,41 +395,82 @@ def shown(words, folder):
         return [f"refused 711 block {found['audit'].split()[-1]}"], 1
     # No module is needed for a state.
     audit = "agrees" if found["audit"].startswith("refused 406") else found["audit"]
+    # A query waits for the rest of a record, and says which block does not fit.
+    if command == "query":
+        audit += f" block {len(blocks) + 1}" if audit.startswith("refused") else ""
+        found["end"] = "clean" if found["end"] == "refused 701" else found["end"]
     for refusal in audit, found["end"]:
         if refusal.startswith("refused"):
             return [refusal], 1
+    if command == "query":
+        return list(answers(asked, genesis, blocks, at_hand)), 0
+    if command == "marks":
+        return [mark for record in records(store)[0] for mark in marks_of(record)], 0
     blocks = [it for it in blocks if it["block"] <= int(options.get("--at", 65535))]
     if "--key" in options:
         return [it for it in placed_writes(blocks) if it["key"] == options["--key"]], 0
-    return entries_of(blocks), 0
+    return [standing_of(genesis, blocks)] if "--members" in options else entries_of(blocks), 0
+
+
+def ran(program, line, folder):
+    """The lines that the program prints, its remarks, and its status. What stands behind ` < ` is its input."""
+    words, _, name = line.partition(" < ")
+    with open(folder / name if name else "/dev/null", "rb") as asked:
+        done = subprocess.run([program, *words.split()], cwd=folder, stdin=asked, capture_output=True, text=True)
+    remarks = [f"! {it.removeprefix('ledger: ')}" for it in done.stderr.splitlines()]
+    return done.stdout.splitlines(), remarks, done.returncode
+
+
+def stated(line, folder):
+    """What a command line's lines have to be, and its status."""
+    words, _, name = line.partition(" < ")
+    asked = (folder / name).read_text(errors="replace").split("\n")[:-1] if name else []
+    lines, status = shown(words.split(), folder, asked)
+    return [it if isinstance(it, str) else json.dumps(it, separators=(",", ":"), sort_keys=True) for it in lines], status
+
+
+def is_shown(line, lines, status, folder):
+    """Whether the lines of a command line are worked out here: it is carried out, and no file is refused."""
+    words = line.split()
+    if words[0] not in ("show", "state", "marks", "query") or status > 1 or not (folder / words[2]).exists():
+        return False
+    return not lines or not lines[0].startswith(("refused 8", "refused 703"))
+
+
+def answers_of(text):
+    """The lines of a text of cases, each with what stands behind it: the lines that are printed, and the status."""
+    cases = []
+    for line in text.splitlines():
+        if not line or line.startswith(("> ", "#")):
+            cases.append((line, []))
+        else:
+            cases[-1][1].append(line)
+    return cases
 
 
 def main(program, answers=None):
-    wanted, told, compared, wrong = (HERE / "../stdout").read_text(), [], 0, []
+    wanted, told, compared, wrong = answers_of((HERE / "../stdout").read_text()), [], 0, []
     with tempfile.TemporaryDirectory() as room:
         folder = pathlib.Path(room) / "data"
         shutil.copytree(HERE, folder)
-        for line in (HERE / "../stdin").read_text().splitlines():
-            told.append(line if not line or line.startswith("#") else f"> {line}")
-            if not line or line.startswith("#"):
+        for line, answer in wanted:
+            if line.startswith(("> commit ", "#")) or not line:
+                told.append((line, answer))
                 continue
-            ran = subprocess.run([program, *line.split()], cwd=folder, stdout=subprocess.PIPE, text=True)
-            told += [*ran.stdout.splitlines(), f"status {ran.returncode}"]
-            if line.startswith(("show ", "state ")) and ran.returncode < 2 and (folder / line.split()[2]).exists():
-                # A file is refused.
-                if ran.stdout.startswith(("refused 8", "refused 703")):
-                    continue
+            line = line.removeprefix("> ")
+            lines, remarks, status = ran(program, line, folder)
+            told.append((f"> {line}", [*remarks, *lines, f"status {status}"]))
+            if is_shown(line, lines, status, folder):
                 compared += 1
-                lines, status = shown(line.split(), folder)
-                lines = [it if isinstance(it, str) else json.dumps(it, separators=(",", ":"), sort_keys=True) for it in lines]
-                if (ran.stdout.splitlines(), ran.returncode) != (lines, status):
+                if (lines, status) != stated(line, folder):
                     wrong.append(line)
-                    print(f"{line}\n  is   {ran.stdout}\n  not  {lines}")
-    same = told == wanted.splitlines()
+                    print(f"{line}\n  is   {lines}\n  not  {stated(line, folder)}")
+    # Where a remark stands among the lines is not seen here.
+    others = [was[0] for was, now in zip(wanted, told) if sorted(was[1]) != sorted(now[1])]
     if answers:
-        pathlib.Path(answers).write_text("".join(f"{it}\n" for it in told))
-    print(f"{compared} compared, {len(wrong)} wrong; stdout is {'the same' if same else 'another'}")
-    return int(bool(wrong) or not same)
+        pathlib.Path(answers).write_text("".join(f"{it}\n" for line, answer in told for it in (line, *answer)))
+    print(f"{compared} compared, {len(wrong)} wrong; {len(others)} others than in stdout", *others, sep="\n")
+    return int(bool(wrong) or bool(others))
 
 
 if __name__ == "__main__":

@@ -2,6 +2,7 @@
 
 ghost use Rattle.std.specs.Prelude.{◌≡◌, ◌≤◌, map};
 ghost use Rattle.endorsement_policy.specs.Endorsed.{right_orgs};
+ghost use Rattle.endorsement_policy.specs.Judge.{orgs_behind};
 
 use crate::channel::{BATCH, Channel, submit};
 use crate::done::Done;
@@ -9,7 +10,9 @@ use crate::failure::Failure;
 use crate::members::{TagKind, rules, tagged_bytes, transaction};
 use crate::workload::Workload;
 use block_store::{End, Loaded};
-use endorsement_policy::{Gate, Rules, check_all, check_with_right_orgs, right_orgs_of_blocks};
+use endorsement_policy::{
+    Gate, Rules, Standing, check_all, check_with_right_orgs, right_orgs_of_blocks,
+};
 use fab_types::{Block, Envelope};
 use orderer::Orderer;
 use policy_language::OrgSet;
@@ -118,7 +121,8 @@ impl Checked {
         for _ in 0..count {
             blocks.push(self.batch.as_slice())?;
         }
-        let right = right_orgs_of_blocks(rt, alloc, &self.rules, &blocks, workers)?;
+        let standing = Standing::of(alloc, &self.rules, &self.snapshot)?;
+        let right = right_orgs_of_blocks(rt, alloc, standing.organisations(), &blocks, workers)?;
         check_each(alloc, &self.rules, &self.snapshot, &blocks, &right)?;
         Ok(Done::hashed(count, BATCH as u64, tags_of(&self.batch)))
     }
@@ -133,7 +137,8 @@ fn check_each(
     right: &[Vec<OrgSet>],
 ) -> Result<(), Failure>
     requires { map (λ orgs. orgs.items) right.now
-        ≡ map (λ block. map (right_orgs rules.now.orgs) block.now) blocks.now }
+        ≡ map (λ block. map (right_orgs (orgs_behind rules.now snapshot.now)) block.now)
+        blocks.now }
 {
     for place in 0..blocks.len() {
         let (block, orgs) = (blocks[place], &right[place]);

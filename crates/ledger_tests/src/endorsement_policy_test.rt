@@ -5,7 +5,7 @@ ghost use Rattle.std.specs.Prelude.{◌≤◌};
 use crate::samples::{PUBLIC, SEED, shared_key};
 use ed25519::sign;
 use endorsement_policy::{
-    ChaincodePolicy, Gate, Installed, ModuleId, Rules, check_all, check_plain,
+    ChaincodePolicy, Gate, Installed, ModuleId, Rules, Standing, check_all, check_plain,
     check_with_right_orgs, right_orgs_of_blocks, satisfied,
 };
 use fab_types::{Endorsement, Endorsements, Envelope, Name, OrgName, Tag};
@@ -198,7 +198,8 @@ fn are_right_by_tags<R: Threads + Sync>(
     requires least { 1 ≤ workers }
     requires greatest { workers ≤ 16 }
 {
-    let right = right_orgs_of_blocks(rt, alloc, rules, blocks, workers)?;
+    let standing = Standing::of(alloc, rules, snapshot)?;
+    let right = right_orgs_of_blocks(rt, alloc, standing.organisations(), blocks, workers)?;
     let mut are_right = true;
     for place in 0..blocks.len() {
         let (block, orgs) = (blocks[place], &right[place]);
