@@ -1,16 +1,29 @@
 #!/usr/bin/env python3
-"""Upgrades a chaincode of a ledger that runs, also to code that was written after its genesis file.
+"""Changes a ledger that runs: who its members are, their keys, the policy for upgrades, and the code of its chaincodes.
 
+    change.py members GENESIS STORE [--to FILE] [--add ENTRY].. [--key ENTRY].. [--remove NAME].. [--policy TEXT]
+                      [--keys FILE]..
     change.py upgrade GENESIS STORE CHAINCODE DIGEST --policy TEXT [--profile N] [--fuel N]
     change.py put ENDPOINTS PROPOSAL ANSWER..
+    change.py endorse ENDPOINTS PROPOSAL ENDORSER..
     change.py module ENDPOINTS MODULE [--profile N]
     change.py fetch ENDPOINTS DIGEST
 
-`upgrade` prints the proposal of an upgrade as `ledger endorse` reads it, and tells on the terminal what stands. DIGEST is
-the one that `ledger digest` prints, N is 17 or 18 (1 or 2, and 16 more) for an open definition, by default 17, and the
-fuel is 100000. `put` puts the envelope into the log that several endorsers answered to the proposal: PROPOSAL and each
-ANSWER are files. `module` puts a module into the log, where every `ledger order` skips it, and `fetch` prints the bytes of
-the one with a digest. ENDPOINTS are the URLs of etcd's nodes, with commas between.
+`members` and `upgrade` print a proposal as `ledger endorse` reads it, and tell on the terminal what stands, and what will.
+
+`members` is an amendment: it begins with what stands, or with the JSON in FILE, which is what `ledger state .. --members`
+printed and somebody changed. ENTRY is a file with what `ledger keygen` printed: `--add` takes a member in, `--key` replaces
+a member's key. TEXT is the policy for upgrades and amendments from then on. A membership that cannot be used is refused, and
+so is one that would lock all out: where the key files of --keys are all that there are, and do not meet the new policy. Who
+could do so by losing one key is told, and which chaincodes nobody could call any more.
+
+Of an `upgrade` DIGEST is the one that `ledger digest` prints, N is 17 or 18 (1 or 2, and 16 more) for an open definition, by
+default 17, and the fuel is 100000.
+
+`put` puts the envelope into the log that several endorsers answered to the proposal: PROPOSAL and each ANSWER are files.
+`endorse` asks the endorsers itself: each ENDORSER is a command that runs `ledger endorse`, with --agree for an amendment.
+`module` puts a module into the log, where every `ledger order` skips it, and `fetch` prints the bytes of the one with a
+digest. ENDPOINTS are the URLs of etcd's nodes, with commas between.
 """
 import argparse
 import hashlib
@@ -22,10 +35,13 @@ import sys
 
 sys.dont_write_bytecode = True
 sys.path.insert(0, str(pathlib.Path(__file__).resolve().parents[2] / "python"))
-from client import NotEndorsed, envelope
+from client import NotEndorsed, envelope, submit
+from filters import NotStarted
 from log import Log, LogError
+from membership import Definition, Ledger, Membership, at_hand, check_usable, member_of, membership_of, needed, parsed, unmet
 from modules import module
 from network import Mistake
+from policies import is_satisfied
 
 # The program, on the PATH.
 LEDGER = "ledger"
@@ -33,6 +49,99 @@ LEDGER = "ledger"
 
 class NoChange(Exception):
     """Why nothing is printed or put."""
+
+
+def tell(text: str) -> None:
+    print(text, file=sys.stderr)
+
+
+# ---------------------------------------------------------------- members
+
+
+def members(words: argparse.Namespace) -> None:
+    ledger = Ledger(LEDGER, words.genesis, words.store)
+    stands = ledger.stands()
+    after = wanted(words, stands)
+    tell_change(stands, after)
+    check_usable(ledger, after)
+    check_lock_out(ledger, after, words.keys)
+    tell_perils(ledger, after)
+    tell(f"it has to be endorsed, by `ledger endorse .. --agree`, under the policy that stands: {stands.policy}")
+    print(json.dumps({**after.fields(), "nonce": secrets.token_hex(16)}))
+
+
+def wanted(words: argparse.Namespace, stands: Membership) -> Membership:
+    """The membership that is asked for, behind the one that stands."""
+    begun = membership_of(parsed(words.to), words.to) if words.to else stands
+    if begun.serial != stands.serial:
+        raise NoChange(f"{words.to} was made of serial number {begun.serial}, and {stands.serial} stands: begin again with that one")
+    found = dict(begun.members)
+    for file in words.add:
+        name, key = entry(file)
+        if name in found:
+            raise NoChange(f"{name} is a member already: --key replaces its key")
+        found[name] = key
+    for file in words.key:
+        name, key = entry(file)
+        if name not in found:
+            raise NoChange(f"{name} is no member: --add takes it in")
+        found[name] = key
+    for name in words.remove:
+        if name not in found:
+            raise NoChange(f"{name} is no member")
+        del found[name]
+    after = stands.next(found, words.policy or begun.policy)
+    if (after.members, after.policy) == (stands.members, stands.policy):
+        raise NoChange("that is what stands already")
+    return after
+
+
+def entry(file: str) -> tuple[str, str | None]:
+    """The member of a file with what `keygen` printed."""
+    return member_of(parsed(file), file)
+
+
+def tell_change(stands: Membership, after: Membership) -> None:
+    tell(f"what stands: serial number {stands.serial}, policy {stands.policy}")
+    for name, key in stands.members.items():
+        tell(f"  {name}: {key_in_words(key)}")
+    tell(f"what will stand: serial number {after.serial}, policy {after.policy}")
+    for name in sorted({*stands.members, *after.members}):
+        tell(f"  {name}{what_changes(name, stands.members, after.members)}")
+
+
+def what_changes(name: str, before: dict[str, str | None], behind: dict[str, str | None]) -> str:
+    if name not in behind:
+        return " leaves"
+    key = key_in_words(behind[name])
+    if name not in before:
+        return f" joins: {key}"
+    return f": {key}" if before[name] == behind[name] else f" has a new key: {key}"
+
+
+def key_in_words(key: str | None) -> str:
+    return f"public key {key}" if key else "its key of the genesis file"
+
+
+def check_lock_out(ledger: Ledger, after: Membership, files: list[str]) -> None:
+    """Whether those whose keys are at hand, where that is told, meet the new policy."""
+    if not files:
+        return
+    can = at_hand(ledger, after, files)
+    if not is_satisfied(after.policy, can):
+        names = ", ".join(can) or "no member"
+        raise NoChange(f"LOCK-OUT: the keys at hand are of {names}, and do not meet {after.policy}: nobody could change code or"
+                       " members any more")
+
+
+def tell_perils(ledger: Ledger, after: Membership) -> None:
+    for name in needed(after):
+        tell(f"warning: {after.policy} is not met without {name}: if it loses its key, nobody can change code or members any more")
+    for chaincode, policy in unmet(ledger, after):
+        tell(f"warning: these members do not meet {policy}: nobody can call {chaincode} until an upgrade gives it another policy")
+
+
+# ---------------------------------------------------------------- upgrades
 
 
 def tell_what_stands(words: argparse.Namespace) -> None:
@@ -43,11 +152,10 @@ def tell_what_stands(words: argparse.Namespace) -> None:
     if ran.returncode:
         raise NoChange(f"`{' '.join(command)}` answers: {(ran.stdout + ran.stderr).strip()}")
     if not ran.stdout:
-        print(f"{words.chaincode} is what the genesis file says, or unknown there", file=sys.stderr)
+        tell(f"{words.chaincode} is what the genesis file says, or unknown there")
         return
-    value = bytes.fromhex(json.loads(ran.stdout.splitlines()[-1])["value"])
-    fuel, policy = int.from_bytes(value[33:37], "big"), value[39:].decode("ascii")
-    print(f"{words.chaincode} is module {value[1:33].hex()}, profile {value[0]}, fuel {fuel}, policy {policy}", file=sys.stderr)
+    it = Definition.of(json.loads(ran.stdout.splitlines()[-1])["value"])
+    tell(f"{words.chaincode} is module {it.module}, profile {it.profile}, fuel {it.fuel}, policy {it.policy}")
 
 
 def upgrade(words: argparse.Namespace) -> None:
@@ -55,6 +163,9 @@ def upgrade(words: argparse.Namespace) -> None:
     proposal = {"upgrade": words.chaincode, "module": words.digest, "profile": words.profile, "fuel": words.fuel,
                 "policy": words.policy, "nonce": secrets.token_hex(16)}
     print(json.dumps(proposal))
+
+
+# ---------------------------------------------------------------- the log
 
 
 def line_of(name: str) -> str:
@@ -65,12 +176,21 @@ def line_of(name: str) -> str:
     return lines[0]
 
 
+def nonce_of(line: str) -> str:
+    return json.loads(line)["nonce"]
+
+
 def put(words: argparse.Namespace) -> None:
-    nonce = json.loads(line_of(words.proposal))["nonce"]
+    nonce = nonce_of(line_of(words.proposal))
     made = envelope([line_of(it) for it in words.answers])
     if nonce not in made:
         raise NoChange(f"the answers are not to {words.proposal}")
     print(f"put as {entered(words.endpoints, f'call-{nonce}', made)}")
+
+
+def endorse(words: argparse.Namespace) -> None:
+    line = line_of(words.proposal)
+    print(f"put as {submit(words.endpoints.split(','), f'call-{nonce_of(line)}', line, words.endorsers)}")
 
 
 def put_module(words: argparse.Namespace) -> None:
@@ -100,23 +220,30 @@ def fetch(words: argparse.Namespace) -> None:
     sys.stdout.buffer.write(data)
 
 
+# ---------------------------------------------------------------- the words
+
+
 def words_of(words: list[str]) -> argparse.Namespace:
     reader = argparse.ArgumentParser(description=__doc__, formatter_class=argparse.RawDescriptionHelpFormatter, allow_abbrev=False)
     commands = reader.add_subparsers(required=True, metavar="COMMAND")
-    for name, do, places in [("upgrade", upgrade, ["genesis", "store", "chaincode", "digest"]), ("put", put, ["endpoints", "proposal"]),
-                             ("module", put_module, ["endpoints", "module"]), ("fetch", fetch, ["endpoints", "digest"])]:
-        command = commands.add_parser(name, allow_abbrev=False)
-        for place in places:
-            command.add_argument(place)
+    made = {}
+    for do, places in [(members, "genesis store"), (upgrade, "genesis store chaincode digest"), (put, "endpoints proposal"),
+                       (endorse, "endpoints proposal"), (put_module, "endpoints module"), (fetch, "endpoints digest")]:
+        name = "module" if do is put_module else do.__name__
+        command = made[do] = commands.add_parser(name, allow_abbrev=False)
         command.set_defaults(do=do)
-        if name == "upgrade":
-            command.add_argument("--policy", required=True)
-            command.add_argument("--profile", type=int, choices=(1, 2, 17, 18), default=17)
-            command.add_argument("--fuel", type=int, default=100000)
-        if name == "put":
-            command.add_argument("answers", nargs="+")
-        if name == "module":
-            command.add_argument("--profile", type=int, choices=(1, 2), default=1)
+        for place in places.split():
+            command.add_argument(place)
+    made[members].add_argument("--to", metavar="FILE")
+    for option, value in [("--add", "ENTRY"), ("--key", "ENTRY"), ("--remove", "NAME"), ("--keys", "FILE")]:
+        made[members].add_argument(option, action="append", default=[], metavar=value)
+    made[members].add_argument("--policy", metavar="TEXT")
+    made[upgrade].add_argument("--policy", required=True, metavar="TEXT")
+    made[upgrade].add_argument("--profile", type=int, choices=(1, 2, 17, 18), default=17)
+    made[upgrade].add_argument("--fuel", type=int, default=100000)
+    made[put].add_argument("answers", nargs="+")
+    made[endorse].add_argument("endorsers", nargs="+")
+    made[put_module].add_argument("--profile", type=int, choices=(1, 2), default=1)
     return reader.parse_args(words)
 
 
@@ -125,7 +252,7 @@ def main(words: list[str]) -> int:
     try:
         asked.do(asked)
         return 0
-    except (NoChange, NotEndorsed, LogError, Mistake, OSError, ValueError, KeyError) as error:
+    except (NoChange, NotEndorsed, NotStarted, LogError, Mistake, OSError, ValueError, KeyError) as error:
         print(f"change.py: {error}", file=sys.stderr)
         return 1
 

@@ -126,17 +126,15 @@ def started(command: str) -> Endorser:
         raise NotStarted(f"`{command}` is no command: {error}") from error
 
 
-def call(endpoints: list[str], chaincode: str, argument: str, commands: list[str]) -> str:
-    """Has a call endorsed by filters of these commands, and puts the envelope into the log. The name of its entry."""
+def submit(endpoints: list[str], name: str, line: str, commands: list[str]) -> str:
+    """Has a proposal endorsed by filters of these commands, and puts the envelope into the log. The name of its entry."""
     log = Log(endpoints)
     log.reach()
     endorsers: list[Endorser] = []
     try:
         for command in commands:
             endorsers.append(started(command))
-        made = endorsed(endorsers, proposal(chaincode, argument))
-        name = f"call-{secrets.token_hex(8)}"
-        log.append(name, [made])
+        log.append(name, [endorsed(endorsers, line)])
         return name
     finally:
         for endorser in endorsers:
@@ -152,7 +150,8 @@ def main(words: list[str]) -> int:
         return 2
     endpoints, chaincode, argument, *commands = words
     try:
-        print(f"put as {call(endpoints.split(','), chaincode, argument, commands)}")
+        name = f"call-{secrets.token_hex(8)}"
+        print(f"put as {submit(endpoints.split(','), name, proposal(chaincode, argument), commands)}")
         return 0
     except (NotStarted, NotEndorsed, LogError) as error:
         print(f"client.py: {error}", file=sys.stderr)
