@@ -3,22 +3,37 @@
 
     examples/page/make.py BLOCKS > chain.jsonl
 
-The transactions are made up, and so are their tags: which are right is said, as in every such file.
+The transactions are made up, and so are the tags of organisations with shared keys: which are right is said, as in every such
+file. Members with public keys sign.
 """
 import hashlib
 import json
+import pathlib
 import random
 import struct
 import sys
 
+sys.path.insert(0, str(pathlib.Path(__file__).resolve().parents[2] / "python"))
+import rfc8032
+
 ORGS = ["Maker", "Carrier", "Shop"]
-POLICY = "OutOf(2,'Maker','Carrier','Shop')"
+
+
+def two_of(names):
+    return f"OutOf(2,{','.join(repr(name) for name in names)})"
+
+
+POLICY = two_of(ORGS)
+# The organisations and the policy of an open definition's text, beside POLICY's.
+LATER_ORGS = ["Carrier", "Depot", "Maker"]
 CHAINCODE = "assets"
 DEFINITION_KEY, MEMBERSHIP_KEY = b"\0" + CHAINCODE.encode(), b"\0"
 # Those that are installed, and one that was written later. A profile is of a closed definition, or of an open one.
 MODULES = [hashlib.sha256(name).digest() for name in (b"first", b"second")]
 LATER = hashlib.sha256(b"later").digest()
 CLOSED, OPEN = 1, 17
+# 32 bytes that are no public key, and others that are one of small order.
+NO_POINT, SMALL_ORDER = "5a" * 32, "01" + 31 * "00"
 VALID, NOT_ENDORSED, CONFLICT, PHANTOM, DUPLICATE = range(5)
 HOSTILE = b"</script><img src=x onerror=\"document.title='escaped'\">"
 
@@ -109,39 +124,62 @@ def header_hash(block):
     return digest(struct.pack(">I", block["block"]) + field(block, "previous") + field(block, "data"))
 
 
+def public_of(seed):
+    return rfc8032.secret_to_public(seed).hex()
+
+
 class Chain:
-    """Blocks of transactions whose flags are worked out as they are added."""
+    """Blocks of transactions whose flags are worked out as they are added. Two tags are wanted of each."""
 
     def __init__(self):
         self.blocks, self.state, self.ids, self.made = [], {}, set(), 0
+        # Who stands: each member's public key, or None for its shared one. Under which key each tag that is right was made.
+        self.members, self.serial, self.keys_of_tags = dict.fromkeys(ORGS), 0, {}
+        # Whose calls count: the organisations that the policy of the definition names.
+        self.callers = ORGS
+        # The seeds of those who sign.
+        self.seeds = {}
 
     def version(self, key):
         return self.state[key][0] if key in self.state else None
 
     def transaction(self, reads=(), ranges=(), writes=(), orgs=ORGS[:2], argument=b""):
-        """A call of this moment, with right tags of these organisations; those behind a ! are wrong."""
+        """A call of this moment, with tags of these organisations; those behind a ! are wrong."""
         call = {"chaincode": CHAINCODE, "arg": argument.hex()}
         return self.proposed(call, {DEFINITION_KEY, *reads}, ranges, writes, orgs)
 
     def proposed(self, what, reads, ranges, writes, orgs):
         """The same of a call, an upgrade or an amendment, with all that it reads."""
         self.made += 1
-        tags = [(org.lstrip("!"), digest(f"{org} {self.made}".encode()), not org.startswith("!")) for org in orgs]
         tx = {"id": "", "flag": 0, **what, "nonce": "%032x" % self.made, "result": "",
               "reads": [{"key": key.hex(), "version": self.version(key)} for key in sorted(reads)],
               "ranges": [{"start": a.hex(), "end": b.hex(), "limit": n, "entries": self.entries(a, b, n)} for a, b, n in ranges],
               "writes": [{"key": key.hex(), "value": None if value is None else value.hex()} for key, value in sorted(writes)],
-              "endorsements": [{"org": org, "tag": tag, "right": right} for org, tag, right in tags]}
+              "endorsements": []}
         tx["id"] = digest(proposal_bytes(tx))
+        tx["endorsements"] = [{"org": org.lstrip("!"), "tag": self.tag(org, envelope_bytes(tx)[:-1])} for org in orgs]
         return tx
+
+    def tag(self, org, payload):
+        """A signature where the organisation has a seed; else one that nobody can judge, which is wrong behind a !."""
+        seed = self.seeds.get(org)
+        tag = rfc8032.sign(seed, payload).hex() if seed else digest(f"{org} {self.made}".encode())
+        if not org.startswith("!"):
+            self.keys_of_tags[tag] = seed and public_of(seed)
+        return tag
+
+    def is_right(self, org, tag):
+        return org in self.members and tag in self.keys_of_tags and self.keys_of_tags[tag] == self.members[org]
 
     def upgrade(self, module, policy=POLICY, orgs=ORGS[:2], profile=CLOSED):
         upgrade = {"profile": profile, "module": module.hex(), "fuel": 100000, "policy": policy}
         what, write = {"chaincode": CHAINCODE, "upgrade": upgrade}, (DEFINITION_KEY, definition_bytes(upgrade))
         return self.proposed(what, [DEFINITION_KEY], [], [write], orgs)
 
-    def amendment(self, members, policy=POLICY, orgs=ORGS):
-        amend = {"serial": 1, "members": members, "policy": policy}
+    def amendment(self, members, policy=None, orgs=ORGS, serial=None):
+        """By default the next one, to the policy of two of the members."""
+        names = [it["name"] for it in members]
+        amend = {"serial": self.serial + 1 if serial is None else serial, "members": members, "policy": policy or two_of(names)}
         return self.proposed({"amend": amend}, [MEMBERSHIP_KEY], [], [(MEMBERSHIP_KEY, membership_bytes(amend))], orgs)
 
     def entries(self, start, end, limit):
@@ -151,7 +189,8 @@ class Chain:
     def flag(self, tx):
         if tx["id"] in self.ids:
             return DUPLICATE
-        if len({it["org"] for it in tx["endorsements"] if it["right"]}) < 2 or not self.is_usable(tx):
+        right = {it["org"] for it in tx["endorsements"] if it["right"]}
+        if len(right & set(self.callers if "arg" in tx else self.members)) < 2 or not self.is_usable(tx):
             return NOT_ENDORSED
         if any(self.version(field(it, "key")) != it["version"] for it in tx["reads"]):
             return CONFLICT
@@ -160,16 +199,36 @@ class Chain:
         return VALID
 
     def is_usable(self, tx):
-        """Whether it is a call, or an upgrade to a definition that can be used. Nobody endorses an amendment."""
+        """Whether it is a call, or proposes a definition or the next membership that can be used."""
+        if "amend" in tx:
+            return tx["amend"]["serial"] == self.serial + 1 and self.is_usable_membership(tx["amend"])
         if "upgrade" not in tx:
-            return "amend" not in tx
-        is_there = tx["upgrade"]["profile"] == OPEN or field(tx["upgrade"], "module") in MODULES
-        return is_there and tx["upgrade"]["policy"] == POLICY
+            return True
+        closed, policy = tx["upgrade"]["profile"] == CLOSED, tx["upgrade"]["policy"]
+        if closed:
+            return field(tx["upgrade"], "module") in MODULES and policy == POLICY
+        return any(policy == two_of(names) and set(names) <= set(self.members) for names in (ORGS, LATER_ORGS))
+
+    def is_usable_membership(self, amend):
+        """Public keys are those of seeds that are known here, and one that is none."""
+        names, publics = [it["name"] for it in amend["members"]], [it["public"] for it in amend["members"] if "public" in it]
+        have_keys = all("public" in it or it["name"] in ORGS for it in amend["members"])
+        are_keys = not {NO_POINT, SMALL_ORDER} & set(publics) and len(set(publics)) == len(publics)
+        return have_keys and are_keys and len(names) > 1 and amend["policy"] == two_of(names)
+
+    def follow(self, block):
+        """Takes up what the VALID transactions of a block changed for those behind it."""
+        for tx in block["txs"]:
+            if tx["flag"] == VALID and "amend" in tx:
+                self.members = {it["name"]: it.get("public") for it in tx["amend"]["members"]}
+                self.serial = tx["amend"]["serial"]
+            if tx["flag"] == VALID and "upgrade" in tx:
+                self.callers = next(names for names in (ORGS, LATER_ORGS) if tx["upgrade"]["policy"] == two_of(names))
 
     def add(self, *txs):
         """Puts transactions into the next block."""
         number = len(self.blocks) + 1
-        txs = [dict(tx) for tx in txs]
+        txs = [{**tx, "endorsements": [{**it, "right": self.is_right(it["org"], it["tag"])} for it in tx["endorsements"]]} for tx in txs]
         for place, tx in enumerate(txs):
             tx["flag"] = self.flag(tx)
             self.ids.add(tx["id"])
@@ -181,6 +240,7 @@ class Chain:
         block = {"block": number, "hash": "", "previous": previous, "data": digest(data_bytes(txs)), "txs": txs}
         block["hash"] = header_hash(block)
         self.blocks.append(block)
+        self.follow(block)
 
     def flags(self):
         """How many transactions have each flag."""
@@ -204,6 +264,11 @@ def key_of(number):
     return b"asset/%04d" % number
 
 
+def kept(names):
+    """Members that keep their keys."""
+    return [{"name": name} for name in sorted(names)]
+
+
 def some_transaction(chain, chance, before):
     """One of several kinds: mostly a transfer; some are made stale by those of `before`, which are put in front of it."""
     key, kind = key_of(chance.randrange(400)), chance.random()
@@ -221,7 +286,7 @@ def some_transaction(chain, chance, before):
     if kind < 0.19:
         return chain.upgrade(LATER, profile=chance.choice([CLOSED, OPEN, OPEN]))
     if kind < 0.195:
-        return chain.amendment([{"name": "Maker"}])
+        return chain.amendment(kept(chance.choice([ORGS, ORGS, ORGS, ORGS[:2], ORGS[:2], ORGS[1:], ORGS[:1]])))
     other = key_of(chance.randrange(400))
     return chain.transaction(reads=[key, other], writes=[(key, value)], argument=b"transfer " + key + b" " + value)
 
@@ -246,8 +311,8 @@ def hostile():
 
 
 def later():
-    """A chain of code and members that the genesis file does not have: an open upgrade and a call behind it, and upgrades
-    and an amendment that nobody may endorse."""
+    """A chain of code that the genesis file does not have: an open upgrade and a call behind it, and upgrades and an amendment
+    that are not endorsed."""
     chain = Chain()
     chain.add(chain.transaction(writes=[(b"a", b"1")]), chain.upgrade(LATER, profile=OPEN))
     chain.add(
@@ -256,6 +321,42 @@ def later():
         chain.upgrade(LATER, policy="'Depot'", profile=OPEN),
         chain.upgrade(LATER, policy="'Maker' ", profile=OPEN),
         chain.amendment([{"name": "Carrier"}, {"name": "Depot", "public": "5a" * 32}], policy="OR('Carrier','Depot')"))
+    return chain
+
+
+def amended():
+    """A chain whose members change: Depot joins, its key is replaced and the Carrier gets a public one, and Depot and the Shop
+    leave; before and behind each what no longer counts, or does not yet, and what no amendment may be."""
+    chain, seeds = Chain(), [bytes([number]) * 32 for number in range(3)]
+    public = [public_of(seed) for seed in seeds]
+    depot = {"name": "Depot", "public": public[0]}
+    chain.add(chain.transaction(orgs=["Maker", "Carrier"]))
+    chain.seeds = {"Depot": seeds[0]}
+    chain.add(
+        chain.transaction(orgs=["Maker", "Depot"]),
+        chain.amendment([*kept(["Carrier"]), depot, *kept(["Maker", "Shop"])], orgs=["Maker", "Shop"]),
+        chain.upgrade(LATER, policy=two_of(LATER_ORGS), profile=OPEN, orgs=["Maker", "Shop"]))
+    chain.add(
+        chain.upgrade(LATER, policy=two_of(LATER_ORGS), profile=OPEN, orgs=["Shop", "Depot"]),
+        chain.amendment(kept(["Maker", "Shop"]), serial=1),
+        chain.amendment(kept(["Maker", "Stranger"])),
+        chain.amendment([{"name": "Depot", "public": NO_POINT}, *kept(["Maker"])]),
+        chain.amendment([{"name": "Depot", "public": SMALL_ORDER}, *kept(["Maker"])]),
+        chain.amendment([depot, {"name": "Maker", "public": public[0]}]),
+        chain.amendment(kept(["Maker", "Shop"]), policy=two_of(["Maker", "Carrier"])),
+        chain.amendment(kept(["Maker", "Shop"]), orgs=["Maker", "!Depot"]))
+    chain.add(
+        chain.amendment([{"name": "Carrier", "public": public[1]}, {"name": "Depot", "public": public[2]}, *kept(["Maker", "Shop"])],
+                        orgs=["Maker", "Depot"]),
+        chain.transaction(orgs=["Depot", "Maker"]))
+    old = [chain.transaction(orgs=orgs) for orgs in (["Depot", "Maker"], ["Carrier", "Maker"])]
+    chain.seeds = {"Carrier": seeds[1], "Depot": seeds[2]}
+    chain.add(*old, chain.transaction(orgs=["Depot", "Carrier"], writes=[(b"a", b"1")]))
+    chain.add(chain.amendment([{"name": "Carrier", "public": public[1]}, *kept(["Maker"])], orgs=["Depot", "Carrier"]))
+    chain.add(
+        chain.transaction(orgs=["Depot", "Maker", "Shop", "Nobody"]),
+        chain.amendment([*kept(["Maker"]), {"name": "Shop", "public": public[2]}], orgs=["Depot", "Shop"]),
+        chain.transaction(orgs=["Carrier", "Maker", "Shop"], writes=[(b"a", b"2")]))
     return chain
 
 

@@ -2,8 +2,8 @@
 
 Each round hands some envelopes to `./ledger run`, on the state that it printed after the last round. They claim reads,
 ranges and writes that no peer made, name keys that are kept for definitions and the membership, propose upgrades of every
-form, to closed definitions and to open ones, and amendments, and carry right tags and wrong ones of both kinds: one
-organisation has a shared key, and two have public ones.
+form, to closed definitions and to open ones, and amendments by which members come, go and change keys, and carry right tags
+and wrong ones of both kinds: one organisation of the genesis file has a shared key, and two have public ones.
 """
 import hashlib
 import hmac
@@ -25,8 +25,13 @@ SHARED_KEY = b"maker's key"
 SEEDS = {name: bytes.fromhex((EXAMPLE_KEYS / f"{name.lower()}.key").read_text()) for name in ("Carrier", "Shop")}
 GENESIS = {**EXAMPLE, "orgs": [{"name": "Maker", "key": SHARED_KEY.hex()}, *EXAMPLE["orgs"][1:]], "peers": ["Maker"], "count": 40}
 DIGESTS = [hashlib.sha256(bytes.fromhex(it["module"])).hexdigest() for it in EXAMPLE["chaincodes"] + EXAMPLE["modules"]]
+ORGS = [org["name"] for org in GENESIS["orgs"]]
 NAMES = ["assets", "other", "third"]
 MEMBERS = ["Carrier", "Depot", "Maker", "Shop", "a", "a_"]
+# Keys that members get later, by their seeds.
+LATER = {rfc8032.secret_to_public(seed).hex(): seed for seed in (bytes([number]) * 32 for number in range(1, 5))}
+PUBLICS = {name: rfc8032.secret_to_public(seed).hex() for name, seed in SEEDS.items()}
+NO_KEYS = [make.NO_POINT, make.SMALL_ORDER, "ff" * 32, "00" * 32, "ee" + "ff" * 30 + "7f"]
 SHOWN = [b"a", b"a\0", b"ab", b"b", b"b\xff", b"c", b"\1", b"\xff"]
 POLICIES = [
     "'Maker'", "'Shop'", "OR('Maker','Carrier')", "AND('Maker', 'Shop')", "OutOf( 2 ,'Maker' , 'Carrier','Shop' )",
@@ -45,6 +50,17 @@ class Odd:
 
     def __init__(self, seed):
         self.chance, self.made, self.state, self.earlier = random.Random(seed), 0, {}, []
+        # What amendments would put, by its bytes, and what stands.
+        self.memberships: dict[bytes, dict] = {}
+        self.serial, self.members = 0, {org["name"]: None for org in GENESIS["orgs"]}
+
+    def follow(self, entries):
+        """Takes up the state that was printed: each key, its version and its value."""
+        self.state = {bytes.fromhex(key): version for key, version, _ in entries}
+        for key, _, value in entries:
+            if bytes.fromhex(key) == make.MEMBERSHIP_KEY:
+                amend = self.memberships[bytes.fromhex(value)]
+                self.serial, self.members = amend["serial"], {it["name"]: it.get("public") for it in amend["members"]}
 
     def often(self, share=0.85):
         return self.chance.random() < share
@@ -77,20 +93,26 @@ class Odd:
         return [{"key": key.hex(), "value": None if value is None else value.hex()} for key, value in chosen]
 
     def tag(self, org, payload):
-        """An organisation's tag, or now and then one that is wrong, by its bytes or by its kind."""
-        other = {"Carrier": "Shop"}.get(org, "Carrier")
+        """An organisation's tag, or now and then one that is wrong, by its bytes or by its kind, or by a key of before."""
         if self.often(0.95):
-            return rfc8032.sign(SEEDS[org], payload) if org in SEEDS else hmac.digest(SHARED_KEY, payload, "sha256")
+            return self.tag_under(org, self.members.get(org), payload)
+        seed = self.chance.choice([*SEEDS.values(), *LATER.values(), bytes(32)])
         return self.chance.choice([
-            bytes(32), bytes(64), hmac.digest(SHARED_KEY, payload, "sha256"), rfc8032.sign(SEEDS[other], payload),
-            hmac.digest(rfc8032.secret_to_public(SEEDS[other if org not in SEEDS else org]), payload, "sha256"),
-            rfc8032.sign(SEEDS.get(org, bytes(32)), payload + b"\0")])
+            bytes(32), bytes(64), hmac.digest(SHARED_KEY, payload, "sha256"), rfc8032.sign(seed, payload),
+            self.tag_under(org, None, payload), hmac.digest(rfc8032.secret_to_public(seed), payload, "sha256"),
+            self.tag_under(org, self.members.get(org), payload + b"\0")])
+
+    def tag_under(self, org, public, payload):
+        """A tag under a public key of later, or under the genesis file's key."""
+        seed = LATER.get(public) or SEEDS.get(org)
+        return rfc8032.sign(seed, payload) if seed else hmac.digest(SHARED_KEY, payload, "sha256")
 
     def endorsed(self, tx):
         """The transaction with tags, of which some are wrong, of nobody or there twice."""
         payload = make.envelope_bytes({**tx, "endorsements": []})[:-1]
         tags, count = [], self.chance.choice([0, 1, 2, 3, 3, 4, 5, 6]) if "arg" in tx else 8
-        for org in self.chance.choices(["Maker", "Carrier", "Shop", "Nobody"], weights=[6, 6, 6, 1], k=count):
+        names = ["Maker", "Carrier", "Shop", "Nobody", *(name for name in self.members if name not in ORGS)]
+        for org in self.chance.choices(names, weights=[6, 6, 6, 1] + [3] * (len(names) - 4), k=count):
             tags.append({"org": org, "tag": self.tag(org, payload).hex()})
         self.made += 1
         return {**tx, "endorsements": tags}
@@ -123,21 +145,48 @@ class Odd:
             tx["writes"].append({"key": b"b".hex(), "value": "00"})
         return tx
 
-    def member(self, name):
-        return {"name": name} if self.often(0.5) else {"name": name, "public": self.chance.randbytes(32).hex()}
+    def key(self, name):
+        """A key for a member: that of the genesis file, one of its own, or none that can be."""
+        if name in ORGS and self.often(0.4):
+            return None
+        if self.often(0.93):
+            return self.chance.choice([*LATER, *LATER, *PUBLICS.values()])
+        return self.chance.choice([None, self.chance.randbytes(32).hex(), *NO_KEYS])
+
+    def next_members(self):
+        """Those who stand, with a change or two; or any others."""
+        if not self.often(0.9):
+            return {name: self.key(name) for name in self.chance.sample(MEMBERS, self.chance.randrange(1, 5))}
+        members = dict(self.members)
+        for _ in range(self.chance.choice([1, 1, 2])):
+            name = self.chance.choice([*members, *MEMBERS])
+            if name in members and len(members) > 1 and self.often(0.3):
+                del members[name]
+            else:
+                members[name] = self.key(name)
+        return members
 
     def amendment(self):
-        names = sorted(self.chance.sample(MEMBERS, self.chance.randrange(1, 5)))
-        policy, serial = self.chance.choice(POLICIES + NO_POLICIES), self.chance.choice([0, 1, 2, 2**32 - 1])
-        amend, own = {"serial": serial, "members": list(map(self.member, names)), "policy": policy}, make.MEMBERSHIP_KEY
-        return {"amend": amend, "nonce": "%032x" % self.made, "result": "", "ranges": [],
-                "reads": [{"key": own.hex(), "version": self.version(own)}],
-                "writes": [{"key": own.hex(), "value": make.membership_bytes(amend).hex()}]}
+        members = dict(sorted(self.next_members().items()))
+        least = self.chance.choice([1, 1, 2])
+        good = f"OutOf({least},{','.join(repr(name) for name in members)})"
+        policy = good if self.often(0.7) else self.chance.choice(POLICIES + NO_POLICIES)
+        serial = self.serial + 1 if self.often(0.9) else self.chance.choice([0, self.serial, self.serial + 2, 2**32 - 1])
+        listed = [{"name": name} if key is None else {"name": name, "public": key} for name, key in members.items()]
+        amend, own = {"serial": serial, "members": listed, "policy": policy}, make.MEMBERSHIP_KEY
+        put = make.membership_bytes(amend)
+        self.memberships[put] = amend
+        tx = {"amend": amend, "nonce": "%032x" % self.made, "result": "" if self.often(0.95) else "00",
+              "reads": [{"key": own.hex(), "version": self.version(own)}], "ranges": [] if self.often(0.95) else self.ranges(),
+              "writes": [{"key": own.hex(), "value": put.hex()}]}
+        if not self.often(0.95):
+            tx["writes"].append({"key": b"b".hex(), "value": "00"})
+        return tx
 
     def envelope(self):
         if self.earlier and not self.often(0.96):
             return self.chance.choice(self.earlier)
-        propose = self.chance.choices([self.call, self.upgrade, self.amendment], weights=[16, 4, 1])[0]
+        propose = self.chance.choices([self.call, self.upgrade, self.amendment], weights=[15, 4, 3])[0]
         tx = self.endorsed(propose())
         self.earlier.append(tx)
         return tx
@@ -160,8 +209,7 @@ def odd_chain(room, rounds, seed):
             lines += [{"do": "submit", "hex": make.envelope_bytes(odd.envelope()).hex()}, {"do": "take"}]
         lines.append({"do": "commit", "peer": 0})
         printed = run(room, lines, room / "odd.store")
-        words = [line.split() for line in printed]
-        odd.state = {bytes.fromhex(it[1]): it[2] for it in words if it[0] == "state"}
+        odd.follow([line.split()[1:] for line in printed if line.startswith("state ")])
     return printed
 
 
