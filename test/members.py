@@ -1,6 +1,8 @@
-"""ROLES.md by hand, over one node of etcd: keys, two members, a client, and what each says where something is missing."""
+"""ROLES.md by hand, over one node of etcd: keys, two members, a client, what each says where something is missing, and then the
+changes: a member joins, a key is replaced, a member leaves, and code that was written later is installed."""
 import contextlib
 import dataclasses
+import hashlib
 import json
 import os
 import pathlib
@@ -17,6 +19,10 @@ from tree import ENVIRONMENT
 # How long something may take to come about, and a complaint to be made, in seconds.
 PATIENCE, AT_ONCE = 60, 10
 EXAMPLE, GENESIS = "examples/assets/genesis.json", "genesis.json"
+# What stands in for a reader's own module, which is valid by profile 2 too.
+LATER = "examples/chaincode/asset_register_rust.wasm"
+# The commands of change.py that put a transaction into the log.
+PUTS = ("change.py put", "change.py endorse")
 # What ./ledger says of the program that it runs.
 ABOUT_THE_PROGRAM = ("ledger: unproved", "ledger: sources are newer")
 
@@ -84,6 +90,7 @@ def by_hand(report: Report, tree: pathlib.Path, room: pathlib.Path, typist: Typi
                         instead={"ssh maker ": ""})
             follow(report, outs)
             complain(report, tree, room, env)
+            change(report, tree, room, typist, blocks[blocks.index(client) + 1:], env)
 
 
 def write_genesis(report: Report, tree: pathlib.Path, env: dict[str, str]) -> None:
@@ -113,6 +120,60 @@ def follow(report: Report, outs: list[pathlib.Path]) -> None:
         report.case(f"{out.name}: what is skipped", told == [("0", "300"), ("2", "304")], out.read_text())
         wait_until(lambda: "told the hash of block 1" in out.read_text())
         report.case(f"{out.name}: the hash is told", out.read_text().count("told the hash of block 1") == 1, out.read_text())
+
+
+def change(report: Report, tree: pathlib.Path, room: pathlib.Path, typist: Typist, blocks: list[Block], env: dict[str, str]) -> None:
+    """Types what the page says of changes. What is put is to be committed by all members, that of Depot among them."""
+    data = (tree / LATER).read_bytes()
+    (tree / "assets2.wasm").write_bytes(data)
+    instead = {"ssh maker ": "", "ssh carrier ": "", "DIGEST": hashlib.sha256(data).hexdigest()}
+    outs, valid = [room / f"{name}.out" for name in ("maker", "carrier")], 1
+    with contextlib.ExitStack() as stack:
+        for block in (it for it in blocks if it.is_command()):
+            if block.text.startswith("examples/roles/member.py"):
+                typist.typed.add(block)
+                outs.append(room / "depot.out")
+                stack.enter_context(running(["bash", "-c", f"exec {block.text} --seen 1"], tree, outs[-1], env))
+                continue
+            is_put = any(it in block.text for it in PUTS)
+            told = [Block(block.document, block.line, "", "put as call-..")] if is_put else []
+            typist.type(report, [block, *told], env=env, instead=instead)
+            valid += is_put
+            for out in outs:
+                is_there = wait_until(lambda: f"committed {valid} flags 0\n" in out.read_text())
+                report.case(f"{block}: {out.name}", is_there, out.read_text()[-800:])
+            if "--remove" in block.text:
+                put_leaving(report, tree, env)
+                valid += 1
+    see_changed(report, tree, env)
+
+
+def put_leaving(report: Report, tree: pathlib.Path, env: dict[str, str]) -> None:
+    """The amendment by which a member leaves is put as that by which one joined."""
+    agree = [f"ledger endorse genesis.json {name} {name.lower()}.store --keys {name.lower()}.key --agree" for name in ("Depot", "Carrier")]
+    command = [sys.executable, tree / "examples/roles/change.py", "endorse", env["ETCDCTL_ENDPOINTS"], "amend.json", *agree]
+    ran = run(command, tree, PATIENCE, env)
+    report.case("the Shop leaves", ran.status == 0, ran.out + ran.err)
+
+
+def see_changed(report: Report, tree: pathlib.Path, env: dict[str, str]) -> None:
+    """What stands at the end, whose tags were right, and that the module is fetched as it is."""
+    def ledger(*words: str) -> str:
+        return run(["ledger", *words], tree, PATIENCE, env).out
+
+    stands = json.loads(ledger("state", GENESIS, "depot.store", "--members"))
+    names = [it["name"] for it in stands["members"]]
+    wanted = (3, ["Carrier", "Depot", "Maker"], "OutOf(2,'Carrier','Depot','Maker')")
+    report.case("what stands", (stands["serial"], names, stands["policy"]) == wanted, str(stands))
+    first = json.loads(ledger("state", GENESIS, "depot.store", "--members", "--at", "1"))
+    report.case("what stood after block 1", first["serial"] == 0 and len(first["members"]) == 3, str(first))
+    shown = [json.loads(line) for line in ledger("show", GENESIS, "depot.store", "--modules", "modules.json").splitlines()]
+    flags = [tx["flag"] for block in shown[1:-1] for tx in block["txs"]]
+    right = [it["right"] for block in shown[1:-1] for tx in block["txs"] for it in tx["endorsements"]]
+    report.case("all count", flags == [0] * 5 and right == [True] * 10 and shown[-1]["audit"] == "agrees", f"{flags} {right} {shown[-1:]}")
+    stores = {(tree / f"{name}.store").read_bytes() for name in ("maker", "carrier", "depot")}
+    report.case("the stores are the same", len(stores) == 1)
+    report.case("the module is fetched", (tree / "assets2.wasm").read_bytes() == (tree / LATER).read_bytes())
 
 
 def complain(report: Report, tree: pathlib.Path, room: pathlib.Path, env: dict[str, str]) -> None:

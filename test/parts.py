@@ -6,11 +6,13 @@ import re
 import sys
 from collections.abc import Callable
 
+import changes
 import explaining
 import keygen
 import members
 import modules_files
 import networks
+import questions
 from calling import find_pieces
 from pages import Block, Typist, blocks_of
 from report import Report, run
@@ -172,10 +174,18 @@ def modules(report: Report, at: Setting) -> None:
     modules_files.try_modules(report, at.tree, at.room, at.env)
 
 
+def change(report: Report, at: Setting) -> None:
+    changes.try_changes(report, at.tree, at.room, at.env)
+
+
+def query(report: Report, at: Setting) -> None:
+    questions.try_questions(report, at.tree, at.room, at.env)
+
+
 def calling(report: Report, at: Setting) -> None:
     find_pieces(report, at.tree, blocks_of(at.tree, "docs/CALLING.md"))
 
 
 # Those that take long come first.
-PARTS: list[Callable[[Report, Setting], None]] = [roles, page, chaincode, by_hand, tutorial, readme, formats, network, modules, numbers,
-                                                  keys, scripts, calling]
+PARTS: list[Callable[[Report, Setting], None]] = [roles, page, query, chaincode, by_hand, tutorial, readme, formats, network, modules,
+                                                  change, numbers, keys, scripts, calling]

@@ -5,7 +5,6 @@ from tree import ROOT
 
 LONG = "too long"
 MACHINES = "needs three machines and certificates; the parts roles and by_hand do it on one"
-LATER = "needs a module of its reader's own, and endorsers on several machines"
 MEASURES = "measures, and no test depends on it"
 # The first line of a block, and why it is not typed.
 REASONS = {
@@ -13,9 +12,6 @@ REASONS = {
     ("docs/ROLES.md", "ln -s"): "changes the machine; the part by_hand has the folder on the PATH",
     ("docs/ROLES.md", "etcd --name maker"): MACHINES,
     ("docs/ROLES.md", "export ETCDCTL_API=3"): MACHINES,
-    ("docs/ROLES.md", "ledger digest assets2.wasm"): LATER,
-    ("docs/ROLES.md", "ledger endorse genesis.json Maker maker.store --modules"): LATER,
-    ("docs/ROLES.md", "examples/roles/change.py module"): LATER,
     ("bench/README.md", "bench/run"): MEASURES,
     ("bench/README.md", "bench/build.sh"): "makes what bench/run measures",
     ("bench/README.md", "bench/untuned/build.sh"): "makes what bench/run measures",

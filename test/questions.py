@@ -1,0 +1,164 @@
+#!/usr/bin/env python3
+"""./ledger query: its answers on random chains are what `show`, `state` and `sim` print, also where the store grows.
+
+    test/questions.py CHAINS
+
+asks about so many chains. They are those of the page's test (examples/page/odd.py): odd calls, upgrades and amendments, of
+which many are refused.
+"""
+import json
+import os
+import pathlib
+import re
+import subprocess
+import sys
+import tempfile
+from collections.abc import Iterator
+
+from report import Report, run
+
+# How many chains the documents' test asks about, and of how many rounds each is made.
+CHAINS, ROUNDS = 3, 2
+SECONDS = 120
+# Lines that spell no question.
+BAD = [
+    "", "{}", "[]", '{"ask":"none"}', '{"ask":"block"}', '{"ask":"block","number":0}', '{"ask":"block","number":65536}',
+    '{"ask":"block","number":1,"more":1}', '{"ask":"get","key":""}',
+    '{"ask":"get","key":"0"}', '{"ask":"get","key":"' + "00" * 65 + '"}', '{"ask":"transaction","id":"00"}',
+    '{"ask":"range","start":"","end":"","limit":0}', '{"ask":"range","start":"","end":"","limit":1001}',
+    '{"ask":"setting"} {"ask":"setting"}', '{"ask":"satisfied","chaincode":"assets","orgs":"Maker"}',
+]
+RANGES = [("", "", 1000), ("", "", 1), ("61", "", 3), ("", "62", 1000), ("6100", "63", 2), ("00", "", 1000), ("00", "0061", 5), ("63", "61", 9)]
+ORGS = [[], ["Maker"], ["Shop"], ["Maker", "Carrier"], ["Carrier", "Shop"], ["Maker", "Carrier", "Shop", "Nobody"]]
+ARGUMENTS = ["", "726561642070616c6c65742d37", "6c697374"]
+WORDS = {"AND": lambda *a: all(a), "OR": lambda *a: any(a), "OutOf": lambda count, *a: sum(a) >= count}
+
+
+class Asked:
+    """What the program prints of a chain by its other commands."""
+
+    def __init__(self, tree: pathlib.Path, genesis: pathlib.Path, store: pathlib.Path, env: dict[str, str]):
+        self.command, self.genesis, self.store, self.env = tree / "ledger", genesis, store, env
+        self.setting, *self.blocks, _ = self.lines("show")
+        self.state = self.lines("state")
+
+    def printed(self, word: str, *words: str) -> str:
+        return run([self.command, word, self.genesis, *words], self.genesis.parent, SECONDS, self.env).out
+
+    def lines(self, word: str, *words: str) -> list:
+        return [json.loads(it) for it in self.printed(word, str(self.store), *words).splitlines()]
+
+    def policy(self, chaincode: str) -> str | None:
+        """The text of the chaincode's policy in the state."""
+        found = {it["name"]: it["policy"] for it in self.setting["chaincodes"]}
+        for tx in (tx for block in self.blocks for tx in block["txs"]):
+            if tx["flag"] == 0 and "upgrade" in tx:
+                found[tx["chaincode"]] = tx["upgrade"]["policy"]
+        return found.get(chaincode)
+
+
+def called(answer: dict) -> str:
+    """The lines of `sim` behind the first, by the answer to a call."""
+    if "refused" in answer:
+        return f"refused {answer['refused']}\n"
+    lines = [f"result {answer['result'] or '-'}"]
+    lines += [f"read {it['key']} {it['version'] or 'absent'}" for it in answer["reads"]]
+    lines += [f"range {it['start'] or '-'} {it['end'] or '-'} {it['limit']} {len(it['entries'])}" for it in answer["ranges"]]
+    for it in answer["writes"]:
+        lines.append(f"write {it['key']} " + ("delete" if it["value"] is None else f"put {it['value'] or '-'}"))
+    return "".join(it + "\n" for it in lines)
+
+
+def questions(asked: Asked) -> Iterator[tuple[dict, object]]:
+    """Questions about a chain, and the answers that the other commands give."""
+    yield {"ask": "setting"}, asked.setting
+    yield {"ask": "members"}, asked.lines("state", "--members")[0]
+    for number in range(1, len(asked.blocks) + 2):
+        yield {"ask": "block", "number": number}, (asked.blocks + [None])[number - 1]
+    for entry in asked.state:
+        yield {"ask": "get", "key": entry["key"]}, entry
+    for key in ("6e6f6e65", "00", *{it["key"] for it in asked.state[:3]}):
+        yield {"ask": "history", "key": key}, asked.lines("state", "--key", key)
+    yield {"ask": "get", "key": "6e6f6e65"}, None
+    shown = [it for it in asked.state if not it["key"].startswith("00")]
+    for start, end, limit in RANGES:
+        within = [it for it in shown if it["key"] >= start and (not end or it["key"] < end)]
+        yield {"ask": "range", "start": start, "end": end, "limit": limit}, within[:limit]
+    first: dict[str, dict] = {}
+    for block in asked.blocks:
+        for place, tx in enumerate(block["txs"]):
+            first.setdefault(tx["id"], {**tx, "block": block["block"], "place": place})
+    for id, tx in [*first.items(), ("ab" * 32, None)]:
+        yield {"ask": "transaction", "id": id}, tx
+    for chaincode in ("assets", "other", "none"):
+        policy = asked.policy(chaincode)
+        for orgs in ORGS:
+            test = policy and re.sub("'([^']*)'", lambda it: str(it[1] in orgs), policy)
+            yield {"ask": "satisfied", "chaincode": chaincode, "orgs": orgs}, test and eval(test.strip(), dict(WORDS))
+
+
+def asked_in_turn(process: subprocess.Popen, lines: list[str]) -> list[str]:
+    """What a running `query` prints to these lines, one each."""
+    process.stdin.write("".join(it + "\n" for it in lines))
+    process.stdin.flush()
+    return [process.stdout.readline().rstrip("\n") for _ in lines]
+
+
+def try_chain(report: Report, name: str, asked: Asked, process: subprocess.Popen) -> None:
+    """Asks all about one chain. Each answer is of the whole of it."""
+    wanted = list(questions(asked))
+    height = len(asked.blocks)
+    for (question, answer), line in zip(wanted, asked_in_turn(process, [json.dumps(it) for it, _ in wanted])):
+        said = json.loads(line) if line.startswith("{") else line
+        report.case(f"{name}: {question}", said == {"answer": answer, "height": height}, f"{line[:400]}\nand not {str(answer)[:400]}")
+    for argument in ARGUMENTS:
+        for chaincode in ("assets", "other", "none"):
+            line, = asked_in_turn(process, [json.dumps({"ask": "call", "chaincode": chaincode, "arg": argument})])
+            by_sim = asked.printed("sim", chaincode, argument or "-", "--store", str(asked.store))
+            said = called(json.loads(line)["answer"]) if line.startswith("{") else line
+            behind = by_sim if by_sim.startswith("refused") else by_sim.partition("\n")[2]
+            report.case(f"{name}: call of {chaincode} with {argument}", said == behind, f"{line[:400]}\nand not {by_sim[:400]}")
+
+
+def try_questions(report: Report, tree: pathlib.Path, room: pathlib.Path, env: dict[str, str], chains: int = CHAINS) -> None:
+    """Asks about chains that grow: each once before, and once behind its last round."""
+    sys.path.insert(0, str(tree / "examples/page"))
+    import odd
+    for seed in range(chains):
+        at = room / f"chain{seed}"
+        at.mkdir()
+        store, growing = at / "odd.store", at / "growing.store"
+        odd.odd_chain(at, ROUNDS - 1, seed)
+        growing.write_bytes(store.read_bytes())
+        genesis = at / "odd_genesis.json"
+        command = [tree / "ledger", "query", genesis, growing]
+        with subprocess.Popen(command, cwd=at, env={**os.environ, **env}, stdin=subprocess.PIPE, stdout=subprocess.PIPE,
+                              stderr=subprocess.DEVNULL, text=True) as process:
+            try_chain(report, f"chain {seed}", Asked(tree, genesis, growing, env), process)
+            odd.odd_chain(at, ROUNDS, seed)
+            whole, half = store.read_bytes(), growing.read_bytes()
+            report.case(f"chain {seed}: it grows", whole.startswith(half) and len(whole) > len(half))
+            growing.write_bytes(whole[:len(half) + 7])
+            before = asked_in_turn(process, ['{"ask":"setting"}'])
+            report.case(f"chain {seed}: a part of a record", f'"height":{ROUNDS - 1}}}' in before[0], before[0][-200:])
+            growing.write_bytes(whole)
+            try_chain(report, f"chain {seed}, longer", Asked(tree, genesis, growing, env), process)
+            for number, line in enumerate(asked_in_turn(process, BAD)):
+                report.case(f"chain {seed}: {BAD[number]!r}", line.startswith("bad line "), line[:200])
+            process.stdin.close()
+            report.case(f"chain {seed}: query ends", process.wait(SECONDS) == 0)
+
+
+def main(words: list[str]) -> int:
+    if len(words) != 1 or not words[0].isdigit():
+        print(__doc__)
+        return 0
+    report = Report("query")
+    with tempfile.TemporaryDirectory() as room:
+        try_questions(report, pathlib.Path(__file__).resolve().parent.parent, pathlib.Path(room), {}, int(words[0]))
+    print(report.summary())
+    return 1 if report.failures else 0
+
+
+if __name__ == "__main__":
+    sys.exit(main(sys.argv[1:]))
