@@ -1,3 +1,5 @@
+mod Walks
+mod Heading
 mod Marking
 mod Logging
 mod Idling
@@ -8,3 +10,4 @@ mod Taking
 mod Recut
 mod Fresh
 mod Recutting
+mod Handing

@@ -1,11 +1,13 @@
 //! What is told of the batches that a line ended.
 
-ghost use Rattle.std.specs.Prelude.{◌≡◌, ◌≤◌, ◌+◌, [], IfOk, length, drop};
+ghost use Rattle.std.specs.Prelude.{◌≡◌, ◌≤◌, ◌+◌, [], IfOk, length, drop, map};
 ghost use Rattle.std.specs.Vec.{vec_capacity};
 ghost use Rattle.log_orderer.specs.Cutting.{AreAt, ArePlacesBelow, IsCut, IsFront, size_of};
 ghost use Rattle.log_orderer.specs.Cutting.{AreCut, AreFront, HaveRoom};
+ghost use Rattle.log_orderer.specs.Headers.{reports_made};
 
-use orderer::{AbortCause, BatchReport};
+use fab_types::Block;
+use orderer::{AbortCause, BatchReport, Made};
 use seq::Seq;
 use std::alloc::{AllocError, Global};
 use std::mem;
@@ -13,8 +15,10 @@ use std::mem;
 /// What became of a batch that a line ended.
 #[derive(Debug, Drop)]
 pub struct LogBatch {
-    /// Its block, and the places in the batch that are left out of it, and why.
+    /// The number of its block, and the places in the batch that are left out of it, and why.
     pub report: BatchReport,
+    /// The block of that number. None where nothing survived.
+    pub block: Option<Block>,
     /// The ids of the transactions that are left out, in the order of `report.aborted`.
     pub aborted: Seq<[u8; 32]>,
 }
@@ -57,18 +61,21 @@ fn ids_at(members: &[[u8; 32]], aborted: &[(u16, AbortCause)], room: Vec<[u8; 32
 }
 
 /// Takes the ids of a batch off the front of those that wait.
-pub(crate) fn cut(waiting: &mut Vec<[u8; 32]>, report: BatchReport, room: Vec<[u8; 32]>) -> LogBatch
-    requires front { IsFront report waiting.old.items }
+pub(crate) fn cut(waiting: &mut Vec<[u8; 32]>, made: Made, room: Vec<[u8; 32]>) -> LogBatch
+    requires front { IsFront made.report waiting.old.items }
     requires empty { room.items ≡ [] }
-    requires room { length report.aborted ≤ vec_capacity room }
-    ensures batch { IsCut report waiting.old.items result }
-    ensures rest { waiting.new.items ≡ drop (size_of report) waiting.old.items }
+    requires room { length made.report.aborted ≤ vec_capacity room }
+    ensures batch { IsCut made.report waiting.old.items result }
+    ensures block { result.block ≡ made.block }
+    ensures rest { waiting.new.items ≡ drop (size_of made.report) waiting.old.items }
 {
+    let Made { report, block } = made;
     let size = report.count + report.aborted.len();
     let aborted = ids_at(&waiting[..size], report.aborted.as_slice(), room);
     waiting.drain(..size);
     LogBatch {
         report,
+        block,
         aborted: Seq::new(aborted),
     }
 }
@@ -77,23 +84,24 @@ pub(crate) fn cut(waiting: &mut Vec<[u8; 32]>, report: BatchReport, room: Vec<[u
 pub(crate) fn cut_each(
     alloc: Global,
     waiting: &mut Vec<[u8; 32]>,
-    reports: Vec<BatchReport>,
+    made: Vec<Made>,
     room: Room,
 ) -> Seq<LogBatch>
-    requires front { AreFront reports.items waiting.old.items }
-    requires two { length reports.items ≤ 2 }
+    requires front { AreFront (reports_made made.items) waiting.old.items }
+    requires two { length made.items ≤ 2 }
     requires batches { (room.batches.items ≡ []) × (2 ≤ vec_capacity room.batches) }
     requires empty { room.ids.items ≡ [] }
-    requires room { HaveRoom reports.items (vec_capacity room.ids) }
-    ensures { AreCut reports.items waiting.old.items result waiting.new.items }
+    requires room { HaveRoom (reports_made made.items) (vec_capacity room.ids) }
+    ensures cut { AreCut (reports_made made.items) waiting.old.items result waiting.new.items }
+    ensures blocks { map (λ batch. batch.block) result ≡ map (λ each. each.block) made.items }
 {
     let Room {
         mut batches,
         mut ids,
     } = room;
-    'reports: for report in reports {
+    'made: for each in made {
         let room = mem::replace(&mut ids, Vec::new(alloc));
-        batches.push(cut(waiting, report, room)).unwrap();
+        batches.push(cut(waiting, each, room)).unwrap();
     }
     Seq::new(batches)
 }

@@ -8,7 +8,9 @@
 
 mod asked;
 mod batch;
+mod chain;
 mod laws;
+mod lean;
 mod replica;
 mod skip;
 

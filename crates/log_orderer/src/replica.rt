@@ -1,12 +1,13 @@
 //! The replica.
 
-ghost use Rattle.std.specs.Prelude.{◌≡◌, ◌≤◌, ◌+◌, ℕ, List, [], IfOk, OnErr, OnOk, length};
+ghost use Rattle.std.specs.Prelude.{◌≡◌, ◌↔◌, ◌≤◌, ◌+◌, ℕ, List, [], IfOk, IsTrue, OnErr, OnOk, Some, length};
 ghost use Rattle.std.specs.Vec.{vec_capacity};
 ghost use Rattle.batch_cutter.specs.Division.{message, timeout};
-ghost use Rattle.orderer.specs.Blocks.{from_number};
 ghost use Rattle.orderer.specs.Ordering.{AreLimits};
 ghost use Rattle.orderer.specs.declared.report.OrderCause.TheVariants.{Memory};
 ghost use Rattle.log_orderer.specs.Asking.{IsSkipOf, AnswersMark};
+ghost use Rattle.log_orderer.specs.Handed.{HandsOut};
+ghost use Rattle.log_orderer.specs.Headers.{hash_at};
 ghost use Rattle.log_orderer.specs.Ids.{ids_of};
 ghost use Rattle.log_orderer.specs.Lines.{IsMark};
 ghost use Rattle.log_orderer.specs.Log.{Reads};
@@ -16,9 +17,10 @@ ghost use Rattle.wire.specs.Ids.{id_of};
 
 use crate::asked::{Asked, Unread, asked_by};
 use crate::batch::{LogBatch, Room, cut, cut_each};
+use crate::lean::LeanOrderer;
 use crate::skip::Skip;
-use fab_types::{Block, Envelope, Payload};
-use orderer::{OrderCause, Orderer};
+use fab_types::{Envelope, Payload};
+use orderer::OrderCause;
 use seq::Seq;
 use std::alloc::{AllocError, Global};
 use std::marker::Model;
@@ -45,10 +47,12 @@ pub enum LineReport {
 ///
 /// A line is an envelope in hex or the word `tick`. Any other line is skipped, and so is an
 /// envelope above the absolute size and a line that would need a block past number 65,535; all that
-/// waits waits on then. So equal replicas that read the same lines stay equal (`log_laws`).
+/// waits waits on then. So equal replicas that read the same lines stay equal (`log_laws`). Each
+/// block is handed out once, with the line that made it; what is kept of it is the hash of its
+/// header, 32 bytes.
 #[derive(Drop)]
 pub struct Replica {
-    orderer: Orderer,
+    orderer: LeanOrderer,
     /// The ids of the envelopes that wait.
     waiting: Vec<[u8; 32]>,
     alloc: Global,
@@ -94,7 +98,7 @@ impl Replica {
             } }
     {
         Replica {
-            orderer: Orderer::new(alloc, count, preferred, absolute, reorder),
+            orderer: LeanOrderer::new(alloc, count, preferred, absolute, reorder),
             waiting: Vec::new(alloc),
             alloc,
         }
@@ -108,6 +112,8 @@ impl Replica {
         ensures read { IfOk result
             (λ report. Reads self.old line.now (answer_of report) self.new) }
         ensures ids { IfOk result (λ report. TellsIds report self.old line.now) }
+        ensures blocks { IfOk result
+            (λ report. HandsOut report self.old.chain self.new.chain) }
         ensures why { IfOk result (λ report. IsTrueOf report self.old line.now) }
         ensures unchanged { OnErr result (self.new ≡ self.old) }
     {
@@ -125,13 +131,15 @@ impl Replica {
             (λ report. AnswersMark self.old (message envelope) report self.new) }
         ensures ids { IfOk result (λ report. (line : List ℕ) → IsMark line (message envelope) →
             TellsIds report self.old line) }
+        ensures blocks { IfOk result
+            (λ report. HandsOut report self.old.chain self.new.chain) }
         ensures unchanged { OnErr result (self.new ≡ self.old) }
     {
         let (id, room) = prepared(self.alloc, &mut self.waiting, &envelope.payload)?;
         match self.orderer.accept(envelope) {
-            Ok(reports) => {
+            Ok(made) => {
                 self.waiting.push(id).unwrap();
-                let batches = cut_each(self.alloc, &mut self.waiting, reports, room);
+                let batches = cut_each(self.alloc, &mut self.waiting, made, room);
                 Ok(LineReport::Accepted { id, batches })
             }
             Err(refusal) => skipped(refusal.cause),
@@ -144,13 +152,15 @@ impl Replica {
             (λ report. AnswersMark self.old timeout report self.new) }
         ensures ids { IfOk result (λ report. (line : List ℕ) → IsMark line timeout →
             TellsIds report self.old line) }
+        ensures blocks { IfOk result
+            (λ report. HandsOut report self.old.chain self.new.chain) }
         ensures unchanged { OnErr result (self.new ≡ self.old) }
     {
         let room = Vec::with_capacity(self.alloc, self.waiting.len())?;
         match self.orderer.tick() {
             Ok(None) => Ok(LineReport::Ticked(None)),
-            Ok(Some(report)) => {
-                let batch = cut(&mut self.waiting, report, room);
+            Ok(Some(made)) => {
+                let batch = cut(&mut self.waiting, made, room);
                 Ok(LineReport::Ticked(Some(batch)))
             }
             Err(refusal) => skipped(refusal.cause),
@@ -164,18 +174,11 @@ impl Replica {
         &self.waiting
     }
 
-    /// All blocks, from block 1 on.
-    pub fn blocks(&self) -> &[Block]
-        ensures { result.now ≡ self.now.chain }
+    /// Whether the block of this number, from 1 on, has a header with this hash.
+    pub fn has_header(&self, number: u32, hash: &[u8; 32]) -> bool
+        ensures { IsTrue result ↔ (hash_at self.now.chain number ≡ Some hash.now) }
     {
-        self.orderer.blocks()
-    }
-
-    /// All blocks numbered `number` or more, in their order. It takes no memory.
-    pub fn blocks_from(&self, number: u32) -> &[Block]
-        ensures { result.now ≡ from_number number self.now.chain }
-    {
-        self.orderer.blocks_from(number)
+        self.orderer.has_header(number, hash)
     }
 }
 

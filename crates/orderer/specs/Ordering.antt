@@ -39,8 +39,14 @@ pub record Takes (old : Ordering) (mark : Mark Envelope) (reports : List BatchRe
   pub limits : new.limits ≡ old.limits
   pub reorder : new.reorder ≡ old.reorder
 
--- one of the new batches needs a block past the last number
+-- a message above the absolute size is too large; a timeout never is
+abbrev pub IsTooLarge : Limits → Mark Envelope → Type 0
+IsTooLarge limits (message e) = limits.absolute < envelope_size e
+IsTooLarge limits timeout = ⊥
+
+-- The mark is not too large, and one of the new batches needs a block past the last number
 pub record RunsOut (old : Ordering) (mark : Mark Envelope) : Type 0 where
+  pub fits : ¬ IsTooLarge old.limits mark
   pub first : List (List Envelope)
   pub others : List (List Envelope)
   pub pending : List Envelope
@@ -49,11 +55,6 @@ pub record RunsOut (old : Ordering) (mark : Mark Envelope) : Type 0 where
   pub chain : List Block
   pub added : AddsEach (arranges_by old.reorder) old.chain first reports chain
   pub past : 65535 < length chain
-
--- a message above the absolute size is too large; a timeout never is
-abbrev pub IsTooLarge : Limits → Mark Envelope → Type 0
-IsTooLarge limits (message e) = limits.absolute < envelope_size e
-IsTooLarge limits timeout = ⊥
 
 -- where each refusal comes. The size is tested before any memory is taken
 abbrev pub IsRefused : OrderCause → Ordering → Mark Envelope → Type 0

@@ -5,10 +5,12 @@
 mod arrangement;
 mod chain;
 mod laws;
+mod making;
 mod orderer;
 mod report;
 
 pub use arrangement::AbortCause;
 pub use laws::ordering_laws;
+pub use making::{Made, Tip, make_block};
 pub use orderer::Orderer;
 pub use report::{BatchReport, OrderCause, OrderRefusal};

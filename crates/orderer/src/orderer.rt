@@ -83,9 +83,9 @@ impl Orderer {
     /// Takes an envelope in, and reports the batches that it ends, none to two, in their order.
     ///
     /// A refusal hands the envelope back. Its cause is 421 where the envelope is above the absolute
-    /// size, whatever memory there is; 422 where a block past number 65,535 would be needed; or 9
-    /// where a growth of memory was refused, which may come before it is known whether a number is
-    /// left.
+    /// size, whatever memory there is. Else it is 422 where a block past number 65,535 would be
+    /// needed, or 9 where a growth of memory was refused, which may come before it is known whether a
+    /// number is left.
     pub fn accept(&mut self, given: Envelope) -> Result<Vec<BatchReport>, OrderRefusal>
         ensures taken { IfOk result
             (λ reports. Takes self.old (message given) reports.items self.new) }

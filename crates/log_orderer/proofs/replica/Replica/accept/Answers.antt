@@ -1,9 +1,12 @@
 use Rattle.std.proofs.Common.{◌≤◌, ◌∷◌, [], List, length, ap, arith, rules, subst, sym, ◌∙◌}
 use Rattle.std.specs.Vec.{vec_capacity}
-use Rattle.std.proofs.lemmas.List.{length-append}
+use Rattle.std.proofs.lemmas.List.{length-append, length-map}
 use Rattle.batch_cutter.specs.Division.{message}
 use Rattle.orderer.specs.Ordering.{Takes}
+use Rattle.orderer.specs.declared.making.Made.{Made}
 use Rattle.orderer.specs.declared.report.BatchReport.{BatchReport}
+use Rattle.log_orderer.specs.Headers.{reports_made}
+use Rattle.log_orderer.proofs.Handing.{hands_out}
 use Rattle.log_orderer.proofs.Taking.{few_of, front_of, named_of, parted_after, told_of, waits_on}
 use Rattle.log_orderer.proofs.replica.Replica.accept.Goals as goal
 
@@ -12,7 +15,7 @@ cut_each-batches-requires c =
     let old = c.self.inside.orderer in
     let new = c.accept.new.self in
     let e = c.args.envelope in
-    let reports = c.in-Ok.reports.items in
+    let reports = reports_made c.in-Ok.made.items in
     let takes = c.in-Ok.ensures.taken in
     let waiting = c.prepared.new.waiting in
     let more = c.push.new.self.items in
@@ -33,7 +36,7 @@ cut_each-batches-requires c =
     let few = few_of old new e reports takes more room c.self.invariant.1 parted fits in
     record {
       front = front_of old new (message e) reports takes more parted;
-      two = few.0;
+      two = omega (arith, few.0, length-map c.in-Ok.made.items (λ (m : Made). m.report));
       batches = c.in_ok-id.ensures.batches;
       empty = c.in_ok-id.ensures.ids.0;
       room = few.1;
@@ -44,14 +47,14 @@ invariant_of-self-in-Ok c =
     let old = c.self.inside.orderer in
     let new = c.accept.new.self in
     let e = c.args.envelope in
-    let reports = c.in-Ok.reports.items in
+    let reports = reports_made c.in-Ok.made.items in
     let takes = c.in-Ok.ensures.taken in
     let more = c.push.new.self.items in
     let left = c.cut_each-batches.new.waiting.items in
     let pushed = rw c.unwrap.ensures at c.push.ensures.items in
     let parted = parted_after old new e reports takes c.prepared.new.waiting.items more c.in_ok-id.id pushed (c.prepared.ensures.same ∙ c.self.invariant.0)
     c.in_ok-id.ensures.id in
-    let told = told_of old new (message e) reports takes more c.cut_each-batches.result left parted c.cut_each-batches.ensures in
+    let told = told_of old new (message e) reports takes more c.cut_each-batches.result left parted c.cut_each-batches.ensures.cut in
     (told.1, waits_on old new (message e) reports takes)
 
 pub returns-in-Ok : goal.returns-in-Ok
@@ -59,7 +62,7 @@ returns-in-Ok c =
     let old = c.self.inside.orderer in
     let new = c.accept.new.self in
     let e = c.args.envelope in
-    let reports = c.in-Ok.reports.items in
+    let reports = reports_made c.in-Ok.made.items in
     let takes = c.in-Ok.ensures.taken in
     let more = c.push.new.self.items in
     let batches = c.cut_each-batches.result in
@@ -67,8 +70,9 @@ returns-in-Ok c =
     let pushed = rw c.unwrap.ensures at c.push.ensures.items in
     let parted = parted_after old new e reports takes c.prepared.new.waiting.items more c.in_ok-id.id pushed (c.prepared.ensures.same ∙ c.self.invariant.0)
     c.in_ok-id.ensures.id in
-    let told = told_of old new (message e) reports takes more batches left parted c.cut_each-batches.ensures in
+    let told = told_of old new (message e) reports takes more batches left parted c.cut_each-batches.ensures.cut in
     let named = named_of old new (message e) reports takes batches told.0 in
+    let handed = hands_out old.chain new.chain c.in-Ok.made.items batches c.in-Ok.ensures.blocks c.in-Ok.ensures.own told.2 c.cut_each-batches.ensures.blocks in
     rw (← c.self.view_is) (record {
       answers = (
         subst (λ (rs : List BatchReport). Takes old (message e) rs new) (sym told.2) takes,
@@ -76,5 +80,6 @@ returns-in-Ok c =
         c.in-Ok.ensures.numbers,
       );
       ids = λ line is. (e, is, c.in_ok-id.ensures.id, named);
+      blocks = record { chain = handed.0; own = handed.1 };
       unchanged = search rules;
     })

@@ -1,6 +1,7 @@
-use Rattle.std.proofs.Common.{◌∷◌, [], arith, refl}
+use Rattle.std.proofs.Common.{◌∷◌, [], ap, arith, refl}
 use Rattle.batch_cutter.specs.Division.{timeout}
 use Rattle.log_orderer.specs.Cutting.{AreCut}
+use Rattle.log_orderer.proofs.Handing.{hands_out}
 use Rattle.log_orderer.proofs.Taking.{front_of, named_of, parted_by_tick, told_of, waits_on}
 use Rattle.log_orderer.proofs.replica.Replica.tick.Goals as goal
 
@@ -18,7 +19,7 @@ cut-batch-requires-clause-front c =
     let old = c.self.inside.orderer in
     let new = c.tick.new.self in
     let waiting = c.self.inside.waiting.items in
-    let reports = c.in-Ok-Some.report ∷ [] in
+    let reports = c.in-Ok-Some.made.report ∷ [] in
     let takes = rw c.in-Ok-Some.field-0-is at c.in-Ok-Some.ensures.taken in
     (front_of old new timeout reports takes waiting (parted_by_tick old new reports takes waiting c.self.invariant.0)).0
 
@@ -27,7 +28,7 @@ cut-batch-requires-clause-room c =
     let old = c.self.inside.orderer in
     let new = c.tick.new.self in
     let waiting = c.self.inside.waiting in
-    let reports = c.in-Ok-Some.report ∷ [] in
+    let reports = c.in-Ok-Some.made.report ∷ [] in
     let takes = rw c.in-Ok-Some.field-0-is at c.in-Ok-Some.ensures.taken in
     let front = front_of old new timeout reports takes waiting.items (parted_by_tick old new reports takes waiting.items c.self.invariant.0) in
     omega (arith, front.0.0, waiting.ok.0, c.len.ensures, c.in_ok-room.ensures.exact)
@@ -37,7 +38,7 @@ invariant_of-self-in-Ok-Some c =
     let old = c.self.inside.orderer in
     let new = c.tick.new.self in
     let waiting = c.self.inside.waiting.items in
-    let reports = c.in-Ok-Some.report ∷ [] in
+    let reports = c.in-Ok-Some.made.report ∷ [] in
     let takes = rw c.in-Ok-Some.field-0-is at c.in-Ok-Some.ensures.taken in
     let left = c.cut-batch.new.waiting.items in
     let told = c.cut-batch.result in
@@ -60,7 +61,7 @@ returns-in-Ok-Some-clause-ids c =
     let old = c.self.inside.orderer in
     let new = c.tick.new.self in
     let waiting = c.self.inside.waiting.items in
-    let reports = c.in-Ok-Some.report ∷ [] in
+    let reports = c.in-Ok-Some.made.report ∷ [] in
     let takes = rw c.in-Ok-Some.field-0-is at c.in-Ok-Some.ensures.taken in
     let left = c.cut-batch.new.waiting.items in
     let told = c.cut-batch.result in
@@ -68,3 +69,15 @@ returns-in-Ok-Some-clause-ids c =
     let parted = parted_by_tick old new reports takes waiting c.self.invariant.0 in
     let named = (told_of old new timeout reports takes waiting (told ∷ []) left parted cut).0 in
     rw (← c.self.view_is) (λ line is. (is, named_of old new timeout reports takes (told ∷ []) named))
+
+pub returns-in-Ok-Some-clause-blocks : goal.returns-in-Ok-Some-clause-blocks
+returns-in-Ok-Some-clause-blocks c =
+    let old = c.self.inside.orderer in
+    let new = c.tick.new.self in
+    let made = c.in-Ok-Some.made ∷ [] in
+    let longer = rw c.in-Ok-Some.field-0-is at c.in-Ok-Some.ensures.blocks in
+    let own = rw c.in-Ok-Some.field-0-is at c.in-Ok-Some.ensures.own in
+    let reports = ap (λ r. r ∷ []) c.cut-batch.ensures.batch.0 in
+    let blocks = ap (λ b. b ∷ []) c.cut-batch.ensures.block in
+    let handed = hands_out old.chain new.chain made (c.cut-batch.result ∷ []) longer own reports blocks in
+    rw (← c.self.view_is) (record { chain = handed.0; own = handed.1 })

@@ -6,8 +6,8 @@ use Rattle.std.proofs.lemmas.Option.{slice_get-get_or, slice_get_past}
 use Rattle.fab_types.specs.declared.envelope.Envelope.{Envelope}
 use Rattle.orderer.specs.Places.{envelopes_at}
 use Rattle.orderer.proofs.Picking.{picked_more}
-use Rattle.orderer.proofs.chain.pick.Goals.{in-Some+in_ok-clone+in_ok-push, in_default}
-use Rattle.orderer.proofs.chain.pick.Goals as goal
+use Rattle.orderer.proofs.making.pick.Goals.{in-Some+in_ok-clone+in_ok-push, in_default}
+use Rattle.orderer.proofs.making.pick.Goals as goal
 
 pub loop-place-preserved : goal.loop-place-preserved
 loop-place-preserved c =
