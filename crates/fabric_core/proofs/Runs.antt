@@ -262,6 +262,7 @@ honest_at exec alone listed carries seeds capacity w es replies new steps n =
     λ p x among. handed_out r new n p (run_gives r w es replies new steps among.0 p x among.1) in
     record {
       flags = flags;
+      handed = all_handed exec (right_of listed) replies chain given [] chain;
       serial = λ genuine.
           let handed = all_handed exec (right_of listed) replies chain given [] chain genuine in
           let now = judged_current id_of endorsed chain flags in

@@ -9,7 +9,7 @@ use Rattle.ledger_model.specs.Chain.{Bytes, Envelope, Valid, Committed, Chain, P
 use Rattle.ledger_model.specs.Views.{values_of}
 use Rattle.ledger_model.specs.State.{state}
 use Rattle.ledger_model.specs.Execution.{Exec}
-use Rattle.ledger_model.specs.Serial.{AllAgree, AllSame, serial}
+use Rattle.ledger_model.specs.Serial.{AllAgree, AllHandedOut, AllSame, serial}
 use Rattle.ledger_model.specs.Judged.{BlockRule, AreFlagsBy, block_of}
 use Rattle.ledger_setting.specs.Rule.{RightRule}
 use Rattle.batch_cutter.specs.Division.{Limits, Mark, message, timeout}
@@ -98,10 +98,12 @@ pub record IsSerial (exec : Exec) (chain : Chain) : Type 0 where
   pub same : AllSame exec chain empty (history chain)
   pub map : values_of (state (history chain)) ≡ serial exec (history chain)
 
--- A chain of a run: each flag is the rule's, where each VALID transaction has a right tag that was handed out it
--- is serial, and they have where no right tag was forged. Which tags are right is by what stands before their block.
+-- A chain of a run: each flag is the rule's; where each VALID transaction has a right tag that was handed out, each VALID payload
+-- was handed out by an execution, and the chain is serial; and they have where no right tag was forged. Which tags are right is by
+-- what stands before their block.
 pub record IsHonest (exec : Exec) (rule : BlockRule) (right : RightRule) (replies : List Reply) (chain : Chain) : Type 0 where
   pub flags : AreFlagsBy rule [] chain
+  pub handed : AreGenuine right replies [] chain → AllHandedOut exec chain (history chain)
   pub serial : AreGenuine right replies [] chain → IsSerial exec chain
   pub genuine : AreUnforged right replies [] chain → AreGenuine right replies [] chain
 

@@ -128,7 +128,7 @@ arranging_kept old new mark reports was takes = (
 
 -- ---- the block behind a machine's chain
 
-blocks_onto : (rule : BlockRule) (chain : Chain) (blocks : List Block) → blocks_of (judge_onto rule chain blocks) ≡ blocks_of chain ++ blocks
+pub blocks_onto : (rule : BlockRule) (chain : Chain) (blocks : List Block) → blocks_of (judge_onto rule chain blocks) ≡ blocks_of chain ++ blocks
 blocks_onto rule chain [] = sym (append-nil (blocks_of chain))
 blocks_onto rule chain (b ∷ bs) =
     let next : Committed = record { block = b; flags = judge (rule (history chain)) (history chain) (length chain + 1) 0 b.envelopes } in

@@ -97,6 +97,7 @@ honest_machine behind s lines told log machines m alone carries reads are there 
     λ p x among. handed behind s lines told log reads machines chain p x are first (machines_given machines p x among) in
     record {
       flags = flags;
+      handed = all_handed exec (right_of s.listed) replies chain given [] chain;
       serial = λ genuine.
           let out = all_handed exec (right_of s.listed) replies chain given [] chain genuine in
           let now = judged_current id_of endorsed chain flags in

@@ -6,5 +6,6 @@ mod Handing
 mod Honest
 mod Joining
 mod Reading
+mod Restarting
 mod Roles
 mod Stepping

@@ -1,7 +1,7 @@
 //! What holds of machines that read one log.
 
-ghost use Rattle.std.specs.Prelude.{◌≡◌, ◌≢◌, ◌<◌, ◌++◌, [], ◌∷◌, ℕ, Bool, List, Option};
-ghost use Rattle.std.specs.Prelude.{◌⊎◌, Result, Ok, Err, Some, true, length, slice_get};
+ghost use Rattle.std.specs.Prelude.{◌≡◌, ◌≢◌, ◌<◌, ◌≤◌, ◌++◌, [], ◌∷◌, ℕ, Bool, List, Option};
+ghost use Rattle.std.specs.Prelude.{◌⊎◌, Result, Ok, Err, Some, true, length, map, slice_get};
 ghost use Rattle.fab_types.specs.declared.block.Block.{Block};
 ghost use Rattle.fab_types.specs.declared.envelope.Endorsement.{Endorsement};
 ghost use Rattle.fab_types.specs.Payloads.{Payload};
@@ -11,6 +11,7 @@ ghost use Rattle.orderer.specs.Ordering.{AreLimits, Ordering};
 ghost use Rattle.orderer.specs.declared.report.BatchReport.{BatchReport};
 ghost use Rattle.log_orderer.specs.Log.{ReadsEach};
 ghost use Rattle.ledger_model.specs.Chain.{Bytes, Chain, Committed};
+ghost use Rattle.ledger_model.specs.Judged.{judged_chain};
 ghost use Rattle.ledger_model.specs.Serial.{IsPrefix};
 ghost use Rattle.ledger_model.specs.Views.{Plain};
 ghost use Rattle.committer.specs.Fits.{Fits, blocks_of};
@@ -26,13 +27,15 @@ ghost use Rattle.endorser.specs.Endorsing.{endorsed_on};
 ghost use Rattle.log_roles.specs.declared.receiving.Received.TheVariants as received;
 ghost use Rattle.fabric_core.specs.System.{chain_of_first};
 ghost use Rattle.fabric_core.specs.Headline.{ConflictsAreOlder, IsAmong, IsHonest};
-ghost use Rattle.log_system.specs.Machines.{AreMachines, Does, IsRead, Machine, Setting};
+ghost use Rattle.log_system.specs.Machines.{AreMachines, Does, DoesEach, IsRead, Machine, Setting};
 ghost use Rattle.log_system.specs.Machines.{Endorses, Joins, endorsing_at, endorsing_with, unread};
 ghost use Rattle.log_system.specs.OneSystem.{IsOneSystem, replies_of_machines};
+ghost use Rattle.log_system.specs.Restarts.{AreToldApart, ReceivesEach};
 
 use chaincode_book::Book;
 use endorsement_policy::{Rules, an_endorsed_envelope_carries_a_right_tag};
 use log_orderer::log_laws;
+use log_roles::peers_agree;
 use orderer::ordering_laws;
 use simulator::{parts_answer_alike, reads_alone};
 
@@ -145,4 +148,29 @@ pub fn machines_are_honest(book: &Book, rules: &Rules)
     log_laws();
     reads_alone(book);
     an_endorsed_envelope_carries_a_right_tag(rules);
+}
+
+/// A machine that begins again with the chain of its store, lawful as `StoredChain::open` finds it,
+/// and receives the blocks that the log makes from the first on, none of which is refused: its chain
+/// begins with the log's (`begins`). Where it is no longer than that, it is the chain of a machine
+/// that committed the log's blocks from nothing (`joins`), so that the laws of machines hold of it,
+/// whatever stood in the store. The premise is that no block of the store has the header hash of
+/// another block of the log.
+pub fn a_restart_follows_the_log()
+    ensures begins { (setting : Setting) (lines : List (List ℕ))
+        (answers : List (Option (List BatchReport))) (log : Ordering) (stored new : Chain) →
+        ReadsEach (unread setting) lines answers log →
+        AreLawful (table_of setting.listed) [] stored →
+        AreToldApart (blocks_of stored) log.chain →
+        ReceivesEach (table_of setting.listed) stored log.chain new →
+        IsPrefix (judged_chain (table_of setting.listed) log.chain) new }
+    ensures joins { (setting : Setting) (lines : List (List ℕ))
+        (answers : List (Option (List BatchReport))) (log : Ordering) (org : Bytes)
+        (stored new : Chain) → ReadsEach (unread setting) lines answers log →
+        AreLawful (table_of setting.listed) [] stored →
+        AreToldApart (blocks_of stored) log.chain →
+        ReceivesEach (table_of setting.listed) stored log.chain new →
+        length new ≤ length log.chain → DoesEach setting lines org [] (map Joins new) new }
+{
+    peers_agree();
 }

@@ -7,4 +7,6 @@
 
 mod laws;
 
-pub use laws::{apart, machines_are_honest, machines_follow_the_log, roles_act};
+pub use laws::{
+    a_restart_follows_the_log, apart, machines_are_honest, machines_follow_the_log, roles_act,
+};

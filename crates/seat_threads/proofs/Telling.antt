@@ -22,7 +22,7 @@ use Rattle.seat_threads.specs.declared.refusal.SeatsRefusal.TheVariants.{Memory,
 use Rattle.seat_threads.specs.declared.running.Report.{Report}
 use Rattle.seat_threads.specs.Desks.{envelopes_got}
 use Rattle.seat_threads.specs.Reports.{TellsOfSeats, IsSeatsRefused, IsWorkRefused, IsOpeningRefused, IsCountRefused, counts_told}
-use Rattle.seat_threads.specs.Rounds.{rounds_in}
+use Rattle.seat_threads.specs.Rounds.{least_refusal, rounds_in}
 use Rattle.seat_threads.specs.Work.{Task, HasRetired}
 use Rattle.seat_threads.proofs.Getting.{all_got, as_many}
 use Rattle.seat_threads.proofs.Sums.{bounded, totalled}
@@ -78,7 +78,7 @@ pub refused_by_counts : (task : Task) (n : ℕ) (counts : Counts) (old new : Lis
 refused_by_counts task n counts old new Memory h why = tt
 refused_by_counts task n counts old new NoPlace h why = why
 refused_by_counts task n counts old new NotEntered h why =
-    (h.outcomes, h.seats_are, h.came, omega (arith, why, ap (λ (c : Counts). c.not_entered) h.counted))
+    (h.outcomes, h.seats_are, h.came, ap least_refusal (sym h.counted) ∙ why)
 
 pub refused_at_work : (task : Task) (n : ℕ) (r : SeatsRefusal) → IsWorkRefused task n r → IsSeatsRefused task n r
 refused_at_work task n Memory why = tt

@@ -1,5 +1,5 @@
 -- What is reported of seats at work.
-use Rattle.std.specs.Prelude.{◌≡◌, ℕ, ◌<◌, ◌≤◌, ◌+◌, Bool, List, [], ◌∷◌, length, slice_index_or}
+use Rattle.std.specs.Prelude.{◌≡◌, ℕ, ◌≤◌, ◌+◌, Bool, List, [], ◌∷◌, Some, length, slice_index_or}
 use Rattle.fab_types.specs.declared.envelope.Envelope.{Envelope}
 use Rattle.batch_cutter.specs.Division.{Limits}
 use Rattle.wire.specs.Links.{AreLinked}
@@ -19,7 +19,7 @@ use Rattle.seat_threads.specs.declared.refusal.SeatsRefusal.{SeatsRefusal}
 use Rattle.seat_threads.specs.declared.refusal.SeatsRefusal.TheVariants.{Memory, NoPlace, NotEntered}
 use Rattle.seat_threads.specs.declared.running.Report.{Report}
 use Rattle.seat_threads.specs.Desks.{envelopes_got}
-use Rattle.seat_threads.specs.Rounds.{Outcome, envelopes_in}
+use Rattle.seat_threads.specs.Rounds.{Outcome, envelopes_in, least_refusal}
 use Rattle.seat_threads.specs.Work.{Task, AllCameTo, total_of}
 
 -- what the seats of the genesis's first peer do
@@ -62,12 +62,12 @@ pub record TellsOfSeats (task : Task) (seats : ℕ) (reorder : Bool) (limits : L
   pub blocks : r.blocks ≡ length now.chain
   pub audited : AuditSays (exec_of task.endorsing.book) (judged_chain (table_of task.endorsing.listed) now.chain) r.audit
 
--- Where each refusal comes. Of want of memory, and of places in the cell, nothing is said
+-- Where each refusal comes: want of an entry only where no round wanted memory. Of want of memory, and of places in the cell, nothing is said
 abbrev pub IsSeatsRefused : Task → ℕ → SeatsRefusal → Type 0
 IsSeatsRefused task seats Memory = Unit {0}
 IsSeatsRefused task seats NoPlace = Unit {0}
 IsSeatsRefused task seats NotEntered =
-    (outcomes : List (List Outcome)) × (length outcomes ≡ seats) × AllCameTo task 0 outcomes × (0 < (total_of outcomes).not_entered)
+    (outcomes : List (List Outcome)) × (length outcomes ≡ seats) × AllCameTo task 0 outcomes × (least_refusal (total_of outcomes) ≡ Some NotEntered)
 
 -- a peer opens without a round
 abbrev pub IsOpeningRefused : SeatsRefusal → Type 0
@@ -81,8 +81,8 @@ IsWorkRefused task seats Memory = Unit {0}
 IsWorkRefused task seats NoPlace = ⊥
 IsWorkRefused task seats NotEntered = IsSeatsRefused task seats NotEntered
 
--- some round counts as one without an entry
+-- want of an entry is the least refusal that these count
 abbrev pub IsCountRefused : Counts → SeatsRefusal → Type 0
 IsCountRefused counts Memory = Unit {0}
 IsCountRefused counts NoPlace = ⊥
-IsCountRefused counts NotEntered = 0 < counts.not_entered
+IsCountRefused counts NotEntered = least_refusal counts ≡ Some NotEntered
