@@ -1,0 +1,128 @@
+//! Why a line is no event, no proposal or no question.
+
+use crate::complaint::Kind;
+use crate::forms::{Content, Form};
+use crate::json_text::{Read, read_json};
+use crate::line_forms::{EVENTS, PROPOSAL, QUESTIONS, Words};
+use crate::names::{items_of, text_of};
+use crate::place::Item;
+use crate::search::Search;
+use crate::shown::{front, listed};
+use nearest_word::nearest;
+use serde_json::Value;
+use std::alloc::{AllocError, Global};
+
+/// Why a line of an events file asks for nothing: one sentence with the field, the reason and what
+/// is possible there. A line of one of the forms uses a name that no finish gave.
+pub fn event_reason(alloc: Global, line: &[u8]) -> Result<String, AllocError> {
+    let value = match read_json(alloc, line, false)? {
+        Read::Json(value) => value,
+        Read::None(words) => return Ok(words),
+    };
+    match by_word(alloc, &EVENTS, &value)? {
+        Some(words) => Ok(words),
+        None => unbound(alloc, &value),
+    }
+}
+
+/// Why a line is no proposal, in a sentence as of `event_reason`.
+pub fn proposal_reason(alloc: Global, line: &[u8]) -> Result<String, AllocError> {
+    let value = match read_json(alloc, line, false)? {
+        Read::Json(value) => value,
+        Read::None(words) => return Ok(words),
+    };
+    match fault_of(alloc, PROPOSAL, &value)? {
+        Some(words) => Ok(words),
+        None => String::from_str(alloc, "it is none of the forms of a proposal"),
+    }
+}
+
+/// Why a line is no question, in a sentence as of `event_reason`.
+pub fn question_reason(alloc: Global, line: &[u8]) -> Result<String, AllocError> {
+    let value = match read_json(alloc, line, false)? {
+        Read::Json(value) => value,
+        Read::None(words) => return Ok(words),
+    };
+    match by_word(alloc, &QUESTIONS, &value)? {
+        Some(words) => Ok(words),
+        None => String::from_str(alloc, "it is none of the forms of a question"),
+    }
+}
+
+/// What is wrong with a line, by the word that it has of these.
+fn by_word(alloc: Global, words: &Words, value: &Value) -> Result<Option<String>, AllocError> {
+    let Some(word) = text_of(value, words.field) else {
+        return Ok(Some(no_word(alloc, words.field, value)?));
+    };
+    for action in words.actions {
+        if action.word == word {
+            return fault_of(alloc, action.forms, value);
+        }
+    }
+    Ok(Some(unknown_word(alloc, words, word)?))
+}
+
+/// That a line has no word in this field.
+fn no_word(alloc: Global, field: &'static str, value: &Value) -> Result<String, AllocError> {
+    match (value, value.get(field)) {
+        (_, Some(held)) => {
+            let kind = Kind::of(held);
+            format!(in alloc; "field \"{field}\": it is {kind}, and has to be a text")
+        }
+        (Value::Object(_), None) => format!(in alloc; "field \"{field}\" is missing"),
+        _ => String::from_str(alloc, "it is no object: `{` has to come first"),
+    }
+}
+
+/// That a word is none of these.
+fn unknown_word(alloc: Global, words: &Words, word: &str) -> Result<String, AllocError> {
+    let mut known = Vec::new(alloc);
+    for action in words.actions {
+        known.push(action.word)?;
+    }
+    let (noun, shown) = (words.noun, front(word));
+    if let Some(meant) = nearest(alloc, word, &known)? {
+        return format!(in alloc; "unknown {noun} {shown:?}; did you mean \"{meant}\"?");
+    }
+    let there = listed(alloc, &known)?;
+    format!(in alloc; "unknown {noun} {shown:?}; there are {there}")
+}
+
+/// The first fault of a line by these forms, or else of the order of its members, in words.
+fn fault_of(
+    alloc: Global,
+    forms: &'static [Form<Content>],
+    value: &Value,
+) -> Result<Option<String>, AllocError> {
+    let search = Search { alloc, asked: None };
+    match search.whole(forms, value)? {
+        Some(words) => Ok(Some(words)),
+        None => out_of_order(alloc, value),
+    }
+}
+
+/// The first member of an amendment whose name does not come behind the one before it, in words.
+fn out_of_order(alloc: Global, value: &Value) -> Result<Option<String>, AllocError> {
+    let mut last = None;
+    for (index, member) in items_of(value, "members").iter().enumerate() {
+        let name = text_of(member, "name");
+        if last.is_some() && name <= last {
+            let item = Item::new("members", index, member);
+            return Ok(Some(format!(in alloc; "{item}: the names have to ascend, each once")?));
+        }
+        last = name;
+    }
+    Ok(None)
+}
+
+/// That a line, which is of one of the forms, uses a name that stands for nothing.
+fn unbound(alloc: Global, value: &Value) -> Result<String, AllocError> {
+    let mut names = Vec::new(alloc);
+    for name in items_of(value, "use") {
+        if let Value::String(name) = name {
+            names.push(front(name.as_str()))?;
+        }
+    }
+    let used = listed(alloc, &names)?;
+    format!(in alloc; "field \"use\": no finish before it gave one of these names: {used:?}")
+}

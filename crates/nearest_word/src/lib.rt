@@ -1,0 +1,35 @@
+//! The word that somebody meant, among those that are possible.
+#![tactic(auto)]
+
+use std::alloc::{AllocError, Global};
+use strsim::osa_distance;
+
+/// How many edits lead from a word to one that may have been meant, at most.
+const MOST_EDITS: usize = 2;
+
+/// A word of more bytes was meant for none.
+const MOST_BYTES: usize = 64;
+
+/// The first of these words that takes the fewest edits to come to: a letter more, a letter less,
+/// another letter, or two neighbours swapped. None where each takes more than two, or more than
+/// half as many as the word has bytes, or where the word has more than 64. The only error is want
+/// of memory.
+pub fn nearest<'a>(
+    alloc: Global,
+    word: &str,
+    words: &[&'a str],
+) -> Result<Option<&'a str>, AllocError> {
+    if word.len() > MOST_BYTES {
+        return Ok(None);
+    }
+    let mut best = None;
+    let mut most = MOST_EDITS.min(word.len() / 2);
+    for &each in words {
+        let edits = osa_distance(alloc, word, each)?;
+        if edits <= most && (best.is_none() || edits < most) {
+            best = Some(each);
+            most = edits;
+        }
+    }
+    Ok(best)
+}

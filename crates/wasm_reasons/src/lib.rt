@@ -1,0 +1,27 @@
+//! Why bytes give no valid module, in one sentence for those who wrote the module.
+//!
+//! The sentence says where the fault is and what stands there. It is made by functions that look at
+//! the bytes once more, beside the exact readers, whose answer they take as given.
+#![tactic(auto)]
+
+mod bodies;
+mod generic;
+mod items;
+mod limits;
+mod lookup;
+mod operands;
+mod operators;
+mod place;
+mod reader;
+mod reason;
+mod rules;
+mod section;
+mod sections;
+mod source;
+mod steps;
+mod stop;
+mod types;
+mod typing;
+mod words;
+
+pub use reason::module_reason;

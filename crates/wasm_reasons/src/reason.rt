@@ -1,0 +1,95 @@
+//! The sentence of a refusal.
+
+use crate::generic::rule_of;
+use crate::place::Place;
+use crate::rules::look_at_rules;
+use crate::sections::look_at_bytes;
+use crate::source::Source;
+use crate::stop::Stop;
+use std::alloc::{AllocError, Global};
+use wasm_decode::decode_as;
+use wasm_file::ModuleRefusal;
+use wasm_profile::Profile;
+
+/// The number of a refusal: 9, 101 to 113 or 201 to 210.
+fn number_of(refusal: &ModuleRefusal) -> u16 {
+    match refusal {
+        ModuleRefusal::Memory => 9,
+        ModuleRefusal::Malformed(kind, _) => u16::from(kind.number()),
+        ModuleRefusal::Invalid(fault) => fault.number(),
+    }
+}
+
+/// Why the bytes give no valid module of a profile, where `valid_module` refused them so: one
+/// sentence without an end of line, with the place of the fault. It ends with the number of the
+/// refusal in parentheses.
+///
+/// # Errors
+///
+/// Only where a growth of memory was refused.
+pub fn module_reason(
+    alloc: Global,
+    profile: Profile,
+    bytes: &[u8],
+    refusal: &ModuleRefusal,
+) -> Result<String, AllocError> {
+    let source = Source {
+        alloc,
+        profile,
+        bytes,
+    };
+    let sentence = sentence_of(source, refusal)?;
+    let number = number_of(refusal);
+    format!(in alloc; "{sentence} ({number})")
+}
+
+// The sentence: what was found, or else the rule that the refusal says is broken.
+fn sentence_of(source: Source<'_>, refusal: &ModuleRefusal) -> Result<String, AllocError> {
+    let mut place = Place::NOWHERE;
+    let stop = match look(source, refusal, &mut place) {
+        Ok(()) => return String::from_str(source.alloc, rule_of(refusal)),
+        Err(stop) => stop,
+    };
+    match found(source, refusal, place, stop) {
+        Ok(sentence) => Ok(sentence),
+        Err(Stop::Memory) => Err(AllocError),
+        Err(Stop::Fault(_fault)) => String::from_str(source.alloc, rule_of(refusal)),
+    }
+}
+
+// Looks for what a refusal says is wrong, and leaves the place of it.
+fn look(source: Source<'_>, refusal: &ModuleRefusal, place: &mut Place) -> Result<(), Stop> {
+    match refusal {
+        ModuleRefusal::Memory => Ok(()),
+        ModuleRefusal::Malformed(_, offset) => {
+            let looked = look_at_bytes(source, place);
+            place.offset = Some(*offset);
+            looked
+        }
+        ModuleRefusal::Invalid(_) => match decode_as(source.alloc, source.bytes, source.profile) {
+            Ok(module) => look_at_rules(source, &module, place),
+            Err(_fault) => Ok(()),
+        },
+    }
+}
+
+// The sentence of a fault at a place, where it is that of the refusal.
+fn found(
+    source: Source<'_>,
+    refusal: &ModuleRefusal,
+    place: Place,
+    stop: Stop,
+) -> Result<String, Stop> {
+    let Stop::Fault(fault) = stop else {
+        return Err(Stop::Memory);
+    };
+    if fault.refusal != *refusal {
+        return Err(Stop::Fault(fault));
+    }
+    let words = fault.words;
+    let place = source.words_of(source.with_offset(place)?)?;
+    if place.is_empty() {
+        return Ok(words);
+    }
+    Ok(format!(in source.alloc; "{place}: {words}")?)
+}

@@ -1,0 +1,189 @@
+//! Expressions and their instructions (Core 1.0, section 5.4).
+
+use crate::limits::{MODULE_BYTES, MOST_INSTRUCTIONS, MOST_ITEMS, MOST_NESTING};
+use crate::operators::operator_name;
+use crate::place::{Numbered, Spot};
+use crate::reader::Reader;
+use crate::stop::{Stop, malformed};
+use wasm_ast::{BlockType, MemoryArgument};
+use wasm_decode::FaultKind;
+use wasm_operators::{load, operator, store};
+use wasm_profile::Profile;
+
+/// The opcodes that open, part and end blocks.
+pub(crate) const BLOCK: u8 = 0x02;
+
+pub(crate) const LOOP: u8 = 0x03;
+
+pub(crate) const IF: u8 = 0x04;
+
+pub(crate) const ELSE: u8 = 0x05;
+
+pub(crate) const END: u8 = 0x0b;
+
+/// An instruction as it stands in the bytes, or an `else` or an `end`.
+#[derive(Debug, Drop)]
+pub(crate) struct Step {
+    pub(crate) opcode: u8,
+    pub(crate) immediate: Immediate,
+}
+
+/// What stands behind an opcode.
+#[derive(Debug, Drop)]
+pub(crate) enum Immediate {
+    /// Nothing that typing looks at.
+    None,
+    Block(BlockType),
+    Index(u32),
+    /// Labels, of which the last is the default.
+    Labels(Vec<u32>),
+    Access(MemoryArgument),
+}
+
+impl<'a> Reader<'a> {
+    /// An instruction, before which so many stand in the expression.
+    pub(crate) fn step(&mut self, number: u32) -> Result<Step, Stop> {
+        let opcode = self.opcode(number)?;
+        let immediate = self.immediate(opcode)?;
+        Ok(Step { opcode, immediate })
+    }
+
+    // The opcode of an instruction.
+    fn opcode(&mut self, number: u32) -> Result<u8, Stop> {
+        self.place.spot = None;
+        let opcode = self.byte("an instruction, or the end of an expression")?;
+        self.place.spot = Some(Spot::At(Numbered { number, opcode }));
+        Ok(opcode)
+    }
+
+    // What stands behind an opcode.
+    fn immediate(&mut self, opcode: u8) -> Result<Immediate, Stop> {
+        if operator(opcode, self.source.profile).is_some() {
+            return Ok(Immediate::None);
+        }
+        if load(opcode).is_some() || store(opcode).is_some() {
+            let align = self.number("its alignment")?;
+            let offset = self.number("its offset")?;
+            return Ok(Immediate::Access(MemoryArgument { align, offset }));
+        }
+        match opcode {
+            0x00 | 0x01 | 0x0f | 0x1a | 0x1b | ELSE | END => Ok(Immediate::None),
+            BLOCK | LOOP | IF => Ok(Immediate::Block(self.block_type()?)),
+            0x0c | 0x0d | 0x10 | 0x20..=0x24 => Ok(Immediate::Index(self.number("its index")?)),
+            0x0e => self.labels(),
+            0x11 => self.reserved_index(),
+            0x3f | 0x40 => self.reserved(),
+            0x41 | 0x42 => self.constant(opcode),
+            _ => self.no_instruction(opcode),
+        }
+    }
+
+    // The labels of a `br_table`.
+    fn labels(&mut self) -> Result<Immediate, Stop> {
+        let count = self.number_to(MOST_ITEMS, "the count of its labels")?;
+        let mut labels = Vec::new(self.source.alloc);
+        for _ in 0..count {
+            labels.push(self.number("one of its labels")?)?;
+        }
+        labels.push(self.number("its default label")?)?;
+        Ok(Immediate::Labels(labels))
+    }
+
+    // The index of a type, and a byte that is 0.
+    fn reserved_index(&mut self) -> Result<Immediate, Stop> {
+        let index = self.number("its type index")?;
+        let _ = self.reserved()?;
+        Ok(Immediate::Index(index))
+    }
+
+    // A byte that is 0.
+    fn reserved(&mut self) -> Result<Immediate, Stop> {
+        let offset = self.cursor.offset();
+        let byte = self.byte("its reserved byte")?;
+        if byte != 0 {
+            let words = format!(in self.source.alloc; "byte {byte:02x} stands where 00 is needed")?;
+            return malformed(FaultKind::Opcode, offset, words);
+        }
+        Ok(Immediate::None)
+    }
+
+    // The word of a constant.
+    fn constant(&mut self, opcode: u8) -> Result<Immediate, Stop> {
+        if opcode == 0x41 {
+            self.signed_32("its constant")?;
+        } else {
+            self.signed_64("its constant")?;
+        }
+        Ok(Immediate::None)
+    }
+
+    // The fault of an opcode that the profile does not have, behind which the reader stands.
+    fn no_instruction<T>(&self, opcode: u8) -> Result<T, Stop> {
+        let alloc = self.source.alloc;
+        let offset = self.cursor.offset().saturating_sub(1);
+        if operator(opcode, Profile::SignExtension).is_some() {
+            let words = format!(in alloc; "profile 2 has this instruction, and profile 1 has not")?;
+            return malformed(FaultKind::Opcode, offset, words);
+        }
+        if operator_name(opcode).is_some() {
+            let words = format!(in alloc; "it works on floats, and the ledger has only integers")?;
+            return malformed(FaultKind::Float, offset, words);
+        }
+        let words = format!(in alloc; "the opcode stands for no instruction")?;
+        malformed(FaultKind::Opcode, offset, words)
+    }
+
+    /// An expression within the limits.
+    pub(crate) fn expression(&mut self) -> Result<(), Stop> {
+        // Of each block that is open, whether an `else` may come.
+        let mut open = Vec::new(self.source.alloc);
+        let mut number = 0;
+        for _ in 0..MODULE_BYTES {
+            let opcode = self.opcode(number)?;
+            if opcode == END {
+                if open.pop().is_none() {
+                    self.place.spot = None;
+                    return Ok(());
+                }
+            } else if opcode == ELSE {
+                if open.pop() != Some(true) {
+                    return self.stray_else();
+                }
+                open.push(false)?;
+            } else {
+                self.within_limits(number, opcode, open.len())?;
+                let _ = self.immediate(opcode)?;
+                if opcode == BLOCK || opcode == LOOP || opcode == IF {
+                    open.push(opcode == IF)?;
+                }
+                number = number.saturating_add(1);
+            }
+        }
+        Ok(())
+    }
+
+    // The fault of an `else`, behind which the reader stands.
+    fn stray_else<T>(&self) -> Result<T, Stop> {
+        let offset = self.cursor.offset().saturating_sub(1);
+        let words = format!(in self.source.alloc; "it stands where no if waits for it")?;
+        malformed(FaultKind::Opcode, offset, words)
+    }
+
+    // Whether an instruction may come, before which so many stand, in so many blocks.
+    fn within_limits(&self, number: u32, opcode: u8, depth: usize) -> Result<(), Stop> {
+        let offset = self.cursor.offset().saturating_sub(1);
+        if number >= MOST_INSTRUCTIONS {
+            let words = format!(in self.source.alloc;
+                "{number} instructions stand before it, and no more are allowed"
+            )?;
+            return malformed(FaultKind::Limit, offset, words);
+        }
+        if depth >= MOST_NESTING && (opcode == BLOCK || opcode == LOOP || opcode == IF) {
+            let words = format!(in self.source.alloc;
+                "{depth} blocks stand round it, and no more are allowed"
+            )?;
+            return malformed(FaultKind::Limit, offset, words);
+        }
+        Ok(())
+    }
+}
