@@ -1,9 +1,9 @@
 //! The files of the machine, with a file in place of the standard input.
 
 use crate::memory::MemoryFile;
-use cli_lines::{FileFault, Files, Target};
+use cli_lines::{Access, FileFault, Files, Target};
 use cli_program::{Disk, Terminal};
-use std::alloc::Global;
+use std::alloc::{AllocError, Global};
 use std::fs::{self, File};
 use std::io::Read;
 
@@ -108,5 +108,12 @@ impl<'a> Files for Fed<'a> {
 
     fn remark(&mut self, line: &str) {
         let _ = println!(self.machine; "! {line}");
+    }
+
+    /// Sentences are not printed: `test/reasons.py` looks at those of each case.
+    fn explain(&mut self, _sentence: &str) {}
+
+    fn trouble(&mut self, alloc: Global, name: &str, access: Access) -> Result<String, AllocError> {
+        self.disk.trouble(alloc, name, access)
     }
 }

@@ -1,3 +1,4 @@
+pub mod Lines
 pub mod Told
 pub mod Texts
 pub mod Sealing

@@ -1,5 +1,6 @@
 -- What the program tells by the lines that it prints.
 use Rattle.std.specs.Prelude.{◌≡◌, ◌<◌, ◌≤◌, ◌⊎◌, ℕ, List, Bool, true, false, Option, Result, Ok, Err}
+use Rattle.std.specs.Io.KnownBytes.{Appends}
 use Rattle.cli_lines.specs.declared.failure.Failure.{Failure}
 use Rattle.cli_lines.specs.declared.failure.Failure.TheVariants as failure
 
@@ -16,6 +17,12 @@ nothing_told bytes = record { printed = 0; failed = false; bytes = bytes }
 pub record IsMore (before after : Told) : Type 0 where
   pub prints : before.printed ≤ after.printed
   pub fails : before.failed ≡ true → after.failed ≡ true
+
+-- Each text of a task was printed. Together they are these bytes, which stand behind what the writer held, where that is known
+pub record Prints (before after : Told) (text : List ℕ) : Type 0 where
+  pub more : IsMore before after
+  pub whole : after.failed ≡ before.failed
+  pub bytes : Appends before.bytes after.bytes text
 
 -- what a failure says of what was told meanwhile: a difference was printed, and output failed where a text could not be
 abbrev pub Says : (before after : Told) → Failure → Type 0

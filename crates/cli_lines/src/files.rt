@@ -74,6 +74,21 @@ pub trait Files {
 
     /// Says a line to whoever runs the program, on the standard error.
     fn remark(&mut self, line: &str);
+
+    /// Says in the same way, in a sentence, why a line on the standard output refuses something.
+    fn explain(&mut self, sentence: &str);
+
+    /// Why a file could not be used so, as far as another look at it tells, in words without its
+    /// name.
+    fn trouble(&mut self, alloc: Global, name: &str, access: Access) -> Result<String, AllocError>;
+}
+
+/// What a file is used for.
+#[derive(Clone, Copy, Debug, PartialEq, Eq)]
+pub enum Access {
+    Read,
+    /// To be written by this process alone.
+    Write,
 }
 
 /// Where that goes which is written under a name. A link stands for what it leads to.

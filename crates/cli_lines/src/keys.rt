@@ -1,24 +1,31 @@
 //! The seeds of a key file, and who can endorse with them.
 
-ghost use Rattle.std.specs.Prelude.{◌≡◌, true, false, Ok, Err, IfErr, IfOk, IfSome, option_map};
+ghost use Rattle.std.specs.Prelude.{◌≡◌, true, false, Ok, Err, IfErr, IfOk, IfSome, OnOk, option_map};
 ghost use Rattle.std.specs.List.{find, list_any};
 ghost use Rattle.key_file.specs.KeyFiles.{IsKeyFile};
 ghost use Rattle.cli_lines.specs.Sealing.{lacks_seed};
 ghost use Rattle.cli_lines.specs.Told.{IsSilent};
 ghost use Rattle.cli_lines.specs.declared.failure.Failure.TheVariants.{NoSecret};
 
+use crate::explaining::{Location, explain_numbered, read_explained};
 use crate::failure::Failure;
-use crate::files::{Files, read_at_most};
+use crate::files::Files;
 use ed25519::SigningKey;
 use endorsement_policy::Rules;
 use fab_types::OrgName;
 use key_file::{KeyFault, read_keys};
 use ledger_setting::Genesis;
 use org_keys::Signers;
-use std::alloc::{AllocError, Global};
+use std::alloc::Global;
 
 /// A key file has at most 1,040 bytes. One byte more is read, so that a longer file is told apart.
 const MOST_READ: u64 = 1_041;
+
+/// What is wrong where an organisation has to endorse without its seed.
+const NO_SEED: &str = "no seed of this organisation is at hand; name its key file by --keys";
+
+/// What is wrong with a file that is no key file.
+const NO_KEY_FILE: &str = "it is no key file, which has 1 to 16 lines, each of 64 hex digits";
 
 /// The keys of the seeds in the key file of this name.
 ///
@@ -33,12 +40,12 @@ pub fn keys_in<F: Files>(
         (λ keys. IfSome (F.bytes files.old name.now) (λ bytes. IsKeyFile bytes keys.items)) }
     ensures silent { IfErr result IsSilent }
 {
-    let bytes = read_at_most(alloc, files, name, MOST_READ)?;
+    let bytes = read_explained(alloc, files, name, MOST_READ)?;
     match read_keys(alloc, &bytes) {
         Ok(keys) => Ok(keys),
         Err(KeyFault::Memory) => Err(Failure::Memory),
         Err(KeyFault::Malformed) => {
-            remark_malformed(alloc, files, name)?;
+            explain_numbered(alloc, files, &Location::file(name), NO_KEY_FILE, 809);
             Err(Failure::KeyFile)
         }
     }
@@ -51,15 +58,6 @@ pub fn signers_in<F: Files>(alloc: Global, files: &mut F, name: &str) -> Result<
     ensures silent { IfErr result IsSilent }
 {
     Ok(Signers::new(keys_in(alloc, files, name)?))
-}
-
-/// Says what a key file is.
-fn remark_malformed<F: Files>(alloc: Global, files: &mut F, name: &str) -> Result<(), AllocError> {
-    let line = format!(in alloc;
-        "{name} is no key file: it has 1 to 16 lines, each of 64 hex digits"
-    )?;
-    files.remark(&line);
-    Ok(())
 }
 
 /// Whether an organisation is listed with a public key whose seed is not among these. One that is
@@ -85,11 +83,12 @@ pub fn need_secrets<F: Files>(
         → list_any (lacks_seed genesis.now.rules.value genesis.now.signers.value) orgs.now ≡ false }
     ensures refused { result ≡ Err NoSecret
         → list_any (lacks_seed genesis.now.rules.value genesis.now.signers.value) orgs.now ≡ true }
+    ensures unchanged { OnOk result (files.new ≡ files.old) }
     ensures silent { IfErr result IsSilent }
 {
     match first_lacking(genesis, orgs) {
         Some(org) => {
-            remark_missing(alloc, files, org)?;
+            explain_no_seed(alloc, files, org);
             Err(Failure::NoSecret)
         }
         None => Ok(()),
@@ -105,14 +104,9 @@ fn first_lacking<'a>(genesis: &Genesis, orgs: &'a [OrgName]) -> Option<&'a OrgNa
     orgs.iter().find(|org| lacks_seed(rules, signers, org))
 }
 
-/// Says whose seed is missing, and where it is looked for.
-pub fn remark_missing<F: Files>(
-    alloc: Global,
-    files: &mut F,
-    org: &OrgName,
-) -> Result<(), AllocError> {
-    let org = String::from_utf8_lossy(alloc, org.as_slice())?;
-    let line = format!(in alloc; "no seed of {org} is at hand: name its key file by --keys")?;
-    files.remark(&line);
-    Ok(())
+/// Says whose seed is missing, and where it is looked for (808).
+pub fn explain_no_seed<F: Files>(alloc: Global, files: &mut F, org: &OrgName) {
+    if let Ok(org) = String::from_utf8_lossy(alloc, org.as_slice()) {
+        explain_numbered(alloc, files, &Location::file(&org), NO_SEED, 808);
+    }
 }

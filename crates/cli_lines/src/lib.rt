@@ -3,22 +3,30 @@
 //!
 //! [`Files`] is where files are read and written, [`genesis_in`] reads what a system begins with,
 //! [`modules_in`] the modules at hand beside its own, and [`signers_in`] the seeds at hand.
+//! What [`explain`] and its like say on the standard error stands beside a line that refuses.
 //! [`Printer`] is where lines are printed: contracts see of it how many texts were printed, and
 //! whether one could not be. [`Failure`] says why a command was not done.
 #![tactic(auto)]
 
+mod explaining;
 mod failure;
 mod files;
 mod keys;
 mod lines;
+mod meanings;
 mod opening;
 mod printer;
 mod verdict;
 
+pub use explaining::{
+    Location, explain, explain_bad_line, explain_failure, explain_number, explain_numbered,
+    explain_read, explain_trouble, read_explained,
+};
 pub use failure::Failure;
-pub use files::{FileFault, Files, Target, read_all, read_at_most};
-pub use keys::{keys_in, lacks_seed, need_secrets, remark_missing, signers_in};
+pub use files::{Access, FileFault, Files, Target, read_all, read_at_most};
+pub use keys::{explain_no_seed, keys_in, lacks_seed, need_secrets, signers_in};
 pub use lines::{hex_of, id_of, print_committed, print_line, print_payload, version_of};
+pub use meanings::{block_words, flags_words, meaning, simulation_words};
 pub use opening::{genesis_holding, genesis_in, modules_in};
 pub use printer::Printer;
 pub use verdict::print_audit;

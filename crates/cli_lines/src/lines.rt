@@ -1,9 +1,11 @@
 //! Lines, and what the program prints of a transaction, and of a block that was committed.
 
-ghost use Rattle.std.specs.Prelude.{◌<◌, OnOk, string_bytes};
+ghost use Rattle.std.specs.Prelude.{◌≡◌, ◌<◌, IfOk, OnOk, string_bytes};
 ghost use Rattle.std.specs.Io.KnownBytes.{Appends};
+ghost use Rattle.std.specs.List.{flat_map};
+ghost use Rattle.cli_lines.specs.Lines.{committed_text, hex_text, id_text, payload_text, range_text, read_text, version_text, write_text};
 ghost use Rattle.cli_lines.specs.Texts.{line};
-ghost use Rattle.cli_lines.specs.Told.{Tells};
+ghost use Rattle.cli_lines.specs.Told.{Prints, Tells};
 
 use crate::failure::Failure;
 use crate::printer::Printer;
@@ -23,7 +25,9 @@ pub fn print_line<W: Write>(text: &String, out: &mut Printer<'_, W>) -> Result<(
 }
 
 /// Bytes as lower-case hex; `-` where there are none.
-pub fn hex_of(alloc: Global, bytes: &[u8]) -> Result<String, AllocError> {
+pub fn hex_of(alloc: Global, bytes: &[u8]) -> Result<String, AllocError>
+    ensures { IfOk result (λ text. string_bytes text ≡ hex_text bytes.now) }
+{
     if bytes.is_empty() {
         return String::from_str(alloc, "-");
     }
@@ -31,12 +35,16 @@ pub fn hex_of(alloc: Global, bytes: &[u8]) -> Result<String, AllocError> {
 }
 
 /// The id of the transaction that a payload's proposal begins, in hex.
-pub fn id_of(alloc: Global, payload: &Payload) -> Result<String, AllocError> {
+pub fn id_of(alloc: Global, payload: &Payload) -> Result<String, AllocError>
+    ensures { IfOk result (λ text. string_bytes text ≡ id_text payload.now) }
+{
     hex::encode(alloc, payload_id(payload))
 }
 
 /// A version as `<block>.<place>`.
-pub fn version_of(alloc: Global, version: Version) -> Result<String, AllocError> {
+pub fn version_of(alloc: Global, version: Version) -> Result<String, AllocError>
+    ensures { IfOk result (λ text. string_bytes text ≡ version_text version) }
+{
     let (block, place) = (version.block(), version.place());
     format!(in alloc; "{block}.{place}")
 }
@@ -47,16 +55,16 @@ fn print_read<W: Write>(
     out: &mut Printer<'_, W>,
 ) -> Result<(), Failure>
     ensures tells { Tells out.old out.new result }
+    ensures prints { OnOk result (Prints out.old out.new (read_text read.now)) }
 {
     let key = hex_of(alloc, read.key.as_slice())?;
     match read.version {
         Some(version) => {
             let version = version_of(alloc, version)?;
-            writeln!(out, "read {key} {version}")?;
+            writeln!(out, "read {key} {version}")
         }
-        None => writeln!(out, "read {key} absent")?,
+        None => writeln!(out, "read {key} absent"),
     }
-    Ok(())
 }
 
 fn print_range<W: Write>(
@@ -65,12 +73,12 @@ fn print_range<W: Write>(
     out: &mut Printer<'_, W>,
 ) -> Result<(), Failure>
     ensures tells { Tells out.old out.new result }
+    ensures prints { OnOk result (Prints out.old out.new (range_text range.now)) }
 {
     let start = hex_of(alloc, range.start().as_slice())?;
     let end = hex_of(alloc, range.end().as_slice())?;
     let (limit, entries) = (range.limit(), range.entries().len());
-    writeln!(out, "range {start} {end} {limit} {entries}")?;
-    Ok(())
+    writeln!(out, "range {start} {end} {limit} {entries}")
 }
 
 fn print_write<W: Write>(
@@ -79,16 +87,16 @@ fn print_write<W: Write>(
     out: &mut Printer<'_, W>,
 ) -> Result<(), Failure>
     ensures tells { Tells out.old out.new result }
+    ensures prints { OnOk result (Prints out.old out.new (write_text write.now)) }
 {
     let key = hex_of(alloc, write.key.as_slice())?;
     match &write.value {
         Some(value) => {
             let value = hex_of(alloc, value.as_slice())?;
-            writeln!(out, "write {key} put {value}")?;
+            writeln!(out, "write {key} put {value}")
         }
-        None => writeln!(out, "write {key} delete")?,
+        None => writeln!(out, "write {key} delete"),
     }
-    Ok(())
 }
 
 fn print_reads<W: Write>(
@@ -97,6 +105,7 @@ fn print_reads<W: Write>(
     out: &mut Printer<'_, W>,
 ) -> Result<(), Failure>
     ensures tells { Tells out.old out.new result }
+    ensures prints { OnOk result (Prints out.old out.new (flat_map read_text reads.now)) }
 {
     for read in reads {
         print_read(alloc, read, out)?;
@@ -110,6 +119,7 @@ fn print_ranges<W: Write>(
     out: &mut Printer<'_, W>,
 ) -> Result<(), Failure>
     ensures tells { Tells out.old out.new result }
+    ensures prints { OnOk result (Prints out.old out.new (flat_map range_text ranges.now)) }
 {
     for range in ranges {
         print_range(alloc, range, out)?;
@@ -123,6 +133,7 @@ fn print_writes<W: Write>(
     out: &mut Printer<'_, W>,
 ) -> Result<(), Failure>
     ensures tells { Tells out.old out.new result }
+    ensures prints { OnOk result (Prints out.old out.new (flat_map write_text writes.now)) }
 {
     for write in writes {
         print_write(alloc, write, out)?;
@@ -137,6 +148,7 @@ pub fn print_payload<W: Write>(
     out: &mut Printer<'_, W>,
 ) -> Result<(), Failure>
     ensures tells { Tells out.old out.new result }
+    ensures prints { OnOk result (Prints out.old out.new (payload_text payload.now)) }
 {
     let id = id_of(alloc, payload)?;
     let result = hex_of(alloc, payload.result().as_slice())?;
@@ -154,6 +166,7 @@ pub fn print_committed<W: Write>(
     out: &mut Printer<'_, W>,
 ) -> Result<(), Failure>
     ensures tells { Tells out.old out.new result }
+    ensures prints { OnOk result (Prints out.old out.new (committed_text number flags.now)) }
 {
     write!(out, "committed {number} flags")?;
     for flag in flags {

@@ -2,7 +2,7 @@
 
 ghost use Rattle.std.specs.Prelude.{◌≡◌, ◌<◌, true, IfSome, OnOk, OnErr};
 ghost use Rattle.std.specs.Io.KnownBytes.{Appends, Keeps};
-ghost use Rattle.cli_lines.specs.Told.{Says, Tells, Told, nothing_told};
+ghost use Rattle.cli_lines.specs.Told.{Prints, Says, Tells, Told, nothing_told};
 
 use crate::failure::Failure;
 use std::fmt::Display;
@@ -46,6 +46,7 @@ impl<'w, W: Write> Printer<'w, W> {
         ensures printed { OnOk result (self.old.printed < self.new.printed) }
         ensures text { OnOk result
             (IfSome (D.output text) (Appends self.old.bytes self.new.bytes)) }
+        ensures prints { OnOk result (IfSome (D.output text) (Prints self.old self.new)) }
         ensures failed { OnErr result (self.new.failed ≡ true) }
     {
         let Some(printed) = self.printed.checked_add(1) else {

@@ -1,7 +1,8 @@
 //! What the program prints of an audit.
 
-ghost use Rattle.std.specs.Prelude.{◌≡◌, ◌<◌, false, IfOk};
-ghost use Rattle.cli_lines.specs.Told.{Tells};
+ghost use Rattle.std.specs.Prelude.{◌≡◌, ◌<◌, false, IfOk, OnOk};
+ghost use Rattle.cli_lines.specs.Lines.{audit_text, does_agree};
+ghost use Rattle.cli_lines.specs.Told.{Prints, Tells};
 
 use crate::failure::Failure;
 use crate::printer::Printer;
@@ -12,6 +13,8 @@ use std::io::Write;
 pub fn print_audit<W: Write>(audit: Audit, out: &mut Printer<'_, W>) -> Result<bool, Failure>
     ensures tells { Tells out.old out.new result }
     ensures differs { IfOk result (λ good. good ≡ false → out.old.printed < out.new.printed) }
+    ensures good { IfOk result (λ good. good ≡ does_agree audit) }
+    ensures prints { OnOk result (Prints out.old out.new (audit_text audit)) }
 {
     match audit {
         Audit::Agrees { .. } => {

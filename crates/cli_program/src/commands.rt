@@ -8,7 +8,7 @@ ghost use Rattle.cli_lines.specs.Told.{IsMore, IsTold, Says, Tells, Told};
 use crate::opening::{opened, order_log};
 use crate::public::public;
 use crate::threading::threads;
-use cli_lines::{Failure, Files, Printer};
+use cli_lines::{Failure, Files, Location, Printer, explain_failure};
 use cli_query::query;
 use cli_roles::{Endorsing, LogGenesis, commit, endorse};
 use cli_session::{RunFiles, run};
@@ -16,8 +16,9 @@ use cli_show::{
     Asked, Part, Shown, Simulated, Span, audit, check, digest, marks, show, simulate, state, trace,
     version,
 };
-use cli_words::{Beginning, StatePart, Task, Usage, WordsFault, Work, parse};
+use cli_words::{Beginning, StatePart, Task, Usage, WordsFault, Work, parse, words_reason};
 use endorsement_policy::Workers;
+use ledger_setting::Genesis;
 use std::alloc::Global;
 use std::io::Write;
 use std::sync::Wait;
@@ -39,7 +40,21 @@ pub fn program<R: Threads + Wait + Sync + Send + Copy + 'static, F: Files, W: Wr
 {
     match carry_out(rt, alloc, words, files, out) {
         Ok(()) => done(out),
-        Err(failure) => refused(failure, out),
+        Err(failure) => {
+            explain_refusal(alloc, files, words, &failure);
+            refused(failure, out)
+        }
+    }
+}
+
+/// Says in words why a task was not done, or why the words name none, where that is not said yet.
+fn explain_refusal<F: Files>(alloc: Global, files: &mut F, words: &[String], failure: &Failure) {
+    if let Failure::Usage = failure {
+        if let Ok(reason) = words_reason(alloc, words) {
+            files.explain(&reason);
+        }
+    } else if let Some(command) = words.first() {
+        explain_failure(alloc, files, &Location::file(command), failure);
     }
 }
 
@@ -158,7 +173,7 @@ fn do_work<R: Threads + Wait + Sync + Send + Copy + 'static, F: Files, W: Write>
                 events,
                 store: *store,
             };
-            run(&workers, alloc, files, genesis, &names, out)
+            run_events(&workers, alloc, files, genesis, &names, out)
         }
         Work::Threads { chaincode, rounds } => {
             threads(rt, alloc, files, genesis, chaincode, *rounds, out)
@@ -191,6 +206,24 @@ fn do_work<R: Threads + Wait + Sync + Send + Copy + 'static, F: Files, W: Write>
         }
         Work::Query { store } => query(&workers, alloc, files, genesis, store, out),
         Work::Marks { store } => marks(&workers, alloc, files, genesis, store, out),
+    }
+}
+
+/// Runs a file of events. A difference that its audit finds is printed.
+fn run_events<T: Threads + Sync, F: Files, W: Write>(
+    workers: &Workers<'_, T>,
+    alloc: Global,
+    files: &mut F,
+    genesis: &Genesis,
+    names: &RunFiles<'_>,
+    out: &mut Printer<'_, W>,
+) -> Result<(), Failure>
+    ensures tells { Tells out.old out.new result }
+{
+    if run(workers, alloc, files, genesis, names, out)? {
+        Ok(())
+    } else {
+        Err(Failure::Printed)
     }
 }
 

@@ -1,8 +1,9 @@
 //! The files of the machine.
 
 use crate::terminal::Terminal;
-use cli_lines::{FileFault, Files, Target};
-use std::alloc::Global;
+use crate::trouble::trouble_of;
+use cli_lines::{Access, FileFault, Files, Target};
+use std::alloc::{AllocError, Global};
 use std::fs::{self, File, Metadata};
 use std::io::{ErrorKind, Stdin};
 use std::os::unix::fs::MetadataExt;
@@ -133,5 +134,13 @@ impl<'a> Files for Disk<'a> {
 
     fn remark(&mut self, line: &str) {
         let _ = eprintln!(self.0; "ledger: {line}");
+    }
+
+    fn explain(&mut self, sentence: &str) {
+        self.remark(sentence);
+    }
+
+    fn trouble(&mut self, alloc: Global, name: &str, access: Access) -> Result<String, AllocError> {
+        trouble_of(self.0, alloc, name, access)
     }
 }

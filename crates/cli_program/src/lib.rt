@@ -13,6 +13,7 @@ mod opening;
 mod public;
 mod terminal;
 mod threading;
+mod trouble;
 
 pub use cli_lines::{Files, Printer};
 pub use commands::program;

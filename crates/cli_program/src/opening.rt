@@ -5,10 +5,12 @@ ghost use Rattle.cli_lines.specs.Told.{IsSilent, Tells};
 
 use chaincode_book::Held;
 use cli_lines::{
-    Failure, Files, Printer, genesis_holding, genesis_in, modules_in, read_all, signers_in,
+    Failure, FileFault, Files, Location, Printer, explain, explain_read, genesis_holding,
+    genesis_in, modules_in, read_all, read_explained, signers_in,
 };
 use cli_roles::{LogGenesis, order};
 use cli_words::Beginning;
+use json_reasons::{genesis_reason, modules_reason};
 use ledger_setting::Genesis;
 use org_keys::Signers;
 use sha2::{Digest, Sha256};
@@ -18,6 +20,7 @@ use std::sync::Arc;
 
 /// What a system begins with, by the files of these names, and the genesis file's digest. Of several
 /// files that are refused the genesis file is told first, then the modules file, then the key file.
+/// Why is said in words too.
 pub fn opened<F: Files>(
     alloc: Global,
     files: &mut F,
@@ -25,11 +28,8 @@ pub fn opened<F: Files>(
 ) -> Result<LogGenesis, Failure>
     ensures silent { IfErr result IsSilent }
 {
-    let bytes = read_all(alloc, files, begin.genesis)?;
-    let genesis = match begin.modules {
-        Some(modules) => holding(alloc, &bytes, held(alloc, files, modules))?,
-        None => genesis_in(alloc, &bytes)?,
-    };
+    let bytes = read_explained(alloc, files, begin.genesis, u64::MAX)?;
+    let genesis = genesis_of(alloc, files, begin, &bytes)?;
     let digest = Sha256::digest(bytes.as_slice());
     let log = LogGenesis { genesis, digest };
     match begin.keys {
@@ -38,32 +38,100 @@ pub fn opened<F: Files>(
     }
 }
 
-/// The modules in the modules file of this name.
-fn held<F: Files>(alloc: Global, files: &mut F, name: &str) -> Result<Vec<Held>, Failure>
+/// What a system begins with by the bytes of the genesis file, and by the modules file, if there is
+/// one.
+fn genesis_of<F: Files>(
+    alloc: Global,
+    files: &mut F,
+    begin: &Beginning<'_>,
+    bytes: &[u8],
+) -> Result<Genesis, Failure>
+    ensures silent { IfErr result IsSilent }
+{
+    let Some(name) = begin.modules else {
+        return genesis_explained(alloc, files, begin.genesis, bytes);
+    };
+    let read = read_all(alloc, files, name);
+    match held(alloc, &read) {
+        Ok(held) => holding_explained(alloc, files, begin.genesis, bytes, held),
+        Err(failure) => {
+            genesis_explained(alloc, files, begin.genesis, bytes)?;
+            explain_modules(alloc, files, name, &read, &failure);
+            Err(failure)
+        }
+    }
+}
+
+/// What a system begins with by the bytes of the genesis file of this name. Says why they are
+/// refused, if they are.
+fn genesis_explained<F: Files>(
+    alloc: Global,
+    files: &mut F,
+    name: &str,
+    bytes: &[u8],
+) -> Result<Genesis, Failure>
+    ensures silent { IfErr result IsSilent }
+{
+    let genesis = genesis_in(alloc, bytes);
+    explain_genesis(alloc, files, name, bytes, &genesis);
+    genesis
+}
+
+/// The same with these modules at hand.
+fn holding_explained<F: Files>(
+    alloc: Global,
+    files: &mut F,
+    name: &str,
+    bytes: &[u8],
+    held: Vec<Held>,
+) -> Result<Genesis, Failure>
+    requires count { length held.items ≤ 64 }
+    ensures silent { IfErr result IsSilent }
+{
+    let genesis = genesis_holding(alloc, bytes, held);
+    explain_genesis(alloc, files, name, bytes, &genesis);
+    genesis
+}
+
+/// The modules in a modules file that was read, or not.
+fn held(alloc: Global, read: &Result<Vec<u8>, FileFault>) -> Result<Vec<Held>, Failure>
     ensures count { IfOk result (λ held. length held.items ≤ 64) }
     ensures silent { IfErr result IsSilent }
 {
-    let bytes = read_all(alloc, files, name)?;
-    modules_in(alloc, &bytes)
+    match read {
+        Ok(bytes) => modules_in(alloc, bytes),
+        Err(fault) => Err(Failure::from(*fault)),
+    }
 }
 
-/// What a system begins with by the bytes of a genesis file, with these modules at hand, where they
-/// were read.
-fn holding(
+/// Says why the bytes of a genesis file are refused, if they are.
+fn explain_genesis<F: Files>(
     alloc: Global,
+    files: &mut F,
+    name: &str,
     bytes: &[u8],
-    held: Result<Vec<Held>, Failure>,
-) -> Result<Genesis, Failure>
-    requires count { IfOk held (λ held. length held.items ≤ 64) }
-    requires silent { IfErr held IsSilent }
-    ensures silent { IfErr result IsSilent }
-{
-    match held {
-        Ok(held) => genesis_holding(alloc, bytes, held),
-        Err(failure) => {
-            genesis_in(alloc, bytes)?;
-            Err(failure)
+    genesis: &Result<Genesis, Failure>,
+) {
+    if let Err(Failure::Genesis(refusal)) = genesis {
+        let reason = genesis_reason(alloc, bytes, refusal);
+        explain(alloc, files, &Location::file(name), reason);
+    }
+}
+
+/// Says why a modules file was not read, or its bytes are refused.
+fn explain_modules<F: Files>(
+    alloc: Global,
+    files: &mut F,
+    name: &str,
+    read: &Result<Vec<u8>, FileFault>,
+    failure: &Failure,
+) {
+    match (read, failure) {
+        (Ok(bytes), Failure::Genesis(refusal)) => {
+            let reason = modules_reason(alloc, bytes, refusal);
+            explain(alloc, files, &Location::file(name), reason);
         }
+        _ => explain_read(alloc, files, name, read),
     }
 }
 

@@ -7,11 +7,14 @@ ghost use Rattle.cli_lines.specs.Told.{Tells};
 ghost use Rattle.log_store.specs.Reading.{IsReadBy, read_chain};
 ghost use Rattle.cli_query.specs.Printed.{IsSaid, Prints};
 
-use cli_lines::{Failure, Files, Printer, print_line};
-use cli_roles::{InputLines, end};
+use cli_lines::{
+    Access, Failure, Files, Location, Printer, explain_bad_line, explain_trouble, print_line,
+};
+use cli_roles::{InputLines, end, explain_store};
 use endorsement_policy::Workers;
 use json_events::BadLine;
 use json_questions::{answer_line, read_question};
+use json_reasons::question_reason;
 use ledger_setting::Genesis;
 use log_store::StoreReader;
 use std::alloc::{AllocError, Global};
@@ -37,13 +40,18 @@ pub fn query<T: Threads + Sync, F: Files, W: Write>(
     ensures tells { Tells out.old out.new result }
 {
     let Some(file) = files.open(store) else {
+        explain_trouble(alloc, files, store, Access::Read);
         return Err(Failure::File);
     };
     let mut lines = InputLines::new(alloc, files.input())?;
     let watch = files.watch();
     let tags = &TagChecks::new(workers, &watch);
-    let asked = Asked { tags, genesis };
-    query_after(alloc, &asked, file, &mut lines, out)
+    let asked = Asked {
+        tags,
+        genesis,
+        store,
+    };
+    query_after(alloc, files, &asked, file, &mut lines, out)
 }
 
 /// What is asked about, and who checks tags.
@@ -51,36 +59,40 @@ pub fn query<T: Threads + Sync, F: Files, W: Write>(
 struct Asked<'a, T, V> {
     tags: &'a TagChecks<'a, T, V>,
     genesis: &'a Genesis,
+    /// The name of the store.
+    store: &'a str,
 }
 
 /// Follows the store of a file, and answers each line.
-fn query_after<T: Threads + Sync, V: Watch, S: Read + Drop, R: Read + Drop, W: Write>(
+fn query_after<T: Threads + Sync, F: Files, W: Write>(
     alloc: Global,
-    asked: &Asked<'_, T, V>,
-    file: S,
-    lines: &mut InputLines<R>,
+    files: &mut F,
+    asked: &Asked<'_, T, F::Watch>,
+    file: F::Reader,
+    lines: &mut InputLines<F::Input>,
     out: &mut Printer<'_, W>,
 ) -> Result<(), Failure>
     ensures tells { Tells out.old out.new result }
 {
     let mut reader = StoreReader::new(alloc, file)?;
-    query_lines(alloc, asked, &mut reader, lines, out)
+    query_lines(alloc, files, asked, &mut reader, lines, out)
 }
 
 /// Answers each line.
-fn query_lines<T: Threads + Sync, V: Watch, S: Read + Drop, R: Read + Drop, W: Write>(
+fn query_lines<T: Threads + Sync, F: Files, W: Write>(
     alloc: Global,
-    asked: &Asked<'_, T, V>,
-    reader: &mut StoreReader<S>,
-    lines: &mut InputLines<R>,
+    files: &mut F,
+    asked: &Asked<'_, T, F::Watch>,
+    reader: &mut StoreReader<F::Reader>,
+    lines: &mut InputLines<F::Input>,
     out: &mut Printer<'_, W>,
 ) -> Result<(), Failure>
     requires { IsReadBy asked.now.genesis.now.rules.value reader.old }
     ensures tells { Tells out.old out.new result }
 {
     for number in 1..u64::MAX {
-        match lines.next()? {
-            Some(line) => take_line(alloc, asked, reader, line, number, out)?,
+        match lines.next_explained(alloc, files)? {
+            Some(line) => take_line(alloc, files, asked, reader, line, number, out)?,
             None => return Ok(()),
         }
         if !lines.is_at_hand() {
@@ -91,8 +103,9 @@ fn query_lines<T: Threads + Sync, V: Watch, S: Read + Drop, R: Read + Drop, W: W
 }
 
 /// Reads the store on, and answers the line of this number.
-fn take_line<T: Threads + Sync, V: Watch, S: Read + Drop, W: Write>(
+fn take_line<T: Threads + Sync, V: Watch, F: Files, S: Read + Drop, W: Write>(
     alloc: Global,
+    files: &mut F,
     asked: &Asked<'_, T, V>,
     reader: &mut StoreReader<S>,
     line: &[u8],
@@ -107,10 +120,20 @@ fn take_line<T: Threads + Sync, V: Watch, S: Read + Drop, W: Write>(
     ensures tells { Tells out.old out.new result }
 {
     if let Err(refusal) = reader.catch_up(asked.tags, &asked.genesis.rules) {
+        explain_store(alloc, files, asked.store, Access::Read, &refusal);
         return Err(end(refusal, out));
     }
     let text = said_of(alloc, asked.genesis, reader.snapshot(), line, number)?;
+    explain_said(alloc, files, line, number, &text);
     print_line(&text, out)
+}
+
+/// Says why the line of this number is a bad one, if that is what is said of it: an answer is JSON.
+fn explain_said<F: Files>(alloc: Global, files: &mut F, line: &[u8], number: u64, said: &str) {
+    if !said.starts_with('{') {
+        let reason = question_reason(alloc, line);
+        explain_bad_line(alloc, files, &Location::input(number), reason);
+    }
 }
 
 /// What is said of the line of this number.

@@ -6,10 +6,13 @@ ghost use Rattle.cli_roles.specs.Seen.{has_hash, is_fork};
 ghost use Rattle.log_store.specs.Storing.{IsStored, rules_of, stored_chain};
 
 use crate::ending::end;
+use crate::explaining::{explain_block, explain_cut, explain_store};
 use crate::input::InputLines;
 use crate::log_genesis::LogGenesis;
 use crate::seen::{SignedSeen, is_signed, signed_seen_in};
-use cli_lines::{Failure, Files, Printer, print_committed};
+use cli_lines::{
+    Access, Failure, Files, Location, Printer, explain_number, explain_trouble, print_committed,
+};
 use endorsement_policy::Workers;
 use fab_types::{Block, CommittedBlock};
 use hex::FromHexError;
@@ -44,11 +47,17 @@ pub fn commit<T: Threads + Sync, F: Files, W: Write>(
     ensures tells { Tells out.old out.new result }
 {
     let Some(file) = files.open_store(store) else {
+        explain_trouble(alloc, files, store, Access::Write);
         return Err(Failure::File);
     };
     let mut lines = InputLines::new(alloc, files.input())?;
     let watch = files.watch();
-    commit_to(alloc, &Peer { workers, log }, watch, file, &mut lines, out)
+    let peer = Peer {
+        workers,
+        log,
+        store,
+    };
+    commit_to(alloc, files, &peer, watch, file, &mut lines, out)
 }
 
 /// A peer of a log.
@@ -56,17 +65,21 @@ pub fn commit<T: Threads + Sync, F: Files, W: Write>(
 struct Peer<'a, T> {
     workers: &'a Workers<'a, T>,
     log: &'a LogGenesis,
+    /// The name of its store.
+    store: &'a str,
 }
 
 /// Opens the store of a file, and commits the block of each line that has one.
 fn commit_to<
     T: Threads + Sync,
+    F: Files,
     V: Watch + Drop,
     D: Read + Write + Seek + OpenFile + Drop,
     R: Read + Drop,
     W: Write,
 >(
     alloc: Global,
+    files: &mut F,
     peer: &Peer<'_, T>,
     watch: V,
     file: D,
@@ -79,19 +92,27 @@ fn commit_to<
     let opened = StoredChain::open(&TagChecks::new(peer.workers, &watch), alloc, rules, file);
     drop(watch);
     match opened {
-        Ok((mut chain, cut)) => commit_behind(alloc, peer, &mut chain, cut, lines, out),
-        Err(refusal) => Err(end(refusal, out)),
+        Ok((mut chain, cut)) => {
+            explain_cut(alloc, files, peer.store, chain.height(), cut);
+            commit_behind(alloc, files, peer, &mut chain, cut, lines, out)
+        }
+        Err(refusal) => {
+            explain_store(alloc, files, peer.store, Access::Write, &refusal);
+            Err(end(refusal, out))
+        }
     }
 }
 
 /// Prints with how many blocks a store was opened, and commits the block of each line.
 fn commit_behind<
     T: Threads + Sync,
+    F: Files,
     D: Read + Write + Seek + OpenFile + Drop,
     R: Read + Drop,
     W: Write,
 >(
     alloc: Global,
+    files: &mut F,
     peer: &Peer<'_, T>,
     chain: &mut StoredChain<D>,
     cut: usize,
@@ -102,7 +123,7 @@ fn commit_behind<
     ensures tells { Tells out.old out.new result }
 {
     print_opened(chain.height(), cut, out)?;
-    commit_lines(alloc, peer, chain, lines, out)
+    commit_lines(alloc, files, peer, chain, lines, out)
 }
 
 /// Prints with how many blocks a store was opened, and how many bytes were cut off, if any.
@@ -123,11 +144,13 @@ fn print_opened<W: Write>(
 /// Commits the block of each line that has one, and judges each that was seen.
 fn commit_lines<
     T: Threads + Sync,
+    F: Files,
     D: Read + Write + Seek + OpenFile + Drop,
     R: Read + Drop,
     W: Write,
 >(
     alloc: Global,
+    files: &mut F,
     peer: &Peer<'_, T>,
     chain: &mut StoredChain<D>,
     lines: &mut InputLines<R>,
@@ -136,9 +159,9 @@ fn commit_lines<
     requires stored { IsStored chain.old }
     ensures tells { Tells out.old out.new result }
 {
-    for _ in 0..u64::MAX {
-        match lines.next()? {
-            Some(line) => take_line(alloc, peer, chain, line, out)?,
+    for number in 1..u64::MAX {
+        match lines.next_explained(alloc, files)? {
+            Some(line) => take_line(alloc, files, peer, chain, line, number, out)?,
             None => return Ok(()),
         }
         if !lines.is_at_hand() {
@@ -149,11 +172,13 @@ fn commit_lines<
 }
 
 /// Commits the block of a line, or judges one that was seen, if it has one.
-fn take_line<T: Threads + Sync, D: Read + Write + Seek + OpenFile + Drop, W: Write>(
+fn take_line<T: Threads + Sync, F: Files, D: Read + Write + Seek + OpenFile + Drop, W: Write>(
     alloc: Global,
+    files: &mut F,
     peer: &Peer<'_, T>,
     chain: &mut StoredChain<D>,
     line: &[u8],
+    number: u64,
     out: &mut Printer<'_, W>,
 ) -> Result<(), Failure>
     requires stored { IsStored chain.old }
@@ -164,17 +189,19 @@ fn take_line<T: Threads + Sync, D: Read + Write + Seek + OpenFile + Drop, W: Wri
         return Ok(());
     };
     match block_digits(line) {
-        Some(digits) => take_block(alloc, peer.workers, chain, digits, out),
+        Some(digits) => take_block(alloc, files, peer, chain, digits, number, out),
         None => print_fork(alloc, peer.log, chain, line, out),
     }
 }
 
 /// Commits the block that hex stands for.
-fn take_block<T: Threads + Sync, D: Read + Write + Seek + OpenFile + Drop, W: Write>(
+fn take_block<T: Threads + Sync, F: Files, D: Read + Write + Seek + OpenFile + Drop, W: Write>(
     alloc: Global,
-    workers: &Workers<'_, T>,
+    files: &mut F,
+    peer: &Peer<'_, T>,
     chain: &mut StoredChain<D>,
     digits: &str,
+    line: u64,
     out: &mut Printer<'_, W>,
 ) -> Result<(), Failure>
     requires stored { IsStored chain.old }
@@ -182,8 +209,9 @@ fn take_block<T: Threads + Sync, D: Read + Write + Seek + OpenFile + Drop, W: Wr
     ensures tells { Tells out.old out.new result }
 {
     match block_of(alloc, digits)? {
-        Ok(block) => receive(workers, chain, block, out),
+        Ok(block) => receive(alloc, files, peer, chain, block, line, out),
         Err(number) => {
+            explain_number(alloc, files, &Location::input(line), number);
             writeln!(out, "refused {number}")?;
             Err(Failure::Printed)
         }
@@ -219,10 +247,13 @@ fn number_of(block: &Block) -> u32 {
 }
 
 /// Commits a block, and prints what became of it.
-fn receive<T: Threads + Sync, D: Read + Write + Seek + OpenFile + Drop, W: Write>(
-    workers: &Workers<'_, T>,
+fn receive<T: Threads + Sync, F: Files, D: Read + Write + Seek + OpenFile + Drop, W: Write>(
+    alloc: Global,
+    files: &mut F,
+    peer: &Peer<'_, T>,
     chain: &mut StoredChain<D>,
     block: Block,
+    line: u64,
     out: &mut Printer<'_, W>,
 ) -> Result<(), Failure>
     requires stored { IsStored chain.old }
@@ -230,10 +261,13 @@ fn receive<T: Threads + Sync, D: Read + Write + Seek + OpenFile + Drop, W: Write
     ensures tells { Tells out.old out.new result }
 {
     let number = number_of(&block);
-    match chain.receive(workers, block) {
+    match chain.receive(peer.workers, block) {
         Ok(Received::Committed) => print_newest(chain, out),
         Ok(Received::Known) => writeln!(out, "known {number}"),
-        Err(refusal) => Err(end(refusal, out)),
+        Err(refusal) => {
+            explain_block(alloc, files, peer.store, line, number, &refusal);
+            Err(end(refusal, out))
+        }
     }
 }
 

@@ -11,10 +11,14 @@ ghost use Rattle.log_store.specs.Following.{IsFollowed, endorses_by, read_chain}
 ghost use Rattle.org_keys.specs.Signers.{is_at_hand, tag_for};
 
 use crate::ending::end;
+use crate::explaining::{explain_proposal, explain_store, explain_stranger};
 use crate::input::InputLines;
 use crate::log_genesis::LogGenesis;
 use crate::seen::seen_bytes;
-use cli_lines::{Failure, Files, Printer, remark_missing};
+use cli_lines::{
+    Access, Failure, Files, Location, Printer, explain, explain_no_seed, explain_number,
+    explain_trouble, simulation_words,
+};
 use endorsement_policy::{Standing, Workers};
 use fab_types::{CommittedBlock, Endorsement, OrgName, Payload, Proposal, Spelled, Tag};
 use json_events::{BadLine, read_proposal};
@@ -61,6 +65,7 @@ pub fn endorse<T: Threads + Sync, F: Files, W: Write>(
     ensures tells { Tells out.old out.new result }
 {
     let Some(file) = files.open(asked.store) else {
+        explain_trouble(alloc, files, asked.store, Access::Read);
         return Err(Failure::File);
     };
     let mut lines = InputLines::new(alloc, files.input())?;
@@ -70,6 +75,7 @@ pub fn endorse<T: Threads + Sync, F: Files, W: Write>(
         tags,
         log,
         org: asked.org,
+        store: asked.store,
         agrees: asked.agrees,
     };
     endorse_after(alloc, files, &member, file, &mut lines, out)
@@ -81,6 +87,8 @@ struct Member<'a, T, V> {
     tags: &'a TagChecks<'a, T, V>,
     log: &'a LogGenesis,
     org: &'a OrgName,
+    /// The name of the store.
+    store: &'a str,
     agrees: bool,
 }
 
@@ -113,7 +121,7 @@ fn endorse_behind<T: Threads + Sync, V: Watch, F: Files, S: Read + Drop, R: Read
         ≡ member.now.log.now.genesis.rules.value }
     ensures tells { Tells out.old out.new result }
 {
-    catch_up(member, follower, out)?;
+    catch_up(alloc, files, member, follower, out)?;
     endorse_known(alloc, files, member, follower, lines, out)
 }
 
@@ -133,11 +141,13 @@ fn endorse_known<T: Threads + Sync, V: Watch, F: Files, S: Read + Drop, R: Read 
 {
     let genesis = &member.log.genesis;
     need_keys(alloc, files, genesis, member.org, follower, out)?;
-    endorse_lines(alloc, member, follower, lines, out)
+    endorse_lines(alloc, files, member, follower, lines, out)
 }
 
 /// Reads the store on.
-fn catch_up<T: Threads + Sync, V: Watch, S: Read + Drop, W: Write>(
+fn catch_up<T: Threads + Sync, V: Watch, F: Files, S: Read + Drop, W: Write>(
+    alloc: Global,
+    files: &mut F,
     member: &Member<'_, T, V>,
     follower: &mut StoreFollower<S>,
     out: &mut Printer<'_, W>,
@@ -149,7 +159,10 @@ fn catch_up<T: Threads + Sync, V: Watch, S: Read + Drop, W: Write>(
 {
     match follower.catch_up(member.tags) {
         Ok(()) => Ok(()),
-        Err(refusal) => Err(end(refusal, out)),
+        Err(refusal) => {
+            explain_store(alloc, files, member.store, Access::Read, &refusal);
+            Err(end(refusal, out))
+        }
     }
 }
 
@@ -178,13 +191,14 @@ fn need_keys<F: Files, S: Read + Drop, W: Write>(
     };
     let (first, last) = (genesis.rules.organisation(org), standing.organisation(org));
     if first.is_none() && last.is_none() {
+        explain_stranger(alloc, files, org);
         writeln!(out, "refused 806")?;
         return Err(Failure::Printed);
     }
     if can_tag(&genesis.signers, first) || can_tag(&genesis.signers, last) {
         return Ok(());
     }
-    remark_missing(alloc, files, org)?;
+    explain_no_seed(alloc, files, org);
     Err(Failure::NoSecret)
 }
 
@@ -216,8 +230,9 @@ fn follower_of<S: Read + Drop>(
 }
 
 /// Answers each line.
-fn endorse_lines<T: Threads + Sync, V: Watch, S: Read + Drop, R: Read + Drop, W: Write>(
+fn endorse_lines<T: Threads + Sync, V: Watch, F: Files, S: Read + Drop, R: Read + Drop, W: Write>(
     alloc: Global,
+    files: &mut F,
     member: &Member<'_, T, V>,
     follower: &mut StoreFollower<S>,
     lines: &mut InputLines<R>,
@@ -227,8 +242,8 @@ fn endorse_lines<T: Threads + Sync, V: Watch, S: Read + Drop, R: Read + Drop, W:
     ensures tells { Tells out.old out.new result }
 {
     for number in 1..u64::MAX {
-        match lines.next()? {
-            Some(line) => take_line(alloc, member, follower, line, number, out)?,
+        match lines.next_explained(alloc, files)? {
+            Some(line) => take_line(alloc, files, member, follower, line, number, out)?,
             None => return Ok(()),
         }
         if !lines.is_at_hand() {
@@ -239,8 +254,9 @@ fn endorse_lines<T: Threads + Sync, V: Watch, S: Read + Drop, R: Read + Drop, W:
 }
 
 /// Reads the store on, and answers the line of this number.
-fn take_line<T: Threads + Sync, V: Watch, S: Read + Drop, W: Write>(
+fn take_line<T: Threads + Sync, V: Watch, F: Files, S: Read + Drop, W: Write>(
     alloc: Global,
+    files: &mut F,
     member: &Member<'_, T, V>,
     follower: &mut StoreFollower<S>,
     line: &[u8],
@@ -251,14 +267,17 @@ fn take_line<T: Threads + Sync, V: Watch, S: Read + Drop, W: Write>(
     ensures followed { OnOk result (IsFollowed follower.new) }
     ensures tells { Tells out.old out.new result }
 {
-    catch_up(member, follower, out)?;
+    catch_up(alloc, files, member, follower, out)?;
     if let Some(block) = asked_block(follower, line) {
         return print_seen(alloc, member, &follower.standing()?, block, out);
     }
     match proposal_of(alloc, line) {
-        Ok(proposal) => answer(alloc, member, follower, &proposal, out),
+        Ok(proposal) => answer(alloc, files, member, follower, &proposal, number, out),
         Err(BadLine::Memory) => Err(Failure::Memory),
-        Err(BadLine::NoForm) => writeln!(out, "bad line {number}"),
+        Err(BadLine::NoForm) => {
+            explain_proposal(alloc, files, number, line);
+            writeln!(out, "bad line {number}")
+        }
     }
 }
 
@@ -323,24 +342,31 @@ fn proposal_of(alloc: Global, line: &[u8]) -> Result<Proposal, BadLine> {
     }
 }
 
-/// Endorses a proposal, and prints the endorsement or the refusal. An amendment is not looked at
+/// Endorses the proposal of the line of this number, and prints the endorsement or the refusal. An amendment is not looked at
 /// where the organisation does not agree.
-fn answer<T, V, S: Read + Drop, W: Write>(
+fn answer<T, V, F: Files, S: Read + Drop, W: Write>(
     alloc: Global,
+    files: &mut F,
     member: &Member<'_, T, V>,
     follower: &StoreFollower<S>,
     proposal: &Proposal,
+    number: u64,
     out: &mut Printer<'_, W>,
 ) -> Result<(), Failure>
     ensures tells { Tells out.old out.new result }
 {
     if !member.agrees && matches!(proposal, Proposal::Amend(_)) {
+        explain_number(alloc, files, &Location::input(number), 409);
         return writeln!(out, "refused 409");
     }
     match follower.endorse(proposal) {
         Ok((payload, endorsement)) => print_endorsed(alloc, &payload, &endorsement, out),
         Err(SimRefusal::Memory) => Err(Failure::Memory),
-        Err(refusal) => writeln!(out, "{refusal}"),
+        Err(refusal) => {
+            let words = simulation_words(alloc, &refusal);
+            explain(alloc, files, &Location::input(number), words);
+            writeln!(out, "{refusal}")
+        }
     }
 }
 

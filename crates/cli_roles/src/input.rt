@@ -3,12 +3,17 @@
 ghost use Rattle.std.specs.Prelude.{IfErr};
 ghost use Rattle.cli_lines.specs.Told.{IsSilent};
 
-use cli_lines::Failure;
+use cli_lines::{Failure, Files, Location, explain_numbered};
 use std::alloc::Global;
 use std::io::{BufRead, BufReader, Read};
 
 /// So many bytes are asked for at a time.
 const CAPACITY: usize = 65_536;
+
+/// The name of the input, and what is wrong where it fails.
+const INPUT: &str = "standard input";
+
+const NOT_READ: &str = "it cannot be read to its end";
 
 /// A reader of lines.
 #[derive(Drop)]
@@ -38,6 +43,21 @@ impl<R: Read + Drop> InputLines<R> {
             Some(b'\n') => Ok(Some(self.line.as_slice())),
             _ => Ok(None),
         }
+    }
+
+    /// The same. Says why the input was not read, if it was not.
+    pub fn next_explained<F: Files>(
+        &mut self,
+        alloc: Global,
+        files: &mut F,
+    ) -> Result<Option<&[u8]>, Failure>
+        ensures silent { IfErr result IsSilent }
+    {
+        let next = self.next();
+        if let Err(Failure::File) = &next {
+            explain_numbered(alloc, files, &Location::file(INPUT), NOT_READ, 703);
+        }
+        next
     }
 
     /// Whether a further line was read with the last one.

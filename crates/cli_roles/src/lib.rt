@@ -17,6 +17,7 @@
 mod committing;
 mod ending;
 mod endorsing;
+mod explaining;
 mod input;
 mod log_genesis;
 mod marks;
@@ -26,6 +27,7 @@ mod seen;
 pub use committing::commit;
 pub use ending::end;
 pub use endorsing::{Endorsing, endorse};
+pub use explaining::explain_store;
 pub use input::InputLines;
 pub use log_genesis::LogGenesis;
 pub use ordering::order;

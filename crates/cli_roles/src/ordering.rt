@@ -4,11 +4,12 @@ ghost use Rattle.std.specs.Prelude.{IfOk};
 ghost use Rattle.cli_lines.specs.Told.{Tells};
 ghost use Rattle.cli_roles.specs.Marks.{IsMarkOrNone};
 
+use crate::explaining::explain_skip;
 use crate::input::InputLines;
 use crate::log_genesis::LogGenesis;
 use crate::marks::{index_and_text, is_of_mark, leaves_genesis_open, names_another_genesis};
 use crate::seen::{Seen, has_public_key, seen_in};
-use cli_lines::{Failure, Files, Printer};
+use cli_lines::{Failure, Files, Location, Printer, explain_number};
 use endorsement_policy::Rules;
 use fab_types::Block;
 use ledger_setting::Genesis;
@@ -16,7 +17,7 @@ use log_orderer::{LineReport, LogBatch, Replica};
 use std::alloc::{AllocError, Global};
 use std::io::{Read, Write};
 use std::sync::Arc;
-use wire::{encode_block, header_hash};
+use wire::encode_block;
 
 /// What is said of a log whose first line leaves open which genesis file counts.
 const LEFT_OPEN: &str =
@@ -78,9 +79,9 @@ impl Ordering {
         ensures tells { Tells out.old out.new result }
     {
         for number in 1..u64::MAX {
-            match lines.next()? {
+            match lines.next_explained(self.alloc, files)? {
                 Some(line) if number == 1 => self.take_first(files, line, digest, out)?,
-                Some(line) => self.take_line(line, out)?,
+                Some(line) => self.take_line(files, line, number, out)?,
                 None => return Ok(()),
             }
             if !lines.is_at_hand() {
@@ -104,10 +105,11 @@ impl Ordering {
         let decoded = String::from_utf8_lossy(self.alloc, line)?;
         let (index, text) = index_and_text(&decoded);
         if names_another_genesis(text, digest) {
+            explain_number(self.alloc, files, &Location::input(1), 807);
             writeln!(out, "refused 807")?;
             return Err(Failure::Printed);
         }
-        let is_mark = self.take_text(index, text, out)?;
+        let is_mark = self.take_text(files, index, text, 1, out)?;
         if !is_mark && leaves_genesis_open(text) {
             files.remark(LEFT_OPEN);
         }
@@ -115,21 +117,29 @@ impl Ordering {
     }
 
     /// Reads a line behind the first.
-    fn take_line<W: Write>(&mut self, line: &[u8], out: &mut Printer<'_, W>) -> Result<(), Failure>
+    fn take_line<F: Files, W: Write>(
+        &mut self,
+        files: &mut F,
+        line: &[u8],
+        number: u64,
+        out: &mut Printer<'_, W>,
+    ) -> Result<(), Failure>
         ensures tells { Tells out.old out.new result }
     {
         let decoded = String::from_utf8_lossy(self.alloc, line)?;
         let (index, text) = index_and_text(&decoded);
-        self.take_text(index, text, out)?;
+        self.take_text(files, index, text, number, out)?;
         writeln!(out, "read {index} {}", self.replica.waiting().len())
     }
 
-    /// Reads the mark of a line, and answers whether it is one of an orderer: an envelope or
+    /// Reads the mark of the line of this number, and answers whether it is one of an orderer: an envelope or
     /// `tick`.
-    fn take_text<W: Write>(
+    fn take_text<F: Files, W: Write>(
         &mut self,
+        files: &mut F,
         index: &str,
         text: &str,
+        number: u64,
         out: &mut Printer<'_, W>,
     ) -> Result<bool, Failure>
         ensures tells { Tells out.old out.new result }
@@ -147,6 +157,7 @@ impl Ordering {
             }
             LineReport::Skipped(skip) => {
                 self.print_seen(text, out)?;
+                explain_skip(self.alloc, files, number, text, skip);
                 writeln!(out, "skipped {index} {skip}")?;
                 Ok(is_of_mark(skip))
             }
@@ -176,11 +187,8 @@ impl Ordering {
         ensures tells { Tells out.old out.new result }
     {
         print_aborted(self.alloc, batch, out)?;
-        let Some(number) = batch.report.block else {
-            return Ok(());
-        };
-        match self.replica.blocks_from(number).first() {
-            Some(block) => print_block(self.alloc, number, block, out),
+        match &batch.block {
+            Some(block) => print_block(self.alloc, block, out),
             None => Ok(()),
         }
     }
@@ -208,21 +216,10 @@ impl Ordering {
         ensures tells { Tells out.old out.new result }
     {
         let (org, number) = (seen.org, seen.number);
-        if !has_header(self.replica.blocks(), number, &seen.hash) {
+        if !self.replica.has_header(number, &seen.hash) {
             writeln!(out, "forked {org} {number}")?;
         }
         Ok(())
-    }
-}
-
-/// Whether the block of this number, from 1 on, has a header with this hash.
-fn has_header(blocks: &[Block], number: u32, hash: &[u8; 32]) -> bool {
-    let Some(place) = (number as usize).checked_sub(1) else {
-        return false;
-    };
-    match blocks.get(place) {
-        Some(block) => header_hash(&block.header) == *hash,
-        None => false,
     }
 }
 
@@ -247,12 +244,12 @@ fn print_aborted<W: Write>(
 /// Prints the bytes of a block.
 fn print_block<W: Write>(
     alloc: Global,
-    number: u32,
     block: &Block,
     out: &mut Printer<'_, W>,
 ) -> Result<(), Failure>
     ensures tells { Tells out.old out.new result }
 {
     let bytes = hex::encode(alloc, &encode_block(alloc, block)?)?;
+    let number = block.header.number.get();
     writeln!(out, "block {number} {bytes}")
 }

@@ -1,1 +1,6 @@
+pub mod Reading
 pub mod Replies
+pub mod States
+pub mod Stages
+pub mod Running
+pub mod Whole

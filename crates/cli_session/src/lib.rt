@@ -5,6 +5,7 @@
 //! chain, and writes that chain to a store where one is named.
 #![tactic(auto)]
 
+mod explaining;
 mod lines;
 mod placing;
 mod reading;

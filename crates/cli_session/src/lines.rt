@@ -1,14 +1,19 @@
 //! What the program prints of a system and its blocks.
 
-ghost use Rattle.std.specs.Prelude.{IfSome, OnOk};
-ghost use Rattle.std.specs.Io.KnownBytes.{Appends};
-ghost use Rattle.cli_lines.specs.Told.{Tells};
-ghost use Rattle.cli_session.specs.Replies.{refusal_line};
+ghost use Rattle.std.specs.Prelude.{◌≡◌, Ok, OnOk, map};
+ghost use Rattle.std.specs.List.{flat_map};
+ghost use Rattle.std.specs.Map.Iter.{deref_pair};
+ghost use Rattle.fabric_core.specs.declared.event.Reply.{Reply};
+ghost use Rattle.fabric_core.specs.declared.event.Reply.TheVariants.{Ordered};
+ghost use Rattle.cli_lines.specs.Told.{Prints, Tells};
+ghost use Rattle.cli_session.specs.Replies.{batch_text, begin_text, endorsed_text, finish_text, made_text, reply_text, simulation_line};
+ghost use Rattle.cli_session.specs.States.{entry_text, state_text};
 
-use cli_lines::{Failure, Printer, hex_of, print_committed, version_of};
-use fab_types::{Key, Value, Version};
+use cli_lines::{Failure, Printer, hex_of, id_of, print_committed, version_of};
+use fab_types::{Key, Payload, Value, Version};
 use fabric_core::Reply;
 use orderer::BatchReport;
+use simulator::SimRefusal;
 use std::alloc::{AllocError, Global};
 use std::io::Write;
 use world_state::Snapshot;
@@ -20,9 +25,24 @@ pub(crate) fn print_state<W: Write>(
     out: &mut Printer<'_, W>,
 ) -> Result<(), Failure>
     ensures tells { Tells out.old out.new result }
+    ensures prints { OnOk result (Prints out.old out.new (state_text snapshot.now)) }
 {
-    for (key, (value, version)) in snapshot.entries(alloc)? {
-        print_entry(alloc, key, value, *version, out)?;
+    let entries = snapshot.entries(alloc)?;
+    print_entries(alloc, &entries, out)
+}
+
+/// Prints these entries of a state.
+fn print_entries<W: Write>(
+    alloc: Global,
+    entries: &[(&Key, &(Value, Version))],
+    out: &mut Printer<'_, W>,
+) -> Result<(), Failure>
+    ensures tells { Tells out.old out.new result }
+    ensures prints { OnOk result
+        (Prints out.old out.new (flat_map entry_text (map deref_pair entries.now))) }
+{
+    for (key, entry) in entries {
+        print_entry(alloc, key, &entry.0, entry.1, out)?;
     }
     Ok(())
 }
@@ -36,6 +56,8 @@ fn print_entry<W: Write>(
     out: &mut Printer<'_, W>,
 ) -> Result<(), Failure>
     ensures tells { Tells out.old out.new result }
+    ensures prints { OnOk result
+        (Prints out.old out.new (entry_text (key.now, (value.now, version)))) }
 {
     let key = hex_of(alloc, key.as_slice())?;
     let version = version_of(alloc, version)?;
@@ -43,51 +65,122 @@ fn print_entry<W: Write>(
     writeln!(out, "state {key} {version} {value}")
 }
 
-/// Prints the block of a batch, where it made one, with its count of transactions, and what was
-/// aborted.
+/// Prints the block of a batch, where it made one, with its count of transactions.
+fn print_made<W: Write>(
+    block: Option<u32>,
+    count: usize,
+    out: &mut Printer<'_, W>,
+) -> Result<(), Failure>
+    ensures tells { Tells out.old out.new result }
+    ensures prints { OnOk result (Prints out.old out.new (made_text block count)) }
+{
+    match block {
+        Some(number) => writeln!(out, "block {number} txs {count}"),
+        None => writeln!(out, "no block"),
+    }
+}
+
+/// Prints the block of a batch, where it made one, and what was aborted.
 fn print_batch<W: Write>(report: &BatchReport, out: &mut Printer<'_, W>) -> Result<(), Failure>
     ensures tells { Tells out.old out.new result }
+    ensures prints { OnOk result (Prints out.old out.new (batch_text report.now)) }
 {
-    match report.block {
-        Some(number) => writeln!(out, "block {number} txs {}", report.count)?,
-        None => writeln!(out, "no block")?,
-    }
+    print_made(report.block, report.count, out)?;
     for (index, cause) in report.aborted.as_slice() {
         writeln!(out, "aborted {index} {cause}")?;
     }
     Ok(())
 }
 
-/// Prints the batches that a taken envelope ended.
+/// Prints that an envelope was taken, and the batches that it ended.
 fn print_batches<W: Write>(reports: &[BatchReport], out: &mut Printer<'_, W>) -> Result<(), Failure>
     ensures tells { Tells out.old out.new result }
+    ensures prints { OnOk result
+        (Prints out.old out.new (reply_text (Ordered reports.now))) }
 {
+    writeln!(out, "taken")?;
     for report in reports {
         print_batch(report, out)?;
     }
     Ok(())
 }
 
+/// Prints why a simulation was refused.
+fn print_refusal<W: Write>(refusal: SimRefusal, out: &mut Printer<'_, W>) -> Result<(), Failure>
+    ensures tells { Tells out.old out.new result }
+    ensures prints { OnOk result (Prints out.old out.new (simulation_line refusal)) }
+{
+    match refusal {
+        SimRefusal::Status(status) => {
+            let status = status.cast_signed();
+            writeln!(out, "refused 404 status {status}")
+        }
+        refusal => writeln!(out, "{refusal}"),
+    }
+}
+
 /// Prints a reply. Of one with the height of a begin or with a payload, nothing.
 fn print_reply<W: Write>(reply: &Reply, out: &mut Printer<'_, W>) -> Result<(), Failure>
     ensures tells { Tells out.old out.new result }
-    ensures refused { OnOk result
-        (IfSome (refusal_line reply.now) (Appends out.old.bytes out.new.bytes)) }
+    ensures prints { OnOk result (Prints out.old out.new (reply_text reply.now)) }
 {
     match reply {
         Reply::Queued => writeln!(out, "queued"),
         Reply::Nothing => writeln!(out, "none"),
-        Reply::Ordered(reports) => {
-            writeln!(out, "taken")?;
-            print_batches(reports.as_slice(), out)
-        }
+        Reply::Ordered(reports) => print_batches(reports.as_slice(), out),
         Reply::Cut(report) => print_batch(report, out),
         Reply::Committed(number, flags) => print_committed(*number, flags.as_slice(), out),
-        Reply::Refused(refusal) => writeln!(out, "{refusal}"),
+        Reply::Refused(refusal) => print_refusal(*refusal, out),
         reply => match reply.number() {
             Some(number) => writeln!(out, "refused {number}"),
             None => Ok(()),
         },
+    }
+}
+
+/// Prints a reply to a begin at a seat: where, and on what height, if it was begun.
+fn print_begin<W: Write>(
+    peer: usize,
+    seat: usize,
+    reply: &Reply,
+    out: &mut Printer<'_, W>,
+) -> Result<(), Failure>
+    ensures tells { Tells out.old out.new result }
+    ensures prints { OnOk result (Prints out.old out.new (begin_text peer seat reply.now)) }
+{
+    match reply {
+        Reply::Begun(height) => writeln!(out, "begun {peer}.{seat} at {height}"),
+        reply => print_reply(reply, out),
+    }
+}
+
+/// Prints the name and the id of an endorsed payload.
+fn print_endorsed<W: Write>(
+    alloc: Global,
+    name: &str,
+    payload: &Payload,
+    out: &mut Printer<'_, W>,
+) -> Result<(), Failure>
+    ensures tells { Tells out.old out.new result }
+    ensures prints { OnOk result (Prints out.old out.new (endorsed_text name.now payload.now)) }
+{
+    let id = id_of(alloc, payload)?;
+    writeln!(out, "endorsed {name} {id}")
+}
+
+/// Prints a reply to a finish: the name and the id of what was endorsed, if it was.
+fn print_finish<W: Write>(
+    alloc: Global,
+    name: &str,
+    reply: &Reply,
+    out: &mut Printer<'_, W>,
+) -> Result<(), Failure>
+    ensures tells { Tells out.old out.new result }
+    ensures prints { OnOk result (Prints out.old out.new (finish_text name.now reply.now)) }
+{
+    match reply {
+        Reply::Endorsed(payload, _) => print_endorsed(alloc, name, payload, out),
+        reply => print_reply(reply, out),
     }
 }
 
@@ -98,6 +191,8 @@ pub(crate) fn print_step<W: Write>(
     out: &mut Printer<'_, W>,
 ) -> Result<(), Failure>
     ensures tells { Tells out.old out.new result }
+    ensures prints { OnOk result
+        ((r : Reply) × (reply.now ≡ Ok r) × Prints out.old out.new (reply_text r)) }
 {
     match reply {
         Ok(reply) => print_reply(reply, out),
@@ -105,7 +200,7 @@ pub(crate) fn print_step<W: Write>(
     }
 }
 
-/// Prints the reply to a begin at a seat: where, and on what height, if it was begun.
+/// The same of a begin at a seat.
 pub(crate) fn print_begun<W: Write>(
     peer: usize,
     seat: usize,
@@ -113,9 +208,28 @@ pub(crate) fn print_begun<W: Write>(
     out: &mut Printer<'_, W>,
 ) -> Result<(), Failure>
     ensures tells { Tells out.old out.new result }
+    ensures prints { OnOk result
+        ((r : Reply) × (reply.now ≡ Ok r) × Prints out.old out.new (begin_text peer seat r)) }
 {
     match reply {
-        Ok(Reply::Begun(height)) => writeln!(out, "begun {peer}.{seat} at {height}"),
-        reply => print_step(reply, out),
+        Ok(reply) => print_begin(peer, seat, reply, out),
+        Err(_) => Err(Failure::Memory),
+    }
+}
+
+/// The same of a finish that is to have a name.
+pub(crate) fn print_finished<W: Write>(
+    alloc: Global,
+    name: &str,
+    reply: &Result<Reply, AllocError>,
+    out: &mut Printer<'_, W>,
+) -> Result<(), Failure>
+    ensures tells { Tells out.old out.new result }
+    ensures prints { OnOk result
+        ((r : Reply) × (reply.now ≡ Ok r) × Prints out.old out.new (finish_text name.now r)) }
+{
+    match reply {
+        Ok(reply) => print_finish(alloc, name, reply, out),
+        Err(_) => Err(Failure::Memory),
     }
 }

@@ -4,7 +4,9 @@ ghost use Rattle.std.specs.Prelude.{IfErr};
 ghost use Rattle.cli_lines.specs.Told.{IsSilent};
 
 use crate::session::RunFiles;
-use cli_lines::{Failure, Files, Target};
+use cli_lines::{
+    Access, Failure, FileFault, Files, Location, Target, explain_numbered, explain_trouble,
+};
 use std::alloc::{AllocError, Global};
 
 /// Where a run writes its store.
@@ -27,18 +29,47 @@ pub(crate) fn place_of<F: Files>(
 ) -> Result<Place<F::Lock>, Failure>
     ensures silent { IfErr result IsSilent }
 {
-    let target = files.target(alloc, store)?;
+    let found = files.target(alloc, store);
+    explain_target(alloc, files, store, &found);
+    let target = found?;
     if is_read(alloc, files, names, &target)? {
+        explain_numbered(alloc, files, &Location::file(store), IS_READ, 703);
         return Err(Failure::File);
     }
     let lock = match &target {
-        Target::File(name) => Some(files.lock(name).ok_or(Failure::File)?),
+        Target::File(name) => Some(lock_of(alloc, files, name)?),
         Target::NewFile(_) | Target::Device(_) => None,
     };
     Ok(Place {
         target,
         _lock: lock,
     })
+}
+
+/// What is wrong with a name of a store whose file the run reads.
+const IS_READ: &str = "it is a file that the run reads, or stands where one would be written";
+
+/// Says why no store can be written under a name, if that is so.
+fn explain_target<F: Files>(
+    alloc: Global,
+    files: &mut F,
+    name: &str,
+    found: &Result<Target, FileFault>,
+) {
+    if matches!(found, Err(FileFault::Device)) {
+        explain_trouble(alloc, files, name, Access::Write);
+    }
+}
+
+/// Takes the file of a name for the program alone. Refused where another one has it.
+fn lock_of<F: Files>(alloc: Global, files: &mut F, name: &str) -> Result<F::Lock, Failure>
+    ensures silent { IfErr result IsSilent }
+{
+    let Some(lock) = files.lock(name) else {
+        explain_trouble(alloc, files, name, Access::Write);
+        return Err(Failure::File);
+    };
+    Ok(lock)
 }
 
 /// The name under which a store is written before it takes the place of the file of a name.

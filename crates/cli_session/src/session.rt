@@ -1,18 +1,31 @@
 //! The command `run`: a system, on which the lines of a file are events.
 
-ghost use Rattle.std.specs.Prelude.{◌≡◌, ◌<◌, false, IfOk};
-ghost use Rattle.cli_lines.specs.Told.{Tells};
+ghost use Rattle.std.specs.Prelude.{◌≡◌, ◌≢◌, ◌<◌, false, IfErr, IfOk, OnErr, OnOk, map, string_bytes};
+ghost use Rattle.simulator.specs.Execution.{exec_of};
+ghost use Rattle.fabric_core.specs.declared.event.Event.TheVariants.{Begin, Finish};
+ghost use Rattle.wire.specs.FaultNumbers.{number_of};
+ghost use Rattle.wire.specs.declared.fault.WireFault.TheVariants.{Memory};
+ghost use Rattle.cli_lines.specs.Texts.{line, refused};
+ghost use Rattle.cli_lines.specs.Told.{IsSilent, Prints, Tells, Told};
+ghost use Rattle.cli_session.specs.Replies.{begin_text, finish_text, reply_text};
+ghost use Rattle.cli_session.specs.Running.{Does, DoesAll, IsBytes, IsLine, IsNamed};
+ghost use Rattle.cli_session.specs.Stages.{DoesPrint, Gets, IsStepOf, Stay, StepsTo, first_chain, stage_at};
+ghost use Rattle.cli_session.specs.Whole.{ComesTo, EndsPrinted};
 
-use crate::lines::{print_begun, print_state, print_step};
+use crate::explaining::{Refused, explain_line, next_explained, refused_by};
+use crate::lines::{print_begun, print_finished, print_state, print_step};
 use crate::placing::place_of;
-use crate::reading::{Next, next_line};
+use crate::reading::Next;
 use crate::storing::write_store;
-use cli_lines::{Failure, Files, Printer, Target, id_of, need_secrets, print_audit};
+use cli_lines::{
+    Access, Failure, Files, Location, Printer, Target, explain_trouble, need_secrets, print_audit,
+};
 use endorsement_policy::Workers;
-use fab_types::{Endorsement, Payload, Proposal};
+use fab_types::Proposal;
 use fabric_core::{Event, Reply, System, audit};
 use json_events::{Action, BadLine, Bindings, read_event};
 use ledger_setting::Genesis;
+use orderer::ordering_laws;
 use std::alloc::{AllocError, Global};
 use std::io::{BufRead, BufReader, Write};
 use std::thread::Threads;
@@ -25,6 +38,10 @@ struct Session<'a, T> {
     alloc: Global,
     system: System,
     bindings: Bindings,
+    /// The name of the file of events.
+    events: &'a str,
+    /// Why the last step was refused, if it was.
+    refused: Option<Refused>,
 }
 
 /// The names of the files of a run.
@@ -40,7 +57,7 @@ pub struct RunFiles<'a> {
 
 /// Runs the lines of a file of events on the system that a genesis opens, prints what each comes
 /// to, the state of the first peer after them and the audit of its chain, and writes that chain to
-/// a store if there is one.
+/// a store if there is one. Answers whether all transactions agree with their reruns.
 ///
 /// The file is read as the run goes. A line that stands for nothing ends the run, and then no store
 /// is written. The run is refused before the file is opened where a peer's secret is not at hand
@@ -54,11 +71,17 @@ pub fn run<T: Threads + Sync, F: Files, W: Write>(
     genesis: &Genesis,
     names: &RunFiles<'_>,
     out: &mut Printer<'_, W>,
-) -> Result<(), Failure>
+) -> Result<bool, Failure>
     ensures tells { Tells out.old out.new result }
+    ensures differs { IfOk result (λ good. good ≡ false → out.old.printed < out.new.printed) }
+    // What the lines of the events come to is printed, then the first peer's state and its audit.
+    ensures run { IfOk result
+        (λ good. ComesTo genesis.now (F.bytes files.old names.now.events.now) good out.old
+        out.new) }
 {
     need_secrets(alloc, files, genesis, &genesis.peers)?;
     let Some(events) = files.open(names.events) else {
+        explain_trouble(alloc, files, names.events, Access::Read);
         return Err(Failure::File);
     };
     let mut lines = BufReader::new(alloc, events)?;
@@ -74,8 +97,11 @@ fn run_read<T: Threads + Sync, F: Files, B: BufRead, W: Write>(
     names: &RunFiles<'_>,
     lines: &mut B,
     out: &mut Printer<'_, W>,
-) -> Result<(), Failure>
+) -> Result<bool, Failure>
     ensures tells { Tells out.old out.new result }
+    ensures differs { IfOk result (λ good. good ≡ false → out.old.printed < out.new.printed) }
+    ensures run { IfOk result
+        (λ good. ComesTo genesis.now (B.remaining lines.old) good out.old out.new) }
 {
     match names.store {
         Some(store) => {
@@ -85,12 +111,22 @@ fn run_read<T: Threads + Sync, F: Files, B: BufRead, W: Write>(
                 alloc,
                 files,
                 genesis,
+                names.events,
                 lines,
                 Some(&place.target),
                 out,
             )
         }
-        None => run_into(workers, alloc, files, genesis, lines, None, out),
+        None => run_into(
+            workers,
+            alloc,
+            files,
+            genesis,
+            names.events,
+            lines,
+            None,
+            out,
+        ),
     }
 }
 
@@ -100,25 +136,33 @@ fn run_into<T: Threads + Sync, F: Files, B: BufRead, W: Write>(
     alloc: Global,
     files: &mut F,
     genesis: &Genesis,
+    events: &str,
     lines: &mut B,
     store: Option<&Target>,
     out: &mut Printer<'_, W>,
-) -> Result<(), Failure>
+) -> Result<bool, Failure>
     ensures tells { Tells out.old out.new result }
+    ensures differs { IfOk result (λ good. good ≡ false → out.old.printed < out.new.printed) }
+    ensures run { IfOk result
+        (λ good. ComesTo genesis.now (B.remaining lines.old) good out.old out.new) }
 {
+    ordering_laws();
     let system = System::new(alloc, genesis)?;
+    let bindings = Bindings::new(alloc);
     let mut session = Session {
         workers,
         alloc,
         system,
-        bindings: Bindings::new(alloc),
+        bindings,
+        events,
+        refused: None,
     };
     session.run_to_end(files, genesis, lines, store, out)
 }
 
 impl<T: Threads + Sync> Session<'_, T> {
     /// Runs the lines, prints how the first peer stands then, and writes its chain to a store if
-    /// there is one.
+    /// there is one. Answers whether all transactions agree with their reruns.
     fn run_to_end<F: Files, B: BufRead, W: Write>(
         &mut self,
         files: &mut F,
@@ -126,37 +170,75 @@ impl<T: Threads + Sync> Session<'_, T> {
         lines: &mut B,
         store: Option<&Target>,
         out: &mut Printer<'_, W>,
-    ) -> Result<(), Failure>
+    ) -> Result<bool, Failure>
         ensures tells { Tells out.old out.new result }
+        ensures differs { IfOk result (λ good. good ≡ false → out.old.printed < out.new.printed) }
+        ensures does { IfOk result
+            (λ good. (mid : Told) ×
+            DoesAll (B.remaining lines.old) (stage_at self.old.system self.old.bindings)
+            (stage_at self.new.system self.new.bindings) out.old mid ×
+            EndsPrinted (exec_of genesis.now.book.value) (first_chain self.new.system) good mid
+            out.new) }
     {
-        self.run_lines(lines, out)?;
+        self.run_lines(files, lines, out)?;
         let is_good = self.print_end(genesis, out)?;
         if let (Some(target), Some(snapshot)) = (store, self.system.snapshot(0)) {
             write_store(self.alloc, files, target, snapshot)?;
         }
-        if is_good {
-            Ok(())
-        } else {
-            Err(Failure::Printed)
-        }
+        Ok(is_good)
     }
 
     /// Does what each line stands for, in order, and prints what it comes to.
-    fn run_lines<B: BufRead, W: Write>(
+    fn run_lines<F: Files, B: BufRead, W: Write>(
         &mut self,
+        files: &mut F,
         lines: &mut B,
         out: &mut Printer<'_, W>,
     ) -> Result<(), Failure>
         ensures tells { Tells out.old out.new result }
+        ensures does { OnOk result
+            (DoesAll (B.remaining lines.old) (stage_at self.old.system self.old.bindings)
+            (stage_at self.new.system self.new.bindings) out.old out.new) }
     {
         for number in 1..usize::MAX {
-            match next_line(self.alloc, lines)? {
-                Next::Line(line) => self.take_line(&line, number, out)?,
+            let place = Location::line(self.events, number as u64);
+            match next_explained(self.alloc, files, &place, lines)? {
+                Next::Line(line) => self.take_explained(files, &place, &line, number, out)?,
                 Next::TooLong => return Err(Failure::BadLine(number)),
                 Next::End => return Ok(()),
             }
         }
-        Ok(())
+        Err(Failure::BadLine(usize::MAX))
+    }
+
+    /// Does what the line at a place stands for, as `take_line`. Says why it was refused, if it was,
+    /// or is a bad one.
+    fn take_explained<F: Files, W: Write>(
+        &mut self,
+        files: &mut F,
+        place: &Location<'_>,
+        line: &[u8],
+        number: usize,
+        out: &mut Printer<'_, W>,
+    ) -> Result<(), Failure>
+        ensures tells { Tells out.old out.new result }
+        ensures does { OnOk result
+            (DoesPrint (IsLine line.now)
+            (stage_at self.old.system self.old.bindings)
+            (stage_at self.new.system self.new.bindings) out.old out.new) }
+    {
+        let told = self.take_line(line, number, out);
+        let refused = self.refused.take();
+        explain_line(
+            self.alloc,
+            files,
+            place,
+            line,
+            &self.bindings,
+            refused,
+            &told,
+        );
+        told
     }
 
     /// Does what the line of this number stands for, and prints what it comes to.
@@ -167,6 +249,10 @@ impl<T: Threads + Sync> Session<'_, T> {
         out: &mut Printer<'_, W>,
     ) -> Result<(), Failure>
         ensures tells { Tells out.old out.new result }
+        ensures does { OnOk result
+            (DoesPrint (IsLine line.now)
+            (stage_at self.old.system self.old.bindings)
+            (stage_at self.new.system self.new.bindings) out.old out.new) }
     {
         let Ok(line) = std::str::from_utf8(line) else {
             return Err(Failure::BadLine(number));
@@ -186,6 +272,10 @@ impl<T: Threads + Sync> Session<'_, T> {
         out: &mut Printer<'_, W>,
     ) -> Result<(), Failure>
         ensures tells { Tells out.old out.new result }
+        ensures does { OnOk result
+            (DoesPrint (Does action)
+            (stage_at self.old.system self.old.bindings)
+            (stage_at self.new.system self.new.bindings) out.old out.new) }
     {
         match action {
             Action::Begin {
@@ -209,14 +299,25 @@ impl<T: Threads + Sync> Session<'_, T> {
         }
     }
 
-    /// The reply to an event, of which no clause here speaks.
-    fn reply_to(&mut self, event: Event) -> Result<Reply, AllocError> {
-        self.system.step_by_workers(self.workers, event)
+    /// The reply to an event, which is one step. Why it was refused, if it was, is kept for the
+    /// line's sentence.
+    fn reply_to(&mut self, event: Event) -> Result<Reply, AllocError>
+        ensures step { IfOk result (λ r. StepsTo self.old.system event r self.new.system) }
+        ensures names { self.new.bindings ≡ self.old.bindings }
+        ensures unchanged { OnErr result (self.new.system ≡ self.old.system) }
+    {
+        let reply = self.system.step_by_workers(self.workers, event);
+        self.refused = refused_by(&reply);
+        reply
     }
 
     /// One step, whose reply is printed.
     fn step<W: Write>(&mut self, event: Event, out: &mut Printer<'_, W>) -> Result<(), Failure>
         ensures tells { Tells out.old out.new result }
+        ensures does { OnOk result
+            (DoesPrint (IsStepOf event reply_text Stay)
+            (stage_at self.old.system self.old.bindings)
+            (stage_at self.new.system self.new.bindings) out.old out.new) }
     {
         let reply = self.reply_to(event);
         let told = print_step(&reply, out);
@@ -233,6 +334,10 @@ impl<T: Threads + Sync> Session<'_, T> {
         out: &mut Printer<'_, W>,
     ) -> Result<(), Failure>
         ensures tells { Tells out.old out.new result }
+        ensures does { OnOk result
+            (DoesPrint (IsStepOf (Begin peer seat proposal) (begin_text peer seat) Stay)
+            (stage_at self.old.system self.old.bindings)
+            (stage_at self.new.system self.new.bindings) out.old out.new) }
     {
         let reply = self.reply_to(Event::Begin {
             peer,
@@ -253,30 +358,47 @@ impl<T: Threads + Sync> Session<'_, T> {
         out: &mut Printer<'_, W>,
     ) -> Result<(), Failure>
         ensures tells { Tells out.old out.new result }
+        ensures does { OnOk result
+            (DoesPrint
+            (IsStepOf (Finish peer seat) (finish_text (string_bytes name))
+            (Gets (string_bytes name)))
+            (stage_at self.old.system self.old.bindings)
+            (stage_at self.new.system self.new.bindings) out.old out.new) }
     {
-        match self.reply_to(Event::Finish { peer, seat }) {
-            Ok(Reply::Endorsed(payload, endorsement)) => self.bind(name, payload, endorsement, out),
-            reply => {
-                let told = print_step(&reply, out);
-                drop(reply);
-                told
-            }
+        let reply = self.reply_to(Event::Finish { peer, seat });
+        match print_finished(self.alloc, name.as_str(), &reply, out) {
+            Ok(()) => self.bind_reply(name, reply),
+            Err(failure) => Err(failure),
         }
     }
 
-    /// Prints an endorsed payload's id, and gives it its name.
-    fn bind<W: Write>(
-        &mut self,
-        name: String,
-        payload: Payload,
-        endorsement: Endorsement,
-        out: &mut Printer<'_, W>,
-    ) -> Result<(), Failure>
-        ensures tells { Tells out.old out.new result }
+    /// Gives what a reply endorses, if it does, its name.
+    fn bind_reply(&mut self, name: String, reply: Result<Reply, AllocError>) -> Result<(), Failure>
+        ensures silent { IfErr result IsSilent }
+        ensures names { OnOk result
+            (IfOk reply (λ r. Gets (string_bytes name) r self.old.bindings self.new.bindings)) }
+        ensures system { self.new.system ≡ self.old.system }
     {
-        print_endorsed(self.alloc, &name, &payload, out)?;
-        self.bindings.bind(name, payload, endorsement)?;
-        Ok(())
+        match reply {
+            Ok(reply) => self.bind(name, reply),
+            Err(_) => Ok(()),
+        }
+    }
+
+    /// The same of a reply.
+    fn bind(&mut self, name: String, reply: Reply) -> Result<(), Failure>
+        ensures silent { IfErr result IsSilent }
+        ensures names { OnOk result
+            (Gets (string_bytes name) reply self.old.bindings self.new.bindings) }
+        ensures system { self.new.system ≡ self.old.system }
+    {
+        match reply {
+            Reply::Endorsed(payload, endorsement) => {
+                self.bindings.bind(name, payload, endorsement)?;
+                Ok(())
+            }
+            _ => Ok(()),
+        }
     }
 
     /// Submits the envelope that names stand for, in the line of this number.
@@ -287,8 +409,13 @@ impl<T: Threads + Sync> Session<'_, T> {
         out: &mut Printer<'_, W>,
     ) -> Result<(), Failure>
         ensures tells { Tells out.old out.new result }
+        ensures does { OnOk result
+            (DoesPrint (IsNamed (map string_bytes names.now))
+            (stage_at self.old.system self.old.bindings)
+            (stage_at self.new.system self.new.bindings) out.old out.new) }
     {
-        match self.bindings.resolve(names)? {
+        let found = self.bindings.resolve(names)?;
+        match found {
             Some(envelope) => self.step(Event::Submit(envelope), out),
             None => Err(Failure::BadLine(number)),
         }
@@ -301,13 +428,16 @@ impl<T: Threads + Sync> Session<'_, T> {
         out: &mut Printer<'_, W>,
     ) -> Result<(), Failure>
         ensures tells { Tells out.old out.new result }
+        ensures does { OnOk result
+            (DoesPrint (IsBytes bytes.now)
+            (stage_at self.old.system self.old.bindings)
+            (stage_at self.new.system self.new.bindings) out.old out.new) }
     {
         match decode_envelope(self.alloc, bytes) {
             Ok(envelope) => self.step(Event::Submit(envelope), out),
-            Err(WireFault::Memory) => Err(Failure::Memory),
             Err(fault) => {
-                let number = fault.number();
-                writeln!(out, "refused {number}")
+                self.refused = Some(Refused::Numbered(fault.number()));
+                print_fault(fault, out)
             }
         }
     }
@@ -321,6 +451,9 @@ impl<T: Threads + Sync> Session<'_, T> {
     ) -> Result<bool, Failure>
         ensures tells { Tells out.old out.new result }
         ensures differs { IfOk result (λ good. good ≡ false → out.old.printed < out.new.printed) }
+        ensures ends { IfOk result
+            (λ good. EndsPrinted (exec_of genesis.now.book.value) (first_chain self.now.system) good
+            out.old out.new) }
     {
         let Some(snapshot) = self.system.snapshot(0) else {
             return Ok(true);
@@ -330,15 +463,17 @@ impl<T: Threads + Sync> Session<'_, T> {
     }
 }
 
-/// Prints the name and the id of an endorsed payload.
-fn print_endorsed<W: Write>(
-    alloc: Global,
-    name: &str,
-    payload: &Payload,
-    out: &mut Printer<'_, W>,
-) -> Result<(), Failure>
+/// Prints why bytes are no envelope.
+fn print_fault<W: Write>(fault: WireFault, out: &mut Printer<'_, W>) -> Result<(), Failure>
     ensures tells { Tells out.old out.new result }
+    ensures prints { OnOk result
+        ((fault ≢ Memory) × Prints out.old out.new (line (refused (number_of fault)))) }
 {
-    let id = id_of(alloc, payload)?;
-    writeln!(out, "endorsed {name} {id}")
+    match fault {
+        WireFault::Memory => Err(Failure::Memory),
+        fault => {
+            let number = fault.number();
+            writeln!(out, "refused {number}")
+        }
+    }
 }

@@ -5,7 +5,7 @@ ghost use Rattle.cli_lines.specs.Told.{IsSilent};
 
 use crate::placing::part_of;
 use block_store::{AppendFault, append};
-use cli_lines::{Failure, Files, Target};
+use cli_lines::{Access, Failure, Files, Location, Target, explain_numbered, explain_trouble};
 use fab_types::CommittedBlock;
 use std::alloc::Global;
 use std::io::Write;
@@ -29,8 +29,15 @@ pub(crate) fn write_store<F: Files>(
         Target::File(name) => write_beside(alloc, files, name, snapshot, true),
         Target::NewFile(name) => write_beside(alloc, files, name, snapshot, false),
         Target::Device(name) => match files.open_device(name) {
-            Some(writer) => write_chain(alloc, writer, snapshot).map(drop),
-            None => Err(Failure::File),
+            Some(writer) => {
+                let written = write_chain(alloc, writer, snapshot);
+                explain_written(alloc, files, name, &written);
+                written.map(drop)
+            }
+            None => {
+                explain_trouble(alloc, files, name, Access::Write);
+                Err(Failure::File)
+            }
         },
     }
 }
@@ -48,11 +55,14 @@ fn write_beside<F: Files>(
 {
     let part = part_of(alloc, name)?;
     let Some(writer) = files.create(&part) else {
+        explain_trouble(alloc, files, &part, Access::Write);
         return Err(Failure::File);
     };
-    let written = match write_chain(alloc, writer, snapshot) {
-        Ok(_writer) if is_there => replace_file(files, &part, name),
-        Ok(_writer) => place_file(files, &part, name),
+    let chain = write_chain(alloc, writer, snapshot);
+    explain_written(alloc, files, &part, &chain);
+    let written = match chain {
+        Ok(_writer) if is_there => replace_file(alloc, files, &part, name),
+        Ok(_writer) => place_file(alloc, files, &part, name),
         Err(failure) => Err(failure),
     };
     if written.is_err() {
@@ -62,29 +72,57 @@ fn write_beside<F: Files>(
 }
 
 /// Gives a file the name of another one, whose place it takes.
-fn replace_file<F: Files>(files: &mut F, part: &str, name: &str) -> Result<(), Failure>
+fn replace_file<F: Files>(
+    alloc: Global,
+    files: &mut F,
+    part: &str,
+    name: &str,
+) -> Result<(), Failure>
     ensures silent { IfErr result IsSilent }
 {
     if files.rename(part, name) {
         Ok(())
     } else {
+        explain_numbered(alloc, files, &Location::file(part), NOT_RENAMED, 703);
         Err(Failure::File)
     }
 }
 
 /// Gives a file a name that no file has, in the place of an empty one that nobody else has.
-fn place_file<F: Files>(files: &mut F, part: &str, name: &str) -> Result<(), Failure>
+fn place_file<F: Files>(alloc: Global, files: &mut F, part: &str, name: &str) -> Result<(), Failure>
     ensures silent { IfErr result IsSilent }
 {
     let Some(_lock) = files.lock_new(name) else {
+        explain_numbered(alloc, files, &Location::file(name), NAME_TAKEN, 703);
         return Err(Failure::File);
     };
-    let placed = replace_file(files, part, name);
+    let placed = replace_file(alloc, files, part, name);
     if placed.is_err() {
         files.remove(name);
     }
     placed
 }
+
+/// What is wrong where a store that is written does not get its name.
+const NOT_RENAMED: &str = "it is written, and cannot get the store's name; see its folder's rights";
+
+/// What is wrong where the name of a new store is no longer free.
+const NAME_TAKEN: &str = "a file got this name during the run, and stays; take another name";
+
+/// Says why a chain was not written to the file of a name, if that is so.
+fn explain_written<F: Files, W>(
+    alloc: Global,
+    files: &mut F,
+    name: &str,
+    written: &Result<W, Failure>,
+) {
+    if matches!(written, Err(Failure::File)) {
+        explain_numbered(alloc, files, &Location::file(name), NOT_WRITTEN, 703);
+    }
+}
+
+/// What is wrong where a write failed.
+const NOT_WRITTEN: &str = "it was not written to its end; see whether the disk is full";
 
 /// Writes a chain as a whole store, and gives the writer back.
 fn write_chain<W: Write + Drop>(alloc: Global, writer: W, snapshot: &Snapshot) -> Result<W, Failure>

@@ -3,6 +3,7 @@
 ghost use Rattle.std.specs.Prelude.{◌≡◌, ◌<◌, false, IfOk};
 ghost use Rattle.cli_lines.specs.Told.{Tells};
 
+use crate::explaining::explain_findings;
 use crate::missing::first_missing;
 use crate::replaying::replayed;
 use block_store::End;
@@ -29,6 +30,7 @@ pub fn audit<T: Threads + Sync, F: Files, W: Write>(
     ensures tells { Tells out.old out.new result }
 {
     let replayed = replayed(workers, alloc, files, genesis, store)?;
+    explain_findings(alloc, files, genesis, store, &replayed);
     print_replayed(alloc, genesis, &replayed, out)
 }
 

@@ -5,7 +5,8 @@ ghost use Rattle.cli_lines.specs.Told.{IsSilent, Tells};
 ghost use Rattle.wasm_file.specs.Modules.{IsDefinedBy};
 ghost use Rattle.cli_show.specs.Modules.{IsChecked, IsDigested, IsNoModule};
 
-use cli_lines::{Failure, Files, Printer, print_line, read_at_most};
+use crate::explaining::explain_module;
+use cli_lines::{Failure, Files, Printer, print_line, read_explained};
 use sha2::{Digest, Sha256};
 use std::alloc::Global;
 use std::io::Write;
@@ -31,8 +32,8 @@ pub fn check<F: Files, W: Write>(
     ensures valid { OnOk result (IfSome (F.bytes files.old name.now) (λ bytes.
         IsChecked profile bytes out.old.bytes out.new.bytes)) }
 {
-    let bytes = read_at_most(alloc, files, name, MOST_READ)?;
-    let functions = functions_of(alloc, &bytes, profile)?;
+    let bytes = read_explained(alloc, files, name, MOST_READ)?;
+    let functions = functions_explained(alloc, files, name, &bytes, profile)?;
     let length = bytes.len();
     writeln!(out, "valid functions={functions} bytes={length}")
 }
@@ -52,10 +53,27 @@ pub fn digest<F: Files, W: Write>(
     ensures digest { OnOk result (IfSome (F.bytes files.old name.now) (λ bytes.
         IsDigested profile bytes out.old.bytes out.new.bytes)) }
 {
-    let bytes = read_at_most(alloc, files, name, MOST_READ)?;
-    functions_of(alloc, &bytes, profile)?;
+    let bytes = read_explained(alloc, files, name, MOST_READ)?;
+    functions_explained(alloc, files, name, &bytes, profile)?;
     let digest = hex::encode(alloc, &Sha256::digest(bytes.as_slice()))?;
     print_line(&digest, out)
+}
+
+/// How many functions the module in a file of this name defines, as `functions_of` says. Says why it
+/// is refused, if it is.
+fn functions_explained<F: Files>(
+    alloc: Global,
+    files: &mut F,
+    name: &str,
+    bytes: &[u8],
+    profile: Profile,
+) -> Result<usize, Failure>
+    ensures silent { IfErr result IsSilent }
+    ensures valid { IfOk result (λ functions. IsDefinedBy profile bytes.now functions) }
+{
+    let functions = functions_of(alloc, bytes, profile);
+    explain_module(alloc, files, name, bytes, profile, &functions);
+    functions
 }
 
 /// How many functions a module defines. Refused where the bytes are none of the profile that is

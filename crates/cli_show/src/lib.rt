@@ -14,6 +14,7 @@ mod chain;
 mod checking;
 mod earlier;
 mod entries;
+mod explaining;
 mod findings;
 mod marking;
 mod members;

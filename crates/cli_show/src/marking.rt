@@ -7,6 +7,7 @@ ghost use Rattle.log_orderer.specs.Marks.{block_marks, envelope_mark};
 ghost use Rattle.cli_show.specs.Answers.{fault_of};
 ghost use Rattle.cli_show.specs.Marks.{HasTexts, chain_marks};
 
+use crate::explaining::explain_fault;
 use crate::replaying::replayed;
 use crate::showing::fault_of;
 use cli_lines::{Failure, Files, Printer, print_line};
@@ -36,6 +37,7 @@ pub fn marks<T: Threads + Sync, F: Files, W: Write>(
     ensures tells { Tells out.old out.new result }
 {
     let replayed = replayed(workers, alloc, files, genesis, store)?;
+    explain_fault(alloc, files, store, &replayed);
     print_marks(alloc, &replayed, out)
 }
 

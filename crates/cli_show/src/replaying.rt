@@ -3,7 +3,7 @@
 ghost use Rattle.std.specs.Prelude.{IfErr};
 ghost use Rattle.cli_lines.specs.Told.{IsSilent};
 
-use cli_lines::{Failure, Files};
+use cli_lines::{Access, Failure, Files, explain_trouble};
 use endorsement_policy::Workers;
 use ledger_setting::Genesis;
 use std::alloc::Global;
@@ -23,6 +23,7 @@ pub(crate) fn replayed<T: Threads + Sync, F: Files>(
     ensures silent { IfErr result IsSilent }
 {
     let Some(reader) = files.open(name) else {
+        explain_trouble(alloc, files, name, Access::Read);
         return Err(Failure::File);
     };
     let mut device = Counted::new(reader);

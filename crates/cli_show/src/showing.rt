@@ -7,6 +7,7 @@ ghost use Rattle.cli_show.specs.Lines.{HasLines};
 
 use crate::chain::print_chain;
 use crate::entries::print_state;
+use crate::explaining::{explain_fault, explain_findings};
 use crate::findings::print_ending;
 use crate::members::print_members;
 use crate::replaying::replayed;
@@ -62,6 +63,7 @@ pub fn show<T: Threads + Sync, F: Files, W: Write>(
     ensures tells { Tells out.old out.new result }
 {
     let replayed = replayed(workers, alloc, files, genesis, shown.store)?;
+    explain_findings(alloc, files, genesis, shown.store, &replayed);
     print_shown(alloc, genesis, &replayed, shown.span, out)
 }
 
@@ -99,6 +101,7 @@ pub fn state<T: Threads + Sync, F: Files, W: Write>(
     ensures tells { Tells out.old out.new result }
 {
     let replayed = replayed(workers, alloc, files, genesis, asked.store)?;
+    explain_fault(alloc, files, asked.store, &replayed);
     print_asked(alloc, &genesis.rules, &replayed, asked.at, asked.part, out)
 }
 

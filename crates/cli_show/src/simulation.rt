@@ -2,6 +2,7 @@
 
 ghost use Rattle.cli_lines.specs.Told.{Tells};
 
+use crate::explaining::explain_chain;
 use crate::replaying::replayed;
 use block_store::End;
 use cli_lines::{Failure, Files, Printer, print_payload};
@@ -41,6 +42,7 @@ pub fn simulate<T: Threads + Sync, F: Files, W: Write>(
         None => print_call(alloc, genesis, &Snapshot::empty(alloc), proposal, out),
         Some(name) => {
             let replayed = replayed(workers, alloc, files, genesis, name)?;
+            explain_chain(alloc, files, name, &replayed);
             print_call_after(alloc, genesis, &replayed, proposal, out)
         }
     }

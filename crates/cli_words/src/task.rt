@@ -318,7 +318,7 @@ fn text<'a>(matches: &ArgMatches<'a>, name: &str) -> Result<&'a str, WordsFault>
 }
 
 /// The number that digits stand for, from 1 to 1000.
-fn count(digits: &str) -> Result<u32, WordsFault> {
+pub(crate) fn count(digits: &str) -> Result<u32, WordsFault> {
     match digits.parse::<u32>() {
         Ok(count) if (1..=MOST_COUNT).contains(&count) => Ok(count),
         _ => Err(WordsFault::Usage),
@@ -326,7 +326,7 @@ fn count(digits: &str) -> Result<u32, WordsFault> {
 }
 
 /// The number of a block that digits stand for, from 0 to 65,535.
-fn block(digits: &str) -> Result<u32, WordsFault> {
+pub(crate) fn block(digits: &str) -> Result<u32, WordsFault> {
     match digits.parse::<u32>() {
         Ok(number) if number <= LAST_BLOCK => Ok(number),
         _ => Err(WordsFault::Usage),
@@ -344,13 +344,18 @@ fn state_part(alloc: Global, command: &ArgMatches<'_>) -> Result<StatePart, Word
 }
 
 /// The key that hex stands for.
-fn key(alloc: Global, digits: &str) -> Result<Key, WordsFault> {
+pub(crate) fn key(alloc: Global, digits: &str) -> Result<Key, WordsFault> {
     Key::new(hex::decode(alloc, digits)?).ok_or(WordsFault::Usage)
 }
 
-/// The profile by whose number, `1` or `2`, the words ask for a module. It is 1 where they name none.
+/// The profile by whose number the words ask for a module. It is 1 where they name none.
 fn profile_of(command: &ArgMatches<'_>) -> Result<Profile, WordsFault> {
-    match command.get_str("profile").unwrap_or("1") {
+    profile(command.get_str("profile").unwrap_or("1"))
+}
+
+/// The profile of a number, `1` or `2`.
+pub(crate) fn profile(digits: &str) -> Result<Profile, WordsFault> {
+    match digits {
         "1" => Ok(Profile::Core1),
         "2" => Ok(Profile::SignExtension),
         _ => Err(WordsFault::Usage),
@@ -370,7 +375,7 @@ fn organisation(command: &ArgMatches<'_>) -> Result<OrgName, WordsFault> {
 }
 
 /// The bytes that hex stands for; none for `-`.
-fn argument(alloc: Global, digits: &str) -> Result<Value, WordsFault> {
+pub(crate) fn argument(alloc: Global, digits: &str) -> Result<Value, WordsFault> {
     let bytes = match digits {
         "-" => Vec::new(alloc),
         digits => hex::decode(alloc, digits)?,
@@ -378,12 +383,14 @@ fn argument(alloc: Global, digits: &str) -> Result<Value, WordsFault> {
     Value::new(bytes).ok_or(WordsFault::Usage)
 }
 
+/// The nonce that hex stands for.
+pub(crate) fn nonce_of(digits: &str) -> Result<[u8; 16], WordsFault> {
+    Ok(<[u8; 16]>::from_hex(digits)?)
+}
+
 /// The call that words stand for, with this nonce, or with zeros.
 fn call(alloc: Global, command: &ArgMatches<'_>, nonce: Option<&str>) -> Result<Call, WordsFault> {
-    let nonce = match nonce {
-        Some(digits) => <[u8; 16]>::from_hex(digits)?,
-        None => [0; 16],
-    };
+    let nonce = nonce.map_or(Ok([0; 16]), nonce_of)?;
     let argument = argument(alloc, text(command, "ARG")?)?;
     let chaincode = chaincode(command)?;
     Ok(Call {

@@ -15,17 +15,33 @@ impl Display for Usage {
     }
 }
 
+/// The usage of one command, as `{}` prints it. The last line has its end.
+#[derive(Clone, Copy)]
+pub(crate) struct FormUsage<'a>(pub(crate) &'a Form);
+
+impl Display for FormUsage<'_> {
+    fn fmt<W: Write>(&self, f: &mut Formatter<W>) -> fmt::Result {
+        write_line("usage:", self.0, f)?;
+        write_explanation(self.0, f)
+    }
+}
+
 /// Writes the line of each command.
 fn write_lines<W: Write>(f: &mut Formatter<W>) -> fmt::Result {
     let mut lead = "usage:";
     for form in &COMMANDS {
-        write!(f, "{lead} ledger {}", form.name)?;
-        write_words(form.words, f)?;
-        write_options(form.options, f)?;
-        writeln!(f, "")?;
+        write_line(lead, form, f)?;
         lead = "      ";
     }
     Ok(())
+}
+
+/// Writes the line of a command.
+fn write_line<W: Write>(lead: &str, form: &Form, f: &mut Formatter<W>) -> fmt::Result {
+    write!(f, "{lead} ledger {}", form.name)?;
+    write_words(form.words, f)?;
+    write_options(form.options, f)?;
+    writeln!(f, "")
 }
 
 /// Writes words that have to be there.

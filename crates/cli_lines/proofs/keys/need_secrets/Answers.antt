@@ -3,13 +3,8 @@ use Rattle.cli_lines.specs.Sealing.{lacks_seed}
 use Rattle.cli_lines.proofs.Found.{is_any}
 use Rattle.cli_lines.proofs.keys.need_secrets.Goals as goal
 
-pub returns-in_ok-remark_missing-in-Some-clause-refused : goal.returns-in_ok-remark_missing-in-Some-clause-refused
-returns-in_ok-remark_missing-in-Some-clause-refused g c e =
-    let lacks = lacks_seed c.args.genesis.now.rules.value c.args.genesis.now.signers.value in
-    is_any lacks c.args.orgs.now _ c.first_lacking.ensures ∙ ap (λ o. is_some (option_map (λ p. p.now) o)) c.in-Some.is
-
-pub returns-in_err-remark_missing-in-Some-clause-refused : goal.returns-in_err-remark_missing-in-Some-clause-refused
-returns-in_err-remark_missing-in-Some-clause-refused g c e =
+pub returns-in-Some-clause-refused : goal.returns-in-Some-clause-refused
+returns-in-Some-clause-refused g c e =
     let lacks = lacks_seed c.args.genesis.now.rules.value c.args.genesis.now.signers.value in
     is_any lacks c.args.orgs.now _ c.first_lacking.ensures ∙ ap (λ o. is_some (option_map (λ p. p.now) o)) c.in-Some.is
 

@@ -5,4 +5,4 @@ use Rattle.cli_roles.proofs.committing.commit_lines.Goals as goal
 pub returns-in_err-line : goal.returns-in_err-line
 returns-in_err-line g c =
     let p = err_from_is_err_and c.from_residual.result c.from_residual.ensures.1 in
-    rw (p.1, p.2) (record { tells = tells_by c.args.out.now c.loop.out _ c.loop.invariant.more c.in_err-line.ensures.silent })
+    rw (p.1, p.2) (record { tells = tells_by c.args.out.now c.loop-number.out _ c.loop-number.invariant.more c.in_err-line.ensures.silent })

@@ -1,6 +1,10 @@
-use Rattle.std.proofs.Common.{◌≡◌}
-use Rattle.cli_lines.specs.Told.{IsMore}
+use Rattle.std.proofs.Common.{ℕ, List}
+use Rattle.cli_session.specs.Reading.{TakesLines}
+use Rattle.cli_session.specs.Running.{AreLines}
+use Rattle.cli_session.specs.Stages.{DoesPrint, stage_at}
 use Rattle.cli_session.proofs.session.Session.run_lines.Given as goal
 
 abbrev pub invariant-loop-number : goal.invariant-loop-number
-invariant-loop-number g l = IsMore l.fn.out l.out × (l.out.failed ≡ l.fn.out.failed)
+invariant-loop-number g l =
+    (lines : List (List ℕ)) × TakesLines (g.B.Read.remaining l.fn.lines) (g.B.Read.remaining l.lines) lines
+    × DoesPrint (AreLines lines) (stage_at l.fn.self.system l.fn.self.bindings) (stage_at l.self.system l.self.bindings) l.fn.out l.out

@@ -8,4 +8,15 @@ returns-in_err-write_store g c =
     rw (p.1, p.2) (record {
       tells = tells_by c.args.out.now c.print_end.new.out _ (and_more _ _ _ c.in_ok-run_lines.ensures.tells.0 c.in_ok-is_good.ensures.tells.0)
           c.in_err-write_store.ensures.silent;
+      differs = tt;
+      does = tt;
     })
+
+pub returns-in_ok-write_store-clause-does : goal.returns-in_ok-write_store-clause-does
+returns-in_ok-write_store-clause-does g c = (c.run_lines.new.out, c.in_ok-run_lines.ensures.does, c.in_ok-is_good.ensures.ends)
+
+pub returns-in_ok-is_good-clause-does : goal.returns-in_ok-is_good-clause-does
+returns-in_ok-is_good-clause-does g c = (c.run_lines.new.out, c.in_ok-run_lines.ensures.does, c.in_ok-is_good.ensures.ends)
+
+pub returns-in_ok-is_good-2-clause-does : goal.returns-in_ok-is_good-2-clause-does
+returns-in_ok-is_good-2-clause-does g c = (c.run_lines.new.out, c.in_ok-run_lines.ensures.does, c.in_ok-is_good.ensures.ends)

@@ -1,0 +1,8 @@
+use Rattle.std.proofs.Common.{[]}
+use Rattle.cli_lines.specs.Lines.{range_text}
+use Rattle.cli_lines.proofs.Printing.{prints_all}
+use Rattle.cli_lines.proofs.lines.print_ranges.Goals as goal
+
+pub returns-clause-prints : goal.returns-clause-prints
+returns-clause-prints g c =
+    prints_all range_text [] c.args.ranges.now c.loop-range.range-index c.args.out.now c.loop-range.out c.loop-range-test.false c.loop-range.invariant

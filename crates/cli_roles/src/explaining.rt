@@ -1,0 +1,140 @@
+//! Why a line is skipped or refused, or a store ends a filter, in words on the standard error.
+
+use crate::seen::seen_in;
+use cli_lines::{
+    Access, Files, Location, block_words, explain, explain_bad_line, explain_number,
+    explain_numbered, explain_trouble, flags_words,
+};
+use fab_types::OrgName;
+use json_reasons::proposal_reason;
+use log_orderer::Skip;
+use log_roles::ReceiveRefusal;
+use log_store::StoreRefusal;
+use std::alloc::{AllocError, Global};
+use store_replay::RecommitRefusal;
+
+/// What is wrong with a text that is no mark.
+const NO_MARK: &str = "it is neither tick nor an envelope in hex";
+
+/// What is wrong where a store fails that is written too.
+const NOT_WRITTEN: &str = "it was not read or written to its end; see whether the disk is full";
+
+/// What is wrong with a record, and what to do.
+const DAMAGED: &str =
+    "is damaged; the blocks before it are whole, and it and those behind are to be had again";
+
+/// What is wrong with a block of which the store has another.
+const FORKED: &str = "is another one than the store's; the store is of another log";
+
+/// Says why a line of a log was skipped. Of one that no orderer has to know, nothing is said.
+pub(crate) fn explain_skip<F: Files>(
+    alloc: Global,
+    files: &mut F,
+    line: u64,
+    text: &str,
+    skip: Skip,
+) {
+    let place = Location::input(line);
+    if skip != Skip::NoHex {
+        explain_number(alloc, files, &place, skip.number());
+    } else if seen_in(text).is_none() && !text.starts_with("genesis ") {
+        explain_numbered(alloc, files, &place, NO_MARK, 300);
+    }
+}
+
+/// Says why a line is no proposal, and asks for no block that the store has.
+pub(crate) fn explain_proposal<F: Files>(alloc: Global, files: &mut F, line: u64, text: &[u8]) {
+    let reason = if text.starts_with(b"seen ") {
+        String::from_str(alloc, "the store has no block of this number")
+    } else {
+        proposal_reason(alloc, text)
+    };
+    explain_bad_line(alloc, files, &Location::input(line), reason);
+}
+
+/// Says that an organisation is not known (806).
+pub(crate) fn explain_stranger<F: Files>(alloc: Global, files: &mut F, org: &OrgName) {
+    if let Ok(org) = String::from_utf8_lossy(alloc, org.as_slice()) {
+        explain_number(alloc, files, &Location::file(&org), 806);
+    }
+}
+
+/// Says why a store, which is read alone or written too, ends a filter.
+pub fn explain_store<F: Files>(
+    alloc: Global,
+    files: &mut F,
+    name: &str,
+    access: Access,
+    refusal: &StoreRefusal,
+) {
+    let place = Location::file(name);
+    match (refusal, access) {
+        (StoreRefusal::File, Access::Read) => explain_trouble(alloc, files, name, access),
+        (StoreRefusal::File, Access::Write) => {
+            explain_numbered(alloc, files, &place, NOT_WRITTEN, 703);
+        }
+        (refusal, _) => explain(alloc, files, &place, store_words(alloc, refusal)),
+    }
+}
+
+/// Says how many bytes were cut off a store, if any, and how many blocks it has.
+pub(crate) fn explain_cut<F: Files>(
+    alloc: Global,
+    files: &mut F,
+    name: &str,
+    height: usize,
+    cut: usize,
+) {
+    if cut > 0 {
+        let words = format!(in alloc;
+            "it ended with a part of a record: {cut} bytes were cut off, {height} blocks are kept"
+        );
+        explain(alloc, files, &Location::file(name), words);
+    }
+}
+
+/// Says why the block of this number in a line is refused for a store of a name.
+pub(crate) fn explain_block<F: Files>(
+    alloc: Global,
+    files: &mut F,
+    store: &str,
+    line: u64,
+    block: u32,
+    refusal: &StoreRefusal,
+) {
+    let words = match refusal {
+        StoreRefusal::Received(ReceiveRefusal::Unfit(cause)) => {
+            block_words(alloc, block as usize, *cause)
+        }
+        StoreRefusal::Received(ReceiveRefusal::Forked(_)) => {
+            format!(in alloc; "block {block} {FORKED} (602)")
+        }
+        _ => return explain_store(alloc, files, store, Access::Write, refusal),
+    };
+    explain(alloc, files, &Location::input(line), words);
+}
+
+/// Why a store is refused, in words that end with the number.
+fn store_words(alloc: Global, refusal: &StoreRefusal) -> Result<String, AllocError> {
+    match refusal {
+        StoreRefusal::Damaged(record) => { format!(in alloc; "record {record} {DAMAGED} (702)") }
+        StoreRefusal::Stored(RecommitRefusal::Unfit(block, cause)) => {
+            block_words(alloc, *block, *cause)
+        }
+        StoreRefusal::Stored(RecommitRefusal::Flags(block)) => {
+            let words = flags_words(alloc, *block)?;
+            format!(in alloc; "{words} (711)")
+        }
+        StoreRefusal::Received(refusal) => {
+            let number = refusal.number();
+            format!(in alloc; "a block {FORKED} ({number})")
+        }
+        StoreRefusal::Memory | StoreRefusal::Stored(RecommitRefusal::Memory) => {
+            String::from_str(
+                alloc,
+                "there is no memory for it; begin again when there is some (9)",
+            )
+        }
+        StoreRefusal::File => String::from_str(alloc, "it cannot be read or written (703)"),
+    }
+}

@@ -1,0 +1,5 @@
+pub mod Pieces
+pub mod Printed
+pub mod Steps
+pub mod Several
+pub mod Whole

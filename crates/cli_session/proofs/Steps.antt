@@ -1,0 +1,97 @@
+-- Steps that are printed, and those of several lines.
+use Rattle.std.proofs.Common.{◌≡◌, ℕ, List, [], ◌∷◌, ◌++◌, Result, Ok, Err, IfOk, IfErr, OnOk, map, refl, sym, ap, ap₂, subst, ◌∙◌, append_assoc}
+use Rattle.std.proofs.lemmas.List.{map-append}
+use Rattle.simulator.specs.Execution.{exec_of}
+use Rattle.json_events.specs.declared.bindings.Bindings.{Bindings}
+use Rattle.fabric_core.specs.System.{Rules, World, IsStep, AreSteps}
+use Rattle.fabric_core.specs.Inside.{State, rules_of, TakesStep, KeepsRules}
+use Rattle.fabric_core.specs.declared.event.Event.{Event}
+use Rattle.fabric_core.specs.declared.event.Reply.{Reply}
+use Rattle.cli_lines.specs.Told.{Told, IsMore, Prints, Tells, IsSilent}
+use Rattle.cli_lines.specs.declared.failure.Failure.{Failure}
+use Rattle.cli_lines.proofs.Silence.{tells_by}
+use Rattle.cli_session.specs.Stages.{Stage, StepsTo, Stay, IsStepOf, DoesPrint}
+use Rattle.cli_session.specs.Running.{events_of, replies_of}
+
+-- a step whose reply was printed
+pub step_printed : {A E : Type 0} (told : Result A E) {F : Type 0} (reply : Result Reply F) (event : Event) (said : Reply → List ℕ)
+    (named : Reply → Bindings → Bindings → Type 0) (old new : Stage) (before after : Told) →
+    IfOk reply (λ r. StepsTo old.system event r new.system) → OnOk told (IfOk reply (λ r. named r old.names new.names)) →
+    OnOk told ((r : Reply) × (reply ≡ Ok r) × Prints before after (said r)) →
+    OnOk told (DoesPrint (IsStepOf event said named) old new before after)
+step_printed (Err e) reply event said named old new before after steps names printed = tt
+step_printed (Ok x) {F} reply event said named old new before after steps names printed =
+    let r = printed.0 in
+    let step : StepsTo old.system event r new.system =
+    subst (λ (q : Result Reply F). IfOk q (λ a. StepsTo old.system event a new.system)) printed.1 steps in
+    let name : named r old.names new.names = subst (λ (q : Result Reply F). IfOk q (λ a. named a old.names new.names)) printed.1 names in
+    ((event, r) ∷ [], said r, record { answer = r; step = step; names = name; is = refl; prints = refl }, printed.2)
+
+-- the same, where the names are bound behind it
+pub step_and_names : {A E : Type 0} (told : Result A E) {F : Type 0} (reply : Result Reply F) (event : Event) (said : Reply → List ℕ)
+    (named : Reply → Bindings → Bindings → Type 0) (old mid new : Stage) (before after : Told) →
+    IfOk reply (λ r. StepsTo old.system event r mid.system) → mid.names ≡ old.names → new.system ≡ mid.system →
+    OnOk told (IfOk reply (λ r. named r mid.names new.names)) →
+    OnOk told ((r : Reply) × (reply ≡ Ok r) × Prints before after (said r)) →
+    OnOk told (DoesPrint (IsStepOf event said named) old new before after)
+step_and_names told reply event said named old mid new before after steps same kept names printed =
+    step_printed told reply event said named old new before after
+    (subst (λ (s : State). IfOk reply (λ r. StepsTo old.system event r s)) (sym kept) steps)
+    (subst (λ (b : Bindings). OnOk told (IfOk reply (λ r. named r b new.names))) same names) printed
+
+pub names_stay : {A E F : Type 0} (told : Result A E) (reply : Result Reply F) (old new : Bindings) → new ≡ old → OnOk told (IfOk reply (λ r. Stay r old new))
+names_stay (Err e) reply old new same = tt
+names_stay (Ok x) (Err e) old new same = tt
+names_stay (Ok x) (Ok r) old new same = same
+
+-- the same step in other words
+pub does_by : (P Q : Stage → List (Event × Reply) → List ℕ → Stage → Type 0) {A E : Type 0} (r : Result A E) (old new : Stage) (before after : Told) →
+    ((told : List (Event × Reply)) (text : List ℕ) → P old told text new → Q old told text new) →
+    OnOk r (DoesPrint P old new before after) → OnOk r (DoesPrint Q old new before after)
+does_by P Q (Err e) old new before after f h = tt
+does_by P Q (Ok x) old new before after f h = (h.0, h.1, f h.0 h.1 h.2, h.3)
+
+-- a last call that prints nothing and fails silently
+pub tells_last : {A : Type 0} (t u : Told) (r : Result A Failure) → IsMore t u → u.failed ≡ t.failed → IfErr r IsSilent → Tells t u r
+tells_last t u (Ok x) more whole silent = (more, whole)
+tells_last t u (Err e) more whole silent = tells_by t u e more silent
+
+pub any_ok : {A E : Type 0} (r : Result A E) (P : Type 0) → P → OnOk r P
+any_ok (Ok x) P h = h
+any_ok (Err e) P h = tt
+
+-- ---- the steps of a run
+
+pub steps_joined : (r : Rules) (w mid new : World) (es fs : List Event) (rs ss : List Reply) → AreSteps r w es rs mid → AreSteps r mid fs ss new →
+    AreSteps r w (es ++ fs) (rs ++ ss) new
+steps_joined r w mid new [] fs rs ss a b = rw a.0 (subst (λ (u : World). AreSteps r u fs ss new) a.1 b)
+steps_joined r w mid new (e ∷ es) fs rs ss a b =
+    (a.0, a.1, a.2 ++ ss, ap (λ (qs : List Reply). qs ++ ss) a.3, a.4, steps_joined r a.1 mid new es fs a.2 ss a.5 b)
+
+abbrev pub rules_at : State → Rules
+rules_at s = rules_of (exec_of s.book) s.rules s.seeds s.capacity
+
+-- these are steps of a system, which keeps its setting
+abbrev pub Runs : State → List (Event × Reply) → State → Type 0
+Runs old told new = AreSteps (rules_at old) old.world (events_of told) (replies_of told) new.world × KeepsRules old new
+
+pub same_rules : (old new : State) → KeepsRules old new → rules_at new ≡ rules_at old
+same_rules old new k = λ i. rules_of (exec_of (k.0 i)) (k.1 i) (k.2 i) (k.3 i)
+
+pub runs_none : (s : State) → Runs s [] s
+runs_none s = ((refl, refl), (refl, refl, refl, refl))
+
+pub runs_one : (old : State) (event : Event) (reply : Reply) (new : State) → StepsTo old event reply new → Runs old ((event, reply) ∷ []) new
+runs_one old event reply new step = ((reply, new.world, [], refl, step.0, (refl, refl)), step.1)
+
+pub runs_joined : (old mid new : State) (told more : List (Event × Reply)) → Runs old told mid → Runs mid more new → Runs old (told ++ more) new
+runs_joined old mid new told more first next =
+    let later : AreSteps (rules_at old) mid.world (events_of more) (replies_of more) new.world =
+    subst (λ (r : Rules). AreSteps r mid.world (events_of more) (replies_of more) new.world) (same_rules old mid first.1) next.0 in
+    let events : events_of told ++ events_of more ≡ events_of (told ++ more) = sym (map-append (λ (t : Event × Reply). t.0) told more) in
+    let replies : replies_of told ++ replies_of more ≡ replies_of (told ++ more) = sym (map-append (λ (t : Event × Reply). t.1) told more) in
+    let all = steps_joined (rules_at old) old.world mid.world new.world (events_of told) (events_of more) (replies_of told) (replies_of more) first.0 later in (
+      subst (λ (es : List Event). AreSteps (rules_at old) old.world es (replies_of (told ++ more)) new.world) events
+          (subst (λ (rs : List Reply). AreSteps (rules_at old) old.world (events_of told ++ events_of more) rs new.world) replies all),
+      (next.1.0 ∙ first.1.0, next.1.1 ∙ first.1.1, next.1.2 ∙ first.1.2, next.1.3 ∙ first.1.3),
+    )

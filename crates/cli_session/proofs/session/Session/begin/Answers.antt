@@ -1,0 +1,15 @@
+use Rattle.fabric_core.specs.declared.event.Event.TheVariants.{Begin}
+use Rattle.cli_session.specs.Replies.{begin_text}
+use Rattle.cli_session.specs.Stages.{Stay, stage_at}
+use Rattle.cli_session.proofs.Steps.{step_printed, names_stay}
+use Rattle.cli_session.proofs.session.Session.begin.Goals as goal
+
+pub returns-clause-does : goal.returns-clause-does
+returns-clause-does g c =
+    let reply = c.reply_to-reply in
+    let told = c.print_begun-told in
+    step_printed told.result reply.result (Begin c.args.peer c.args.seat c.args.proposal) (begin_text c.args.peer c.args.seat) Stay
+    (stage_at c.args.self.now.system c.args.self.now.bindings)
+    (stage_at reply.new.self.system reply.new.self.bindings)
+    c.args.out.now told.new.out
+    reply.ensures.step (names_stay told.result reply.result c.args.self.now.bindings reply.new.self.bindings reply.ensures.names) told.ensures.prints

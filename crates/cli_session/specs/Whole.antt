@@ -1,0 +1,67 @@
+-- A whole run: its lines, and what is printed behind them.
+use Rattle.std.specs.Prelude.{◌≡◌, ◌++◌, ℕ, Bool, true, false, List, [], Option, Some, None, IfSome}
+use Rattle.json_events.specs.Bound.{bound_as}
+use Rattle.ledger_model.specs.Chain.{Chain}
+use Rattle.ledger_model.specs.Execution.{Exec}
+use Rattle.simulator.specs.Execution.{exec_of}
+use Rattle.ledger_setting.specs.Limits.{limits_of}
+use Rattle.ledger_setting.specs.declared.genesis.Genesis.{Genesis}
+use Rattle.ledger_setting.specs.declared.verdict.Audit.{Audit}
+use Rattle.fabric_core.specs.Audit.{AuditSays}
+use Rattle.fabric_core.specs.System.{Rules, chain_of, opening}
+use Rattle.fabric_core.specs.Inside.{rules_of}
+use Rattle.fabric_core.specs.Headline.{IsRun}
+use Rattle.fabric_core.specs.declared.event.Event.{Event}
+use Rattle.fabric_core.specs.declared.event.Reply.{Reply}
+use Rattle.cli_lines.specs.Lines.{audit_text, does_agree}
+use Rattle.cli_lines.specs.Told.{Told, Prints}
+use Rattle.cli_session.specs.Reading.{lines_in}
+use Rattle.cli_session.specs.States.{state_text}
+use Rattle.cli_session.specs.Stages.{Stage}
+use Rattle.cli_session.specs.Running.{AreLines, events_of, replies_of}
+
+-- behind the lines: the state after a chain, and what its audit says; nothing, where there is no peer
+abbrev pub EndsWith : Exec → Option Chain → Bool → List ℕ → Type 0
+EndsWith exec None good text = (good ≡ true) × (text ≡ [])
+EndsWith exec (Some chain) good text =
+    (verdict : Audit) × AuditSays exec chain verdict × (good ≡ does_agree verdict) × (text ≡ state_text chain ++ audit_text verdict)
+
+abbrev pub EndsPrinted : Exec → Option Chain → Bool → (before after : Told) → Type 0
+EndsPrinted exec chain good before after = (text : List ℕ) × EndsWith exec chain good text × Prints before after text
+
+-- what a genesis fixes for the steps
+abbrev pub rules_by : Genesis → Rules
+rules_by g = rules_of (exec_of g.book.value) g.rules.value g.signers.value g.queue
+
+-- at the opening no name stands for anything
+pub record IsOpening (g : Genesis) (s : Stage) : Type 0 where
+  pub system : s.system ≡ record {
+    book = g.book.value;
+    rules = g.rules.value;
+    seeds = g.signers.value;
+    capacity = g.queue;
+    world = opening g.peers.items g.seats (limits_of g) g.reorder;
+  }
+  pub names : (name : List ℕ) → bound_as s.names name ≡ None
+
+-- These lines are done from the opening on, and their steps are a run of the system. Behind what they print stands what is printed
+-- of the first peer's chain
+pub record IsWholeRun (g : Genesis) (lines : List (List ℕ)) (good : Bool) (text : List ℕ) : Type 0 where
+  pub start : Stage
+  pub end : Stage
+  pub told : List (Event × Reply)
+  pub front : List ℕ
+  pub rest : List ℕ
+  pub opens : IsOpening g start
+  pub does : AreLines lines start told front end
+  pub run : IsRun (rules_by g) g.peers.items g.seats (limits_of g) g.reorder (events_of told) (replies_of told) end.system.world false
+  pub ends : EndsWith (exec_of g.book.value) (chain_of (rules_by g) end.system.world 0) good rest
+  pub whole : text ≡ front ++ rest
+
+-- What `run` comes to. Its lines are those of the events file, where it is known what that holds
+pub record ComesTo (g : Genesis) (events : Option (List ℕ)) (good : Bool) (before after : Told) : Type 0 where
+  pub lines : List (List ℕ)
+  pub all : IfSome events (λ bytes. lines ≡ lines_in bytes)
+  pub text : List ℕ
+  pub whole : IsWholeRun g lines good text
+  pub prints : Prints before after text

@@ -1,0 +1,193 @@
+//! What is wrong with a store or a module, in words on the standard error.
+
+use crate::missing::first_missing;
+use crate::showing::fault_of;
+use block_store::{End, RecordReader};
+use cli_lines::{
+    Access, Failure, Files, Location, block_words, explain, explain_trouble, flags_words,
+};
+use ledger_setting::Genesis;
+use std::alloc::{AllocError, Global};
+use std::io::Read;
+use store_replay::Replayed;
+use wasm_file::ModuleRefusal;
+use wasm_profile::Profile;
+use wasm_reasons::module_reason;
+
+/// What becomes of a part of a record.
+const CUT_OFF: &str = "commit cuts it off";
+
+/// What to do about a damaged record.
+const TAKE_AGAIN: &str =
+    "the blocks before it are whole, and it and those behind are to be had again";
+
+/// How many bytes of a store are read at a time.
+const PIECE: u64 = 65_536;
+
+/// Says why a module is refused, if it is.
+pub(crate) fn explain_module<F: Files>(
+    alloc: Global,
+    files: &mut F,
+    name: &str,
+    bytes: &[u8],
+    profile: Profile,
+    functions: &Result<usize, Failure>,
+) {
+    if let Err(Failure::Module(refusal)) = functions {
+        let reason = module_reason(alloc, profile, bytes, refusal);
+        explain(alloc, files, &Location::file(name), reason);
+    }
+}
+
+/// Says why the state after a store is not told, if it is not.
+pub(crate) fn explain_fault<F: Files>(
+    alloc: Global,
+    files: &mut F,
+    name: &str,
+    replayed: &Replayed,
+) {
+    match fault_of(replayed) {
+        Some(Failure::Flags(block)) => explain_flags(alloc, files, name, block, "711"),
+        Some(_) => explain_chain(alloc, files, name, replayed),
+        None => {}
+    }
+}
+
+/// Says why the chain of a store is not whole, if it is not: why a block does not fit, or else how
+/// the store ends.
+pub(crate) fn explain_chain<F: Files>(
+    alloc: Global,
+    files: &mut F,
+    name: &str,
+    replayed: &Replayed,
+) {
+    match replayed.refused {
+        Some(_) => explain_unfit(alloc, files, name, replayed),
+        None => explain_end(alloc, files, name, replayed.blocks, replayed.end),
+    }
+}
+
+/// Says each thing that is wrong with a store, but for reruns that differ.
+pub(crate) fn explain_findings<F: Files>(
+    alloc: Global,
+    files: &mut F,
+    genesis: &Genesis,
+    name: &str,
+    replayed: &Replayed,
+) {
+    match (replayed.differs, replayed.refused) {
+        (Some(block), _) => explain_flags(alloc, files, name, block, "flags differ"),
+        (None, Some(_)) => explain_unfit(alloc, files, name, replayed),
+        (None, None) => explain_missing(alloc, files, genesis, name, replayed),
+    }
+    explain_end(alloc, files, name, replayed.blocks, replayed.end);
+}
+
+/// Says which block has other flags than the table's, with what stands on the standard output for
+/// it.
+fn explain_flags<F: Files>(alloc: Global, files: &mut F, name: &str, block: usize, told: &str) {
+    let words = match flags_words(alloc, block) {
+        Ok(words) => format!(in alloc; "{words} ({told})"),
+        Err(error) => Err(error),
+    };
+    explain(alloc, files, &Location::file(name), words);
+}
+
+/// Says why a block does not fit, if one does not.
+fn explain_unfit<F: Files>(alloc: Global, files: &mut F, name: &str, replayed: &Replayed) {
+    if let Some(refusal) = replayed.refused {
+        let block = replayed.snapshot.height().saturating_add(1);
+        let words = block_words(alloc, block, refusal);
+        explain(alloc, files, &Location::file(name), words);
+    }
+}
+
+/// Says which block upgrades to a module that is not at hand, if one does.
+fn explain_missing<F: Files>(
+    alloc: Global,
+    files: &mut F,
+    genesis: &Genesis,
+    name: &str,
+    replayed: &Replayed,
+) {
+    if let Some(block) = first_missing(&genesis.book, replayed.snapshot.blocks()) {
+        let words = format!(in alloc;
+            "block {block} upgrades to a module that is not at hand; give it by --modules (406)"
+        );
+        explain(alloc, files, &Location::file(name), words);
+    }
+}
+
+/// Says how a store ends that has so many whole blocks, unless it ends with a record.
+fn explain_end<F: Files>(alloc: Global, files: &mut F, name: &str, blocks: usize, end: End) {
+    let words = match end {
+        End::Clean => return,
+        End::DeviceFailed => return explain_trouble(alloc, files, name, Access::Read),
+        End::Torn => torn_words(alloc, files, name, blocks),
+        End::Damaged(record) => damaged_words(alloc, files, name, record),
+    };
+    explain(alloc, files, &Location::file(name), words);
+}
+
+/// That a store ends with a part of a record.
+fn torn_words<F: Files>(
+    alloc: Global,
+    files: &mut F,
+    name: &str,
+    blocks: usize,
+) -> Result<String, AllocError> {
+    let at = whole_bytes(alloc, files, name, u64::MAX);
+    format!(in alloc;
+        "a part of a record is behind byte {at}, where {blocks} whole blocks end; {CUT_OFF} (701)"
+    )
+}
+
+/// That a record of a store is damaged.
+fn damaged_words<F: Files>(
+    alloc: Global,
+    files: &mut F,
+    name: &str,
+    record: u32,
+) -> Result<String, AllocError> {
+    let at = start_of_damage(alloc, files, name);
+    format!(in alloc; "record {record}, at byte {at}, is damaged; {TAKE_AGAIN} (702)")
+}
+
+/// At which byte the damaged record of a store begins, as far as it can be read again: it is looked
+/// for byte by byte in the piece in which it shows.
+fn start_of_damage<F: Files>(alloc: Global, files: &mut F, name: &str) -> u64 {
+    let piece = whole_bytes(alloc, files, name, u64::MAX);
+    whole_bytes(alloc, files, name, piece)
+}
+
+/// How many bytes of a store its whole records take, as far as it can be read again. It is read in
+/// pieces up to this byte, and byte by byte from there on: where damage shows in a piece, what is
+/// before that piece.
+fn whole_bytes<F: Files>(alloc: Global, files: &mut F, name: &str, fine_from: u64) -> u64 {
+    match files.open(name) {
+        Some(file) => bytes_of_records(alloc, file, fine_from),
+        None => 0,
+    }
+}
+
+/// The same of what a reader gives.
+fn bytes_of_records<R: Read + Drop>(alloc: Global, mut file: R, fine_from: u64) -> u64 {
+    let mut records = RecordReader::new(alloc);
+    let mut read: u64 = 0;
+    for _ in 0..u64::MAX {
+        let whole = read.saturating_sub(records.held() as u64);
+        let most = if read < fine_from { PIECE } else { 1 };
+        let mut piece = Vec::new(alloc);
+        let Ok(count) = file.by_ref().take(most).read_to_end(&mut piece) else {
+            return whole;
+        };
+        if count == 0 || records.feed(&piece).is_err() {
+            return whole;
+        }
+        if records.is_damaged() {
+            return if read < fine_from { read } else { whole };
+        }
+        read = read.saturating_add(count as u64);
+    }
+    read
+}
