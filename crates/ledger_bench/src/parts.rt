@@ -105,8 +105,7 @@ impl Checked {
         Ok(Done::hashed(count, BATCH as u64, tags_of(&self.batch)))
     }
 
-    /// Checks so many blocks of the batch: the tags of all of them by the workers, and then each
-    /// block by what is known of its tags.
+    /// Checks so many blocks of the batch at once.
     fn at_once<R: Threads + Sync>(
         &self,
         rt: &R,
@@ -121,10 +120,25 @@ impl Checked {
         for _ in 0..count {
             blocks.push(self.batch.as_slice())?;
         }
-        let standing = Standing::of(alloc, &self.rules, &self.snapshot)?;
-        let right = right_orgs_of_blocks(rt, alloc, standing.organisations(), &blocks, workers)?;
-        check_each(alloc, &self.rules, &self.snapshot, &blocks, &right)?;
+        self.check_blocks(rt, alloc, workers, &blocks)?;
         Ok(Done::hashed(count, BATCH as u64, tags_of(&self.batch)))
+    }
+
+    /// Checks blocks: the tags of all of them by the workers, and then each block by what is known
+    /// of its tags.
+    fn check_blocks<R: Threads + Sync>(
+        &self,
+        rt: &R,
+        alloc: Global,
+        workers: usize,
+        blocks: &[&[Envelope]],
+    ) -> Result<(), Failure>
+        requires least { 1 ≤ workers }
+        requires greatest { workers ≤ 16 }
+    {
+        let standing = Standing::of(alloc, &self.rules, &self.snapshot)?;
+        let right = right_orgs_of_blocks(rt, alloc, standing.organisations(), blocks, workers)?;
+        check_each(alloc, &self.rules, &self.snapshot, blocks, &right)
     }
 }
 

@@ -5,7 +5,7 @@ use crate::done::Done;
 use crate::failure::Failure;
 use crate::members::{TagKind, org, rules};
 use crate::workload::key;
-use endorsement_policy::Installed;
+use endorsement_policy::{Installed, Rules};
 use fab_types::{Block, Key};
 use ledger_setting::Genesis;
 use org_keys::Signers;
@@ -78,9 +78,8 @@ fn last_of(mut seats: Vec<Seat>) -> Option<Seat> {
 /// A genesis without chaincodes.
 fn genesis(alloc: Global) -> Result<Genesis, Failure> {
     let peers = vec![in alloc; org(alloc, b'A')?]?;
-    let rules = Arc::new(alloc, rules(alloc, TagKind::Hmac)?)?;
     let signers = Arc::new(alloc, Signers::none(alloc))?;
-    let book = empty_book(alloc)?;
+    let (rules, book) = rules_and_book(alloc)?;
     Ok(Genesis {
         book,
         rules,
@@ -93,6 +92,13 @@ fn genesis(alloc: Global) -> Result<Genesis, Failure> {
         absolute: 524_288,
         reorder: false,
     })
+}
+
+/// The rules, and a book without chaincodes.
+fn rules_and_book(alloc: Global) -> Result<(Arc<Rules>, Arc<Book>), Failure> {
+    let rules = Arc::new(alloc, rules(alloc, TagKind::Hmac)?)?;
+    let book = empty_book(alloc)?;
+    Ok((rules, book))
 }
 
 /// A book without chaincodes.

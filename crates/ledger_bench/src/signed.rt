@@ -27,10 +27,20 @@ pub fn commit<R: Threads + Clock + Sync>(
         return Err(Failure::Limit);
     }
     let mut channel = Channel::new(alloc, KEYS, TagKind::Ed25519, false)?;
+    let workers = Workers::new(rt, workers as usize);
+    commit_blocks(&workers, alloc, &mut channel, count)
+}
+
+/// The same of a channel without blocks.
+fn commit_blocks<R: Threads + Clock + Sync>(
+    workers: &Workers<'_, R>,
+    alloc: Global,
+    channel: &mut Channel,
+    count: u32,
+) -> Result<Done, Failure> {
     channel.advance(alloc, count)?;
     let records = channel.records(alloc)?;
-    let workers = Workers::new(rt, workers as usize);
-    commit_records(&workers, alloc, channel.rules(), records)
+    commit_records(workers, alloc, channel.rules(), records)
 }
 
 /// Commits records, and tells how many transactions they have and how long that took.

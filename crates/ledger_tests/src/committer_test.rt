@@ -31,11 +31,10 @@ pub fn pushed(
     endorsed: &[bool],
     flags: &[Flag],
 ) -> Result<u16, AllocError> {
-    let block = block.clone()?;
     if block.envelopes.as_slice().len() != endorsed.len() {
         return Ok(1);
     }
-    Ok(push(alloc, chain, block, endorsed, flags))
+    Ok(push(alloc, chain, block.clone()?, endorsed, flags))
 }
 
 /// The flags of the first block: of its three transactions the second has the first one's id, and
@@ -73,21 +72,22 @@ fn is_refused(
     Ok(refusal == number && has_the_first(alloc, chain.snapshot())?)
 }
 
-/// A copy of a block that names these hashes, of the header before it and of its data.
-fn relinked(
+/// Whether a copy of a block that names these hashes, of the header before it and of its data, is
+/// refused as `is_refused` says.
+fn is_refused_with(
+    alloc: Global,
+    chain: &mut Replay,
     block: &Block,
-    previous_hash: [u8; 32],
-    data_hash: [u8; 32],
-) -> Result<Block, AllocError> {
-    let number = block.header.number;
-    Ok(Block {
-        header: Header {
-            number,
-            previous_hash,
-            data_hash,
-        },
-        envelopes: block.envelopes.clone()?,
-    })
+    hashes: [[u8; 32]; 2],
+    number: u16,
+) -> Result<bool, AllocError> {
+    let header = Header {
+        number: block.header.number,
+        previous_hash: hashes[0],
+        data_hash: hashes[1],
+    };
+    let envelopes = block.envelopes.clone()?;
+    is_refused(alloc, chain, &Block { header, envelopes }, number)
 }
 
 /// Whether what does not fit behind the first block is refused, and the second joins the chain.
@@ -97,23 +97,21 @@ fn is_second_alone(
     second: &Block,
     third: &Block,
 ) -> Result<bool, AllocError> {
-    let header = &second.header;
-    let other_link = relinked(second, [0; 32], header.data_hash)?;
-    let other_data = relinked(second, header.previous_hash, [0; 32])?;
+    let other_link = [[0; 32], second.header.data_hash];
+    let other_data = [second.header.previous_hash, [0; 32]];
     let is_kept = is_refused(alloc, chain, third, 601)?
-        && is_refused(alloc, chain, &other_link, 602)?
-        && is_refused(alloc, chain, &other_data, 603)?;
+        && is_refused_with(alloc, chain, second, other_link, 602)?
+        && is_refused_with(alloc, chain, second, other_data, 603)?;
     Ok(is_kept && pushed(alloc, chain, second, &[true], &[Flag::Valid])? == 0)
 }
 
-/// Whether the blocks of a chain are answered as they have to be.
-fn are_answered(alloc: Global, chain: &Orderer) -> Result<bool, AllocError> {
-    let [first, second, third] = chain.blocks() else {
+/// Whether the blocks of a chain are answered as they have to be, behind none.
+fn are_answered(alloc: Global, replay: &mut Replay, blocks: &[Block]) -> Result<bool, AllocError> {
+    let [first, second, third] = blocks else {
         return Ok(false);
     };
-    let mut replay = Replay::new(Snapshot::empty(alloc));
-    let flagged = pushed(alloc, &mut replay, first, &[true, true, false], &FIRST)? == 0;
-    Ok(flagged && is_second_alone(alloc, &mut replay, second, third)?)
+    let flagged = pushed(alloc, replay, first, &[true, true, false], &FIRST)? == 0;
+    Ok(flagged && is_second_alone(alloc, replay, second, third)?)
 }
 
 /// Three transactions that make a block, and two that a tick ends each.
@@ -132,7 +130,8 @@ fn a_refused_push_changes_nothing(rt: HostRuntime) -> Result<(), Fail> {
     let alloc = rt.alloc();
     let mut orderer = Orderer::new(alloc, 3, 1000, 1000, false);
     order(alloc, &mut orderer)?;
-    let are_answered = are_answered(alloc, &orderer);
+    let mut replay = Replay::new(Snapshot::empty(alloc));
+    let are_answered = are_answered(alloc, &mut replay, orderer.blocks());
     assert!(rt; are_answered == Ok(true));
     Ok(())
 }

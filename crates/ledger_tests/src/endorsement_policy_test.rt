@@ -8,7 +8,7 @@ use endorsement_policy::{
     ChaincodePolicy, Gate, Installed, ModuleId, Rules, Standing, check_all, check_plain,
     check_with_right_orgs, right_orgs_of_blocks, satisfied,
 };
-use fab_types::{Endorsement, Endorsements, Envelope, Name, OrgName, Tag};
+use fab_types::{Envelope, Name, OrgName};
 use hmac_tag::{check, tag};
 use org_keys::{OrgKey, Organisation, PublicKey};
 use policy_language::{OrgSet, Policies, Policy, parse};
@@ -35,6 +35,9 @@ const NAME: usize = 70;
 
 const TAG: usize = 71;
 
+/// The length of a call whose second endorsement is a signature, behind the byte 00.
+const SIGNED: usize = 136;
+
 fn org(alloc: Global, letter: u8) -> Option<OrgName> {
     OrgName::new(vec![in alloc; letter].ok()?)
 }
@@ -53,17 +56,30 @@ fn secret(letter: u8) -> [u8; 3] {
     [letter, 0, letter]
 }
 
+/// C's key is the public one of `SEED`, the others' are shared.
+fn key(alloc: Global, letter: u8) -> Option<OrgKey> {
+    if letter == b'C' {
+        Some(OrgKey::Public(PublicKey::new(PUBLIC)?))
+    } else {
+        shared_key(alloc, &secret(letter))
+    }
+}
+
 fn organisation(alloc: Global, letter: u8) -> Option<Organisation> {
-    let key = shared_key(alloc, &secret(letter))?;
-    let name = org(alloc, letter)?;
+    let (name, key) = org(alloc, letter).zip(key(alloc, letter))?;
     Some(Organisation { name, key })
+}
+
+fn add_organisations(alloc: Global, organisations: &mut Vec<Organisation>) -> Option<()> {
+    for letter in b"ABC" {
+        organisations.push(organisation(alloc, *letter)?).ok()?;
+    }
+    Some(())
 }
 
 fn organisations(alloc: Global) -> Option<Vec<Organisation>> {
     let mut organisations = Vec::new(alloc);
-    for letter in b"ABC" {
-        organisations.push(organisation(alloc, *letter)?).ok()?;
-    }
+    add_organisations(alloc, &mut organisations)?;
     Some(organisations)
 }
 
@@ -114,20 +130,53 @@ fn rules(alloc: Global) -> Option<Rules> {
     rules_of(alloc, organisations(alloc), policy, upgrade)?
 }
 
-/// The call with endorsements by A under its own key, and by a name under the key of another's.
-fn envelope(alloc: Global, name: u8, keyed: u8) -> Option<Envelope> {
+/// The call with endorsements by A under its own key, and by a name with the HMAC under a key.
+fn keyed(alloc: Global, name: u8, key: &[u8]) -> Option<Envelope> {
     let mut bytes = CALL;
-    let tag = tag(&secret(keyed), &CALL[..PAYLOAD]);
+    let tag = tag(key, &CALL[..PAYLOAD]);
     bytes[NAME] = name;
     bytes[TAG..].copy_from_slice(&tag);
     decode_envelope(alloc, &bytes).ok()
 }
 
-/// A and C; A twice; A and a wrong tag of C; A and an unknown organisation; and so on again.
+/// The call with endorsements by A under its own key, and by a name with the signature by a seed.
+fn signed(alloc: Global, name: u8, seed: &[u8; 32]) -> Option<Envelope> {
+    let mut bytes = [0; SIGNED];
+    bytes[..NAME - 1].copy_from_slice(&CALL[..NAME - 1]);
+    bytes[NAME] = 1;
+    bytes[NAME + 1] = name;
+    bytes[NAME + 2..].copy_from_slice(&sign(seed, &CALL[..PAYLOAD]));
+    decode_envelope(alloc, &bytes).ok()
+}
+
+/// B's HMAC; one more of A; that of B under A's key; that of an unknown organisation.
+fn nth_keyed(alloc: Global, index: usize) -> Option<Envelope> {
+    let (name, key) = [(b'B', b'B'), (b'A', b'A'), (b'B', b'A'), (b'D', b'D')][index % 4];
+    keyed(alloc, name, &secret(key))
+}
+
+/// C's signature; one of another seed; C's, by the name of B.
+fn nth_signed(alloc: Global, index: usize) -> Option<Envelope> {
+    let (name, seed) = [(b'C', &SEED), (b'C', &PUBLIC), (b'B', &SEED)][index % 3];
+    signed(alloc, name, seed)
+}
+
+/// The eight: four with HMACs, three with signatures, and an HMAC under C's public key, which
+/// everybody knows. The first and the fifth satisfy the policy.
+fn nth(alloc: Global, index: usize) -> Option<Envelope> {
+    if index % 8 < 4 {
+        nth_keyed(alloc, index % 4)
+    } else if index % 8 < 7 {
+        nth_signed(alloc, index % 8 - 4)
+    } else {
+        keyed(alloc, b'C', &PUBLIC)
+    }
+}
+
+/// The eight again and again.
 fn add_envelopes(alloc: Global, envelopes: &mut Vec<Envelope>, count: usize) -> Option<()> {
     for index in 0..count {
-        let (name, keyed) = [(b'C', b'C'), (b'A', b'A'), (b'C', b'B'), (b'D', b'D')][index % 4];
-        envelopes.push(envelope(alloc, name, keyed)?).ok()?;
+        envelopes.push(nth(alloc, index)?).ok()?;
     }
     Some(())
 }
@@ -322,59 +371,6 @@ fn are_right<R: Threads + Sync>(
 fn workers_are_right<R: Threads + Sync>(rt: &R, alloc: Global) -> Option<bool> {
     let (rules, all) = rules(alloc).zip(envelopes(alloc, 33))?;
     are_right(rt, alloc, &rules, &Snapshot::empty(alloc), &all).ok()
-}
-
-/// The same, but for C, which has a public key.
-fn rules_with_a_public_key(alloc: Global) -> Option<Rules> {
-    let mut organisations = organisations(alloc)?;
-    organisations.pop()?;
-    let name = org(alloc, b'C')?;
-    let key = OrgKey::Public(PublicKey::new(PUBLIC)?);
-    organisations.push(Organisation { name, key }).ok()?;
-    let (policy, upgrade) = (two_of_three(alloc), two_of_three(alloc));
-    rules_of(alloc, Some(organisations), policy, upgrade)?
-}
-
-/// The call with endorsements by A under its own key, and by a name with this tag.
-fn envelope_with(alloc: Global, name: u8, tag: Tag) -> Option<Envelope> {
-    let call = decode_envelope(alloc, &CALL).ok()?;
-    let first = call.endorsements.as_slice().first()?.clone().ok()?;
-    let org = org(alloc, name)?;
-    let second = Endorsement { org, tag };
-    let endorsements = Endorsements::new(vec![in alloc; first, second].ok()?)?;
-    Some(Envelope {
-        payload: call.payload,
-        endorsements,
-    })
-}
-
-/// C's signature; one of another seed; C's, by the name of B; an HMAC under C's public key, which
-/// everybody knows; and so on again.
-fn add_signed(alloc: Global, envelopes: &mut Vec<Envelope>, count: usize) -> Option<()> {
-    let payload = &CALL[..PAYLOAD];
-    let signed = Tag::Ed25519(sign(&SEED, payload));
-    let other = Tag::Ed25519(sign(&PUBLIC, payload));
-    let keyed = Tag::Hmac(tag(&PUBLIC, payload));
-    for index in 0..count {
-        let (name, tag) = [(b'C', signed), (b'C', other), (b'B', signed), (b'C', keyed)][index % 4];
-        envelopes.push(envelope_with(alloc, name, tag)?).ok()?;
-    }
-    Some(())
-}
-
-fn are_same_with_signatures<R: Threads + Sync>(rt: &R, alloc: Global) -> Option<bool> {
-    let mut all = Vec::new(alloc);
-    add_signed(alloc, &mut all, 33)?;
-    let (rules, snapshot) = (rules_with_a_public_key(alloc)?, Snapshot::empty(alloc));
-    let are_same = are_same(rt, alloc, &rules, &snapshot, &all).ok()?;
-    Some(are_same && are_same_by_tags(rt, alloc, &rules, &snapshot, &all).ok()?)
-}
-
-#[test]
-fn workers_check_signatures_as_one_thread(rt: HostRuntime) -> Result<(), Fail> {
-    let are_same = are_same_with_signatures(&rt, rt.alloc());
-    assert!(rt; are_same == Some(true));
-    Ok(())
 }
 
 #[test]

@@ -1,11 +1,10 @@
 //! A run of events, whose replies are told one by one.
 
-use crate::samples::{GET_PUT_A, Setup, endorsed, opening, signers, signing_genesis, transaction};
-use fab_types::{Envelope, Flag, Proposal};
-use fabric_core::{Audit, Event, Ran, Reply, System, audit, honest_chains_pass_the_audit, run};
+use crate::samples::{GET_PUT_A, Setup, opening};
+use fab_types::Proposal;
+use fabric_core::{Audit, Event, Ran, Reply, audit, honest_chains_pass_the_audit, run};
 use host_api::{equal_views, reads_alone};
 use ledger_setting::Genesis;
-use org_keys::Signers;
 use std::alloc::{AllocError, Global};
 use std::test::Fail;
 
@@ -64,61 +63,5 @@ fn a_run_replies_to_each_event(rt: HostRuntime) -> Result<(), Fail> {
     let alloc = rt.alloc();
     let is_run = is_run(alloc, &opening(alloc, GET_PUT_A, 0)?);
     assert!(rt; is_run == Ok(true));
-    Ok(())
-}
-
-/// A call that begins and is endorsed, alone.
-fn two_events(alloc: Global, proposal: &Proposal) -> Result<Vec<Event>, AllocError> {
-    let begin = Event::Begin {
-        peer: 0,
-        seat: 0,
-        proposal: proposal.clone()?,
-    };
-    Ok(vec![in alloc; begin, Event::Finish { peer: 0, seat: 0 }]?)
-}
-
-/// The transaction that the last of these replies handed out.
-fn handed_out(alloc: Global, mut replies: Vec<Reply>) -> Result<Envelope, Fail> {
-    match replies.pop() {
-        Some(Reply::Endorsed(payload, endorsement)) => endorsed(alloc, payload, endorsement),
-        _ => Err("an endorsement".into()),
-    }
-}
-
-/// The flag of a transaction that is sent, ordered and committed.
-fn flag_of(mut system: System, envelope: Envelope) -> Result<Option<Flag>, Fail> {
-    system.step(Event::Submit(envelope))?;
-    system.step(Event::Take)?;
-    system.step(Event::Commit { peer: 0 })?;
-    let last = match system.snapshot(0) {
-        Some(snapshot) => snapshot.last(),
-        None => None,
-    };
-    Ok(match last {
-        Some(block) => block.flags().first().copied(),
-        None => None,
-    })
-}
-
-/// The flag of what a peer of a public key hands out, by these seeds.
-fn flag_by(alloc: Global, signers: Signers) -> Result<Option<Flag>, Fail> {
-    let call = transaction(alloc, 50, b'k')?;
-    let genesis = signing_genesis(alloc, signers)?;
-    let events = two_events(alloc, call.payload.proposal())?;
-    let Ran {
-        system,
-        replies,
-        ..
-    } = run(alloc, &genesis, &events)?;
-    flag_of(system, handed_out(alloc, replies)?)
-}
-
-#[test]
-fn a_signature_counts_where_the_seed_is_at_hand(rt: HostRuntime) -> Result<(), Fail> {
-    let alloc = rt.alloc();
-    let signed = flag_by(alloc, signers(alloc)?)?;
-    let unsigned = flag_by(alloc, Signers::none(alloc))?;
-    assert!(rt; signed == Some(Flag::Valid));
-    assert!(rt; unsigned == Some(Flag::EndorsementPolicyFailure));
     Ok(())
 }

@@ -28,8 +28,6 @@ mod ledger_model_test;
 #[cfg(test)]
 mod orderer_test;
 #[cfg(test)]
-mod org_keys_test;
-#[cfg(test)]
 mod peer_node_test;
 #[cfg(test)]
 mod persist_map_test;

@@ -5,8 +5,8 @@ ghost use Rattle.snapshot_cell.specs.Seats.{cell_of_told};
 ghost use Rattle.peer_node.specs.Seats.{peer_of};
 ghost use Rattle.peer_node.specs.Writers.{peer_of_writer};
 
-use crate::samples::{GET_PUT_A, Setup, endorsed, opening, signers, signing_genesis, transaction};
-use fab_types::{Envelope, Flag, Key, Proposal};
+use crate::samples::{GET_PUT_A, Setup, opening, signing_genesis, transaction};
+use fab_types::{Endorsement, Endorsements, Envelope, Flag, Key, Payload, Proposal};
 use ledger_setting::Genesis;
 use orderer::Orderer;
 use peer_node::{Peer, PeerWriter, Seat, Told};
@@ -170,6 +170,22 @@ fn what_was_told_is_read(rt: HostRuntime) -> Result<(), Fail> {
     Ok(())
 }
 
+/// A payload with this endorsement alone.
+fn endorsed(alloc: Global, payload: Payload, first: Endorsement) -> Result<Envelope, Fail> {
+    let endorsements = alone(alloc, first)?;
+    Ok(Envelope {
+        payload,
+        endorsements,
+    })
+}
+
+fn alone(alloc: Global, first: Endorsement) -> Result<Endorsements, Fail> {
+    match Endorsements::new(vec![in alloc; first]?) {
+        Some(endorsements) => Ok(endorsements),
+        None => Err("an endorsement".into()),
+    }
+}
+
 /// The transaction that a seat hands out.
 fn handed_out(alloc: Global, seats: &mut [Seat], proposal: &Proposal) -> Result<Envelope, Fail> {
     let Some(seat) = seats.first_mut() else {
@@ -181,16 +197,15 @@ fn handed_out(alloc: Global, seats: &mut [Seat], proposal: &Proposal) -> Result<
     }
 }
 
-/// The flag of a transaction that a peer commits as block 1.
+/// The flag of a transaction that a chain without blocks takes, and a peer commits as block 1.
 fn committed_flag<R: Threads + Wait + Sync>(
     rt: &R,
-    alloc: Global,
     writer: &mut PeerWriter,
+    chain: &mut Orderer,
     envelope: Envelope,
 ) -> Option<Flag> {
-    let mut chain = Orderer::new(alloc, 1, 1000, 1000, false);
     chain.accept(envelope).ok()?;
-    commit(rt, writer, &chain, 1)?;
+    commit(rt, writer, chain, 1)?;
     writer.newest().last()?.flags().first().copied()
 }
 
@@ -203,7 +218,8 @@ fn flag_of<R: Threads + Wait + Sync>(
     proposal: &Proposal,
 ) -> Result<Option<Flag>, Fail> {
     let envelope = handed_out(alloc, seats, proposal)?;
-    Ok(committed_flag(rt, alloc, writer, envelope))
+    let mut chain = Orderer::new(alloc, 1, 1000, 1000, false);
+    Ok(committed_flag(rt, writer, &mut chain, envelope))
 }
 
 /// The same of a peer that opens with this genesis.
@@ -224,12 +240,21 @@ fn flag_by<R: Threads + Wait + Sync>(
     flag
 }
 
+/// The same of a peer that signs.
+fn signed_flag<R: Threads + Wait + Sync>(
+    rt: &R,
+    alloc: Global,
+    proposal: &Proposal,
+) -> Result<Option<Flag>, Fail> {
+    let genesis = signing_genesis(alloc)?;
+    flag_by(rt, alloc, &genesis, proposal)
+}
+
 #[test]
 fn a_seat_signs(rt: HostRuntime) -> Result<(), Fail> {
     let alloc = rt.alloc();
-    let genesis = signing_genesis(alloc, signers(alloc)?)?;
     let call = transaction(alloc, 50, b'k')?;
-    let flag = flag_by(&rt, alloc, &genesis, call.payload.proposal())?;
+    let flag = signed_flag(&rt, alloc, call.payload.proposal())?;
     assert!(rt; flag == Some(Flag::Valid));
     Ok(())
 }

@@ -1,7 +1,7 @@
 //! Transactions, a genesis and chains that several tests look at or are made of.
 
 use ed25519::SigningKey;
-use fab_types::{Endorsement, Endorsements, Envelope, Payload};
+use fab_types::Envelope;
 use hmac_tag::tag;
 use json_genesis::read_genesis;
 use ledger_setting::Genesis;
@@ -79,27 +79,17 @@ pub fn shared_key(alloc: Global, bytes: &[u8]) -> Option<OrgKey> {
 }
 
 /// That seed.
-pub fn signers(alloc: Global) -> Result<Signers, AllocError> {
+fn signers(alloc: Global) -> Result<Signers, AllocError> {
     Ok(Signers::new(vec![in alloc; SigningKey::new(&SEED)]?))
 }
 
-/// What `GET_PUT_A` spells, but for A's key, which is that public one. These seeds are at hand.
-pub fn signing_genesis(alloc: Global, signers: Signers) -> Result<Genesis, Fail> {
+/// What `GET_PUT_A` spells, but for A's key, which is that public one. Its seed is at hand.
+pub fn signing_genesis(alloc: Global) -> Result<Genesis, Fail> {
+    let signers = Arc::new(alloc, signers(alloc)?)?;
     let text = GET_PUT_A.replace(alloc, KEY_FIELD, PUBLIC_FIELD)?;
     let mut genesis = genesis(alloc, &text)?;
-    genesis.signers = Arc::new(alloc, signers)?;
+    genesis.signers = signers;
     Ok(genesis)
-}
-
-/// A payload with this endorsement alone.
-pub fn endorsed(alloc: Global, payload: Payload, first: Endorsement) -> Result<Envelope, Fail> {
-    match Endorsements::new(vec![in alloc; first]?) {
-        Some(endorsements) => Ok(Envelope {
-            payload,
-            endorsements,
-        }),
-        None => Err("an endorsement".into()),
-    }
 }
 
 /// What a text spells.

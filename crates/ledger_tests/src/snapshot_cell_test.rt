@@ -28,6 +28,14 @@ fn one_block(alloc: Global, setup: &Setup) -> Result<Snapshot, Fail>
     }
 }
 
+/// The snapshot after one block.
+fn first_snapshot(alloc: Global) -> Result<Snapshot, Fail>
+    ensures { IfOk result (λ s. OneMore [] s) }
+{
+    let setup = opening(alloc, GET_PUT_A, 1)?;
+    one_block(alloc, &setup)
+}
+
 /// The height that a seat takes once it has learned what was told, or 0.
 fn height_after(seat: Reader, told: Told) -> usize
     requires { cell_of_told told ≡ cell_of_reader seat }
@@ -63,7 +71,7 @@ fn height_elsewhere<R: Threads + Wait + Sync>(
 #[test]
 fn a_seat_learns_on_a_second_thread(rt: HostRuntime) -> Result<(), Fail> {
     let alloc = rt.alloc();
-    let next = one_block(alloc, &opening(alloc, GET_PUT_A, 1)?)?;
+    let next = first_snapshot(alloc)?;
     let Ok((mut writer, mut seats)) = open(&rt, alloc, Snapshot::empty(alloc), 1) else {
         return Err("a cell".into());
     };

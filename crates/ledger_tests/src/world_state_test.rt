@@ -114,23 +114,25 @@ fn are_put_behind(
     if next.envelopes.as_slice().len() != 1 {
         return Ok(false);
     }
-    let Ok(newest) = commit_on(alloc, old, next.clone()?, &[true]) else {
-        return Ok(false);
-    };
-    let mut newest = Replay::new(newest);
-    let are_pushed = are_pushed(alloc, &mut newest, blocks)?;
+    match commit_on(alloc, old, next.clone()?, &[true]) {
+        Ok(newest) => are_all(alloc, &mut Replay::new(newest), blocks),
+        Err(_) => Ok(false),
+    }
+}
+
+/// Whether blocks join a chain, which then has all of them. Of 80 keys, 12 are deleted.
+fn are_all(alloc: Global, newest: &mut Replay, blocks: &[Block]) -> Result<bool, AllocError> {
+    let are_pushed = are_pushed(alloc, newest, blocks)?;
     let newest = newest.snapshot();
-    // Of 80 keys, 12 are deleted.
     Ok(are_pushed && newest.height() == usize::from(ALL) && newest.entries(alloc)?.len() == 68)
 }
 
-fn is_kept(alloc: Global, blocks: &[Block]) -> Result<bool, AllocError> {
+fn is_kept(alloc: Global, old: &mut Replay, blocks: &[Block]) -> Result<bool, AllocError> {
     let (first, later) = blocks.split_at(OLD.min(blocks.len()));
     let [next, rest @ ..] = later else {
         return Ok(false);
     };
-    let mut old = Replay::new(Snapshot::empty(alloc));
-    let are_first = are_pushed(alloc, &mut old, first)?;
+    let are_first = are_pushed(alloc, old, first)?;
     let old = old.snapshot();
     let before = is_as_it_was(alloc, old, blocks)?;
     let are_behind = are_put_behind(alloc, old, next, rest)?;
@@ -143,7 +145,8 @@ fn an_older_snapshot_stays_as_it_is(rt: HostRuntime) -> Result<(), Fail> {
     let alloc = rt.alloc();
     let mut orderer = Orderer::new(alloc, 1, 1000, 1000, false);
     order(alloc, &mut orderer)?;
-    let is_kept = is_kept(alloc, orderer.blocks());
+    let mut old = Replay::new(Snapshot::empty(alloc));
+    let is_kept = is_kept(alloc, &mut old, orderer.blocks());
     assert!(rt; is_kept == Ok(true));
     Ok(())
 }
