@@ -1,0 +1,104 @@
+"""Who asks, and what they may. A caller is known by a certificate: its organisation and its name, as Maker/alice."""
+import fnmatch
+import json
+import re
+import ssl
+import weakref
+from collections.abc import Awaitable, Callable
+
+import prometheus_client as prometheus
+from aiohttp import web
+
+from .config import Config
+from .etcd import LogError
+from .fields import is_loopback
+from .filters import FilterEnded, TooLong
+from .proposals import Refused
+
+Handler = Callable[[web.Request], Awaitable[web.StreamResponse]]
+
+
+def dumps(said: object) -> str:
+    return json.dumps(said, separators=(",", ":"))
+
+
+def answer(said: object, status: int = 200) -> web.Response:
+    return web.json_response(said, status=status, dumps=dumps)
+
+
+def chain_of(tls: ssl.SSLObject) -> list[bytes]:
+    """The certificates by which a caller's own is trusted, that first and its authority's last."""
+    if hasattr(tls, "get_verified_chain"):
+        return tls.get_verified_chain()
+    # Python 3.12 and before have it below this name alone.
+    return [ssl.PEM_cert_to_DER_cert(it.public_bytes()) for it in tls._sslobj.get_verified_chain() or []]
+
+
+class Access:
+    def __init__(self, config: Config, requests: prometheus.Counter):
+        self.config, self.requests = config, requests
+        self.authorities = config.authority_certificates()
+        # Callers by their connections.
+        self.callers: weakref.WeakKeyDictionary[ssl.SSLObject, str | None] = weakref.WeakKeyDictionary()
+
+    def caller(self, request: web.Request) -> str | None:
+        """Whose certificate it is, where the organisation that it names has signed it."""
+        tls = request.transport and request.transport.get_extra_info("ssl_object")
+        if tls is None:
+            return None
+        if tls not in self.callers:
+            self.callers[tls] = self.name_of(tls.getpeercert(), chain_of(tls))
+        return self.callers[tls]
+
+    def name_of(self, certificate: dict | None, chain: list[bytes]) -> str | None:
+        """The caller that a certificate names. It has to be signed by that organisation's authority itself: no other one speaks for
+        it, also not by an authority in between that bears its name."""
+        subject = dict(pair for part in (certificate or {}).get("subject", ()) for pair in part)
+        organisation, name = subject.get("organizationName"), subject.get("commonName")
+        is_own = len(chain) == 2 and chain[1] in self.authorities.get(organisation, set())
+        return f"{organisation}/{name}" if name and is_own else None
+
+    def needing(self, right: str, handler: Handler) -> Handler:
+        """A handler for those alone who have a right."""
+        async def guarded(request: web.Request) -> web.StreamResponse:
+            caller = self.caller(request)
+            if caller is None or not any(fnmatch.fnmatchcase(caller, it) for it in self.config.rights.get(right, [])):
+                raise Refused(403, {"why": f"{caller or 'no certificate'} may not {right}"})
+            if request.method == "POST" and request.content_type != "application/json":
+                # What a page of another site can make a browser send, with its certificate, has another type.
+                raise Refused(415, {"why": "a request has the type application/json"})
+            return await handler(request)
+        return guarded
+
+    def on_loopback(self, _right: str, handler: Handler) -> Handler:
+        """A handler for all on this machine: it is asked by a name of the loopback, so that no other site's page reads through a
+        name of its own."""
+        async def guarded(request: web.Request) -> web.StreamResponse:
+            if not is_loopback(re.sub(r":\d*$", "", request.host)):
+                raise Refused(403, {"why": "this listener is for the loopback"})
+            return await handler(request)
+        return guarded
+
+    @web.middleware
+    async def answered(self, request: web.Request, handler: Handler) -> web.StreamResponse:
+        """Counts the request, and turns what fails into an answer."""
+        route = request.match_info.route.resource
+        status = 500
+        try:
+            response = await handler(request)
+            status = response.status
+            return response
+        except Refused as refused:
+            status = refused.status
+            return answer(refused.said, status)
+        except web.HTTPException as error:
+            status = error.status
+            return answer({"why": error.reason}, status)
+        except TooLong as error:
+            status = 422
+            return answer({"why": str(error)}, status)
+        except (LogError, FilterEnded) as error:
+            status = 503
+            return answer({"why": str(error)}, status)
+        finally:
+            self.requests.labels(route.canonical if route else "none", status).inc()

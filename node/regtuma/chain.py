@@ -1,0 +1,278 @@
+"""The organisation's part in the chain: its replica of the orderer, its committer, and the state that its store has.
+
+    etcd ─ lines ─▶ ledger order ─ blocks ─▶ ledger commit ─▶ store ─▶ ledger query, ledger endorse
+"""
+import asyncio
+import collections
+import dataclasses
+import json
+import secrets
+import time
+from collections.abc import Callable
+
+from . import numbers, ticks
+from .config import Config
+from .etcd import TICK, Lines, Log, LogError
+from .filters import Filter, FilterEnded, Query
+from .times import Times
+
+# An entry of etcd has at most 1.5 MiB, and so many envelopes at most.
+ENTRY_CHARACTERS, ENTRY_LINES = 1_000_000, 500
+FULL, NO_MARK = 422, 300
+# How often etcd is asked whether a majority of it is there, and how long it may take for a tick, in seconds.
+PROBE, SHORT_PATIENCE = 3.0, 3.0
+# The JSON of so many blocks is kept for those who watch.
+NEWEST = 16
+
+
+@dataclasses.dataclass(frozen=True)
+class Awaited:
+    """The block that comes next: its number, how many envelopes wait for it, and since when, in seconds since 1970."""
+    number: int = 1
+    waiting: int = 0
+    since: float | None = None
+
+
+@dataclasses.dataclass(frozen=True)
+class Asking:
+    """The block that was asked for last: its number, how many ticks, and when the last one was."""
+    number: int = 0
+    tries: int = 0
+    at: float = 0.0
+
+
+class Chain:
+    def __init__(self, config: Config, log: Log, say: Callable[[str], None]):
+        self.config, self.log, self.say = config, log, say
+        program, genesis, store = (getattr(config.ledger, it) for it in ("program", "genesis", "store"))
+        self.order = Filter("ledger order", [program, "order", genesis])
+        self.commit = Filter("ledger commit", [program, "commit", genesis, store])
+        modules = ["--modules", config.ledger.modules] if config.ledger.modules else []
+        self.query = Query("ledger query", [program, "query", genesis, store, *modules])
+        self.height, self.grown = 0, asyncio.Condition()
+        # Who has another block, as long as nobody has looked into it: nothing is endorsed or put meanwhile.
+        self.forked: str | None = None
+        # When a majority of etcd was seen last.
+        self.led = time.monotonic()
+        # Where the log is; how many of its lines the replica of the orderer was given, and how many it has read.
+        self.revision = self.given = self.read = 0
+        self.awaited, self.asking = Awaited(), Asking()
+        # Numbers of committed blocks whose hashes are to be told.
+        self.unsaid: asyncio.Queue[int] = asyncio.Queue()
+        # Who waits for the flag of a transaction, by its id.
+        self.waiters: dict[str, list[asyncio.Future[dict]]] = {}
+        self.unput: list[tuple[str, asyncio.Future[None]]] = []
+        self.put_wanted = asyncio.Event()
+        self.counts: collections.Counter[str] = collections.Counter()
+        self.newest: collections.OrderedDict[int, asyncio.Task[str | None]] = collections.OrderedDict()
+
+    async def start(self) -> None:
+        """Begins the filters, and waits until the store is read."""
+        await self.commit.start()
+        while not (line := await self.commit.line()).startswith("height"):
+            self.say(f"ledger commit: {line}")
+            if line.startswith("refused"):
+                raise FilterEnded(f"ledger commit says: {numbers.explained(line)}")
+        self.height = int(line.split()[1])
+        self.say(line)
+        self.times = Times(self.config.ledger.store + ".times")
+        await asyncio.gather(self.order.start(), self.query.start())
+
+    def works(self) -> list:
+        """What runs as long as the node does. None of them returns."""
+        return [self.feed(), self.pass_blocks(), self.follow_commits(), self.keep_time(), self.put_envelopes(), self.probe(),
+                self.query.follow()]
+
+    async def close(self) -> None:
+        await asyncio.gather(*(it.close() for it in (self.order, self.commit, self.query)))
+
+    @property
+    def is_full(self) -> bool:
+        """Whether the last block was cut, so that what is put now is in none."""
+        return ticks.is_full(max(self.awaited.number, self.height + 1))
+
+    # ---------------------------------------------------------------- the log, blocks and commits
+
+    async def feed(self) -> None:
+        """Hands the log's lines to the replica of the orderer."""
+        lines = Lines()
+        async for events in self.log.watch():
+            made = lines.of(events)
+            self.given += len(made)
+            await self.order.write(*made)
+            self.revision = int(events[-1]["kv"]["mod_revision"])
+
+    async def pass_blocks(self) -> None:
+        """Hands the replica's blocks to the committer, and keeps in mind what waits."""
+        while True:
+            line = await self.order.line()
+            match line.split(" ", 2):
+                case ["block", number, _]:
+                    await self.commit.write(line.encode() + b"\n")
+                    self.awaited = Awaited(int(number) + 1)
+                case ["seen", *_]:
+                    # It is signed, which the committer judges.
+                    await self.commit.write(line.encode() + b"\n")
+                case ["read", _, waiting]:
+                    since = self.awaited.since or time.time() if waiting != "0" else None
+                    self.awaited = Awaited(self.awaited.number, int(waiting), since)
+                    self.read += 1
+                case ["skipped", _, number]:
+                    # What nodes tell each other is no mark, and is skipped so by all.
+                    self.counts[f"skipped {number}"] += int(number) != NO_MARK
+                case ["aborted", id, number]:
+                    self.counts[f"aborted {number}"] += 1
+                    self.resolve(id, {"id": id, "refused": int(number)})
+                case ["forked", organisation, number]:
+                    self.hear_fork(organisation, number)
+                case _:
+                    self.say(f"ledger order: {numbers.explained(line)}")
+
+    async def follow_commits(self) -> None:
+        while True:
+            match (line := await self.commit.line()).split():
+                case ["known", _]:
+                    pass
+                case ["committed", number, "flags", *flags]:
+                    self.counts.update(f"flag {it}" for it in flags)
+                    await self.committed(int(number))
+                case ["forked", organisation, number]:
+                    self.hear_fork(organisation, number)
+                case _:
+                    self.say(f"ledger commit: {numbers.explained(line)}")
+
+    def hear_fork(self, organisation: str, number: str) -> None:
+        """Somebody has another block: as long as nobody has looked into it, the node reads on, and puts nothing."""
+        words = f"{organisation} says that it has another block {number}"
+        self.say(f"forked: {words}")
+        if not self.config.ledger.past_forks:
+            self.forked = self.forked or words
+
+    async def committed(self, number: int) -> None:
+        """A block is on the disk: those who wait for its transactions are told, and those who watch."""
+        self.times.note(number)
+        async with self.grown:
+            self.height = number
+            self.grown.notify_all()
+        if number % self.config.ledger.seen == 0:
+            self.unsaid.put_nowait(number)
+        if self.waiters:
+            for place, tx in enumerate(json.loads(await self.block(number))["txs"]):
+                self.resolve(tx["id"], {**tx, "block": number, "place": place})
+        if ticks.is_full(number + 1):
+            for id in list(self.waiters):
+                self.resolve(id, {"id": id, "refused": FULL})
+
+    async def keep_time(self) -> None:
+        """Asks for blocks. Where etcd does not do it, it is asked again after a rest."""
+        while True:
+            await asyncio.sleep(0.05)
+            try:
+                await self.tick(time.time())
+            except LogError as error:
+                self.say(f"not put: {error}")
+                await asyncio.sleep(1)
+
+    async def probe(self) -> None:
+        """Asks etcd again and again whether a majority is there."""
+        while True:
+            if await self.log.is_led():
+                self.led = time.monotonic()
+            await asyncio.sleep(PROBE)
+
+    def is_due(self, now: float) -> bool:
+        """Whether envelopes have waited for long enough, as far as the log was read. With each tick for one block the wait is
+        twice as long as before, so that a tick whose name somebody used up holds nobody up for good."""
+        awaited, asking = self.awaited, self.asking
+        if self.read < self.given or awaited.since is None or self.forked or ticks.is_full(awaited.number):
+            return False
+        tries, at = (asking.tries, asking.at) if asking.number == awaited.number else (0, 0.0)
+        return now - max(awaited.since, at) >= self.config.ticks.seconds(awaited.number, now) * 2**tries
+
+    async def tick(self, now: float) -> None:
+        if self.is_due(now):
+            number = self.awaited.number
+            tries = self.asking.tries if self.asking.number == number else 0
+            name = f"{TICK}{number}-{tries + 1}" if tries else f"{TICK}{number}"
+            self.counts["ticks"] += await self.log.append(name, ["tick"], SHORT_PATIENCE)
+            self.asking = Asking(number, tries + 1, time.time())
+
+    # ---------------------------------------------------------------- blocks, and who waits for them
+
+    async def at_least(self, height: int, patience: float) -> bool:
+        """Whether the store has so many blocks, within so many seconds."""
+        try:
+            async with self.grown:
+                await asyncio.wait_for(self.grown.wait_for(lambda: self.height >= height), patience)
+        except asyncio.TimeoutError:
+            pass
+        return self.height >= height
+
+    async def block(self, number: int) -> str | None:
+        """The JSON of a block, and when it was committed here; none where there is no such block."""
+        if not 1 <= number <= self.height:
+            return None
+        if number not in self.newest:
+            self.newest[number] = asyncio.ensure_future(self._read_block(number))
+            if len(self.newest) > NEWEST:
+                self.newest.popitem(last=False)
+        return await asyncio.shield(self.newest[number])
+
+    async def _read_block(self, number: int) -> str:
+        text, _ = await self.query.text_of("block", number=number)
+        return f'{{"at":{json.dumps(self.times.of(number))},{text[1:]}'
+
+    def wait_for(self, id: str) -> asyncio.Future[dict]:
+        waiter: asyncio.Future[dict] = asyncio.get_running_loop().create_future()
+        self.waiters.setdefault(id, []).append(waiter)
+        return waiter
+
+    def forget(self, id: str, waiter: asyncio.Future[dict]) -> None:
+        waiters = self.waiters.get(id, [])
+        if waiter in waiters:
+            waiters.remove(waiter)
+            if not waiters:
+                del self.waiters[id]
+
+    def resolve(self, id: str, outcome: dict) -> None:
+        for waiter in self.waiters.pop(id, []):
+            if not waiter.done():
+                waiter.set_result(outcome)
+
+    # ---------------------------------------------------------------- envelopes
+
+    async def put(self, envelope: str) -> None:
+        """Puts an envelope into the log. What comes while one entry is under way goes into the next one together."""
+        done: asyncio.Future[None] = asyncio.get_running_loop().create_future()
+        self.unput.append((envelope, done))
+        self.put_wanted.set()
+        await done
+
+    async def put_envelopes(self) -> None:
+        while True:
+            await self.put_wanted.wait()
+            batch = self._next_entry()
+            failed: LogError | None = None
+            began = time.monotonic()
+            try:
+                await self.log.append(f"{self.config.organisation}/call-{secrets.token_hex(12)}", [it for it, _ in batch])
+                self.counts["entries"] += 1
+                self.counts["entry seconds"] += time.monotonic() - began
+            except LogError as error:
+                failed = error
+            for _, done in batch:
+                if not done.done():
+                    done.set_exception(failed) if failed else done.set_result(None)
+
+    def _next_entry(self) -> list[tuple[str, asyncio.Future[None]]]:
+        """Takes as many envelopes as one entry may have."""
+        taken, size = 0, 0
+        for envelope, _ in self.unput[:ENTRY_LINES]:
+            size += len(envelope) + 1
+            if taken and size > ENTRY_CHARACTERS:
+                break
+            taken += 1
+        batch, self.unput = self.unput[:taken], self.unput[taken:]
+        if not self.unput:
+            self.put_wanted.clear()
+        return batch

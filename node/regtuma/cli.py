@@ -1,0 +1,227 @@
+"""Calls a ledger from a shell.
+
+    regtuma submit CHAINCODE ARG.. [--tries N] [--orgs NAME,..] [--nonce HEX]
+                               has a call committed, and says what became of it
+    regtuma evaluate CHAINCODE ARG..       prints the result of a call that changes nothing
+    regtuma get KEY                        prints what a key has
+    regtuma state [START [END]] [--limit N]
+                               prints the entries from one key on and below another
+    regtuma history KEY                    prints each write to a key
+    regtuma status ID [--wait SECONDS]     says what became of a transaction
+    regtuma watch [--from N]               prints a line for each transaction, as blocks come
+    regtuma block N                        prints a block, as `ledger show` does
+    regtuma height                         prints how many blocks the node has
+    regtuma health                         says whether a node is well, and what is wrong
+    regtuma members                        prints who the members are, their keys and the policy for changes
+    regtuma agree FILE         lets the node endorse the change in FILE, and prints the id that it will have
+    regtuma agreed                         prints the ids of the changes that the node may endorse
+    regtuma change FILE --orgs NAME,..
+                               has the change in FILE committed, by organisations that have agreed: an upgrade or an amendment
+
+With --json what the node answers is printed as it is. Nodes and certificates are those of the environment's REGTUMA_NODES (URLs
+with commas between, asked in turn), REGTUMA_CERT, REGTUMA_KEY and REGTUMA_CA (files). The status is 0 where it was done; 1 where
+it was refused, is not VALID, is not there or is not well; 2 where the words name no task; 3 where no node answers.
+"""
+import argparse
+import json
+import pathlib
+import sys
+from collections.abc import Callable
+
+from .client import Client, Failed, NoAnswer, from_environment
+
+DONE, NOT_DONE, NO_TASK, UNANSWERED, INTERRUPTED = 0, 1, 2, 3, 130
+
+
+def printable(data: bytes) -> str:
+    """Bytes as text, of which nothing speaks to a terminal."""
+    text = data.decode("utf-8", "backslashreplace")
+    return "".join(it if it.isprintable() else f"\\x{ord(it):02x}" for it in text)
+
+
+def text_of(hex_: str) -> str:
+    return printable(bytes.fromhex(hex_))
+
+
+def say(words: argparse.Namespace, said: dict | list, text: str) -> None:
+    """Prints what a node answered, or the same in words."""
+    print(json.dumps(said) if words.json else text, flush=True)
+
+
+def outcome(said: dict) -> str:
+    """What became of a transaction, in words."""
+    place = f", block {said['block']}, place {said['place']}" if "block" in said else ""
+    if said.get("valid"):
+        result = f", result {text_of(said['result'])}" if said.get("result") else ""
+        return f"VALID{place}{result}, id {said['id']}"
+    flag = f"flag {said['flag']}{place}: " if "flag" in said else ""
+    number = f"refused {said['refused']}: " if said.get("refused") else ""
+    return f"{flag}{number}{said['why']}" + (f", id {said['id']}" if "id" in said else "")
+
+
+# ---------------------------------------------------------------- what is asked for
+
+
+def submit(ledger: Client, words: argparse.Namespace) -> int:
+    orgs = words.orgs.split(",") if words.orgs else None
+    said = ledger.submit(words.chaincode, *words.arg, organisations=orgs, tries=words.tries, nonce=words.nonce)
+    say(words, said, outcome(said))
+    return DONE
+
+
+def evaluate(ledger: Client, words: argparse.Namespace) -> int:
+    result = ledger.evaluate(words.chaincode, *words.arg)
+    say(words, {"result": result.hex()}, "\n".join(printable(it) for it in result.splitlines()))
+    return DONE
+
+
+def get(ledger: Client, words: argparse.Namespace) -> int:
+    value = ledger.get(words.key)
+    if value is None:
+        print(f"the state has no key {words.key}", file=sys.stderr)
+        return NOT_DONE
+    say(words, {"value": value.hex()}, printable(value))
+    return DONE
+
+
+def state(ledger: Client, words: argparse.Namespace) -> int:
+    entries = ledger.state(words.start, words.end, words.limit)
+    lines = [f"{text_of(it['key'])} {it['version']} {text_of(it['value'])}" for it in entries]
+    say(words, entries, "\n".join(lines) if lines else "no key is there")
+    return DONE
+
+
+def history(ledger: Client, words: argparse.Namespace) -> int:
+    writes = ledger.history(words.key)
+    lines = [f"{it['block']}.{it['place']} {value_of(it)} {it['id']}" for it in writes]
+    say(words, writes, "\n".join(lines) if lines else f"nobody wrote to {words.key}")
+    return DONE
+
+
+def value_of(write: dict) -> str:
+    return "deleted" if write["value"] is None else text_of(write["value"])
+
+
+def status(ledger: Client, words: argparse.Namespace) -> int:
+    said = ledger.status(words.id, words.wait)
+    say(words, said, outcome(said))
+    return DONE if said.get("valid") else NOT_DONE
+
+
+def watch(ledger: Client, words: argparse.Namespace) -> int:
+    for block in ledger.blocks(words.first):
+        for place, tx in enumerate(block["txs"]):
+            say(words, {"block": block["block"], "place": place, **tx}, f"{block['block']}.{place} {call(tx)}, flag {tx['flag']}, id {tx['id']}")
+    return DONE
+
+
+def call(tx: dict) -> str:
+    """What a transaction of a block asks for."""
+    if "arg" in tx:
+        return f"{tx['chaincode']} {text_of(tx['arg'])}"
+    return f"upgrade of {tx['upgrade']}" if "upgrade" in tx else "amendment of the members"
+
+
+def block(ledger: Client, words: argparse.Namespace) -> int:
+    print(json.dumps(ledger.block(words.number)))
+    return DONE
+
+
+def height(ledger: Client, words: argparse.Namespace) -> int:
+    print(ledger.height())
+    return DONE
+
+
+def health(ledger: Client, words: argparse.Namespace) -> int:
+    said = ledger.health()
+    say(words, said, "\n".join([f"{said['organisation']} has {said['height']} blocks", *(f"wrong: {it}" for it in said["wrong"])]))
+    return DONE if said["ok"] else NOT_DONE
+
+
+def members(ledger: Client, words: argparse.Namespace) -> int:
+    said = ledger.members()
+    keys = [f"{it['name']} {it.get('public') or 'has its key of the genesis file'}" for it in said["members"]]
+    say(words, said, "\n".join([f"serial number {said['serial']}, policy {said['policy']}", *keys]))
+    return DONE
+
+
+def proposal_in(file: str) -> dict:
+    """The one line of a file, or of the standard input, which is -."""
+    try:
+        text = sys.stdin.read() if file == "-" else pathlib.Path(file).read_text(encoding="ascii")
+        said = json.loads(text)
+    except (OSError, ValueError) as error:
+        raise Failed(f"{file} has no proposal: {error}") from None
+    if not isinstance(said, dict) or not {"upgrade", "members"} & said.keys():
+        raise Failed(f"{file} has no upgrade and no amendment: change.py makes them")
+    return said
+
+
+def agree(ledger: Client, words: argparse.Namespace) -> int:
+    print(ledger.agree(proposal_in(words.file)))
+    return DONE
+
+
+def agreed(ledger: Client, words: argparse.Namespace) -> int:
+    for id_ in ledger.ask("GET", "/agreed")["agreed"]:
+        print(id_)
+    return DONE
+
+
+def change(ledger: Client, words: argparse.Namespace) -> int:
+    said = ledger.change(proposal_in(words.file), words.orgs.split(","))
+    say(words, said, outcome(said))
+    return DONE
+
+
+# ---------------------------------------------------------------- the words
+
+
+def words_of(words: list[str]) -> argparse.Namespace:
+    reader = argparse.ArgumentParser(prog="regtuma", description=__doc__, formatter_class=argparse.RawDescriptionHelpFormatter,
+                                     allow_abbrev=False)
+    tasks = reader.add_subparsers(dest="task", required=True, metavar="TASK")
+
+    def task(do: Callable, **places: str) -> argparse.ArgumentParser:
+        made = tasks.add_parser(do.__name__, allow_abbrev=False)
+        made.set_defaults(do=do)
+        made.add_argument("--json", action="store_true")
+        for place, count in places.items():
+            made.add_argument(place, nargs=count or None, **({"default": ""} if count == "?" else {}))
+        return made
+
+    made = task(submit, chaincode="", arg="+")
+    made.add_argument("--tries", type=int, default=1, metavar="N")
+    made.add_argument("--orgs", metavar="NAME,..")
+    made.add_argument("--nonce", metavar="HEX")
+    task(evaluate, chaincode="", arg="+")
+    task(get, key="")
+    task(state, start="?", end="?").add_argument("--limit", type=int, default=64, metavar="N")
+    task(history, key="")
+    task(status, id="").add_argument("--wait", type=float, default=0, metavar="SECONDS")
+    task(watch).add_argument("--from", dest="first", type=int, metavar="N")
+    task(block).add_argument("number", type=int)
+    for do in (height, health, members, agreed):
+        task(do)
+    task(agree, file="")
+    task(change, file="").add_argument("--orgs", required=True, metavar="NAME,..")
+    return reader.parse_args(words)
+
+
+def main(words: list[str]) -> int:
+    asked = words_of(words)
+    try:
+        return asked.do(from_environment(), asked)
+    except Failed as failed:
+        said = {"why": str(failed), **failed.said}
+        say(asked, said, outcome(said))
+        return UNANSWERED if isinstance(failed, NoAnswer) else NOT_DONE
+    except KeyboardInterrupt:
+        return INTERRUPTED
+    except BrokenPipeError:
+        sys.stderr.close()
+        return NOT_DONE
+
+
+if __name__ == "__main__":
+    sys.exit(main(sys.argv[1:]))

@@ -1,0 +1,227 @@
+"""A client of Regtuma's nodes, which needs nothing but Python.
+
+    from regtuma.client import Client, Failed
+
+    ledger = Client(["https://10.0.0.1:7051"], "alice.pem", "alice.key", "ca.pem")
+    try:
+        done = ledger.submit("assets", "transfer", "pallet-7", "Shop")
+        print(f"VALID, in block {done['block']}")
+    except Failed as failed:
+        print(failed)
+    print(ledger.evaluate("assets", "read", "pallet-7").decode())
+    for block in ledger.blocks(1):
+        print(block["block"], [tx["flag"] for tx in block["txs"]])
+
+A call is one transaction, by its nonce, however often nodes are asked for it: where one gives no answer the next one is asked
+for the same. What fails is told by one of the exceptions of `Failed`, in a sentence.
+"""
+import http.client
+import json
+import os
+import secrets
+import ssl
+import threading
+import time
+from collections.abc import Iterable, Iterator
+from urllib.parse import quote, urlencode, urlsplit
+
+from .wire import id_of
+
+# What is tried again: flags of a conflict and of a phantom, and the orderer's answers to a batch that has no legal order.
+CONFLICTS, ABORTED = (2, 3), (441, 442)
+# How long to wait before the next node is asked, in seconds.
+PAUSE = 0.2
+# How long a stream of blocks may be silent: a node says something each 15 seconds.
+SILENCE = 45.0
+# The environment's names of the nodes' URLs, with commas between, and of the files of certificate, key and authorities.
+SETTINGS = ("REGTUMA_NODES", "REGTUMA_CERT", "REGTUMA_KEY", "REGTUMA_CA")
+
+
+class Failed(Exception):
+    """Something did not come about. `said` is what a node answered, if one did."""
+
+    def __init__(self, why: str, said: dict | None = None):
+        super().__init__(why)
+        self.said = said or {}
+
+
+class Refused(Failed):
+    """A node refused: the call is in no block. `status` is that of HTTP, `said["refused"]` the ledger's number, if it has one."""
+
+    def __init__(self, status: int, said: dict):
+        super().__init__(str(said.get("why", f"the node answers by status {status}")), said)
+        self.status = status
+
+
+class Invalid(Failed):
+    """The transaction is in a block and not VALID: `said` has its flag, block and place."""
+
+
+class NoAnswer(Failed):
+    """No node answered. Whether a call that was submitted is in the log is not known: `said["id"]` is its id, for `status`."""
+
+
+class Client:
+    """For any number of threads: each has a connection of its own."""
+
+    def __init__(self, nodes: list[str], certificate: str, key: str, authorities: str, seconds: float = 40.0):
+        """`nodes` are URLs, asked in turn; files are in PEM. After `seconds` without an answer a call fails."""
+        self.nodes, self.seconds = nodes, seconds
+        try:
+            self.tls = ssl.create_default_context(cafile=authorities)
+            self.tls.load_cert_chain(certificate, key)
+        except OSError as error:
+            files = f"{certificate}, {key}, {authorities}"
+            raise Failed(f"the certificate, its key or the authorities cannot be used ({files}): {error.strerror or error}") from None
+        self.own = threading.local()
+
+    def submit(self, chaincode: str, *args: str, arg: bytes | None = None, organisations: list[str] | None = None,
+               tries: int = 1, nonce: str | None = None) -> dict:
+        """Has a call committed: its id, block, place, flag and result once it is VALID. One that conflicts with another is made
+        anew, `tries` times in all. `organisations` are to endorse, in place of those that the policy needs; a `nonce` of 32 hex
+        digits names the transaction, where the caller has asked for it before."""
+        for left in range(tries - 1, -1, -1):
+            call = call_of(chaincode, args, arg, organisations, nonce)
+            said, nonce = self.outcome(call), None
+            if said.get("valid"):
+                return said
+            if not left or said.get("flag") not in CONFLICTS and said.get("refused") not in ABORTED:
+                break
+        raise failure(said)
+
+    def outcome(self, call: dict) -> dict:
+        """What becomes of a call or a change, whatever that is: an answer of the API with `valid`, `refused` or neither."""
+        patience = f"?wait={max(1.0, self.seconds - 5):g}"
+        try:
+            said = self.ask("POST", "/transactions" + patience, call)
+            while said.get("pending"):
+                said = self.ask("GET", f"/transactions/{said['id']}{patience}", accept=(404,))
+            return said
+        except NoAnswer as error:
+            raise NoAnswer(str(error), {"id": id_of(call)}) from None
+
+    def submit_all(self, calls: Iterable[dict]) -> list[dict]:
+        """Has several calls committed by one request, each of which `call_of` makes: the answer to each, in order, with `valid`,
+        or with `refused` or `flag` and `why`. Calls of one request are simulated side by side, so they must not conflict."""
+        calls = list(calls)
+        answers = self.ask("POST", f"/transactions?wait={max(1.0, self.seconds - 5):g}", {"calls": calls})["answers"]
+        return [self.outcome(call) if said.get("pending") else said for call, said in zip(calls, answers)]
+
+    def evaluate(self, chaincode: str, *args: str, arg: bytes | None = None) -> bytes:
+        """The result of a call that changes nothing, on the state that the node has."""
+        call = call_of(chaincode, args, arg)
+        return bytes.fromhex(self.ask("POST", "/evaluate", {it: call[it] for it in ("chaincode", "arg")})["result"])
+
+    def get(self, key: str | bytes, height: int = 0) -> bytes | None:
+        """A key's bytes, or None, by the state after `height` blocks at least."""
+        said = self.ask("GET", f"/state/{quote(key, safe='')}?height={height}", accept=(404,))
+        return bytes.fromhex(said["value"]) if "value" in said else None
+
+    def state(self, start: str = "", end: str = "", limit: int = 64) -> list[dict]:
+        """The first entries from a key on and below another one, each with `key`, `value` (both hex) and `version`."""
+        return self.ask("GET", "/state?" + urlencode({"start": start, "end": end, "limit": limit}))["entries"]
+
+    def history(self, key: str | bytes) -> list[dict]:
+        """Each write of a VALID transaction to a key."""
+        return self.ask("GET", "/history/" + quote(key, safe=""))
+
+    def status(self, id: str, wait: float = 0) -> dict:
+        """What became of a transaction, for which it waits so many seconds; `pending` where it is in no block."""
+        return self.ask("GET", f"/transactions/{id}?wait={wait:g}", accept=(404,))
+
+    def members(self) -> dict:
+        """The membership that stands: `serial`, `members` and `policy`."""
+        return self.ask("GET", "/members")
+
+    def agree(self, proposal: dict) -> str:
+        """Lets the node endorse this very upgrade or amendment, by a person's decision. The id that its transaction has."""
+        return self.ask("POST", "/agreed", proposal)["id"]
+
+    def change(self, proposal: dict, organisations: list[str]) -> dict:
+        """Has an upgrade or an amendment committed, as `submit` a call, by organisations that have agreed to it."""
+        said = self.outcome({**proposal, "organisations": organisations})
+        if not said.get("valid"):
+            raise failure(said)
+        return said
+
+    def height(self) -> int:
+        return self.ask("GET", "/height")["height"]
+
+    def block(self, number: int) -> dict:
+        return self.ask("GET", f"/blocks/{number}")
+
+    def health(self) -> dict:
+        """Whether a node is well: `ok`, and `wrong`, a list of sentences."""
+        return self.ask("GET", "/healthz", accept=(503,))
+
+    def blocks(self, first: int | None = None) -> Iterator[dict]:
+        """Blocks from a number on, by default those that are still to come, for ever. Where a node ends the next one goes on."""
+        while True:
+            try:
+                for line in self._open("GET", "/events" + (f"?from={first}" if first else ""), None, SILENCE):
+                    if line.startswith(b"data: "):
+                        block = json.loads(line[6:])
+                        first = block["block"] + 1
+                        yield block
+            except (OSError, http.client.HTTPException):
+                pass
+            self._next()
+            time.sleep(PAUSE)
+
+    def ask(self, method: str, path: str, body: dict | None = None, accept: tuple[int, ...] = ()) -> dict | list:
+        """What a node answers. The next one is asked where one gives no answer, or cannot do it now (503)."""
+        until = time.monotonic() + self.seconds
+        while True:
+            try:
+                answer = self._open(method, path, body, self.seconds)
+                said = json.loads(answer.read())
+                if answer.status < 400 or answer.status in accept:
+                    return said
+                why: Failed = Refused(answer.status, said)
+                if answer.status != 503:
+                    raise why
+            except (OSError, http.client.HTTPException, ValueError) as error:
+                why = NoAnswer(f"no node answers, of {', '.join(self.nodes)}: {str(error) or type(error).__name__}")
+            self._next()
+            if time.monotonic() > until:
+                raise why
+            time.sleep(PAUSE)
+
+    def _open(self, method: str, path: str, body: dict | None, seconds: float) -> http.client.HTTPResponse:
+        """Begins a request at the node whose turn it is."""
+        link = getattr(self.own, "link", None)
+        if link is None:
+            self.own.turn = getattr(self.own, "turn", 0)
+            at = urlsplit(self.nodes[self.own.turn % len(self.nodes)])
+            link = self.own.link = http.client.HTTPSConnection(at.netloc, timeout=seconds, context=self.tls)
+        link.request(method, path, json.dumps(body) if body else None, {"Content-Type": "application/json"})
+        return link.getresponse()
+
+    def _next(self) -> None:
+        """Leaves the node whose turn it is."""
+        if link := getattr(self.own, "link", None):
+            link.close()
+        self.own.link, self.own.turn = None, getattr(self.own, "turn", 0) + 1
+
+
+def call_of(chaincode: str, args: Iterable[str] = (), arg: bytes | None = None, organisations: list[str] | None = None,
+            nonce: str | None = None) -> dict:
+    """A call as the API takes it: its argument is `arg`, or the words `args` with spaces between."""
+    data = " ".join(args).encode() if arg is None else arg
+    call = {"chaincode": chaincode, "arg": data.hex(), "nonce": nonce or secrets.token_hex(16)}
+    return {**call, "organisations": organisations} if organisations else call
+
+
+def failure(said: dict) -> Failed:
+    """The exception for an outcome that is not VALID."""
+    return Invalid(said["why"], said) if "flag" in said else Refused(200, said)
+
+
+def from_environment(seconds: float = 40.0) -> Client:
+    """The client that the environment's REGTUMA_NODES, REGTUMA_CERT, REGTUMA_KEY and REGTUMA_CA name."""
+    missing = [it for it in SETTINGS if not os.environ.get(it)]
+    if missing:
+        raise Failed(f"the environment has no {' and no '.join(missing)}: REGTUMA_NODES are the nodes' URLs with commas between,"
+                     " the others the files of the client's certificate, its key and the authorities")
+    nodes, *files = (os.environ[it] for it in SETTINGS)
+    return Client(nodes.split(","), *files, seconds=seconds)

@@ -1,0 +1,236 @@
+"""The file node.toml. A mistake in it is told in one sentence: the place, the name, and what is possible."""
+import dataclasses
+import datetime
+import pathlib
+import re
+import ssl
+import stat
+import tomllib
+from collections.abc import Iterable
+
+from .fields import OF_ORGANISATIONS, ORGANISATION, TABLES, Field
+from .ticks import Ticks
+
+CERTIFICATE = re.compile("-----BEGIN CERTIFICATE-----.+?-----END CERTIFICATE-----", re.DOTALL)
+
+
+class Mistake(Exception):
+    """What is wrong with the configuration, in one sentence."""
+
+
+@dataclasses.dataclass
+class Ledger:
+    program: str
+    genesis: str
+    store: str
+    # The file with the organisation's seeds, where it has a public key, and that of modules for open definitions.
+    keys: str = ""
+    modules: str = ""
+    # Filters that simulate calls side by side.
+    endorsers: int = 1
+    # A command that says for each call of others whether this organisation endorses it (endorsing.py).
+    approver: list[str] = dataclasses.field(default_factory=list)
+    # The template of the live page, examples/page/template.html of the repository.
+    template: str = ""
+    # Once in so many blocks nodes tell each other a hash; whether to go on where one says that a block is another one.
+    seen: int = 64
+    past_forks: bool = False
+
+
+@dataclasses.dataclass
+class Files:
+    certificate: str
+    key: str
+
+
+@dataclasses.dataclass
+class Etcd(Files):
+    endpoints: list[str]
+    user: str = ""
+    password_file: str = ""
+
+
+@dataclasses.dataclass
+class Config:
+    file: str
+    organisation: str
+    # Where clients and other nodes come, and where on the loopback the page is: host:port.
+    listen: str
+    page: str
+    ledger: Ledger
+    tls: Files
+    etcd: Etcd
+    # Each organisation's authority: what its certificates are signed by.
+    authorities: dict[str, str]
+    # Where the other organisations' nodes are.
+    nodes: dict[str, str]
+    # Who may do what, by the names of their certificates: "Maker/alice", "Maker/*".
+    rights: dict[str, list[str]]
+    ticks: Ticks
+
+    def password(self) -> str:
+        return pathlib.Path(self.etcd.password_file).read_text(encoding="utf-8").strip() if self.etcd.password_file else ""
+
+    def authority_certificates(self) -> dict[str, set[bytes]]:
+        """The certificates of each organisation's authority."""
+        tls = {it: self._trusting(ssl.Purpose.CLIENT_AUTH, [file]) for it, file in self.authorities.items()}
+        return {it: set(tls[it].get_ca_certs(binary_form=True)) for it in tls}
+
+    def server_tls(self) -> ssl.SSLContext:
+        """For those who come: each has to show a certificate of some organisation's authority."""
+        tls = self._trusting(ssl.Purpose.CLIENT_AUTH, self.authorities.values())
+        tls.minimum_version, tls.verify_mode = ssl.TLSVersion.TLSv1_3, ssl.CERT_REQUIRED
+        # A session that is taken up again does not tell by which authority its certificate was trusted.
+        tls.num_tickets = 0
+        tls.load_cert_chain(self.tls.certificate, self.tls.key)
+        return tls
+
+    def etcd_tls(self) -> ssl.SSLContext:
+        tls = self._trusting(ssl.Purpose.SERVER_AUTH, self.authorities.values())
+        tls.load_cert_chain(self.etcd.certificate, self.etcd.key)
+        return tls
+
+    def node_tls(self, organisation: str) -> ssl.SSLContext:
+        """For the node of an organisation, which no other one's authority can speak for."""
+        tls = self._trusting(ssl.Purpose.SERVER_AUTH, [self.authorities[organisation]])
+        tls.load_cert_chain(self.tls.certificate, self.tls.key)
+        return tls
+
+    def _trusting(self, purpose: ssl.Purpose, files: Iterable[str]) -> ssl.SSLContext:
+        certificates = "\n".join(pathlib.Path(it).read_text(encoding="ascii") for it in files)
+        return ssl.create_default_context(purpose, cadata=certificates)
+
+
+class Reader:
+    """Reads one file."""
+
+    def __init__(self, file: str):
+        self.path = pathlib.Path(file).resolve()
+        try:
+            self.text = self.path.read_text(encoding="utf-8")
+            self.given = tomllib.loads(self.text)
+        except OSError as error:
+            raise Mistake(f"{file} cannot be read: {error.strerror}") from None
+        except UnicodeDecodeError:
+            raise Mistake(f"{file} is no UTF-8") from None
+        except tomllib.TOMLDecodeError as error:
+            raise Mistake(f"{file} is no TOML: {error}") from None
+
+    def mistake(self, table: str, name: str, why: str) -> Mistake:
+        """A mistake, with the line of a name of a table, or of the table, where the file has it."""
+        inside, found = "", 0
+        for line, said in enumerate(self.text.splitlines(), 1):
+            if header := re.match(r"\s*\[\s*(.*?)\s*\]", said):
+                inside = header[1]
+                found = line if inside == table and not found else found
+            elif inside == table and re.match(rf'\s*"?{re.escape(name)}"?\s*=', said):
+                found = line
+                break
+        where = f", line {found}" if found else ""
+        return Mistake(f"{self.path}{where}: {f'[{table}] ' if table else ''}{name} {why}")
+
+    def table(self, name: str) -> dict:
+        """A table of the file, each of whose values passes; by no name what stands in none."""
+        tables = {*TABLES, *OF_ORGANISATIONS}
+        value = self.given.get(name, {}) if name else {it: self.given[it] for it in self.given if it not in tables}
+        if not isinstance(value, dict):
+            raise self.mistake("", name, "has to be a table")
+        for key, held in value.items():
+            field = self.field(name, key)
+            if not field.passes(held):
+                raise self.mistake(name, key, f"has to be {field.words}, and is {held!r:.100}")
+        for key, field in TABLES.get(name, {}).items():
+            if field.needed and key not in value:
+                raise self.mistake(name, key, f"is missing: it has to be {field.words}")
+        return value
+
+    def field(self, table: str, name: str) -> Field:
+        """What a name of a table may hold."""
+        if table in OF_ORGANISATIONS:
+            if not ORGANISATION.fullmatch(name):
+                raise self.mistake(table, name, "is no name of an organisation")
+            return OF_ORGANISATIONS[table]
+        if name not in TABLES[table]:
+            tables = "" if table else f", or a table of {', '.join([*filter(None, TABLES), *OF_ORGANISATIONS])}"
+            raise self.mistake(table, name, f"is no name that is known here: possible are {', '.join(TABLES[table])}{tables}")
+        return TABLES[table][name]
+
+    def near(self, table: str, values: dict, *names: str) -> dict:
+        """The values with names of files from where the configuration stands. Each but a store has to be a file."""
+        found = dict(values)
+        for name in names:
+            if name in values:
+                path = self.path.parent / values[name]
+                found[name] = str(path)
+                if name == "store" and not path.parent.is_dir():
+                    raise self.mistake(table, name, f"names {path}, and there is no such folder")
+                if name != "store" and not path.is_file():
+                    raise self.mistake(table, name, f"names {path}, and there is no such file")
+        return found
+
+    def secret(self, table: str, values: dict, *names: str) -> None:
+        """Files with secrets are read by their owner alone."""
+        for name in names:
+            if name in values and stat.S_IMODE(pathlib.Path(values[name]).stat().st_mode) & 0o077:
+                file = values[name]
+                raise self.mistake(table, name, f"names {file}, which others than its owner may read: chmod 600 {file}")
+
+
+def read(file: str) -> Config:
+    """The configuration of a file. Names of files in it are taken from where it stands."""
+    reader = Reader(file)
+    top = reader.table("")
+    ledger = reader.near("ledger", reader.table("ledger"), "program", "genesis", "store", "keys", "modules", "template")
+    tls = reader.near("tls", reader.table("tls"), "certificate", "key")
+    etcd = reader.near("etcd", reader.table("etcd"), "certificate", "key", "password_file")
+    for table, values in (("ledger", ledger), ("tls", tls), ("etcd", etcd)):
+        reader.secret(table, values, *(["keys"] if table == "ledger" else ["key", "password_file"]))
+    if ("user" in etcd) != ("password_file" in etcd):
+        raise reader.mistake("etcd", "user", "and password_file go together: name both, or none")
+    given = reader.table("authorities")
+    authorities = reader.near("authorities", given, *given)
+    nodes, organisation = reader.table("nodes"), top["organisation"]
+    check_organisations(reader, organisation, authorities, nodes)
+    urls = {it: nodes[it].rstrip("/") for it in nodes}
+    return Config(file=file, organisation=organisation, listen=top["listen"], page=top.get("page", ""), ledger=Ledger(**ledger),
+                  tls=Files(**tls), etcd=Etcd(**etcd), authorities=authorities, nodes=urls, rights=reader.table("rights"),
+                  ticks=ticks_of(reader))
+
+
+def check_organisations(reader: Reader, own: str, authorities: dict[str, str], nodes: dict[str, str]) -> None:
+    """Whether each organisation has an authority of its own name."""
+    if own in nodes:
+        raise reader.mistake("nodes", own, "is this organisation itself: name the others' nodes alone")
+    for organisation in [own, *nodes]:
+        if organisation not in authorities:
+            raise reader.mistake("authorities", organisation, "is missing: name the file with its authority's certificate")
+    for organisation, file in authorities.items():
+        for name in subjects(reader, organisation, file):
+            if name != organisation:
+                raise reader.mistake("authorities", organisation, f"names {file}, with an authority of {name!r:.100}")
+
+
+def subjects(reader: Reader, organisation: str, file: str) -> list[str | None]:
+    """The organisations that the certificates of a file name."""
+    tls = ssl.SSLContext(ssl.PROTOCOL_TLS_CLIENT)
+    try:
+        said = pathlib.Path(file).read_text(encoding="ascii")
+        tls.load_verify_locations(cadata=said)
+        found = tls.get_ca_certs()
+    except (OSError, ValueError):
+        found, said = [], ""
+    if not found or len(found) != len(set(CERTIFICATE.findall(said))):
+        raise reader.mistake("authorities", organisation, f"names {file}, which has to hold certificates of authorities alone")
+    return [dict(pair for part in it["subject"] for pair in part).get("organizationName") for it in found]
+
+
+def ticks_of(reader: Reader) -> Ticks:
+    given = dict(reader.table("ticks"))
+    if ("begins" in given) != ("lasts_days" in given):
+        raise reader.mistake("ticks", "begins", "and lasts_days go together: name both, or none")
+    if begins := given.get("begins"):
+        given["begins"] = datetime.datetime.combine(begins, datetime.time(), datetime.timezone.utc).timestamp()
+    ticks = Ticks(**given)
+    if ticks.longest < ticks.wait:
+        raise reader.mistake("ticks", "longest", f"is {ticks.longest:g}, and below wait, which is {ticks.wait:g}")
+    return ticks

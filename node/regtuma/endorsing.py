@@ -1,0 +1,178 @@
+"""What the organisation endorses: calls, as far as its approver lets them, and changes of members and code that its operator has
+agreed to, each by itself."""
+import asyncio
+import json
+import os
+from collections.abc import Awaitable
+
+from . import numbers
+from .chain import Chain
+from .config import Config
+from .etcd import LogError
+from .filters import Asked, FilterEnded
+from .wire import id_of
+
+# What an endorser ends by where its organisation has no place in the ledger, as it may have later.
+NO_PLACE = {"refused 806": "the organisation is no member: not yet, or no more",
+            "refused 808": "the key file has not the seed of the key by which the organisation stands"}
+# After how many seconds it is begun again then, and how long one endorsement of a change may take.
+PAUSE, CHANGE_SECONDS = 5.0, 60.0
+
+
+class Agreed:
+    """The changes that the operator has agreed to, by the ids of their transactions: a line each in a file beside the store."""
+
+    def __init__(self, file: str):
+        self.file = file
+        self.ids: set[str] = set()
+        if os.path.exists(file):
+            with open(file, encoding="ascii") as lines:
+                self.ids = {it.strip() for it in lines}
+
+    def add(self, id: str) -> None:
+        if id not in self.ids:
+            with open(self.file, "a", encoding="ascii") as file:
+                file.write(f"{id}\n")
+                file.flush()
+                os.fsync(file.fileno())
+            self.ids.add(id)
+
+
+class Endorsing:
+    def __init__(self, config: Config, chain: Chain):
+        self.config, self.chain = config, chain
+        ledger = config.ledger
+        options = [word for it in ("keys", "modules") if (file := getattr(ledger, it)) for word in (f"--{it}", file)]
+        self.command = [ledger.program, "endorse", ledger.genesis, config.organisation, ledger.store, *options]
+        self.endorsers = [Asked("ledger endorse", self.command) for _ in range(ledger.endorsers)]
+        self.approver = Asked("the approver", ledger.approver) if ledger.approver else None
+        self.agreed = Agreed(ledger.store + ".agreed")
+        self.turn = 0
+        # Why nothing is endorsed: the organisation is no member, or its seed is not at hand.
+        self.out_of_place: str | None = None
+
+    async def start(self) -> None:
+        await asyncio.gather(*(it.start() for it in [*self.endorsers, *([self.approver] if self.approver else [])]))
+
+    def works(self) -> list:
+        """What runs as long as the node does."""
+        return [self.tell(), *(self.follow(it) for it in self.endorsers), *([self.approver.follow()] if self.approver else [])]
+
+    async def close(self) -> None:
+        await asyncio.gather(*(it.close() for it in [*self.endorsers, *([self.approver] if self.approver else [])]))
+
+    async def follow(self, endorser: Asked) -> None:
+        """Keeps an endorser. One that has no place yet, or no more, is begun again, once the chain has grown."""
+        while True:
+            height = self.chain.height
+            try:
+                await endorser.follow()
+            except FilterEnded as ended:
+                if (why := out_of_place(ended)) is None:
+                    raise
+                if self.out_of_place is None:
+                    self.chain.say(f"nothing is endorsed: {why}")
+                self.out_of_place = why
+            await asyncio.sleep(PAUSE)
+            while not await self.chain.at_least(height + 1, 60.0):
+                pass
+            await endorser.start()
+            self.out_of_place = None
+
+    # ---------------------------------------------------------------- endorsements
+
+    async def answers(self, asker: str, proposals: list[dict], height: int = 0) -> list[dict]:
+        """What this organisation answers to proposals, each by its payload and endorsement on a state after so many blocks at
+        least, as far as it comes up within a second; or why not.
+
+        An endorsement says that the chaincode does this, and not that the organisation wants it. Where it has an approver, that
+        is asked first: a line of JSON with the proposal and who asks, and the answer is `yes`, or why not. A change of code or
+        members is endorsed where the operator has agreed to this very one.
+        """
+        if self.chain.height < height:
+            await self.chain.at_least(height, 1.0)
+        height = self.chain.height
+        denials = [self.denial(it) for it in proposals]
+        if self.approver:
+            asked = [self.approver.ask(json.dumps({"asker": asker, **it})) for it in proposals]
+            denials = [why or (None if said == "yes" else said) for why, said in zip(denials, [await it for it in asked])]
+        lines = [self.line_of(it) if why is None else None for it, why in zip(proposals, denials)]
+        return [{"denied": why, "height": height} if line is None else await answer_of(line, height)
+                for line, why in zip(lines, denials)]
+
+    def line_of(self, proposal: dict) -> Awaitable[str]:
+        """What an endorser will answer to a proposal."""
+        if "chaincode" not in proposal:
+            return self.changed(proposal)
+        self.turn = (self.turn + 1) % len(self.endorsers)
+        return self.endorsers[self.turn].ask(json.dumps(proposal))
+
+    def denial(self, proposal: dict) -> str | None:
+        """Why a proposal is not even simulated, if so."""
+        if self.chain.forked or self.out_of_place:
+            return self.chain.forked or self.out_of_place
+        if "chaincode" not in proposal and (id := id_of(proposal)) not in self.agreed.ids:
+            return f"its operator has not agreed to {id}"
+        return None
+
+    async def changed(self, proposal: dict) -> str:
+        """What an endorser begun for this one proposal answers, which agrees to amendments."""
+        pipe = asyncio.subprocess.PIPE
+        process = await asyncio.create_subprocess_exec(*self.command, "--agree", stdin=pipe, stdout=pipe)
+        try:
+            said, _ = await asyncio.wait_for(process.communicate(json.dumps(proposal).encode() + b"\n"), CHANGE_SECONDS)
+        except asyncio.TimeoutError:
+            process.kill()
+            await process.wait()
+            raise FilterEnded(f"ledger endorse took longer than {CHANGE_SECONDS:.0f} s") from None
+        lines = said.decode().splitlines()
+        if len(lines) != 1:
+            raise FilterEnded(f"ledger endorse ended with status {process.returncode}")
+        return lines[0]
+
+    # ---------------------------------------------------------------- what was seen
+
+    async def tell(self) -> None:
+        """Tells the others the hashes of blocks that were committed here, signed where the organisation has a public key."""
+        while True:
+            number = await self.chain.unsaid.get()
+            if self.out_of_place or self.chain.forked:
+                continue
+            try:
+                line = await self.endorsers[0].ask(f"seen {number}")
+            except FilterEnded:
+                # Whoever keeps the endorser tells of it.
+                continue
+            if not line.startswith("seen "):
+                self.chain.say(f"does not tell the hash of block {number}: the endorser says {line}")
+                continue
+            await self.put_seen(number, line)
+
+    async def put_seen(self, number: int, line: str) -> None:
+        while True:
+            try:
+                await self.chain.log.append(f"{self.config.organisation}/seen-{number}", [line])
+                return
+            except LogError as error:
+                self.chain.say(f"not put: {error}")
+                await asyncio.sleep(PAUSE)
+
+
+def out_of_place(ended: FilterEnded) -> str | None:
+    """Why an endorser has no place in the ledger, where it ended for that."""
+    return next((words for refused, words in NO_PLACE.items() if refused in str(ended)), None)
+
+
+async def answer_of(line: Awaitable[str], height: int) -> dict:
+    """An endorser's line as an answer."""
+    try:
+        said = await line
+    except FilterEnded as ended:
+        return {"denied": out_of_place(ended) or numbers.explained(str(ended)), "height": height}
+    match said.split():
+        case ["endorsed", payload, endorsement]:
+            return {"payload": payload, "endorsement": endorsement, "height": height}
+        case ["refused", *_]:
+            return {"refused": said, "height": height}
+        case _:
+            return {"refused": "refused 303", "height": height}

@@ -1,0 +1,84 @@
+"""What the tables of node.toml may hold."""
+import dataclasses
+import datetime
+import ipaddress
+import re
+from collections.abc import Callable
+from urllib.parse import urlsplit
+
+RIGHTS = ("read", "observe", "evaluate", "submit", "endorse", "agree")
+ORGANISATION = re.compile("[A-Za-z0-9_]{1,32}")
+CALLER = re.compile(r"[A-Za-z0-9_*]{1,32}/[A-Za-z0-9_.*@-]{1,64}")
+
+
+@dataclasses.dataclass(frozen=True)
+class Field:
+    """A name of a table: what passes for its value, in words too, and whether it has to be there."""
+    passes: Callable[[object], bool]
+    words: str
+    needed: bool = False
+
+
+def text(value: object) -> bool:
+    return isinstance(value, str) and value != ""
+
+
+def number(least: float, most: float, whole: bool = True) -> Field:
+    kinds = (int,) if whole else (int, float)
+    words = f"{'a whole number' if whole else 'a number'} from {least:g} to {most:g}"
+    return Field(lambda it: type(it) in kinds and least <= it <= most, words)
+
+
+def place(value: object) -> bool:
+    host, _, port = value.rpartition(":") if isinstance(value, str) else ("", "", "")
+    return host != "" and port.isascii() and port.isdigit() and 0 < int(port) < 65536
+
+
+def is_loopback(host: str) -> bool:
+    """Whether a host, as a URL spells it, is this machine itself. Other names than its own may lead here too."""
+    try:
+        return host == "localhost" or ipaddress.ip_address(host.strip("[]")).is_loopback
+    except ValueError:
+        return False
+
+
+def url(value: object) -> bool:
+    try:
+        at = urlsplit(value) if isinstance(value, str) else None
+        return at is not None and at.scheme == "https" and bool(at.hostname) and at.port is not None and at.path in ("", "/")
+    except ValueError:
+        return False
+
+
+def listed(passes: Callable[[object], bool]) -> Callable[[object], bool]:
+    return lambda value: isinstance(value, list) and all(passes(it) for it in value)
+
+
+def date(value: object) -> bool:
+    return isinstance(value, datetime.date) and not isinstance(value, datetime.datetime)
+
+
+NEEDED_FILE, FILE = Field(text, "the name of a file", True), Field(text, "the name of a file")
+URL = Field(url, 'a URL with a port, as "https://10.0.0.2:7051"')
+CALLERS = Field(listed(lambda it: isinstance(it, str) and CALLER.fullmatch(it) is not None),
+                'a list of names of certificates, as ["Maker/alice", "Maker/*"]')
+TABLES: dict[str, dict[str, Field]] = {
+    "": {"organisation": Field(lambda it: isinstance(it, str) and ORGANISATION.fullmatch(it) is not None,
+                               "a name of 1 to 32 letters, digits and _", True),
+         "listen": Field(place, 'an address and a port, as "10.0.0.1:7051"', True),
+         "page": Field(lambda it: place(it) and is_loopback(it.rpartition(":")[0]),
+                       'a place on the loopback, as "127.0.0.1:8080"')},
+    "ledger": {"program": NEEDED_FILE, "genesis": NEEDED_FILE, "store": NEEDED_FILE, "keys": FILE, "modules": FILE,
+               "template": FILE, "endorsers": number(1, 16), "seen": number(1, 65535),
+               "approver": Field(listed(text), "a command, as a list of words"),
+               "past_forks": Field(lambda it: isinstance(it, bool), "true or false")},
+    "tls": {"certificate": NEEDED_FILE, "key": NEEDED_FILE},
+    "etcd": {"endpoints": Field(lambda it: listed(url)(it) and it != [], "a list of URLs with ports, one at least", True),
+             "user": Field(text, "the name of a user of etcd"), "password_file": FILE,
+             "certificate": NEEDED_FILE, "key": NEEDED_FILE},
+    "ticks": {"wait": number(0.01, 3600, whole=False), "longest": number(0.01, 86400, whole=False),
+              "begins": Field(date, "a date, as 2026-12-01"), "lasts_days": number(1, 36500), "burst": number(0, 65000)},
+    "rights": {it: CALLERS for it in RIGHTS},
+}
+# Tables whose names are those of organisations.
+OF_ORGANISATIONS = {"nodes": URL, "authorities": NEEDED_FILE}

@@ -1,0 +1,144 @@
+"""The proved program's filters as children: lines in, lines out."""
+import asyncio
+import collections
+import json
+from typing import Any
+
+# The longest line: a block in hex, or a block's JSON.
+LONGEST = 1 << 24
+# How long a filter may take for what it was given, once its input has ended, in seconds.
+LAST_SECONDS = 5
+
+
+class FilterEnded(Exception):
+    """A filter has ended, so the node ends too, and is begun again."""
+
+
+class TooLong(Exception):
+    """A filter's line is longer than any that the node reads, as the history of a key that was written very often."""
+
+
+class Filter:
+    def __init__(self, name: str, command: list[str]):
+        self.name, self.command = name, command
+        self.process: asyncio.subprocess.Process | None = None
+
+    async def start(self) -> None:
+        pipe = asyncio.subprocess.PIPE
+        try:
+            self.process = await asyncio.create_subprocess_exec(*self.command, stdin=pipe, stdout=pipe, limit=LONGEST)
+        except OSError as error:
+            raise FilterEnded(f"{self.name}: {self.command[0]} cannot be run: {error.strerror}") from None
+
+    async def write(self, *lines: bytes) -> None:
+        """Hands lines on, and waits where the filter is behind."""
+        try:
+            self.process.stdin.writelines(lines)
+            await self.process.stdin.drain()
+        except (BrokenPipeError, ConnectionResetError):
+            # What it said last tells why, and is read by whoever reads it.
+            pass
+
+    async def line(self) -> str:
+        """The next line that it says."""
+        is_whole = True
+        while True:
+            try:
+                line = await self.process.stdout.readuntil(b"\n")
+                break
+            except asyncio.LimitOverrunError as overrun:
+                is_whole = False
+                await self.process.stdout.readexactly(overrun.consumed)
+            except asyncio.IncompleteReadError:
+                raise FilterEnded(f"{self.name} ended with status {await self.process.wait()}") from None
+        if not is_whole:
+            raise TooLong(f"{self.name} has an answer of more than {LONGEST >> 20} MiB: ask for less")
+        return line.decode()[:-1]
+
+    async def close(self) -> None:
+        """It ends behind what it was given, within some seconds."""
+        if self.process is None:
+            return
+        try:
+            self.process.stdin.close()
+            # What it says meanwhile is not needed, and must not hold it up.
+            await asyncio.wait_for(asyncio.gather(self.process.wait(), self._drain()), LAST_SECONDS)
+        except asyncio.TimeoutError:
+            self.process.kill()
+            await self.process.wait()
+
+    async def _drain(self) -> None:
+        while await self.process.stdout.read(1 << 16):
+            pass
+
+
+class Asked(Filter):
+    """A filter that answers each line by one line, and ends by a line of its own where something is wrong."""
+
+    def __init__(self, name: str, command: list[str]):
+        super().__init__(name, command)
+        self.waiting: collections.deque[asyncio.Future[str]] = collections.deque()
+        self.unwritten: list[str] = []
+
+    async def follow(self) -> None:
+        """Hands answers to those who asked, as long as the filter runs."""
+        try:
+            while True:
+                await self._hand_on()
+        except FilterEnded as ended:
+            while self.waiting:
+                self._answer(ended)
+            raise
+
+    async def _hand_on(self) -> None:
+        """Hands the next answer to who asked first."""
+        try:
+            said: str | TooLong = await self.line()
+        except TooLong as too_long:
+            said = too_long
+        if not self.waiting or isinstance(said, str) and self.is_last(said):
+            raise FilterEnded(f"{self.name} says: {said}")
+        self._answer(said)
+
+    def _answer(self, said: str | Exception) -> None:
+        asker = self.waiting.popleft()
+        if not asker.done():
+            asker.set_result(said) if isinstance(said, str) else asker.set_exception(said)
+
+    def ask(self, line: str) -> asyncio.Future[str]:
+        """What it answers to a line. What is asked in one turn of the loop is written together."""
+        loop = asyncio.get_running_loop()
+        if not self.unwritten:
+            loop.call_soon(self._write)
+        self.unwritten.append(line)
+        asker: asyncio.Future[str] = loop.create_future()
+        self.waiting.append(asker)
+        return asker
+
+    def _write(self) -> None:
+        lines, self.unwritten = self.unwritten, []
+        self.process.stdin.write("".join(f"{it}\n" for it in lines).encode())
+
+    def is_last(self, line: str) -> bool:
+        """Whether it ends by this line, which answers nothing: by a refusal that is not of what was asked (401 to 409)."""
+        match line.split():
+            case ["refused", number, *_]:
+                return not number.startswith("4")
+        return False
+
+
+class Query(Asked):
+    """`ledger query`. Its answers are `{"answer":..,"height":..}`, without spaces."""
+
+    async def text_of(self, what: str, **question: object) -> tuple[str, int]:
+        """The JSON of an answer, and the height at which it was given."""
+        line = await self.ask(json.dumps({"ask": what, **question}))
+        if not line.startswith('{"answer":'):
+            raise ValueError(f"no question that the program answers: {line}")
+        answer, _, height = line[len('{"answer":'):-1].rpartition(',"height":')
+        return answer, int(height)
+
+    async def ask_for(self, what: str, **question: object) -> tuple[Any, int]:
+        """The answer, and the height at which it was given."""
+        answer, height = await self.text_of(what, **question)
+        return json.loads(answer), height

@@ -1,0 +1,134 @@
+"""Other organisations' nodes, which are asked for endorsements."""
+import asyncio
+import re
+import time
+from collections.abc import Callable
+
+import aiohttp
+
+from .config import Config
+from .proposals import is_hex, matches
+
+ENDORSE_SECONDS, DOWN_SECONDS, CHANGE_SECONDS = 3.0, 5.0, 60.0
+# How many requests are under way to another node, how many proposals go into one, and in how many seconds they should be done.
+REQUESTS, MOST_PROPOSALS, ENOUGH = 2, 250, 1.0
+# How much slower than of late a node may be until it counts as dead.
+SLACK = 4
+REFUSAL = re.compile(r"refused \d{1,3}( .*)?")
+# A proposal, the height on which it is simulated at least, and who waits for the answer.
+Waiting = tuple[dict, int, asyncio.Future[dict | None]]
+
+
+class Batches:
+    """Proposals that are asked together. What comes while requests are under way goes into the next one."""
+
+    def __init__(self, requests: int):
+        self.requests, self.under_way = requests, 0
+        self.waiting: list[Waiting] = []
+        self.works: set[asyncio.Task[None]] = set()
+
+    def most(self) -> int:
+        """How many proposals go together."""
+        return MOST_PROPOSALS
+
+    async def answers(self, proposals: list[dict], height: int) -> list[dict] | None:
+        """What is answered to proposals on a state after so many blocks at least, each by one; None where no answer came."""
+        raise NotImplementedError
+
+    def ask(self, proposal: dict, height: int) -> asyncio.Future[dict | None]:
+        loop = asyncio.get_running_loop()
+        done: asyncio.Future[dict | None] = loop.create_future()
+        self.waiting.append((proposal, height, done))
+        if self.under_way < self.requests:
+            self.under_way += 1
+            self.works.add(work := loop.create_task(self._work()))
+            work.add_done_callback(self.works.discard)
+        return done
+
+    async def _work(self) -> None:
+        try:
+            # Those that ask in this very moment come along.
+            await asyncio.sleep(0)
+            while self.waiting:
+                most = self.most()
+                batch, self.waiting = self.waiting[:most], self.waiting[most:]
+                await self._answer(batch)
+        finally:
+            self.under_way -= 1
+
+    async def _answer(self, batch: list[Waiting]) -> None:
+        """Has a batch answered. Whatever fails, nobody waits for good."""
+        answers = None
+        try:
+            answers = await self.answers([it for it, _, _ in batch], max(it for _, it, _ in batch))
+        finally:
+            for (_, _, done), said in zip(batch, answers or [None] * len(batch)):
+                if not done.done():
+                    done.set_result(said)
+
+
+class Link(Batches):
+    """One organisation's node."""
+
+    def __init__(self, organisation: str, config: Config, say: Callable[[str], None]):
+        super().__init__(REQUESTS)
+        self.organisation, self.url, self.say = organisation, config.nodes[organisation], say
+        self.http = aiohttp.ClientSession(connector=aiohttp.TCPConnector(ssl=config.node_tls(organisation), limit_per_host=8))
+        # How long it took for a call of late, in seconds, and until when it is passed over.
+        self.each, self.down = 0.01, 0.0
+
+    async def close(self) -> None:
+        await self.http.close()
+
+    def most(self) -> int:
+        """A node that is slow gets fewer at a time."""
+        return max(1, min(MOST_PROPOSALS, int(ENOUGH / self.each)))
+
+    async def answers(self, proposals: list[dict], height: int) -> list[dict] | None:
+        began, patience = time.monotonic(), ENDORSE_SECONDS + SLACK * self.each * len(proposals)
+        if any("chaincode" not in it for it in proposals):
+            # An endorser is begun for a change, which takes its time.
+            return await self.post(proposals, height, CHANGE_SECONDS)
+        answers = await self.post(proposals, height, patience)
+        each = (time.monotonic() - began) / len(proposals)
+        if answers:
+            self.each += 0.2 * (each - self.each)
+        elif time.monotonic() - began >= patience:
+            self.each = min(ENOUGH, SLACK * self.each)
+        return answers
+
+    async def post(self, proposals: list[dict], height: int, patience: float) -> list[dict] | None:
+        """What the node answers to these, each by one."""
+        try:
+            body, timeout = {"proposals": proposals, "height": height}, aiohttp.ClientTimeout(total=patience)
+            async with self.http.post(self.url + "/endorse", json=body, timeout=timeout) as answer:
+                return answers_of(answer.status, await answer.json(), len(proposals))
+        except asyncio.TimeoutError:
+            why = f"no answer in {patience:.1f} s"
+        except (ValueError, OSError, aiohttp.ClientError) as error:
+            why = (str(error) or repr(error))[:200]
+        self.say(f"no endorsement of {self.organisation}: {why}")
+        self.down = time.monotonic() + DOWN_SECONDS
+        return None
+
+
+def answers_of(status: int, said: object, count: int) -> list[dict]:
+    """The answers to so many proposals that a node's answer has."""
+    if not isinstance(said, dict) or status != 200:
+        raise ValueError(said.get("why", status) if isinstance(said, dict) else status)
+    answers = said.get("answers")
+    if not isinstance(answers, list) or len(answers) != count or not all(is_answer(it) for it in answers):
+        raise ValueError("it does not answer each proposal")
+    return answers
+
+
+def is_answer(said: object) -> bool:
+    """Whether a node has answered a proposal in one of the three ways. It may be anybody's program: what is no hex would be
+    another line of the log."""
+    if not isinstance(said, dict) or type(said.get("height")) is not int:
+        return False
+    if "payload" in said:
+        return is_hex(said["payload"]) and is_hex(said.get("endorsement"))
+    if "refused" in said:
+        return matches(REFUSAL, said["refused"])
+    return isinstance(said.get("denied"), str)

@@ -1,0 +1,128 @@
+"""What is put into the log by hand, and read from it.
+
+    regtuma-log node.toml begin                    puts the first entry, which names the genesis file
+    regtuma-log node.toml refill STORE             puts every block of a store into a new, empty log, so that its chain goes on
+    regtuma-log node.toml module MODULE [1 | 2]    puts a module of profile 1 or 2, by default 1, for those who are to install it
+    regtuma-log node.toml fetch DIGEST             prints the bytes of the module with this digest
+
+`refill` is for when etcd has lost its majority for good, or its space has run out. All nodes are stopped; of their stores, each of
+which is a beginning of the longest, the longest is taken. Its blocks come out of the new log as the same bytes: by `ledger marks`,
+a mark for each envelope, and a tick behind each block. Where it was stopped, begin again with a new, empty etcd.
+
+A module is no mark: every `ledger order` skips it.
+"""
+import asyncio
+import hashlib
+import pathlib
+import subprocess
+import sys
+from collections.abc import Iterable, Iterator
+
+from . import config as configuration
+from . import numbers
+from .chain import ENTRY_CHARACTERS
+from .config import Config, Mistake
+from .etcd import TICK, Log, LogError
+
+
+class NotDone(Exception):
+    """Why nothing was put."""
+
+
+def asked(config: Config, *words: str) -> list[str]:
+    """The lines that the program prints."""
+    command = [config.ledger.program, *words]
+    ran = subprocess.run(command, stdin=subprocess.DEVNULL, stdout=subprocess.PIPE, text=True)
+    lines = ran.stdout.splitlines()
+    if ran.returncode:
+        raise NotDone(f"`{' '.join(command)}` answers: {numbers.explained(lines[-1]) if lines else f'status {ran.returncode}'}")
+    return lines
+
+
+def entries(marks: Iterable[str]) -> Iterator[list[str]]:
+    """Marks in entries that etcd takes."""
+    entry: list[str] = []
+    size = 0
+    for mark in marks:
+        if size + len(mark) > ENTRY_CHARACTERS and entry:
+            yield entry
+            entry, size = [], 0
+        entry.append(mark)
+        size += len(mark) + 1
+    if entry:
+        yield entry
+
+
+async def begin(log: Log, config: Config, marks: list[str]) -> str:
+    """Puts the first entry, and marks behind it."""
+    if not await log.is_empty():
+        raise NotDone("the log has begun already")
+    digest = hashlib.sha256(pathlib.Path(config.ledger.genesis).read_bytes()).hexdigest()
+    await log.append(f"{config.organisation}/genesis", [f"genesis {digest}"])
+    count = 0
+    for count, entry in enumerate(entries(marks), 1):
+        # Ticks count in entries of this name alone.
+        await log.append(f"{TICK}refill-{count}", entry)
+    return f"the log has begun, and has {count} entries of {len(marks)} marks"
+
+
+async def put_module(log: Log, config: Config, file: str, profile: str) -> str:
+    digest, = asked(config, "digest", file, "--profile", profile)
+    await log.append(f"{config.organisation}/module-{digest}", [f"module {profile} {pathlib.Path(file).read_bytes().hex()}"])
+    return f"put module {digest}"
+
+
+async def fetch(log: Log, config: Config, digest: str) -> bytes:
+    """The bytes of a module, whichever organisation put it: they have the digest."""
+    for organisation in config.authorities:
+        line = await log.read(f"{organisation}/module-{digest}")
+        try:
+            data = bytes.fromhex(line.split(" ")[-1]) if line else b""
+        except ValueError:
+            continue
+        if hashlib.sha256(data).hexdigest() == digest:
+            return data
+    raise NotDone(f"no organisation has put the module {digest}")
+
+
+async def work(config: Config, words: list[str]) -> str | bytes:
+    """Does what the words say. What is printed."""
+    log = Log(config.etcd.endpoints, config.etcd.user, config.password(), config.etcd_tls())
+    try:
+        match words:
+            case ["begin"]:
+                return await begin(log, config, [])
+            case ["refill", store]:
+                return await begin(log, config, asked(config, "marks", config.ledger.genesis, store))
+            case ["module", file, profile]:
+                return await put_module(log, config, file, profile)
+            case ["fetch", digest]:
+                return await fetch(log, config, digest)
+        raise NotDone("these words name nothing")
+    finally:
+        await log.close()
+
+
+def main(words: list[str]) -> int:
+    if words in (["--help"], ["-h"]):
+        print(__doc__)
+        return 0
+    match words:
+        case [file, "begin"] | [file, "refill" | "fetch", _] | [file, "module", _, "1" | "2"]:
+            task = words[1:]
+        case [file, "module", _]:
+            task = [*words[1:], "1"]
+        case _:
+            print(__doc__, file=sys.stderr)
+            return 2
+    try:
+        said = asyncio.run(work(configuration.read(file), task))
+        sys.stdout.buffer.write(said if isinstance(said, bytes) else f"{said}\n".encode())
+        return 0
+    except (Mistake, NotDone, LogError, OSError) as error:
+        print(f"regtuma-log: {error}", file=sys.stderr)
+        return 1
+
+
+if __name__ == "__main__":
+    sys.exit(main(sys.argv[1:]))

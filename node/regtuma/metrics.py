@@ -1,0 +1,47 @@
+"""What Prometheus reads."""
+import time
+from collections.abc import Iterator
+
+import prometheus_client as prometheus
+from prometheus_client.core import CounterMetricFamily, GaugeMetricFamily
+
+from . import ticks
+from .chain import Chain
+
+SECONDS = (.05, .1, .2, .5, 1, 2, 5, 10, 30, 60, 600)
+TYPE = prometheus.CONTENT_TYPE_LATEST
+
+
+class Metrics:
+    def __init__(self, chain: Chain):
+        self.chain, self.streams = chain, 0
+        self.registry = prometheus.CollectorRegistry()
+        self.requests = prometheus.Counter("regtuma_requests", "Requests", ["route", "status"], registry=self.registry)
+        self.submits = prometheus.Histogram("regtuma_submit_seconds", "From a request to its flags", registry=self.registry,
+                                            buckets=SECONDS)
+        self.registry.register(self)
+
+    def text(self) -> bytes:
+        return prometheus.generate_latest(self.registry)
+
+    def collect(self) -> Iterator[GaugeMetricFamily | CounterMetricFamily]:
+        """What is told of the chain at this moment."""
+        chain, awaited = self.chain, self.chain.awaited
+        gauges = {
+            "height": ("Blocks in the store", chain.height),
+            "blocks_left": ("Blocks until the end of the chain", ticks.LAST_BLOCK - chain.height),
+            "waiting": ("Envelopes that wait for a block", awaited.waiting),
+            "unput": ("Envelopes not yet in the log", len(chain.unput)),
+            "oldest_seconds": ("How long the first of them has waited", time.time() - awaited.since if awaited.since else 0),
+            "log_unled_seconds": ("Since a majority of etcd was seen", time.monotonic() - chain.led),
+            "behind": ("Lines of the log not yet read", chain.given - chain.read),
+            "log_revision": ("The revision of etcd that was read", chain.revision),
+            "forked": ("Whether somebody says that a block is another one", int(chain.forked is not None)),
+            "streams": ("Readers of /events", self.streams),
+        }
+        for name, (words, value) in gauges.items():
+            yield GaugeMetricFamily(f"regtuma_{name}", words, value=value)
+        events = CounterMetricFamily("regtuma_counted", "What happened", labels=["what"])
+        for what, count in chain.counts.items():
+            events.add_metric([what], count)
+        yield events

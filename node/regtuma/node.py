@@ -1,0 +1,149 @@
+"""One organisation's node.
+
+    regtuma-node node.toml
+
+It runs the ledger's filters as its children, follows the log in etcd, and answers HTTP (api.py). It ends where something is
+wrong, says what, and is to be begun again by whatever keeps services running; it can be killed at any time.
+"""
+import asyncio
+import json
+import os
+import signal
+import socket
+import ssl
+import sys
+
+from aiohttp import web
+
+from . import config as configuration
+from .api import Api
+from .chain import Chain
+from .config import Config, Mistake
+from .endorsing import Endorsing
+from .etcd import Log, LogError
+from .filters import FilterEnded
+from .gateway import Gateway
+
+# The number of the lines that filters read and print, as `ledger version` tells it, which this node speaks.
+LINES = 1
+# How long connections may take to end, in seconds.
+SHUTDOWN = 2
+
+
+def say(text: str) -> None:
+    """Prints a line. Anybody may have put words of it into the log, so that nothing in it speaks to a terminal."""
+    print("".join(it if it.isprintable() else "?" for it in text[:4000]), flush=True)
+
+
+def tell_systemd(word: str) -> None:
+    if name := os.environ.get("NOTIFY_SOCKET"):
+        with socket.socket(socket.AF_UNIX, socket.SOCK_DGRAM) as there:
+            there.sendto(word.encode(), name.replace("@", "\0", 1))
+
+
+async def version_of(program: str) -> dict:
+    """What `ledger version` says. A program that speaks other lines is refused."""
+    try:
+        process = await asyncio.create_subprocess_exec(program, "version", stdout=asyncio.subprocess.PIPE)
+        said = json.loads((await process.communicate())[0])
+    except OSError as error:
+        raise FilterEnded(f"{program} cannot be run: {error.strerror}") from None
+    except ValueError:
+        raise FilterEnded(f"{program} is no program of the ledger: `{program} version` tells no numbers") from None
+    if said.get("lines") != LINES:
+        raise FilterEnded(f"{program} speaks lines of number {said.get('lines')}, and this node those of number {LINES}")
+    return said
+
+
+class Node:
+    def __init__(self, config: Config):
+        self.config = config
+        self.log = Log(config.etcd.endpoints, config.etcd.user, config.password(), config.etcd_tls())
+        self.chain = Chain(config, self.log, say)
+        self.endorsing = Endorsing(config, self.chain)
+        self.gateway = Gateway(config, self.chain, self.endorsing)
+        self.runners: list[web.AppRunner] = []
+        self.tasks: list[asyncio.Future] = []
+
+    async def run(self) -> None:
+        """Serves until it is asked to end."""
+        stopped = asyncio.Event()
+        loop = asyncio.get_running_loop()
+        for number in (signal.SIGTERM, signal.SIGINT):
+            loop.add_signal_handler(number, stopped.set)
+        loop.add_signal_handler(signal.SIGHUP, self.reload)
+        program = await version_of(self.config.ledger.program)
+        if promise := self.config.ticks.promise():
+            say(f"warning: {promise}")
+        await self.chain.start()
+        await self.endorsing.start()
+        works = [*self.chain.works(), *self.endorsing.works(), stopped.wait()]
+        self.tasks = [asyncio.ensure_future(it) for it in works]
+        api = Api(self.config, self.chain, self.endorsing, self.gateway, program)
+        await self.listen(api.app(), self.config.listen, self.config.server_tls())
+        if self.config.page:
+            await self.listen(api.page_app(), self.config.page, None)
+        say(f"{self.config.organisation} listens at {self.config.listen}")
+        tell_systemd("READY=1")
+        done, _ = await asyncio.wait(self.tasks, return_when=asyncio.FIRST_COMPLETED)
+        for it in done:
+            it.result()
+
+    async def listen(self, app: web.Application, where: str, tls: ssl.SSLContext | None) -> None:
+        self.runners.append(runner := web.AppRunner(app, access_log=None))
+        await runner.setup()
+        host, _, port = where.rpartition(":")
+        await web.TCPSite(runner, host.strip("[]"), int(port), ssl_context=tls, shutdown_timeout=SHUTDOWN).start()
+
+    def reload(self) -> None:
+        """Takes rights anew: a client is shut out by taking its name away."""
+        try:
+            self.config.rights = configuration.read(self.config.file).rights
+            say("rights are read anew")
+        except Mistake as mistake:
+            say(f"rights stay as they were: {mistake}")
+
+    async def close(self) -> None:
+        tell_systemd("STOPPING=1")
+        for it in self.runners:
+            await it.cleanup()
+        for it in self.tasks:
+            it.cancel()
+        await asyncio.gather(*self.tasks, return_exceptions=True)
+        await asyncio.gather(self.gateway.close(), self.endorsing.close(), self.chain.close(), self.log.close())
+
+
+async def serve(config: Config) -> int:
+    node = Node(config)
+    try:
+        await node.run()
+        return 0
+    except (FilterEnded, LogError, OSError) as error:
+        say(f"ended: {error}")
+        return 1
+    finally:
+        await node.close()
+
+
+def main(words: list[str]) -> int:
+    if words in (["--help"], ["-h"]):
+        print(__doc__)
+        return 0
+    if len(words) != 1:
+        print(__doc__, file=sys.stderr)
+        return 2
+    try:
+        config = configuration.read(words[0])
+        # What etcd, keys and certificates are is read here, so that a bad one is told before anything is begun.
+        config.server_tls(), config.etcd_tls()
+    except Mistake as mistake:
+        print(f"regtuma-node: {mistake}", file=sys.stderr)
+        return 2
+    except (OSError, ValueError) as error:
+        print(f"regtuma-node: a certificate or key of {words[0]} is not read: {error}", file=sys.stderr)
+        return 2
+    return asyncio.run(serve(config))
+
+
+if __name__ == "__main__":
+    sys.exit(main(sys.argv[1:]))

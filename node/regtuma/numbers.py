@@ -1,0 +1,83 @@
+"""What numbers and flags stand for, in words for those who called. docs/FORMATS.md has all of them, and what to do."""
+import re
+
+from .filters import Query
+
+FLAGS = {0: "VALID", 1: "ENDORSEMENT_POLICY_FAILURE", 2: "MVCC_READ_CONFLICT", 3: "PHANTOM_READ_CONFLICT", 4: "DUPLICATE_TXID"}
+POLICY, CONFLICT, PHANTOM, DUPLICATE = 1, 2, 3, 4
+NUMBERS = {
+    9: "there was no memory",
+    303: "the proposal has not the form that a proposal has",
+    401: "there is no such chaincode, or its definition can't be used",
+    402: "the chaincode trapped",
+    403: "the chaincode spent its fuel",
+    404: "the chaincode refused the call",
+    405: "something that it read has changed meanwhile; call again",
+    406: "the module of the definition is not installed, or not at hand",
+    407: "the definition's policy is none",
+    408: "the membership has not the next serial number, or cannot be used",
+    409: "it is an amendment, and not agreed to",
+    421: "the transaction is too large",
+    422: "the chain is full: it has 65,535 blocks",
+    441: "another transaction of the batch read a newer version of a key; call again",
+    442: "the batch has no legal order with this transaction; call again",
+    601: "the block has not the next number",
+    602: "the log gives another block than the store has: it is another log",
+    603: "the data of a block has another hash than its header says",
+    604: "the chain is full: it has 65,535 blocks",
+    702: "the store is damaged",
+    703: "the store or another file cannot be opened, read or written, or another process has the store",
+    711: "a block of the store has other flags than the rules give: another program or genesis file made it, or it was changed",
+    801: "the genesis or the modules file is no JSON",
+    802: "a field of the genesis or the modules file is missing, left over or of another kind",
+    803: "a number, name or key of the genesis or the modules file is out of its range",
+    804: "a module of the genesis or the modules file is not valid",
+    805: "a policy of the genesis file is refused",
+    806: "the genesis file has a name twice, or the organisation is no member: not yet, or no more",
+    807: "the log is of another genesis file",
+    808: "the key file has not the seed of the organisation's key",
+    809: "the key file is none",
+}
+REFUSED = re.compile(r"\brefused (\d+)\b.*")
+
+
+def in_words(refusal: str) -> dict:
+    """A line `refused <number> ..` as an answer."""
+    _, number, *rest = refusal.split()
+    why = NUMBERS.get(int(number), f"refused {number}")
+    return {"refused": int(number), "why": f"{why} ({' '.join(rest)})" if rest else why}
+
+
+def explained(line: str) -> str:
+    """A line, with what its refusal stands for, if it has one."""
+    if (found := REFUSED.search(line)) and int(found[1]) in NUMBERS:
+        return f"{line}: {NUMBERS[int(found[1])]}"
+    return line
+
+
+def at(version: str | None) -> str:
+    return f"at {version}" if version else "absent"
+
+
+def spelt(key: str) -> str:
+    """A key of the state as people read it."""
+    return bytes.fromhex(key).decode("utf-8", "backslashreplace")
+
+
+async def why(query: Query, tx: dict) -> str:
+    """Why a transaction of a block has its flag."""
+    flag = tx["flag"]
+    if flag == POLICY:
+        right = sorted({it["org"] for it in tx["endorsements"] if it["right"]})
+        return f"the endorsements that are right do not satisfy the policy: {', '.join(right) or 'none'}"
+    if flag == CONFLICT:
+        for read in tx["reads"]:
+            entry, _ = await query.ask_for("get", key=read["key"])
+            now = entry and entry["version"]
+            if now != read["version"]:
+                return f"it read {spelt(read['key'])} {at(read['version'])}, which is {at(now)} now; call again"
+    if flag == PHANTOM:
+        return "keys had come into or left a range that it read; call again"
+    if flag == DUPLICATE:
+        return "the same transaction stands earlier in the chain"
+    return FLAGS[flag]

@@ -1,0 +1,120 @@
+"""What those who ask a node may spell: proposals, keys, numbers. What is none is refused with words."""
+import re
+import secrets
+
+KINDS = {"chaincode": {"chaincode", "arg", "nonce"}, "upgrade": {"upgrade", "module", "profile", "fuel", "policy", "nonce"},
+         "members": {"members", "policy", "serial", "nonce"}}
+CHAINCODE = re.compile("[a-z0-9_-]{1,32}")
+DIGITS, NONCE, DIGEST = (re.compile(f"[0-9A-Fa-f]{it}") for it in ("*", "{32}", "{64}"))
+POLICY = re.compile("[ -~]{1,1024}")
+MOST_ARG, MOST_KEY, MOST_FUEL, MOST_SERIAL, MOST_MEMBERS = 4096, 64, 10_000_000, 2**32 - 1, 16
+PROFILES = (1, 2, 17, 18)
+ORGANISATION = re.compile("[A-Za-z0-9_]{1,32}")
+
+
+class Refused(Exception):
+    """The answer to a request that is not done, with its status."""
+
+    def __init__(self, status: int, said: dict):
+        super().__init__(said.get("why", status))
+        self.status, self.said = status, said
+
+
+def refuse(why: str) -> Refused:
+    """A request that has not the form that is asked for."""
+    return Refused(400, {"why": why})
+
+
+def check(passes: bool, why: str) -> None:
+    if not passes:
+        raise refuse(why)
+
+
+def matches(pattern: re.Pattern[str], value: object) -> bool:
+    return isinstance(value, str) and pattern.fullmatch(value) is not None
+
+
+def is_hex(value: object) -> bool:
+    return matches(DIGITS, value) and len(value) % 2 == 0
+
+
+def whole(value: object, least: int, most: int) -> bool:
+    return type(value) is int and least <= value <= most
+
+
+def objects(value: object, name: str, most: int) -> list[dict]:
+    """A list of objects."""
+    is_so = isinstance(value, list) and 0 < len(value) <= most and all(isinstance(it, dict) for it in value)
+    check(is_so, f"{name} is a list of 1 to {most} objects")
+    return value
+
+
+def call_of(body: dict) -> dict:
+    """The proposal of a call: `arg` is hex, `args` are texts with a space between, and a nonce is made where none is given."""
+    given = {it: body[it] for it in body if it != "organisations"}
+    check(set(given) <= {"chaincode", "arg", "args", "nonce"} and not {"arg", "args"} <= set(given),
+          "a call has chaincode, arg (in hex) or args (a list of texts), and may have nonce and organisations")
+    args = given.get("args", [])
+    check(isinstance(args, list) and all(isinstance(it, str) for it in args), "args is a list of texts")
+    arg = given.get("arg", " ".join(args).encode("utf-8", "surrogatepass").hex())
+    proposal = {"chaincode": given.get("chaincode"), "arg": arg or "-", "nonce": given.get("nonce", secrets.token_hex(16))}
+    return checked(proposal)
+
+
+def checked(proposal: dict) -> dict:
+    """A proposal that has the form of one: a call, an upgrade or an amendment."""
+    kind = next((it for it in KINDS if it in proposal), None)
+    check(kind is not None, "a proposal has chaincode, upgrade or members")
+    check(set(proposal) == KINDS[kind], f"a proposal with {kind} has exactly the fields {', '.join(sorted(KINDS[kind]))}")
+    check(matches(NONCE, proposal["nonce"]), "nonce is hex of 16 bytes")
+    {"chaincode": check_call, "upgrade": check_upgrade, "members": check_amendment}[kind](proposal)
+    return proposal
+
+
+def check_call(it: dict) -> None:
+    check(matches(CHAINCODE, it["chaincode"]), "chaincode is a name of 1 to 32 lower-case letters, digits, _ and -")
+    check(it["arg"] == "-" or is_hex(it["arg"]) and 0 < len(it["arg"]) <= 2 * MOST_ARG,
+          f"an argument is hex of 1 to {MOST_ARG} bytes, or - for none")
+
+
+def check_upgrade(it: dict) -> None:
+    check(matches(CHAINCODE, it["upgrade"]), "upgrade is a name of 1 to 32 lower-case letters, digits, _ and -")
+    check(matches(DIGEST, it["module"]), "module is the digest of one, hex of 32 bytes")
+    check(type(it["profile"]) is int and it["profile"] in PROFILES, "profile is 1, 2, 17 or 18")
+    check(whole(it["fuel"], 1, MOST_FUEL), f"fuel is a number from 1 to {MOST_FUEL}")
+    check(matches(POLICY, it["policy"]), "policy is a text of 1 to 1,024 characters")
+
+
+def check_amendment(it: dict) -> None:
+    for member in objects(it["members"], "members", MOST_MEMBERS):
+        check(set(member) <= {"name", "public"} and matches(ORGANISATION, member.get("name")),
+              "a member has a name of 1 to 32 letters, digits and _, and may have public")
+        check("public" not in member or matches(DIGEST, member["public"]), "public is a public key, hex of 32 bytes")
+    check(matches(POLICY, it["policy"]), "policy is a text of 1 to 1,024 characters")
+    check(whole(it["serial"], 0, MOST_SERIAL), "serial is a number from 0 on")
+
+
+def organisations_of(body: dict) -> list[str] | None:
+    """Whose endorsements are asked for, where the caller says so."""
+    named = body.get("organisations")
+    check(named is None or isinstance(named, list) and 0 < len(named) <= 32 and all(matches(ORGANISATION, it) for it in named),
+          "organisations is a list of their names")
+    return named and list(dict.fromkeys(named))
+
+
+def bound_of(text: str, name: str) -> str:
+    """A key, or the bound of a range, in hex: a text, or hex behind 0x."""
+    found = text[2:] if text.startswith("0x") else text.encode("utf-8", "surrogateescape").hex()
+    check(is_hex(found) and len(found) <= 2 * MOST_KEY, f"{name} is a text of up to {MOST_KEY} bytes, or hex behind 0x")
+    return found
+
+
+def number_of(text: str, name: str, least: int, most: int) -> int:
+    check(text.isascii() and text.isdigit() and least <= int(text) <= most, f"{name} is a whole number from {least} to {most}")
+    return int(text)
+
+
+def seconds_of(text: str, most: float) -> float:
+    """A time to wait; a longer one than the longest counts as that."""
+    check(re.fullmatch(r"[0-9]{1,6}(\.[0-9]{1,6})?", text) is not None, f"wait is a number of seconds, up to {most:g}")
+    return min(most, float(text))

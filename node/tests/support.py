@@ -1,0 +1,98 @@
+"""What the tests of the node share."""
+import functools
+import logging
+import pathlib
+import subprocess
+import sys
+import tempfile
+
+ROOT = pathlib.Path(__file__).resolve().parents[2]
+sys.dont_write_bytecode = True
+for folder in ("node", "python"):
+    sys.path.insert(0, str(ROOT / folder))
+import program
+from regtuma import config
+
+# A test may block its loop for a while, and has connections refused.
+logging.getLogger("asyncio").setLevel(logging.CRITICAL)
+CONFIGURATION = """\
+organisation = "Maker"
+listen = "127.0.0.1:7051"
+page = "127.0.0.1:8080"
+
+[ledger]
+program = "ledger"
+genesis = "genesis.json"
+store = "chain.store"
+keys = "maker.key"
+
+[tls]
+certificate = "node.pem"
+key = "node.key"
+
+[authorities]
+Maker = "maker.ca.pem"
+Carrier = "carrier.ca.pem"
+
+[etcd]
+endpoints = ["https://127.0.0.1:2379"]
+user = "maker"
+password_file = "etcd.password"
+certificate = "node.pem"
+key = "node.key"
+
+[nodes]
+Carrier = "https://127.0.0.2:7051"
+
+[rights]
+read = ["Maker/*"]
+
+[ticks]
+wait = 0.5
+"""
+
+
+class Folder:
+    """A folder with a configuration, the files that it names, and two authorities."""
+
+    def __init__(self):
+        self.room = tempfile.TemporaryDirectory()
+        self.path = pathlib.Path(self.room.name)
+        for name in ("ledger", "genesis.json", "maker.key", "node.pem", "node.key", "etcd.password"):
+            self.file(name)
+        for name in ("Maker", "Carrier"):
+            (self.path / f"{name.lower()}.ca.pem").write_text(authority(name))
+        self.write(CONFIGURATION)
+
+    def file(self, name: str, mode: int = 0o600) -> None:
+        (self.path / name).touch(mode)
+
+    def write(self, text: str) -> str:
+        name = self.path / "node.toml"
+        name.write_text(text)
+        return str(name)
+
+    def config(self, *changes: tuple[str, str]) -> config.Config:
+        """The configuration in which each of these texts stands for another one."""
+        text = CONFIGURATION
+        for old, new in changes:
+            assert old in text, old
+            text = text.replace(old, new, 1)
+        return config.read(self.write(text))
+
+    def close(self) -> None:
+        self.room.cleanup()
+
+
+@functools.cache
+def authority(organisation: str) -> str:
+    """A certificate of an authority, as openssl makes it."""
+    words = ["openssl", "req", "-x509", "-newkey", "ec", "-pkeyopt", "ec_paramgen_curve:P-256", "-nodes", "-keyout", "/dev/null",
+             "-subj", f"/O={organisation}/CN={organisation} authority"]
+    return subprocess.run(words, check=True, stdout=subprocess.PIPE, stderr=subprocess.DEVNULL, text=True).stdout
+
+
+def ledger(*words: object, lines: str = "") -> str:
+    """What the ledger's program prints."""
+    ran = subprocess.run([str(program.find()), *map(str, words)], input=lines, text=True, stdout=subprocess.PIPE)
+    return ran.stdout

@@ -1,0 +1,259 @@
+"""The API: each route stands in the documents, asks for a right, and tells what is wrong with a request."""
+import asyncio
+import contextlib
+import io
+import json
+import re
+import unittest
+from unittest import mock
+
+import support
+from aiohttp import web
+from aiohttp.test_utils import TestClient, TestServer
+from regtuma import api, config, page
+from regtuma.chain import Awaited, Chain
+from regtuma.endorsing import Endorsing
+from regtuma.fields import RIGHTS
+from regtuma.filters import FilterEnded
+from regtuma.gateway import Gateway
+from regtuma.ticks import LAST_BLOCK
+from test_chain import CALL, FakeLog, Says, Times
+
+ROW = re.compile(r"^\| `(GET|POST) (/[^`?\s]*)", re.MULTILINE)
+EMPTY = {"setting": {"ledger": 1}, "members": {"serial": 0}, "get": None, "range": [], "history": [], "transaction": None,
+         "call": {"result": "00"}}
+
+
+class Query:
+    """Answers each question by what a test says, or by nothing."""
+
+    def __init__(self, **answers):
+        self.answers, self.asked = {**EMPTY, **answers}, []
+
+    async def ask_for(self, what, **question):
+        self.asked.append((what, question))
+        return self.answers[what], 4
+
+    async def text_of(self, what, **question):
+        if what == "block":
+            return json.dumps({"block": question["number"], "txs": [{"chaincode": "assets", "id": "ab"}, {"amend": {}}]}), 4
+        return json.dumps(self.answers[what]), 4
+
+
+class Case(unittest.IsolatedAsyncioTestCase):
+    async def asyncSetUp(self):
+        folder = support.Folder()
+        self.addCleanup(folder.close)
+        self.config = folder.config(('read = ["Maker/*"]', "\n".join(f'{it} = ["Maker/alice", "*/node"]' for it in RIGHTS)))
+        self.config.ledger.template = str(support.ROOT / "examples/page/template.html")
+        self.said: list[str] = []
+        self.chain = Chain(self.config, FakeLog(), self.said.append)
+        self.chain.times, self.chain.query, self.chain.height = Times(), Query(), 4
+        endorsing = Endorsing(self.config, self.chain)
+        endorsing.endorsers = [Says()]
+        with mock.patch.object(config.Config, "node_tls", return_value=None):
+            gateway = Gateway(self.config, self.chain, endorsing)
+        self.addAsyncCleanup(gateway.close)
+        self.api = api.Api(self.config, self.chain, endorsing, gateway, {"lines": 1})
+        self.api.access.caller = lambda request: request.headers.get("Caller")
+        self.client = await self.serve(self.api.app())
+
+    async def serve(self, app) -> TestClient:
+        return await self.enterAsyncContext(TestClient(TestServer(app)))
+
+    async def ask(self, method: str, path: str, client=None, caller: str | None = "Maker/alice", **more) -> tuple[int, object]:
+        headers = {**({"Caller": caller} if caller else {}), **more.pop("headers", {})}
+        async with (client or self.client).request(method, path, headers=headers, **more) as said:
+            text = await said.text()
+            return said.status, json.loads(text) if said.content_type == "application/json" else text
+
+    async def get(self, path: str, **more) -> tuple[int, object]:
+        return await self.ask("GET", path, **more)
+
+    async def post(self, path: str, body, **more) -> tuple[int, object]:
+        return await self.ask("POST", path, json=body, **more)
+
+
+class Routes(Case):
+    def routes(self) -> set[tuple[str, str]]:
+        return {(method, re.sub(r"{(\w+)[^}]*}", lambda it: it[1].upper().replace("NUMBER", "N"), path))
+                for method, path, _, _ in [*self.api.reads(), *self.api.calls()]}
+
+    async def test_each_stands_in_the_documents(self):
+        """One page has the table of the API: exactly these routes."""
+        tables = [set(ROW.findall(it.read_text(encoding="utf-8"))) for it in (support.ROOT / "docs").glob("*.md")]
+        tables = [it for it in tables if ("GET", "/healthz") in it]
+        if not tables:
+            self.skipTest("no page of docs has the table of the API")
+        self.assertEqual(tables, [self.routes()])
+
+    async def test_each_needs_a_right(self):
+        for method, path, right, _ in [*self.api.reads(), *self.api.calls()]:
+            self.assertIn(right, RIGHTS)
+            status, said = await self.ask(method, re.sub("{.*}", "1", path), caller="Shop/alice")
+            self.assertEqual((status, said["why"]), (403, f"Shop/alice may not {right}"), path)
+
+    async def test_who_shows_no_certificate_may_nothing(self):
+        self.config.rights["read"] = ["*/*"]
+        self.assertEqual(await self.get("/height", caller=None), (403, {"why": "no certificate may not read"}))
+
+    async def test_a_post_has_the_type_of_json(self):
+        for path in ("/transactions", "/endorse", "/evaluate", "/agreed"):
+            status, said = await self.ask("POST", path, data="{}", headers={"Content-Type": "text/plain"})
+            self.assertEqual((status, said["why"]), (415, "a request has the type application/json"))
+
+    async def test_what_is_no_request(self):
+        self.assertEqual((await self.get("/nothing"))[0], 404)
+        self.assertEqual((await self.ask("DELETE", "/height"))[0], 405)
+        for body, told in (("[1]", "the body is a JSON object"), ("{", "the body is no JSON"), ("", "the body is no JSON")):
+            status, said = await self.ask("POST", "/transactions", data=body, headers={"Content-Type": "application/json"})
+            self.assertEqual((status, said["why"]), (400, told))
+        status, _ = await self.ask("POST", "/transactions", data=io.BytesIO(b"1" * (api.BODY + 1)), headers={"Content-Type": "application/json"})
+        self.assertEqual(status, 413)
+
+    async def test_a_filter_that_ends_is_told(self):
+        self.chain.query.ask_for = mock.AsyncMock(side_effect=FilterEnded("ledger query ended with status 1"))
+        self.assertEqual(await self.get("/members"), (503, {"why": "ledger query ended with status 1"}))
+
+
+class Reads(Case):
+    async def test_of_the_chain(self):
+        self.assertEqual(await self.get("/height"), (200, {"height": 4}))
+        self.assertEqual(await self.get("/setting"), (200, {"ledger": 1}))
+        self.assertEqual(await self.get("/members"), (200, {"serial": 0}))
+        status, block = await self.get("/blocks/4")
+        self.assertEqual((status, block["block"], block["at"]), (200, 4, 1.5))
+        self.assertEqual(await self.get("/blocks/5"), (404, {"why": "there is none", "height": 4}))
+        for it in ("0", "65536", "x", "-1"):
+            self.assertEqual((await self.get(f"/blocks/{it}"))[0], 400)
+        lines = (await self.get("/blocks?from=2&to=3"))[1].splitlines()
+        self.assertEqual([json.loads(it)["block"] for it in lines], [2, 3])
+        self.assertEqual(await self.get("/blocks?from=9"), (200, ""))
+
+    async def test_of_the_state(self):
+        self.chain.query.answers["get"] = {"key": "61", "value": "00", "version": "1.0"}
+        self.assertEqual((await self.get("/state/asset%2Fa%FF"))[0], 200)
+        self.assertEqual(self.chain.query.asked[-1], ("get", {"key": b"asset/a\xff".hex()}))
+        self.assertEqual((await self.get("/state/asset/a"))[0], 200)
+        self.assertEqual(self.chain.query.asked[-1], ("get", {"key": b"asset/a".hex()}))
+        self.assertEqual(await self.get("/state/" + "a" * 65), (400, {"why": "a key has 1 to 64 bytes"}))
+        self.assertEqual(await self.get("/state?start=a&end=0xff&limit=9"), (200, {"entries": [], "height": 4}))
+        self.assertEqual(self.chain.query.asked[-1], ("range", {"start": "61", "end": "ff", "limit": 9}))
+        for it in ("start=0xz", "limit=0", "limit=1001", "height=x"):
+            self.assertEqual((await self.get(f"/state?{it}"))[0], 400)
+        self.assertEqual(await self.get("/history/a"), (200, []))
+
+    async def test_a_height_is_waited_for(self):
+        with mock.patch.object(Chain, "at_least", return_value=False):
+            self.assertEqual((await self.get("/state/a?height=9"))[0], 503)
+
+    async def test_of_a_transaction(self):
+        id = "ab" * 32
+        self.assertEqual(await self.get(f"/transactions/{id}?wait=0.1"), (404, {"id": id, "pending": True, "why": "it is in no block"}))
+        self.assertEqual(await self.get("/transactions/ab"), (400, {"why": "an id is hex of 32 bytes"}))
+        self.assertEqual((await self.get(f"/transactions/{id}?wait=nan"))[0], 400)
+        asked = asyncio.ensure_future(self.get(f"/transactions/{id.upper()}?wait=5"))
+        while id not in self.chain.waiters:
+            await asyncio.sleep(0.01)
+        self.chain.resolve(id, {"id": id, "block": 5, "place": 0, "flag": 4, "result": ""})
+        said = (await asked)[1]
+        self.assertEqual((said["valid"], said["why"]), (False, "the same transaction stands earlier in the chain"))
+        self.assertEqual(self.chain.waiters, {})
+
+    async def test_events(self):
+        headers = {"Caller": "Maker/alice", "Last-Event-ID": "2"}
+        async with self.client.get("/events?chaincode=assets", headers=headers) as stream:
+            text = "".join([(await stream.content.readline()).decode() for _ in range(8)])
+        events = re.findall(r"id: (\d+)\nevent: block\ndata: (.*)\n\n", text)
+        self.assertEqual([(int(number), json.loads(data)["block"], len(json.loads(data)["txs"])) for number, data in events],
+                         [(3, 3, 1), (4, 4, 1)])
+        self.assertEqual((await self.get("/events?from=0"))[0], 400)
+        self.assertEqual((await self.get("/events", headers={"Last-Event-ID": "x"}))[0], 400)
+
+    async def test_the_page(self):
+        self.chain.query.answers["setting"] = {"ledger": "</script><b>"}
+        status, text = await self.get("/")
+        self.assertEqual((status, "new EventSource(" in text, "</script><b>" in text, "\\u003c/script>" in text), (200, True, False, True))
+        self.config.ledger.template = ""
+        self.assertEqual((await self.get("/"))[0], 404)
+
+    async def test_a_policy_of_the_page(self):
+        _, policy = page.live((support.ROOT / "examples/page/template.html").read_text(), ["{}"], "Maker")
+        self.assertIn("connect-src 'self'; script-src 'sha256-", policy)
+        with self.assertRaises(ValueError):
+            page.live("<html>", [], "Maker")
+
+
+class Health(Case):
+    async def test_it_does_its_work(self):
+        status, said = await self.get("/healthz")
+        self.assertEqual((status, said["ok"], said["wrong"], said["height"], said["program"]), (200, True, [], 4, {"lines": 1}))
+
+    async def test_what_is_wrong(self):
+        for told, changes in [("forked: Shop says", {"forked": "Shop says that it has another block 4"}),
+                              ("envelopes wait, and no tick comes", {"awaited": Awaited(5, 1, 1.0)}),
+                              ("no majority of etcd was seen for", {"led": -1e6}), ("20000 lines of the log are unread", {"given": 20000}),
+                              ("the chain is full", {"awaited": Awaited(LAST_BLOCK + 1)})]:
+            with self.subTest(told=told), contextlib.ExitStack() as changed:
+                for name, value in changes.items():
+                    changed.enter_context(mock.patch.object(self.chain, name, value))
+                status, said = await self.get("/healthz")
+                self.assertEqual((status, said["ok"], said["wrong"][0][:len(told)]), (503, False, told))
+
+    async def test_what_people_should_know(self):
+        self.chain.height, self.api.endorsing.out_of_place = LAST_BLOCK - 9, "refused 806"
+        status, said = await self.get("/healthz")
+        self.assertEqual((status, said["warnings"]), (200, ["nothing is endorsed: refused 806", "the chain has 9 blocks left"]))
+
+    async def test_metrics(self):
+        await self.get("/height")
+        self.chain.counts["flag 0"] += 7
+        text = (await self.get("/metrics"))[1]
+        for line in ("regtuma_height 4.0", f"regtuma_blocks_left {LAST_BLOCK - 4}.0", 'regtuma_counted_total{what="flag 0"} 7.0',
+                     'regtuma_requests_total{route="/height",status="200"} 1.0'):
+            self.assertIn(line, text)
+
+
+class Calls(Case):
+    async def test_evaluate(self):
+        self.assertEqual(await self.post("/evaluate", {"chaincode": "assets", "args": ["x"]}), (200, {"result": "00", "height": 4}))
+        self.chain.query.answers["call"] = {"refused": "404 status 2"}
+        self.assertEqual(await self.post("/evaluate", {"chaincode": "assets"}),
+                         (422, {"refused": 404, "why": "the chaincode refused the call (status 2)"}))
+
+    async def test_endorse(self):
+        self.api.endorsing.endorsers = [Says("endorsed aa 01")]
+        said = await self.post("/endorse", {"proposals": [CALL], "height": 4}, caller="Carrier/node")
+        self.assertEqual(said, (200, {"answers": [{"payload": "aa", "endorsement": "01", "height": 4}]}))
+        for body in ({}, {"proposals": []}, {"proposals": [1]}, {"proposals": [CALL], "height": "4"}, {"proposals": [{**CALL, "x": 1}]},
+                     {"proposals": [CALL] * (api.MOST_CALLS + 1)}):
+            self.assertEqual((await self.post("/endorse", body))[0], 400)
+
+    async def test_submit(self):
+        with mock.patch.object(Gateway, "submit", side_effect=[{"id": "ab", "pending": True}, {"id": "ab"}, {"id": "a"}, {"id": "b"}]):
+            self.assertEqual((await self.post("/transactions", CALL))[0], 202)
+            self.assertEqual(await self.post("/transactions?wait=5", CALL), (200, {"id": "ab"}))
+            self.assertEqual(await self.post("/transactions", {"calls": [CALL, CALL]}), (200, {"answers": [{"id": "a"}, {"id": "b"}]}))
+        for body in ({"calls": []}, {"calls": [CALL], "wait": 1}, {"calls": [CALL] * (api.MOST_CALLS + 1)}, {"chaincode": 1}):
+            self.assertEqual((await self.post("/transactions", body))[0], 400)
+
+    async def test_agree(self):
+        change = {"members": [{"name": "Maker"}], "policy": "'Maker'", "serial": 1, "nonce": "07" * 16}
+        status, said = await self.post("/agreed", change)
+        self.assertEqual((status, await self.get("/agreed")), (200, (200, {"agreed": [said["id"]]})))
+        self.assertIn(f"Maker/alice agrees to {said['id']}", self.said[0])
+        self.assertEqual((await self.post("/agreed", CALL))[0], 400)
+
+
+class Loopback(Case):
+    async def test_it_only_reads_and_is_asked_by_its_own_names(self):
+        client = await self.serve(self.api.page_app())
+        for host in ("127.0.0.1", "127.7.7.7:8080", "localhost:8080", "[::1]:8080"):
+            self.assertEqual(await self.get("/height", client=client, caller=None, headers={"Host": host}), (200, {"height": 4}))
+        for host in ("evil.example", "127.0.0.1.evil.example:80", "10.0.0.1", ""):
+            self.assertEqual((await self.get("/height", client=client, headers={"Host": host}))[0], 403)
+        self.assertEqual((await self.post("/transactions", CALL, client=client))[0], 404)
+
+
+if __name__ == "__main__":
+    unittest.main()

@@ -1,0 +1,416 @@
+"""The chain's decisions, with filters and a log that say what a test wants."""
+import asyncio
+import json
+import unittest
+from unittest import mock
+
+import support
+from regtuma import chain as chains
+from regtuma import config, filters
+from regtuma.chain import Asking, Awaited, Chain
+from regtuma.endorsing import Agreed, Endorsing
+from regtuma.etcd import LogError
+from regtuma.filters import Asked, Filter, FilterEnded
+from regtuma.gateway import Gateway
+from regtuma.proposals import Refused
+from regtuma.ticks import LAST_BLOCK
+from regtuma.wire import id_of
+
+CALL = {"chaincode": "assets", "arg": "00", "nonce": "07" * 16}
+ENDORSED = {"payload": "aa", "endorsement": "01", "height": 3}
+
+
+class Says:
+    """A filter that says these lines, and keeps what it is given."""
+
+    def __init__(self, *lines: str):
+        self.lines, self.given = list(lines), []
+
+    async def line(self) -> str:
+        if not self.lines:
+            raise FilterEnded("it has ended")
+        return self.lines.pop(0)
+
+    async def write(self, *lines: bytes) -> None:
+        self.given += lines
+
+    async def ask(self, line: str) -> str:
+        self.given.append(line)
+        return await self.line()
+
+
+class FakeLog:
+    """Takes entries, or fails."""
+
+    def __init__(self, failure: str = ""):
+        self.failure, self.entries = failure, {}
+
+    async def append(self, name: str, marks: list[str], _patience: float = 0) -> bool:
+        if self.failure:
+            raise LogError(self.failure)
+        self.entries[name] = marks
+        return True
+
+
+class Answers:
+    """A query that knows transactions by their ids, and which organisations satisfy a policy."""
+
+    def __init__(self, known=None, satisfying=()):
+        self.known, self.satisfying, self.asked = known or {}, [set(it) for it in satisfying], 0
+
+    async def ask_for(self, what, **question):
+        self.asked += 1
+        if what == "transaction":
+            return self.known.get(question["id"]), 1
+        if what == "setting":
+            return {"absolute": 4}, 1
+        return any(it <= set(question["orgs"]) for it in self.satisfying), 1
+
+    async def text_of(self, _what, number):
+        return json.dumps({"block": number, "txs": [{"id": "ab", "flag": 0}]}), number
+
+
+class Times:
+    def note(self, number):
+        pass
+
+    def of(self, number):
+        return 1.5
+
+
+class Case(unittest.IsolatedAsyncioTestCase):
+    async def asyncSetUp(self):
+        folder = support.Folder()
+        self.addCleanup(folder.close)
+        self.said = []
+        self.config = folder.config()
+        self.chain = Chain(self.config, FakeLog(), self.said.append)
+        self.chain.times, self.chain.query = Times(), Answers(satisfying=[("Maker", "Carrier"), ("Carrier", "Shop")])
+        self.endorsing = Endorsing(self.config, self.chain)
+        with mock.patch.object(config.Config, "node_tls", return_value=None):
+            self.gateway = Gateway(self.config, self.chain, self.endorsing)
+        self.addAsyncCleanup(self.gateway.close)
+
+    async def endorsed(self, *proposals: dict) -> list[dict]:
+        """What the organisation answers to proposals, or to a call."""
+        return await self.endorsing.answers("Shop/node", list(proposals) or [CALL])
+
+    async def passed(self, *lines: str) -> None:
+        """The orderer says these lines."""
+        self.chain.order, self.chain.commit = Says(*lines), Says()
+        with self.assertRaises(FilterEnded):
+            await self.chain.pass_blocks()
+
+
+class Ticks(Case):
+    def due(self, now, awaited, asking=Asking(), **changes):
+        self.chain.awaited, self.chain.asking = awaited, asking
+        for name, value in changes.items():
+            setattr(self.chain, name, value)
+        return self.chain.is_due(now)
+
+    async def test_a_block_is_asked_for_after_the_wait(self):
+        self.assertEqual([self.due(it, Awaited(4, 1, 100.0)) for it in (100.4, 100.5)], [False, True])
+        self.assertFalse(self.due(200.0, Awaited(4)))
+
+    async def test_each_further_tick_waits_twice_as_long(self):
+        asked = Asking(4, 2, 101.0)
+        self.assertEqual([self.due(it, Awaited(4, 1, 100.0), asked) for it in (102.9, 103.0)], [False, True])
+        self.assertTrue(self.due(100.5, Awaited(5, 1, 100.0), asked))
+
+    async def test_nobody_asks_before_the_log_is_read(self):
+        self.assertFalse(self.due(200.0, Awaited(4, 1, 100.0), given=5, read=4))
+
+    async def test_nobody_asks_on_a_fork(self):
+        self.assertFalse(self.due(200.0, Awaited(4, 1, 100.0), forked="Shop"))
+
+    async def test_nobody_asks_for_a_block_behind_the_last(self):
+        found = [self.due(200.0, Awaited(it, 1, 100.0)) for it in (LAST_BLOCK, LAST_BLOCK + 1)]
+        self.assertEqual(found, [True, False])
+
+    async def test_names_of_ticks(self):
+        for _ in range(2):
+            self.chain.awaited = Awaited(4, 1, 0.0)
+            await self.chain.tick(1e10)
+        self.assertEqual(self.chain.log.entries, {"tick-4": ["tick"], "tick-4-2": ["tick"]})
+
+
+class Lines(Case):
+    async def test_blocks_and_signed_hashes_go_to_the_committer(self):
+        await self.passed("block 1 00", "seen Shop 1 ff 00", "skipped 5.0 300", "skipped 6.0 301", "read 6.0 2")
+        self.assertEqual(self.chain.commit.given, [b"block 1 00\n", b"seen Shop 1 ff 00\n"])
+        self.assertEqual((self.chain.awaited.number, self.chain.awaited.waiting, self.chain.read), (2, 2, 1))
+        self.assertEqual(self.chain.counts["skipped 301"], 1)
+
+    async def test_an_aborted_transaction_is_told(self):
+        waiter = self.chain.wait_for("ab")
+        await self.passed("aborted ab 441")
+        self.assertEqual((await self.gateway.outcome(waiter.result()))["refused"], 441)
+
+    async def test_a_refusal_is_told_in_words(self):
+        await self.passed("refused 807")
+        self.assertEqual(self.said, ["ledger order: refused 807: the log is of another genesis file"])
+
+    async def test_a_fork_stops_what_is_put(self):
+        await self.passed("forked Shop 4", "forked Carrier 8")
+        self.assertEqual(self.chain.forked, "Shop says that it has another block 4")
+        with self.assertRaises(Refused) as raised:
+            self.gateway.check_open()
+        self.assertEqual((raised.exception.status, raised.exception.said["why"]), (503, self.chain.forked))
+        self.assertEqual(await self.endorsed(), [{"denied": self.chain.forked, "height": 0}])
+
+    async def test_past_forks_it_goes_on(self):
+        self.config.ledger.past_forks = True
+        await self.passed("forked Shop 4")
+        self.assertIsNone(self.chain.forked)
+
+
+class End(Case):
+    async def test_calls_are_refused_behind_the_last_block(self):
+        self.gateway.check_open()
+        self.chain.awaited = Awaited(LAST_BLOCK + 1)
+        with self.assertRaises(Refused) as raised:
+            self.gateway.check_open()
+        self.assertEqual((raised.exception.status, raised.exception.said),
+                         (422, {"refused": 422, "why": "the chain is full: it has 65,535 blocks"}))
+
+    async def test_a_store_that_is_full_takes_none(self):
+        self.chain.height = LAST_BLOCK
+        self.assertTrue(self.chain.is_full)
+
+    async def test_who_waits_behind_the_last_block_is_told(self):
+        inside, outside = self.chain.wait_for("ab"), self.chain.wait_for("cd")
+        await self.chain.committed(LAST_BLOCK - 1)
+        self.assertEqual((inside.done(), outside.done()), (True, False))
+        inside = self.chain.wait_for("ab")
+        await self.chain.committed(LAST_BLOCK)
+        self.assertEqual((inside.result()["block"], outside.result()), (LAST_BLOCK, {"id": "cd", "refused": 422}))
+
+    async def test_reads_are_answered(self):
+        self.chain.height = LAST_BLOCK
+        self.assertIn('"at":1.5', await self.chain.block(LAST_BLOCK))
+
+
+class Entries(Case):
+    async def put(self, *envelopes: str) -> list:
+        work = asyncio.ensure_future(self.chain.put_envelopes())
+        done = await asyncio.gather(*(self.chain.put(it) for it in envelopes), return_exceptions=True)
+        work.cancel()
+        return done
+
+    async def test_what_waits_goes_together(self):
+        self.assertEqual(await self.put("aa", "bb"), [None, None])
+        (name, marks), = self.chain.log.entries.items()
+        self.assertEqual((name.startswith("Maker/call-"), marks), (True, ["aa", "bb"]))
+
+    async def test_entries_have_so_many_lines_and_characters(self):
+        await self.put(*["aa"] * (chains.ENTRY_LINES + 1))
+        self.assertEqual([len(it) for it in self.chain.log.entries.values()], [chains.ENTRY_LINES, 1])
+        self.chain.log.entries = {}
+        await self.put("a" * chains.ENTRY_CHARACTERS, "bb")
+        self.assertEqual([len(it) for it in self.chain.log.entries.values()], [1, 1])
+
+    async def test_each_is_told_of_a_failure(self):
+        self.chain.log.failure = "no majority"
+        self.assertEqual([str(it) for it in await self.put("aa", "bb")], ["no majority"] * 2)
+
+
+class Endorsements(Case):
+    async def test_a_change_needs_the_operators_word(self):
+        change = {"members": [{"name": "Maker"}], "policy": "'Maker'", "serial": 1, "nonce": "07" * 16}
+        self.assertIn("operator has not agreed to ", self.endorsing.denial(change))
+        self.endorsing.agreed.add(id_of(change))
+        self.assertIsNone(self.endorsing.denial(change))
+        self.assertIn("operator has not agreed to ", self.endorsing.denial({**change, "serial": 2}))
+        self.assertEqual(Agreed(self.endorsing.agreed.file).ids, {id_of(change)})
+
+    async def test_a_change_has_an_endorser_of_its_own(self):
+        change = {"members": [{"name": "Maker"}], "policy": "'Maker'", "serial": 1, "nonce": "07" * 16}
+        self.endorsing.agreed.add(id_of(change))
+        for script, answer in [("echo endorsed aa 01", {"payload": "aa", "endorsement": "01"}),
+                               ("echo refused 406", {"refused": "refused 406"}),
+                               ("echo refused 806; exit 1", {"refused": "refused 806"}),
+                               ("echo; echo", {"denied": "ledger endorse ended with status 0"}),
+                               ("exit 1", {"denied": "ledger endorse ended with status 1"})]:
+            with self.subTest(script=script):
+                self.endorsing.command = ["sh", "-c", script]
+                self.assertEqual(await self.endorsed(change), [{**answer, "height": 0}])
+
+    async def test_an_approver_is_asked(self):
+        self.endorsing.approver, self.endorsing.endorsers = Says("yes", "not today"), [Says("endorsed aa 01")]
+        said = await self.endorsed(CALL, {**CALL, "nonce": "08" * 16})
+        self.assertEqual(said, [{"payload": "aa", "endorsement": "01", "height": 0}, {"denied": "not today", "height": 0}])
+        self.assertEqual(json.loads(self.endorsing.approver.given[0]), {"asker": "Shop/node", **CALL})
+
+    async def test_what_an_endorser_answers(self):
+        self.endorsing.endorsers = [Says("endorsed aa 01", "refused 404 status 2", "bad line 3")]
+        self.assertEqual(await self.endorsed(CALL, CALL, CALL, CALL), [
+            {"payload": "aa", "endorsement": "01", "height": 0}, {"refused": "refused 404 status 2", "height": 0},
+            {"refused": "refused 303", "height": 0}, {"denied": "it has ended", "height": 0}])
+
+    async def test_who_is_no_member_endorses_nothing(self):
+        self.endorsing.out_of_place = "it is no member"
+        self.assertEqual(await self.endorsed(), [{"denied": "it is no member", "height": 0}])
+
+
+class Calls(Case):
+    """Answers are those of a list, by organisation."""
+
+    def answer(self, **answers):
+        self.asked = []
+
+        async def ask(organisation, _caller, _proposal, height):
+            self.asked.append((organisation, height))
+            return answers[organisation].pop(0)
+        self.gateway.ask = ask if answers else self.gateway.ask
+
+    async def entries(self, count: int) -> None:
+        """Waits until so many entries are in the log."""
+        while len(self.chain.log.entries) < count:
+            await asyncio.sleep(0.01)
+
+    async def refusal(self, named=None) -> tuple[int, str]:
+        with self.assertRaises(Refused) as raised:
+            await self.gateway.endorsed("Maker/alice", CALL, named)
+        return raised.exception.status, raised.exception.said["why"]
+
+    async def test_the_fewest_are_asked(self):
+        self.assertEqual(await self.gateway.organisations(CALL), ["Maker", "Carrier"])
+        self.assertEqual(await self.gateway.fewest("assets", ["Shop", "Maker", "Carrier"]), ["Shop", "Carrier"])
+        self.assertEqual((await self.gateway.fewest("assets", ["Maker", "Carrier", "Shop"])), ["Maker", "Carrier"])
+
+    async def test_who_is_down_is_not_asked(self):
+        self.gateway.links["Carrier"].down = 1e18
+        self.answer()
+        self.assertEqual(await self.refusal(), (503, "the nodes that are up do not satisfy the policy of assets: Maker"))
+
+    async def test_an_envelope_is_made_of_what_agrees(self):
+        self.answer(Maker=[{**ENDORSED}], Carrier=[{**ENDORSED, "endorsement": "02"}])
+        self.assertEqual(await self.gateway.endorsed("Maker/alice", CALL, None), "aa020102")
+
+    async def test_who_is_behind_is_asked_again_on_the_height_of_the_other(self):
+        self.answer(Maker=[{**ENDORSED, "height": 2, "payload": "bb"}, ENDORSED], Carrier=[ENDORSED, ENDORSED])
+        await self.gateway.endorsed("Maker/alice", CALL, None)
+        self.assertEqual([height for _, height in self.asked], [0, 0, 3, 3])
+
+    async def test_refusals(self):
+        self.answer(Maker=[{"refused": "refused 404", "height": 3}], Carrier=[{"refused": "refused 404", "height": 3}])
+        self.assertEqual(await self.refusal(), (422, "the chaincode refused the call"))
+        self.answer(Maker=[ENDORSED], Carrier=[{"denied": "not today", "height": 3}])
+        self.assertEqual(await self.refusal(), (422, "Carrier does not endorse it: not today"))
+        self.answer(Maker=[ENDORSED], Carrier=[None])
+        self.assertEqual(await self.refusal(["Maker", "Carrier"]), (503, "no answer of Carrier"))
+        self.answer(Maker=[ENDORSED] * 12, Carrier=[{**ENDORSED, "payload": "bb"}] * 12)
+        self.assertEqual(await self.refusal(["Maker", "Carrier"]), (503, "the organisations do not simulate on one state"))
+
+    async def test_who_refuses_what_others_endorse(self):
+        no_module = {"refused": "refused 406", "height": 3}
+        self.answer(Maker=[ENDORSED] * 12, Carrier=[no_module] * 12)
+        self.assertEqual(await self.refusal(), (422, "Carrier does not endorse it: the module of the definition is not installed, or not at hand"))
+        self.assertEqual(len(self.asked), 6)
+        self.answer(Maker=[ENDORSED] * 3, Carrier=[{**no_module, "height": 2}, no_module, ENDORSED])
+        self.assertEqual(await self.gateway.endorsed("Maker/alice", CALL, None), "aa020101")
+
+    async def test_an_unknown_organisation(self):
+        self.assertEqual(await self.refusal(["Nobody"]), (422, "no node of Nobody is known here"))
+
+    async def test_a_change_names_who_has_agreed(self):
+        change = {"members": [{"name": "Maker"}], "policy": "'Maker'", "serial": 1, "nonce": "07" * 16}
+        with self.assertRaisesRegex(Refused, "names the organisations that have agreed to it"):
+            await self.gateway.submit("Maker/alice", change, 60.0)
+
+    async def test_one_nonce_is_put_once(self):
+        self.answer(Maker=[ENDORSED] * 2, Carrier=[ENDORSED] * 2)
+        work = asyncio.ensure_future(self.chain.put_envelopes())
+        both = [asyncio.ensure_future(self.gateway.submit("Maker/alice", CALL, 60.0)) for _ in range(2)]
+        await self.entries(1)
+        self.chain.resolve(id_of(CALL), {"id": id_of(CALL), "block": 1, "place": 0, "flag": 0, "result": ""})
+        first, second = await asyncio.gather(*both)
+        work.cancel()
+        self.assertEqual((first, first["valid"], len(self.chain.log.entries)), (second, True, 1))
+        self.assertEqual((self.gateway.under_way, self.chain.waiters), ({}, {}))
+
+    async def test_one_that_is_in_the_chain_is_not_put(self):
+        tx = {"id": id_of(CALL), "block": 1, "place": 0, "flag": 0, "result": "00"}
+        self.chain.query.known = {id_of(CALL): tx}
+        self.chain.height = LAST_BLOCK
+        self.assertEqual((await self.gateway.submit("Maker/alice", CALL, 5.0))["result"], "00")
+
+    async def test_it_is_told_that_one_is_in_no_block_yet(self):
+        self.answer(Maker=[ENDORSED], Carrier=[ENDORSED])
+        work = asyncio.ensure_future(self.chain.put_envelopes())
+        said = await self.gateway.submit("Maker/alice", CALL, 0.1)
+        work.cancel()
+        self.assertEqual((said["pending"], said["id"]), (True, id_of(CALL)))
+
+    async def test_what_is_in_the_log_is_not_put_again(self):
+        self.answer(Maker=[ENDORSED] * 2, Carrier=[ENDORSED] * 2)
+        work = asyncio.ensure_future(self.chain.put_envelopes())
+        for _ in range(2):
+            self.assertTrue((await self.gateway.submit("Maker/alice", CALL, 0.1))["pending"])
+            await self.entries(1)
+        self.assertEqual((len(self.chain.log.entries), self.gateway.in_log), (1, {id_of(CALL)}))
+        self.chain.resolve(id_of(CALL), {"id": id_of(CALL), "refused": 441})
+        await asyncio.sleep(0)
+        self.assertTrue((await self.gateway.submit("Maker/alice", CALL, 0.1))["pending"])
+        await self.entries(2)
+        work.cancel()
+
+    async def test_what_is_not_put_may_be_put_again(self):
+        self.answer(Maker=[ENDORSED] * 2, Carrier=[ENDORSED] * 2)
+        self.chain.log.failure = "no majority"
+        work = asyncio.ensure_future(self.chain.put_envelopes())
+        for _ in range(2):
+            failure, = await asyncio.gather(self.gateway.submit("Maker/alice", CALL, 60.0), return_exceptions=True)
+            self.assertEqual(str(failure), "no majority")
+        self.assertEqual((self.gateway.in_log, self.chain.waiters), (set(), {}))
+        work.cancel()
+
+    async def test_what_is_too_large_is_not_put(self):
+        self.answer(Maker=[{**ENDORSED, "payload": "aabb"}], Carrier=[{**ENDORSED, "payload": "aabb"}])
+        with self.assertRaises(Refused) as raised:
+            await self.gateway.submit("Maker/alice", CALL, 60.0)
+        self.assertEqual((raised.exception.status, raised.exception.said["refused"], self.chain.log.entries), (422, 421, {}))
+
+    async def test_several_are_answered_each_by_itself(self):
+        self.answer(Maker=[{"refused": "refused 404", "height": 3}], Carrier=[{"refused": "refused 404", "height": 3}])
+        said = await self.gateway.submit_all("Maker/alice", [CALL, {"chaincode": 5}], 60.0)
+        self.assertEqual((said[0]["refused"], said[1]["why"].split()[0]), (404, "chaincode"))
+
+
+class Filters(unittest.IsolatedAsyncioTestCase):
+    async def test_answers_come_in_their_order(self):
+        asked = Asked("cat", ["cat"])
+        await asked.start()
+        work = asyncio.ensure_future(asked.follow())
+        self.assertEqual(await asyncio.gather(*(asked.ask(str(it)) for it in range(9))), [str(it) for it in range(9)])
+        self.assertEqual(await asked.ask("refused 404 status 2"), "refused 404 status 2")
+        with self.assertRaisesRegex(FilterEnded, "^cat says: refused 703$"):
+            await asked.ask("refused 703")
+        with self.assertRaises(FilterEnded):
+            await work
+        await asked.close()
+
+    async def test_a_line_that_is_too_long_is_no_end(self):
+        with mock.patch.object(filters, "LONGEST", 1 << 20):
+            asked = Asked("cat", ["cat"])
+            await asked.start()
+            work = asyncio.ensure_future(asked.follow())
+            found = await asyncio.gather(*(asked.ask("a" * it) for it in (9, 5 << 20, 1 << 19, 3 << 20, 7)), return_exceptions=True)
+            self.assertEqual([len(it) if isinstance(it, str) else str(it) for it in found],
+                             [9, "cat has an answer of more than 1 MiB: ask for less", 1 << 19, "cat has an answer of more than 1 MiB: ask for less", 7])
+            work.cancel()
+            await asyncio.gather(work, return_exceptions=True)
+            await asked.close()
+
+    async def test_one_that_ends_is_told(self):
+        asked = Asked("false", ["false"])
+        await asked.start()
+        with self.assertRaisesRegex(FilterEnded, "^false ended with status 1$"):
+            await asked.follow()
+        with self.assertRaisesRegex(FilterEnded, "^x: /nowhere/x cannot be run: No such file or directory$"):
+            await Filter("x", ["/nowhere/x"]).start()
+
+
+if __name__ == "__main__":
+    unittest.main()

@@ -1,0 +1,90 @@
+"""Each mistake of a configuration is told in one sentence, with its place."""
+import unittest
+
+import support
+from regtuma import config
+
+# What stands in the configuration, what is put in its place, and what is told of it.
+MISTAKES = [
+    ('organisation = "Maker"\n', "", "node.toml: organisation is missing: it has to be a name of 1 to 32 letters"),
+    ('organisation = "Maker"', 'organisation = "Ma ker"', "line 1: organisation has to be a name of 1 to 32 letters, digits and _, and is 'Ma ker'"),
+    ('listen = "127.0.0.1:7051"', 'listen = "127.0.0.1"', "line 2: listen has to be an address and a port"),
+    ('listen = "127.0.0.1:7051"', 'listen = 7051', "line 2: listen has to be an address and a port"),
+    ('page = "127.0.0.1:8080"', 'page = "10.0.0.1:8080"', "line 3: page has to be a place on the loopback"),
+    ('page = "127.0.0.1:8080"', 'pages = "127.0.0.1:8080"', "line 3: pages is no name that is known here: possible are organisation, "
+     "listen, page, or a table of ledger, tls, etcd, ticks, rights, nodes, authorities"),
+    ('[ticks]\n', '[tick]\n', "tick is no name that is known here"),
+    ('program = "ledger"\n', "", "line 5: [ledger] program is missing: it has to be the name of a file"),
+    ('genesis = "genesis.json"', 'genesis = "other.json"', "line 7: [ledger] genesis names "),
+    ('store = "chain.store"', 'store = "nowhere/chain.store"', "line 8: [ledger] store names "),
+    ('keys = "maker.key"', 'key = "maker.key"', "line 9: [ledger] key is no name that is known here: possible are program, genesis, store, keys"),
+    ('keys = "maker.key"', 'endorsers = 0', "line 9: [ledger] endorsers has to be a whole number from 1 to 16, and is 0"),
+    ('keys = "maker.key"', 'endorsers = true', "[ledger] endorsers has to be a whole number"),
+    ('keys = "maker.key"', 'seen = 1.5', "[ledger] seen has to be a whole number from 1 to 65535, and is 1.5"),
+    ('keys = "maker.key"', 'approver = "yes"', "[ledger] approver has to be a command, as a list of words"),
+    ('keys = "maker.key"', 'past_forks = "no"', "[ledger] past_forks has to be true or false"),
+    ('[tls]\ncertificate = "node.pem"\n', '[tls]\n', "line 11: [tls] certificate is missing"),
+    ('Carrier = "carrier.ca.pem"\n', '', "line 15: [authorities] Carrier is missing: name the file with its authority's certificate"),
+    ('Carrier = "carrier.ca.pem"', 'Carrier = "maker.ca.pem"', "line 17: [authorities] Carrier names "),
+    ('Carrier = "carrier.ca.pem"', 'Carrier = "node.pem"', "which has to hold certificates of authorities alone"),
+    ('Carrier = "carrier.ca.pem"', 'Carrier = "carrier.ca.pem"\n"a b" = "carrier.ca.pem"', "line 18: [authorities] a b is no name of an organisation"),
+    ('["https://127.0.0.1:2379"]', '["http://127.0.0.1:2379"]', "line 20: [etcd] endpoints has to be a list of URLs with ports"),
+    ('["https://127.0.0.1:2379"]', '[]', "[etcd] endpoints has to be a list of URLs with ports, one at least"),
+    ('user = "maker"\n', '', "[etcd] user and password_file go together: name both, or none"),
+    ('Carrier = "https://127.0.0.2:7051"', 'Carrier = "https://127.0.0.2"', "[nodes] Carrier has to be a URL with a port"),
+    ('Carrier = "https://127.0.0.2:7051"', 'Maker = "https://127.0.0.2:7051"', "[nodes] Maker is this organisation itself"),
+    ('[rights]\nread', '[rights]\nwrite', "line 30: [rights] write is no name that is known here: possible are read, observe, evaluate, submit, endorse, agree"),
+    ('read = ["Maker/*"]', 'read = "Maker/*"', "[rights] read has to be a list of names of certificates"),
+    ('read = ["Maker/*"]', 'read = ["alice"]', "[rights] read has to be a list of names of certificates"),
+    ('wait = 0.5', 'wait = 0', "[ticks] wait has to be a number from 0.01 to 3600, and is 0"),
+    ('wait = 0.5', 'wait = 700', "[ticks] longest is 600, and below wait, which is 700"),
+    ('wait = 0.5', 'begins = 2026-12-01', "[ticks] begins and lasts_days go together: name both, or none"),
+    ('wait = 0.5', 'begins = "2026-12-01"\nlasts_days = 9', "[ticks] begins has to be a date, as 2026-12-01"),
+    ('listen = ', 'listen ', "node.toml is no TOML: "),
+    ('organisation = "Maker"', 'organisation = "Maker"\nledger = 1', "node.toml is no TOML: "),
+]
+
+
+class Mistakes(unittest.TestCase):
+    def setUp(self):
+        self.folder = support.Folder()
+        self.addCleanup(self.folder.close)
+
+    def test_a_whole_one_is_read(self):
+        found = self.folder.config()
+        self.assertEqual((found.organisation, found.ledger.seen, found.ticks.wait), ("Maker", 64, 0.5))
+        self.assertEqual(found.ledger.store, str(self.folder.path / "chain.store"))
+
+    def test_each_mistake_is_one_sentence(self):
+        for old, new, told in MISTAKES:
+            with self.subTest(new=new):
+                with self.assertRaises(config.Mistake) as raised:
+                    self.folder.config((old, new))
+                said = str(raised.exception)
+                self.assertIn(told, said)
+                self.assertNotIn("\n", said)
+                self.assertIn("node.toml", said)
+
+    def test_secrets_are_the_owners_alone(self):
+        for name in ("maker.key", "node.key", "etcd.password"):
+            with self.subTest(name=name):
+                (self.folder.path / name).chmod(0o640)
+                with self.assertRaisesRegex(config.Mistake, f"{name}, which others than its owner may read: chmod 600 "):
+                    self.folder.config()
+                (self.folder.path / name).chmod(0o600)
+
+    def test_no_table_is_left_out_by_another_kind(self):
+        text = support.CONFIGURATION.replace("[ticks]\nwait = 0.5\n", "")
+        with self.assertRaisesRegex(config.Mistake, "line 1: ticks has to be a table"):
+            config.read(self.folder.write(f"ticks = 5\n{text}"))
+
+    def test_a_file_that_is_not_there(self):
+        with self.assertRaisesRegex(config.Mistake, "^nowhere.toml cannot be read: No such file or directory$"):
+            config.read("nowhere.toml")
+        (self.folder.path / "node.toml").write_bytes(b"\xff")
+        with self.assertRaisesRegex(config.Mistake, "node.toml is no UTF-8$"):
+            config.read(str(self.folder.path / "node.toml"))
+
+
+if __name__ == "__main__":
+    unittest.main()

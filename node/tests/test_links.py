@@ -1,0 +1,122 @@
+"""Another organisation's node, which answers in time, late, or not at all; and what is put into the log by hand."""
+import asyncio
+import hashlib
+import unittest
+from unittest import mock
+
+import support
+from regtuma import config, links, log
+from regtuma.etcd import Log, base64_of
+from regtuma.links import Link
+from test_chain import CALL, ENDORSED
+from test_etcd import DONE, NOT_DONE, Node
+
+
+CHANGE = {"members": [{"name": "Maker"}], "policy": "'Maker'", "serial": 1, "nonce": "07" * 16}
+ANSWER = {**ENDORSED}
+
+
+def answers(count: int) -> tuple[int, dict]:
+    return 200, {"answers": [ANSWER] * count}
+
+
+class Links(unittest.IsolatedAsyncioTestCase):
+    async def link(self, *answered) -> Link:
+        self.node = await self.enterAsyncContext(Node(*answered))
+        folder = support.Folder()
+        self.addCleanup(folder.close)
+        found = folder.config()
+        found.nodes["Carrier"] = self.node.url
+        self.said: list[str] = []
+        with mock.patch.object(config.Config, "node_tls", return_value=None):
+            link = Link("Carrier", found, self.said.append)
+        self.addAsyncCleanup(link.close)
+        return link
+
+    def proposals(self) -> list[int]:
+        return [len(body["proposals"]) for _, body, _ in self.node.asked]
+
+    async def test_what_is_asked_at_once_goes_together(self):
+        link = await self.link(answers(5))
+        found = await asyncio.gather(*(link.ask(CALL, it) for it in range(5)))
+        self.assertEqual((found, self.proposals(), self.node.asked[0][1]["height"]), ([ANSWER] * 5, [5], 4))
+
+    async def test_a_slow_node_gets_fewer_at_a_time(self):
+        link = await self.link(answers(2), answers(2), answers(1))
+        link.each = 0.5
+        await asyncio.gather(*(link.ask(CALL, 0) for _ in range(5)))
+        self.assertEqual(self.proposals(), [2, 2, 1])
+        self.assertLess(link.each, 0.5)
+
+    async def test_a_node_that_answers_late_is_slow(self):
+        link = await self.link([b"{"])
+        with mock.patch.object(links, "ENDORSE_SECONDS", 0.1):
+            self.assertIsNone(await link.ask(CALL, 0))
+        link = await self.link()
+        with mock.patch.object(Link, "post", return_value=None), mock.patch.object(links, "ENDORSE_SECONDS", -1.0):
+            self.assertIsNone(await link.ask(CALL, 0))
+        self.assertEqual(link.each, 0.04)
+
+    async def test_a_node_that_gives_no_answer_is_passed_over_for_a_while(self):
+        for failure, told in [((403, {"why": "Maker/node may not endorse"}), "Maker/node may not endorse"), (None, "Server disconnected"),
+                              ((200, {"answers": []}), "it does not answer each proposal"), ((200, {}), "it does not answer each proposal"),
+                              ((200, {"answers": [{"payload": "aa\n", "endorsement": "00", "height": 1}]}), "it does not answer each proposal"),
+                              ((200, []), "200")]:
+            with self.subTest(told=told):
+                link = await self.link(failure)
+                self.assertIsNone(await link.ask(CALL, 0))
+                self.assertGreater(link.down, 0)
+                self.assertIn(f"no endorsement of Carrier: {told}", self.said[0])
+
+    async def test_a_change_has_its_time(self):
+        link = await self.link()
+        with mock.patch.object(Link, "post", return_value=[ANSWER]) as post:
+            for proposal, patience in ((CALL, links.ENDORSE_SECONDS + 0.04), (CHANGE, links.CHANGE_SECONDS)):
+                link.each = 0.01
+                await link.ask(proposal, 3)
+                self.assertEqual(post.call_args.args, ([proposal], 3, patience))
+
+    async def test_nobody_hangs_where_something_fails(self):
+        link = await self.link()
+        with mock.patch.object(Link, "post", side_effect=RuntimeError("boom")):
+            self.assertIsNone(await link.ask(CALL, 3))
+
+
+class ByHand(unittest.IsolatedAsyncioTestCase):
+    async def asyncSetUp(self):
+        folder = support.Folder()
+        self.addCleanup(folder.close)
+        self.config = folder.config()
+
+    async def log(self, *answered) -> Log:
+        self.node = await self.enterAsyncContext(Node(*answered))
+        made = Log([self.node.url], "", "", None)
+        self.addAsyncCleanup(made.close)
+        return made
+
+    async def test_a_log_begins_once(self):
+        with self.assertRaisesRegex(log.NotDone, "the log has begun already"):
+            await log.begin(await self.log((200, {"count": "1"})), self.config, [])
+
+    async def test_marks_go_into_entries_in_which_ticks_count(self):
+        with mock.patch.object(log, "ENTRY_CHARACTERS", 7):
+            said = await log.begin(await self.log((200, {}), DONE, DONE, NOT_DONE), self.config, ["aabb", "tick", "cc"])
+        keys = [it[1]["compare"][0]["key"] for it in self.node.asked[1:]]
+        self.assertEqual(keys, [base64_of(f"log/{it}") for it in ("Maker/genesis", "tick-refill-1", "tick-refill-2")])
+        self.assertEqual(said, "the log has begun, and has 2 entries of 3 marks")
+
+    async def test_a_module_has_its_digest(self):
+        digest = hashlib.sha256(b"\0asm").hexdigest()
+        other, right = ((200, {"kvs": [{"value": base64_of(f"module 1 {it}")}]}) for it in ("00", b"\0asm".hex()))
+        self.assertEqual(await log.fetch(await self.log(other, right), self.config, digest), b"\0asm")
+        with self.assertRaisesRegex(log.NotDone, f"no organisation has put the module {digest}"):
+            await log.fetch(await self.log((200, {}), (200, {"kvs": [{"value": base64_of("no hex")}]})), self.config, digest)
+
+    async def test_a_refusal_of_the_program_is_told(self):
+        self.config.ledger.program = "false"
+        with self.assertRaisesRegex(log.NotDone, "^`false marks a b` answers: status 1$"):
+            log.asked(self.config, "marks", "a", "b")
+
+
+if __name__ == "__main__":
+    unittest.main()

@@ -1,0 +1,75 @@
+"""The node's process: what it refuses before it begins, and what it takes anew."""
+import asyncio
+import contextlib
+import io
+import unittest
+from unittest import mock
+
+import support
+from regtuma import node
+from regtuma.filters import FilterEnded
+
+
+class Starts(unittest.TestCase):
+    def setUp(self):
+        self.folder = support.Folder()
+        self.addCleanup(self.folder.close)
+
+    def program(self, script: str) -> str:
+        """A program that does this."""
+        file = self.folder.path / "program"
+        file.write_text(f"#!/bin/sh\n{script}\n")
+        file.chmod(0o700)
+        return str(file)
+
+    def told(self, *words: str) -> tuple[int, str]:
+        out, err = io.StringIO(), io.StringIO()
+        with contextlib.redirect_stdout(out), contextlib.redirect_stderr(err):
+            status = node.main(list(words))
+        return status, out.getvalue() + err.getvalue()
+
+    def test_words(self):
+        self.assertEqual(self.told("--help"), (0, f"{node.__doc__}\n"))
+        self.assertEqual(self.told(), (2, f"{node.__doc__}\n"))
+        self.assertEqual(self.told("nowhere.toml"), (2, "regtuma-node: nowhere.toml cannot be read: No such file or directory\n"))
+
+    def test_a_certificate_that_is_none(self):
+        status, said = self.told(self.folder.write(support.CONFIGURATION))
+        self.assertEqual((status, "a certificate or key of " in said, "Traceback" in said), (2, True, False))
+
+    def test_a_program_of_other_lines_is_refused(self):
+        for script, told in [("echo '{\"lines\":2}'", "speaks lines of number 2, and this node those of number 1"),
+                             ("echo no", "is no program of the ledger"), ("exit 1", "is no program of the ledger")]:
+            with self.subTest(script=script), self.assertRaisesRegex(FilterEnded, told):
+                asyncio.run(node.version_of(self.program(script)))
+        with self.assertRaisesRegex(FilterEnded, "^/nowhere/ledger cannot be run: No such file or directory$"):
+            asyncio.run(node.version_of("/nowhere/ledger"))
+        self.assertEqual(asyncio.run(node.version_of(self.program("echo '{\"lines\":1,\"rules\":7}'"))), {"lines": 1, "rules": 7})
+
+    def test_the_program_speaks_these_lines(self):
+        self.assertIn('"lines":1,', support.ledger("version"))
+
+    def test_rights_are_taken_anew_where_they_are_whole(self):
+        it = mock.Mock(config=self.folder.config())
+        for new, told, rights in [('read = ["Maker/bob"]', "rights are read anew", {"read": ["Maker/bob"]}),
+                                  ('reads = []', "rights stay as they were: ", {"read": ["Maker/bob"]})]:
+            self.folder.write(support.CONFIGURATION.replace('read = ["Maker/*"]', new))
+            with mock.patch.object(node, "say") as said:
+                node.Node.reload(it)
+            self.assertIn(told, said.call_args.args[0])
+            self.assertEqual(it.config.rights, rights)
+
+    def test_nothing_that_is_said_speaks_to_a_terminal(self):
+        out = io.StringIO()
+        with contextlib.redirect_stdout(out):
+            node.say("a\x1b[2Jb\nc")
+        self.assertEqual(out.getvalue(), "a?[2Jb?c\n")
+
+    def test_systemd_is_told(self):
+        with mock.patch.dict("os.environ", {"NOTIFY_SOCKET": "@regtuma"}), mock.patch("socket.socket") as made:
+            node.tell_systemd("READY=1")
+        made.return_value.__enter__.return_value.sendto.assert_called_once_with(b"READY=1", "\0regtuma")
+
+
+if __name__ == "__main__":
+    unittest.main()

@@ -1,0 +1,83 @@
+"""When blocks are asked for, over simulated years, and what is told of a chain that comes to its end."""
+import random
+import unittest
+
+import support
+from regtuma import ticks
+from regtuma.ticks import DAY, LAST_BLOCK, Ticks
+
+BEGINS = float(DAY)
+
+
+def chain(rule: Ticks, arrivals: list[float], block: int = 512) -> tuple[int, list[float]]:
+    """The number of the block behind those that calls at these times make, and how long each call waits, sorted."""
+    number, waits, pending = 1, [], []
+    for at in arrivals:
+        if pending and at >= (due := pending[0] + rule.seconds(number, pending[0])):
+            waits += [due - it for it in pending]
+            number, pending = number + 1, []
+        pending.append(at)
+        if len(pending) == block:
+            waits += [at - it for it in pending]
+            number, pending = number + 1, []
+    return number, sorted(waits)
+
+
+def office(days: int, calls_a_day: int) -> list[float]:
+    """Calls at random in the eight working hours of each of five days of seven."""
+    chance = random.Random(1)
+    return sorted(BEGINS + day * DAY + 9 * 3600 + chance.random() * 8 * 3600
+                  for day in range(days) if day % 7 < 5 for _ in range(calls_a_day))
+
+
+def plan(days: int, **more) -> Ticks:
+    return Ticks(**{"begins": BEGINS, "lasts_days": days, "burst": 1000, "longest": 600.0, **more})
+
+
+class Years(unittest.TestCase):
+    def test_light_traffic_waits_half_a_second(self):
+        number, waits = chain(plan(5 * 365), office(5 * 365, 30))
+        self.assertLess(number, LAST_BLOCK)
+        self.assertEqual(waits[len(waits) * 99 // 100], 0.5)
+
+    def test_a_chain_lasts_as_long_as_it_was_laid_out(self):
+        for calls in (100, 1000):
+            number, waits = chain(plan(365, longest=3600.0), office(365, calls))
+            self.assertLessEqual(number, LAST_BLOCK)
+            self.assertLess(waits[-1], 3600.1)
+
+    def test_five_busy_years(self):
+        number, _ = chain(plan(5 * 365, longest=3600.0), office(5 * 365, 300))
+        self.assertLessEqual(number, LAST_BLOCK)
+
+    def test_without_a_plan_each_block_waits_alike(self):
+        self.assertEqual(Ticks().seconds(60000, 1e9), 0.5)
+
+    def test_nobody_waits_longer_than_the_longest(self):
+        self.assertEqual(plan(365, longest=60.0).seconds(LAST_BLOCK, BEGINS + DAY), 60.0)
+
+    def test_before_the_day_it_begins_the_burst_is_there(self):
+        self.assertEqual((plan(365).seconds(1000, 0.0), plan(365).seconds(1001, 0.0) > 0.5), (0.5, True))
+
+
+class Words(unittest.TestCase):
+    def test_a_promise_that_is_not_kept_is_told(self):
+        self.assertIn("lets the chain end after 455 days of steady traffic, not after 1825: 2443 s would do", plan(1825).promise())
+        self.assertEqual((plan(365).promise(), Ticks().promise()), ("", ""))
+
+    def test_the_end_comes_near(self):
+        rule = Ticks()
+        said = [rule.warning(it, BEGINS) for it in (LAST_BLOCK - ticks.FEW, LAST_BLOCK - ticks.FEW + 1, LAST_BLOCK - 1, LAST_BLOCK)]
+        self.assertEqual(said, ["", "the chain has 4999 blocks left", "the chain has 1 blocks left",
+                                "the chain is full: it has its 65,535 blocks, and takes no calls"])
+
+    def test_ahead_of_the_plan(self):
+        self.assertIn("ahead of its plan, so a block is asked for after 600 s: 60535 blocks are left", plan(365).warning(5000, BEGINS))
+        self.assertEqual(plan(365).warning(900, BEGINS), "")
+
+    def test_the_last_block_is_the_end(self):
+        self.assertEqual([ticks.is_full(it) for it in (1, LAST_BLOCK, LAST_BLOCK + 1)], [False, False, True])
+
+
+if __name__ == "__main__":
+    unittest.main()
