@@ -1,0 +1,32 @@
+# make install [PREFIX=/usr/local] [DESTDIR=..]   installs the proved program, the node and the clients. Nothing is begun, and in
+#                                                 /etc only the units of systemd are written
+# make users                                      makes the users that the units run as, once on each machine
+#
+# Below PREFIX/lib/regtuma lies what is needed of the repository, each file where it has it. ./ledger dist packs the same.
+PREFIX ?= /usr/local
+LEDGER ?= crates/ledger_cli/out/ledger_cli
+LIB = $(DESTDIR)$(PREFIX)/lib/regtuma
+BIN = $(DESTDIR)$(PREFIX)/bin
+UNITS = $(DESTDIR)/etc/systemd/system
+
+FILES = VERSION LICENSE Makefile README.md $(wildcard docs/*.md python/*.py node/*.example node/regtuma/*.py node/regtuma/*.js \
+	node/clients/*.mjs node/systemd/* examples/node/*) examples/page/template.html crates/cli_words/src/table.rt
+SCRIPTS = ledger node/certs.sh $(wildcard node/bin/*)
+
+.PHONY: install users
+install:
+	@test -x $(LEDGER) || { echo "there is no proved program $(LEDGER): ./ledger prove makes it" >&2; exit 1; }
+	@for file in $(FILES); do install -D -m 644 $$file $(LIB)/$$file || exit 1; done
+	@for file in $(SCRIPTS); do install -D -m 755 $$file $(LIB)/$$file || exit 1; done
+	@install -m 755 $(LEDGER) $(LIB)/ledger_cli
+	@install -d $(BIN) $(UNITS)
+	@ln -sfn ../lib/regtuma/ledger $(BIN)/ledger
+	@ln -sfn ../lib/regtuma/node/certs.sh $(BIN)/regtuma-certs
+	@for name in regtuma regtuma-node regtuma-log; do ln -sfn ../lib/regtuma/node/bin/$$name $(BIN)/$$name || exit 1; done
+	@for unit in node/systemd/*; do sed 's|/usr/local|$(PREFIX)|g' $$unit > $(UNITS)/$$(basename $$unit) || exit 1; done
+	@echo "installed below $(DESTDIR)$(PREFIX)"
+
+users:
+	getent passwd regtuma > /dev/null || useradd --system --home-dir /var/lib/regtuma --shell /usr/sbin/nologin regtuma
+	getent passwd regtuma-etcd > /dev/null || \
+		useradd --system --home-dir /var/lib/regtuma-etcd --shell /usr/sbin/nologin regtuma-etcd

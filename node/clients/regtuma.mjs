@@ -1,0 +1,189 @@
+/**
+ * A client of Regtuma's nodes, for browsers and for Node.js, which needs nothing beside them.
+ *
+ *     const ledger = new Client(["https://10.0.0.1:7051"]);              // a browser, with its own certificate
+ *     const ledger = await fromEnvironment();                            // Node.js: REGTUMA_NODES, _CERT, _KEY, _CA
+ *     const { block, place } = await ledger.submit("assets", ["create", "pallet-7", "Maker"]);
+ *     const owner = text(await ledger.evaluate("assets", ["read", "pallet-7"]));
+ *     for await (const { block, txs } of ledger.blocks({ from: 1 })) console.log(block, txs.map(tx => tx.flag));
+ *
+ * A call is one transaction, by its nonce, however often nodes are asked for it: where one gives no answer the next one is
+ * asked for the same. What fails is told by an exception whose message is a sentence.
+ */
+
+/** Flags of a conflict and of a phantom, and the orderer's answers to a batch that has no legal order: these are tried again. */
+const CONFLICTS = [2, 3], ABORTED = [441, 442];
+/** How long to wait before the next node is asked, and how long a stream of blocks may be silent, in milliseconds. */
+const PAUSE = 200, SILENCE = 45_000;
+
+export const hex = bytes => Array.from(bytes, it => it.toString(16).padStart(2, "0")).join("");
+export const bytes = hex => Uint8Array.from(hex.match(/../g) ?? [], it => parseInt(it, 16));
+export const text = bytes => new TextDecoder().decode(bytes);
+const pause = milliseconds => new Promise(resolve => setTimeout(resolve, milliseconds));
+
+/** The call is in no block, or is there and not VALID: `said` has the flag, or the number of a refusal, and why. */
+export class NotValid extends Error {
+  constructor(status, said) {
+    super(said.why ?? `the node answers by status ${status}`);
+    Object.assign(this, { name: "NotValid", status, said });
+  }
+}
+
+/** No node answered. Whether a call is in the log is not known. */
+export class NoAnswer extends Error {
+  constructor(nodes, cause) {
+    super(`no node answers, of ${nodes.join(", ")}: ${cause.message}`, { cause });
+    this.name = "NoAnswer";
+  }
+}
+
+/** A call as the API takes it: `args` are bytes, a text, or texts with spaces between. */
+export function callOf(chaincode, args, { organisations, nonce } = {}) {
+  const arg = args instanceof Uint8Array ? args : new TextEncoder().encode([args].flat().join(" "));
+  return { chaincode, arg: hex(arg), nonce: nonce ?? hex(crypto.getRandomValues(new Uint8Array(16))), organisations };
+}
+
+export class Client {
+  /** `nodes` are URLs, asked in turn; a request fails after `seconds` without an answer. */
+  constructor(nodes, fetch = globalThis.fetch.bind(globalThis), { seconds = 40 } = {}) {
+    Object.assign(this, { nodes, fetch, seconds, turn: 0 });
+  }
+
+  /**
+   * Has a call committed: its id, block, place, flag and result once it is VALID. One that conflicts with another is made anew,
+   * `tries` times in all. `organisations` are to endorse, in place of those that the policy needs.
+   */
+  async submit(chaincode, args, { organisations, tries = 1, nonce } = {}) {
+    for (let left = tries - 1; ; left--, nonce = undefined) {
+      const said = await this.outcome(callOf(chaincode, args, { organisations, nonce }));
+      if (said.valid) return said;
+      if (left <= 0 || !CONFLICTS.includes(said.flag) && !ABORTED.includes(said.refused)) throw new NotValid(200, said);
+    }
+  }
+
+  /** What becomes of a call, whatever that is. */
+  async outcome(call) {
+    const patience = `?wait=${Math.max(1, this.seconds - 5)}`;
+    let said = await this.ask("POST", `/transactions${patience}`, call);
+    while (said.pending) said = await this.ask("GET", `/transactions/${said.id}${patience}`, undefined, [404]);
+    return said;
+  }
+
+  /** Has several calls committed by one request, each made by `callOf`: the answer to each, in order. They must not conflict. */
+  async submitAll(calls) {
+    const { answers } = await this.ask("POST", `/transactions?wait=${Math.max(1, this.seconds - 5)}`, { calls });
+    return Promise.all(answers.map((said, at) => said.pending ? this.outcome(calls[at]) : said));
+  }
+
+  /** The bytes of the result of a call that changes nothing, on the state that the node has. */
+  async evaluate(chaincode, args) {
+    const { arg } = callOf(chaincode, args);
+    return bytes((await this.ask("POST", "/evaluate", { chaincode, arg })).result);
+  }
+
+  /** A key's bytes, or null. */
+  async get(key) {
+    const said = await this.ask("GET", `/state/${encodeURIComponent(key)}`, undefined, [404]);
+    return "value" in said ? bytes(said.value) : null;
+  }
+
+  /** The first entries from a key on and below another one, each with `key`, `value` (both hex) and `version`. */
+  async state(start = "", end = "", limit = 64) {
+    return (await this.ask("GET", `/state?${new URLSearchParams({ start, end, limit })}`)).entries;
+  }
+
+  /** Each write of a VALID transaction to a key. */
+  history(key) {
+    return this.ask("GET", `/history/${encodeURIComponent(key)}`);
+  }
+
+  /** What became of a transaction, for which it waits so many seconds; `pending` where it is in no block. */
+  status(id, wait = 0) {
+    return this.ask("GET", `/transactions/${id}?wait=${wait}`, undefined, [404]);
+  }
+
+  /** Whether a node is well: `ok`, and `wrong`, a list of sentences. */
+  health() {
+    return this.ask("GET", "/healthz", undefined, [503]);
+  }
+
+  /** Blocks from a number on, by default those that are still to come, for ever. Where a node ends the next one goes on. */
+  async *blocks({ from } = {}) {
+    for (;;) {
+      try {
+        for await (const line of this.#lines(`/events${from ? `?from=${from}` : ""}`)) {
+          if (!line.startsWith("data: ")) continue;
+          const block = JSON.parse(line.slice(6));
+          from = block.block + 1;
+          yield block;
+        }
+      } catch { /* the next node goes on */ }
+      this.turn++;
+      await pause(PAUSE);
+    }
+  }
+
+  /** What a node answers. The next one is asked where one gives no answer, or cannot do it now (503). */
+  async ask(method, path, body, accept = []) {
+    for (const until = Date.now() + 1000 * this.seconds; ;) {
+      let error;
+      try {
+        const answer = await this.fetch(this.node + path, { method, headers: { "Content-Type": "application/json" },
+          body: body && JSON.stringify(body), signal: AbortSignal.timeout(1000 * this.seconds) });
+        const said = await answer.json();
+        if (answer.status < 400 || accept.includes(answer.status)) return said;
+        error = new NotValid(answer.status, said);
+      } catch (failure) {
+        error = new NoAnswer(this.nodes, failure);
+      }
+      if (error instanceof NotValid && error.status !== 503 || Date.now() > until) throw error;
+      this.turn++;
+      await pause(PAUSE);
+    }
+  }
+
+  /** The node whose turn it is. */
+  get node() {
+    return this.nodes[this.turn % this.nodes.length];
+  }
+
+  /** The lines of an answer, as they come. One that is silent too long is ended. */
+  async *#lines(path) {
+    const ending = new AbortController();
+    let timer = setTimeout(() => ending.abort(), SILENCE), left = "";
+    try {
+      const answer = await this.fetch(this.node + path, { signal: ending.signal });
+      for await (const piece of answer.body.pipeThrough(new TextDecoderStream())) {
+        clearTimeout(timer);
+        timer = setTimeout(() => ending.abort(), SILENCE);
+        const lines = (left + piece).split("\n");
+        left = lines.pop();
+        yield* lines;
+      }
+    } finally {
+      clearTimeout(timer);
+      ending.abort();
+    }
+  }
+}
+
+/** The client that the environment's REGTUMA_NODES, REGTUMA_CERT, REGTUMA_KEY and REGTUMA_CA name, for Node.js. */
+export async function fromEnvironment(options) {
+  const { readFileSync } = await import("node:fs"), { env } = await import("node:process");
+  const names = ["REGTUMA_NODES", "REGTUMA_CERT", "REGTUMA_KEY", "REGTUMA_CA"], missing = names.filter(it => !env[it]);
+  if (missing.length) throw new Error(`the environment has no ${missing.join(" and no ")}`);
+  const [cert, key, ca] = names.slice(1).map(it => readFileSync(env[it]));
+  return new Client(env.REGTUMA_NODES.split(","), await tlsFetch({ cert, key, ca }), options);
+}
+
+/** A fetch with a client's certificate, for Node.js, whose own has none. `options` has `cert`, `key` and `ca`, in PEM. */
+export async function tlsFetch(options) {
+  const https = await import("node:https"), { Readable } = await import("node:stream");
+  const agent = new https.Agent({ ...options, keepAlive: true });
+  return (url, { method = "GET", headers = {}, body, signal } = {}) => new Promise((resolve, reject) => {
+    const request = https.request(url, { method, headers, agent, signal },
+      answer => resolve(new Response(Readable.toWeb(answer), { status: answer.statusCode })));
+    request.on("error", reject);
+    request.end(body);
+  });
+}
