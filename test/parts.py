@@ -8,22 +8,24 @@ from collections.abc import Callable
 
 import changes
 import explaining
+import installing
 import keygen
 import members
 import modules_files
 import networks
 import questions
+import reasons as sentences
 from calling import find_pieces
 from pages import Block, Typist, blocks_of
 from report import Report, run
-from tree import ENVIRONMENT, ROOT
+from tree import ENVIRONMENT, ROOT, program
 
 # How long a script may take to say how it is used, and how long tests may take, in seconds.
 SHORT, LONG = 30, 550
 # The folders whose scripts people run, and those of which they import modules.
 SCRIPTS = ["ledger", "docs/definitions", "docs/stands-on", "bench/hostile", "test/documents", "examples/chaincode/build.sh",
            "examples/assets/*.py", "examples/page/*.py", "examples/page/test", "examples/roles/*.py", "examples/roles/plain",
-           "examples/roles/run"]
+           "examples/roles/run", "node/bin/*", "node/certs.sh"]
 # A C source of which clang copies a struct and fills one with zeros.
 STRUCTS = """
 #include "fabric.h"
@@ -166,6 +168,15 @@ def numbers(report: Report, at: Setting) -> None:
     explaining.try_explain(report, at.tree, at.env)
 
 
+def install(report: Report, at: Setting) -> None:
+    installing.try_installing(report, at.tree, at.room, at.env)
+
+
+def node(report: Report, at: Setting) -> None:
+    """The node's own tests."""
+    at.run(report, "the node's tests", ["/usr/bin/python3", "-B", "-m", "unittest", "discover", "-s", "node/tests"])
+
+
 def network(report: Report, at: Setting) -> None:
     networks.try_networks(report, at.tree, at.room, at.env)
 
@@ -182,10 +193,14 @@ def query(report: Report, at: Setting) -> None:
     questions.try_questions(report, at.tree, at.room, at.env)
 
 
+def reasons(report: Report, at: Setting) -> None:
+    sentences.try_reasons(report, at.tree, at.room, at.tree / program())
+
+
 def calling(report: Report, at: Setting) -> None:
     find_pieces(report, at.tree, blocks_of(at.tree, "docs/CALLING.md"))
 
 
 # Those that take long come first.
-PARTS: list[Callable[[Report, Setting], None]] = [roles, page, query, chaincode, by_hand, tutorial, readme, formats, network, modules,
-                                                  change, numbers, keys, scripts, calling]
+PARTS: list[Callable[[Report, Setting], None]] = [roles, page, query, chaincode, node, by_hand, tutorial, readme, formats, network, modules,
+                                                  change, reasons, numbers, keys, install, scripts, calling]

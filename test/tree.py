@@ -11,14 +11,19 @@ ROOT = pathlib.Path(__file__).resolve().parent.parent
 BUILT = pathlib.Path("crates", "ledger_cli", "out")
 PROVED, UNPROVED = BUILT / "ledger_cli", BUILT / "unproved" / "ledger_cli"
 # What is not copied: what is no source, and the crates, which nothing here changes.
-LEFT_OUT = shutil.ignore_patterns(".git", "crates", "target", "__pycache__")
+LEFT_OUT = shutil.ignore_patterns(".git", "crates", "out", "target", "__pycache__")
 # What has to be there, and the package of Debian that has it.
 PACKAGES = {
     "/usr/bin/clang": "clang", "/usr/bin/wasm-ld": "lld", "/usr/bin/wat2wasm": "wabt", "/usr/bin/xxd": "xxd", "/usr/bin/jq": "jq",
     "/usr/bin/etcd": "etcd-server", "/usr/bin/etcdctl": "etcd-client", "/usr/bin/chromium": "chromium",
     "/usr/bin/cargo": "cargo", "/usr/bin/rustc": "rustc", "/usr/bin/openssl": "openssl",
+    "/usr/lib/python3/dist-packages/aiohttp": "python3-aiohttp",
+    "/usr/lib/python3/dist-packages/prometheus_client": "python3-prometheus-client",
+    "/usr/bin/make": "make", "/usr/bin/curl": "curl", "/usr/bin/node": "nodejs",
     "/usr/lib/rustlib/wasm32-unknown-unknown/lib": "libstd-rust-dev-wasm32",
 }
+# What ./ledger says of the program that it runs.
+ABOUT_THE_PROGRAM = ("ledger: unproved", "ledger: sources are newer")
 # Debian's commands before others of their names, since digests are those that its compilers make.
 ENVIRONMENT = {"PATH": f"/usr/bin:{os.environ['PATH']}", "RUSTC": "/usr/bin/rustc", "CARGO_NET_OFFLINE": "true"}
 PR_SET_CHILD_SUBREAPER = 36
