@@ -202,6 +202,7 @@ def complain(report: Report, tree: pathlib.Path, room: pathlib.Path, env: dict[s
             began = time.monotonic()
             ran = run(command, tree, PATIENCE, room_)
             took = time.monotonic() - began
-            lines = [it for it in ran.err.splitlines() if not it.startswith(ABOUT_THE_PROGRAM)]
+            # (the program's own sentence may stand before)
+            lines = [it for it in ran.err.splitlines() if not it.startswith("ledger: ")]
             is_told = ran.status == 1 and not ran.out and len(lines) == 1 and "Traceback" not in ran.err and took < AT_ONCE
             report.case(name, is_told, f"status {ran.status} after {took:.1f} s\n{ran.out}{ran.err}")
