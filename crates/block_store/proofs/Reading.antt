@@ -267,7 +267,7 @@ damage_holds_nothing before now cs p end held h bad e k =
 -- ---- any pieces
 
 -- what is damaged stays so, whatever follows
-damaged_longer : (n : ℕ) (bytes more : List ℕ) → IsDamaged n bytes → IsDamaged n (bytes ++ more)
+pub damaged_longer : (n : ℕ) (bytes more : List ℕ) → IsDamaged n bytes → IsDamaged n (bytes ++ more)
 damaged_longer n bytes more (inl h) =
     inl (record {
       len = h.len;

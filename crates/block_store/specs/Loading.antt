@@ -1,5 +1,5 @@
 -- What loading a store gives.
-use Rattle.std.specs.Prelude.{◌≡◌, ℕ, ◌<◌, ◌⊎◌, List, ◌++◌, length}
+use Rattle.std.specs.Prelude.{◌≡◌, ℕ, ◌<◌, ◌⊎◌, List, [], ◌++◌, length, Option, IfSome}
 use Rattle.std.specs.List.{flat_map}
 use Rattle.fab_types.specs.Committed.{Committed}
 use Rattle.block_store.specs.Record.{record_bytes}
@@ -20,6 +20,13 @@ pub record IsLoaded (before now : List ℕ) (cs : List Committed) (end : End) : 
   pub read : now ≡ before ++ bytes
   pub gives : Gives bytes cs end
 
+-- of a store with these bytes: its records and end, or the whole records of the beginning that was read before the device failed
+abbrev pub StoreGives : List ℕ → List Committed → End → Type 0
+StoreGives bytes cs DeviceFailed = (read rest : List ℕ) × (bytes ≡ read ++ rest) × Gives read cs DeviceFailed
+StoreGives bytes cs Clean = Gives bytes cs Clean
+StoreGives bytes cs Torn = Gives bytes cs Torn
+StoreGives bytes cs (Damaged n) = Gives bytes cs (Damaged n)
+
 -- the device failed in the call exactly where the end says so
 abbrev pub IsTold : End → ℕ → ℕ → Type 0
 IsTold DeviceFailed failures now = failures < now
@@ -33,6 +40,15 @@ ReadsAll Clean AtEnd = AtEnd
 ReadsAll Torn AtEnd = AtEnd
 ReadsAll (Damaged n) AtEnd = Unit {0}
 ReadsAll DeviceFailed AtEnd = Unit {0}
+
+-- Behind what it had read before, a load gives these of a store, which has the known bytes where they are known. Without damage all of it was read
+pub record LoadsFrom (before now : List ℕ) (known : Option (List ℕ)) (cs : List Committed) (end : End) : Type 0 where
+  pub bytes : List ℕ
+  pub rest : List ℕ
+  pub held : IfSome known (λ held. bytes ≡ held)
+  pub read : before ++ bytes ≡ now ++ rest
+  pub all : ReadsAll end (rest ≡ [])
+  pub gives : StoreGives bytes cs end
 
 -- behind what was read before come whole records, and then so many bytes
 abbrev pub IsBehind : (before now : List ℕ) → List Committed → ℕ → Type 0

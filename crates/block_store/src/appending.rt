@@ -66,8 +66,9 @@ fn push_flags(flags: &[Flag], out: &mut Vec<u8>) -> Result<(), AllocError>
     Ok(())
 }
 
-/// The bytes of the record.
-fn encode_record(alloc: Global, block: &Block, flags: &[Flag]) -> Result<Vec<u8>, AllocError>
+/// The bytes of the record of a block and its flags, one for each transaction. The only error is
+/// want of memory.
+pub fn encode_record(alloc: Global, block: &Block, flags: &[Flag]) -> Result<Vec<u8>, AllocError>
     ensures spelled { IfOk result
         (λ v. v.items ≡ record_bytes (record { block = block.now; flags = flags.now })) }
     ensures within { OnOk result (IsBlock block.now) }

@@ -1,6 +1,7 @@
 //! What a store is read from and written to.
 
-ghost use Rattle.std.specs.Prelude.{ℕ, List, ◌<◌, length};
+ghost use Rattle.std.specs.Prelude.{ℕ, List, Option, None, ◌<◌, length};
+ghost use Rattle.std.specs.Io.KnownBytes.{ReadConsumes};
 ghost use Rattle.block_store.specs.Device.{ReadOnce, WroteOnce};
 
 /// A call of the device failed.
@@ -12,6 +13,9 @@ pub trait CountedRead {
     /// The bytes that it has handed out so far.
     ghost taken: { Self → List ℕ };
 
+    /// The bytes that are left to be handed out, where they are known.
+    ghost remaining: { Self → Option (List ℕ) } = { λ _. None };
+
     /// How many of its calls have failed.
     ghost failures: { Self → ℕ };
 
@@ -21,8 +25,9 @@ pub trait CountedRead {
     /// Fills the front of the buffer, and answers with how many bytes. It is 0 only at the end.
     fn read(&mut self, buffer: &mut [u8]) -> Result<usize, DeviceError>
         requires { 0 < length buffer.old }
-        ensures { ReadOnce result buffer.new (taken self.old) (taken self.new) (failures self.old)
-            (failures self.new) (IsAtEnd self.new) };
+        ensures once { ReadOnce result buffer.new (taken self.old) (taken self.new)
+            (failures self.old) (failures self.new) (IsAtEnd self.new) }
+        ensures known { ReadConsumes (remaining self.old) (remaining self.new) result buffer.new };
 }
 
 /// A device that takes bytes at its end and counts its failed calls. Whether bytes that it took

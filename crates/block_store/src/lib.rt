@@ -17,7 +17,7 @@ mod loading;
 mod record_reader;
 mod records;
 
-pub use appending::{AppendFault, append};
+pub use appending::{AppendFault, append, encode_record};
 pub use device::{CountedRead, CountedWrite, DeviceError};
 pub use end::End;
 pub use laws::{

@@ -1,7 +1,7 @@
 //! Loading a store.
 
 ghost use Rattle.std.specs.Prelude.{◌≡◌, ◌<◌, IfOk, length};
-ghost use Rattle.block_store.specs.Loading.{Holds, IsLoaded, IsTold, ReadsAll};
+ghost use Rattle.block_store.specs.Loading.{Holds, IsLoaded, IsTold, LoadsFrom, ReadsAll};
 
 use crate::device::CountedRead;
 use crate::end::End;
@@ -42,6 +42,9 @@ fn load_by<R: CountedRead>(
     ensures all { IfOk result (λ l. ReadsAll l.end (R.IsAtEnd reader.new)) }
     ensures device { IfOk result
         (λ l. IsTold l.end (R.failures reader.old) (R.failures reader.new)) }
+    ensures store { IfOk result
+        (λ l. LoadsFrom (R.taken reader.old) (R.taken reader.new) (R.remaining reader.old)
+        l.blocks.items l.end) }
 {
     let mut records = RecordReader::new(alloc);
     let mut blocks = Vec::new(alloc);
@@ -82,6 +85,10 @@ pub fn load<R: CountedRead>(alloc: Global, reader: &mut R) -> Result<Loaded, All
     // The device is blamed exactly where a call of it failed.
     ensures device { IfOk result
         (λ l. IsTold l.end (R.failures reader.old) (R.failures reader.new)) }
+    // They are those of the store that was left to be read, where that is known.
+    ensures store { IfOk result
+        (λ l. LoadsFrom (R.taken reader.old) (R.taken reader.new) (R.remaining reader.old)
+        l.blocks.items l.end) }
 {
     let mut piece = zeros(alloc, PIECE)?;
     load_by(alloc, reader, &mut piece)

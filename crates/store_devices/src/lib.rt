@@ -55,6 +55,8 @@ impl<D: Read + Drop> CountedRead for Counted<D> {
 
     ghost taken = { λ c. c.history.moved };
 
+    ghost remaining = { λ c. D.remaining c.device };
+
     ghost failures = { λ c. c.history.failures };
 
     ghost IsAtEnd = { λ c. IsTrue c.is_at_end };

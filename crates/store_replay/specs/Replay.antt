@@ -1,5 +1,5 @@
 -- What replaying a store gives: its blocks committed one after another, as far as they fit.
-use Rattle.std.specs.Prelude.{◌≡◌, ◌≢◌, ℕ, Bool, true, false, ◌⊎◌, Option, Some, None, List, [], ◌∷◌, ◌++◌, ◌+◌, length}
+use Rattle.std.specs.Prelude.{◌≡◌, ◌≢◌, ℕ, Bool, true, false, ◌⊎◌, Option, Some, None, List, [], ◌∷◌, ◌++◌, ◌+◌, length, IfSome}
 use Rattle.fab_types.specs.Committed.{Committed}
 use Rattle.ledger_model.specs.Chain.{Chain}
 use Rattle.ledger_model.specs.Judged.{BlockRule}
@@ -7,7 +7,7 @@ use Rattle.committer.specs.Fits.{Fits, IsRefused, blocks_of}
 use Rattle.committer.specs.declared.refusal.CommitRefusal.{CommitRefusal}
 use Rattle.committer.specs.declared.refusal.CommitRefusal.TheVariants.{Memory}
 use Rattle.ledger_setting.specs.Judging.{next_by}
-use Rattle.block_store.specs.Loading.{Gives}
+use Rattle.block_store.specs.Loading.{Gives, StoreGives}
 use Rattle.store_replay.specs.declared.replaying.Replayed.{Replayed}
 
 -- a block does not fit, for this cause
@@ -53,3 +53,14 @@ pub record IsReplayed (rule : BlockRule) (before now : List ℕ) (r : Replayed) 
   pub gives : Gives bytes records r.end
   pub count : r.blocks ≡ length records
   pub replays : Replays rule [] records r.snapshot r.differs r.refused
+
+-- of a store with these bytes the whole blocks, committed, and the end; where the device failed, of a beginning of it
+pub record IsReplayOf (rule : BlockRule) (bytes : List ℕ) (r : Replayed) : Type 0 where
+  pub records : List Committed
+  pub gives : StoreGives bytes records r.end
+  pub count : r.blocks ≡ length records
+  pub replays : Replays rule [] records r.snapshot r.differs r.refused
+
+-- so a store was replayed, which has the known bytes where they are known
+abbrev pub ReplaysFrom : BlockRule → Option (List ℕ) → Replayed → Type 0
+ReplaysFrom rule known r = (bytes : List ℕ) × IfSome known (λ held. bytes ≡ held) × IsReplayOf rule bytes r

@@ -34,6 +34,11 @@ impl RecommitRefusal {
 }
 
 impl Display for RecommitRefusal {
+    ghost use Rattle.std.specs.Prelude.{Some};
+    ghost use Rattle.store_replay.specs.Numbers.{recommit_text};
+
+    ghost output = { λ r. Some (recommit_text r) };
+
     fn fmt<W: Write>(&self, f: &mut Formatter<W>) -> fmt::Result {
         match self {
             RecommitRefusal::Memory => write!(f, "refused 9"),

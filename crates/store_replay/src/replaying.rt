@@ -3,7 +3,7 @@
 ghost use Rattle.std.specs.Prelude.{◌≡◌, [], IfOk, None, length};
 ghost use Rattle.block_store.specs.Loading.{IsTold, ReadsAll};
 ghost use Rattle.ledger_setting.specs.Rule.{table_of};
-ghost use Rattle.store_replay.specs.Replay.{Replays, IsReplayed, earlier, first_of};
+ghost use Rattle.store_replay.specs.Replay.{Replays, ReplaysFrom, IsReplayed, earlier, first_of};
 
 use crate::pending::Pending;
 use crate::pushing::push;
@@ -110,6 +110,9 @@ pub fn replay_store<T: Threads + Sync, V: Watch, R: CountedRead>(
     // The device is blamed exactly where a call of it failed.
     ensures device { IfOk result
         (λ r. IsTold r.end (R.failures reader.old) (R.failures reader.new)) }
+    // They are those of the store that was left to be read, where that is known.
+    ensures store { IfOk result
+        (λ r. ReplaysFrom (table_of genesis.now.rules.value) (R.remaining reader.old) r) }
 {
     let loaded = load(alloc, reader)?;
     let blocks = loaded.blocks.len();
