@@ -2,7 +2,7 @@
 
 ghost use Rattle.std.specs.Prelude.{◌≡◌, [], ◌∷◌, ◌++◌, length, option_map, OnOk, OnErr, IfErr};
 ghost use Rattle.ledger_setting.specs.Rule.{table_of};
-ghost use Rattle.store_replay.specs.Lawful.{AreLawful, IsNextRefused};
+ghost use Rattle.store_replay.specs.Lawful.{AreLawful, IsNextRefused, IsRecommitRefused};
 ghost use Rattle.log_roles.specs.Committing.{block_at};
 ghost use Rattle.log_roles.specs.Following.{followed_chain};
 
@@ -70,6 +70,10 @@ impl ChainFollower {
             (AreLawful (table_of rules.now) (followed_chain self.old) records.items) }
         ensures followed { OnOk result
             (followed_chain self.new ≡ followed_chain self.old ++ records.items) }
+        ensures refused { IfErr result
+            (λ r. AreLawful (table_of rules.now) [] (followed_chain self.old) →
+            IsRecommitRefused (table_of rules.now)
+            (followed_chain self.old ++ records.items) r) }
     {
         recommit_behind(tags, self.alloc, rules, &mut self.snapshot, records)
     }

@@ -1,6 +1,6 @@
 -- A file with the records of a chain.
-use Rattle.std.proofs.Common.{◌≡◌, ℕ, ◌-◌, ◌+◌, List, [], ◌∷◌, ◌++◌, length, take, ap, ◌∙◌, arith, append-nil}
-use Rattle.std.specs.Prelude.{Err}
+use Rattle.std.proofs.Common.{◌≡◌, ℕ, ◌-◌, ◌+◌, inl, inr, Option, List, [], ◌∷◌, ◌++◌, length, take, sym, ap, subst, ◌∙◌, arith, append-nil}
+use Rattle.std.specs.Prelude.{Ok, Err}
 use Rattle.std.specs.List.{flat_map}
 use Rattle.std.proofs.Math.Seq.{take-append_seam}
 use Rattle.std.proofs.lemmas.Grind.{flat_map-append}
@@ -9,16 +9,20 @@ use Rattle.fab_types.specs.Committed.{Committed}
 use Rattle.fab_types.specs.declared.block.Block.{Block}
 use Rattle.ledger_model.specs.Chain.{Chain}
 use Rattle.ledger_model.specs.Judged.{BlockRule}
-use Rattle.block_store.specs.Loading.{IsBehind}
+use Rattle.block_store.specs.Loading.{Holds, IsBehind, LoadsFrom}
 use Rattle.block_store.specs.Record.{record_bytes}
+use Rattle.block_store.specs.declared.end.End.{End}
+use Rattle.block_store.specs.declared.end.End.TheVariants as end
 use Rattle.block_store.specs.declared.appending.AppendFault.{AppendFault}
 use Rattle.block_store.specs.declared.appending.AppendFault.TheVariants as append
-use Rattle.store_devices.specs.History.{cut_back}
+use Rattle.store_devices.specs.History.{cut_back, fresh}
+use Rattle.store_devices.specs.declared.Counted.{Counted}
+use Rattle.store_devices.specs.declared.history.History.{History}
 use Rattle.log_roles.specs.Committing.{Receives}
 use Rattle.log_roles.specs.declared.refusal.ReceiveRefusal.{ReceiveRefusal}
 use Rattle.log_roles.specs.declared.refusal.ReceiveRefusal.TheVariants.{Forked, Unfit}
 use Rattle.log_store.specs.Refusals.{append_refusal}
-use Rattle.log_store.specs.Storing.{IsOfMachine}
+use Rattle.log_store.specs.Storing.{IsOfMachine, IsOpened, cut_of}
 
 -- what is cut off behind whole records leaves them
 pub cut_behind : (moved : List ℕ) (cs : Chain) (held : ℕ) → IsBehind [] moved cs held → cut_back held moved ≡ flat_map record_bytes cs
@@ -41,3 +45,45 @@ refused_same rule old new block (Unfit cause) h = h.2
 pub append_is_of_machine : (fault : AppendFault) → IsOfMachine (append_refusal fault)
 append_is_of_machine append.Memory = tt
 append_is_of_machine (append.Device written) = tt
+
+-- ---- what a store that is opened is
+
+-- without damage all of it was read
+whole_read : (moved bytes rest : List ℕ) → bytes ≡ moved ++ rest → rest ≡ [] → bytes ≡ moved
+whole_read moved bytes rest split none = split ∙ ap (λ (t : List ℕ). moved ++ t) none ∙ append-nil moved
+
+cut_length : (moved bytes rest : List ℕ) (cs : Chain) (held : ℕ) → bytes ≡ moved ++ rest → rest ≡ [] → IsBehind [] moved cs held →
+    length bytes ≡ length (flat_map record_bytes cs) + held
+cut_length moved bytes rest cs held split none h =
+    let all = ap length (whole_read moved bytes rest split none ∙ h.1) in
+    omega (arith, all, h.2, length-append (flat_map record_bytes cs) h.0)
+
+pub opened_of : (known : Option (List ℕ)) (moved : List ℕ) (cs : Chain) (end : End) (held cut : ℕ) → LoadsFrom [] moved known cs end →
+    Holds end [] moved cs held → cut_of end held ≡ Ok cut → IsOpened known cs cut
+opened_of known moved cs end.Clean held cut from holds e =
+    let same : held ≡ cut = cc e in
+    record {
+      bytes = from.bytes;
+      held = from.held;
+      records = inl from.gives;
+      cut_off = cut_length moved from.bytes from.rest cs held from.read from.all holds.1 ∙ ap (λ (n : ℕ). length (flat_map record_bytes cs) + n) same;
+    }
+opened_of known moved cs end.Torn held cut from holds e =
+    let same : held ≡ cut = cc e in
+    record {
+      bytes = from.bytes;
+      held = from.held;
+      records = inr from.gives;
+      cut_off = cut_length moved from.bytes from.rest cs held from.read from.all holds ∙ ap (λ (n : ℕ). length (flat_map record_bytes cs) + n) same;
+    }
+opened_of known moved cs (end.Damaged n) held cut from holds e = absurd (cc e)
+opened_of known moved cs end.DeviceFailed held cut from holds e = absurd (cc e)
+
+pub opened_at : {D : Type 0} (left : D → Option (List ℕ)) (file : D) (start : Counted D) (moved : List ℕ) (cs chain : Chain) (end : End) (held cut : ℕ) →
+    start.device ≡ file → start.history ≡ fresh → LoadsFrom start.history.moved moved (left start.device) cs end →
+    Holds end start.history.moved moved cs held → cut_of end held ≡ Ok cut → chain ≡ cs → IsOpened (left file) chain cut
+opened_at {D} left file start moved cs chain end held cut same new from holds e all =
+    let here = subst (λ (d : D). LoadsFrom start.history.moved moved (left d) cs end) same from in
+    let begun = subst (λ (h : History). LoadsFrom h.moved moved (left file) cs end) new here in
+    let behind = subst (λ (h : History). Holds end h.moved moved cs held) new holds in
+    subst (λ (c : Chain). IsOpened (left file) c cut) (sym all) (opened_of (left file) moved cs end held cut begun behind e)

@@ -1,14 +1,16 @@
 //! An endorser beside a store that grows.
 
-ghost use Rattle.std.specs.Prelude.{◌≡◌, [], IsTrue, IfOk, OnOk, option_map};
+ghost use Rattle.std.specs.Prelude.{◌≡◌, ℕ, List, [], ◌++◌, IsTrue, IfErr, IfOk, OnOk, option_map};
 ghost use Rattle.std.specs.Arc.{arc_value};
+ghost use Rattle.std.specs.Io.KnownBytes.{IsAtEnd, Keeps};
 ghost use Rattle.endorsement_policy.specs.Endorsed.{seal_of};
 ghost use Rattle.endorsement_policy.specs.Judge.{plain_after};
 ghost use Rattle.endorsement_policy.specs.Membership.{standing_in};
 ghost use Rattle.endorser.specs.Endorsing.{endorsed_on};
 ghost use Rattle.simulator.specs.Answers.{Answers};
 ghost use Rattle.log_roles.specs.Committing.{block_at};
-ghost use Rattle.log_store.specs.Following.{IsFollowed, bytes_read, endorses_by, read_chain};
+ghost use Rattle.log_store.specs.Following.{IsFollowed, bytes_read, endorses_by, read_chain, store_bytes};
+ghost use Rattle.log_store.specs.Reading.{IsBlamed, IsReadRefused};
 
 use crate::reading::StoreReader;
 use crate::refusal::StoreRefusal;
@@ -48,6 +50,8 @@ impl<R: Read + Drop> StoreFollower<R> {
     ) -> Result<StoreFollower<R>, AllocError>
         ensures chain { IfOk result (λ s. (read_chain s ≡ []) × (bytes_read s ≡ [])) }
         ensures followed { IfOk result (λ s. IsFollowed s) }
+        ensures store { IfOk result
+            (λ s. store_bytes (R.remaining s.reader.file.device) s ≡ R.remaining file) }
         ensures endorsing { IfOk result
             (λ s. endorses_by s
             ≡ record {
@@ -77,7 +81,19 @@ impl<R: Read + Drop> StoreFollower<R> {
     ) -> Result<(), StoreRefusal>
         requires followed { IsFollowed self.old }
         ensures followed { OnOk result (IsFollowed self.new) }
-        ensures all { OnOk result (IsTrue self.new.reader.file.is_at_end) }
+        ensures all { OnOk result (IsTrue self.new.reader.file.is_at_end
+            × IsAtEnd (R.remaining self.new.reader.file.device)) }
+        ensures refused { IfErr result
+            (λ r. IsReadRefused (endorses_by self.old).listed r (bytes_read self.old)
+            (bytes_read self.new)) }
+        ensures grows { OnOk result
+            ((more : List ℕ) × (bytes_read self.new ≡ bytes_read self.old ++ more)) }
+        // The file is blamed exactly where a call of it failed.
+        ensures device { IsBlamed result self.old.reader.file.history.failures
+            self.new.reader.file.history.failures }
+        // What is known of the store stays so.
+        ensures store { Keeps (store_bytes (R.remaining self.old.reader.file.device) self.old)
+            (store_bytes (R.remaining self.new.reader.file.device) self.new) }
         ensures same { endorses_by self.new ≡ endorses_by self.old }
     {
         self.reader.catch_up(tags, self.endorser.rules())

@@ -1,9 +1,11 @@
 //! A store that grows, as it is read.
 
-ghost use Rattle.std.specs.Prelude.{◌≡◌, [], IsTrue, IfOk, OnOk, option_map};
+ghost use Rattle.std.specs.Prelude.{◌≡◌, ℕ, List, [], ◌++◌, true, false, IsTrue, IfErr, IfOk, OnOk, option_map};
+ghost use Rattle.std.specs.Io.KnownBytes.{IsAtEnd, Keeps};
 ghost use Rattle.endorsement_policy.specs.Endorsed.{Listed};
 ghost use Rattle.log_roles.specs.Committing.{block_at};
-ghost use Rattle.log_store.specs.Reading.{IsReadBy, bytes_read, read_chain};
+ghost use Rattle.log_store.specs.Reading.{IsBlamed, IsReadBy, IsReadRefused, bytes_read, read_chain, store_bytes};
+ghost use Rattle.log_store.specs.declared.refusal.StoreRefusal.TheVariants.{Damaged};
 
 use crate::refusal::StoreRefusal;
 use block_store::{CountedRead, RecordReader};
@@ -34,10 +36,12 @@ pub struct StoreReader<R: Drop> {
 }
 
 impl<R: Read + Drop> StoreReader<R> {
-    /// What has read nothing of a store.
+    /// What has read nothing of a store. The error is of memory.
     pub fn new(alloc: Global, file: R) -> Result<StoreReader<R>, AllocError>
         ensures chain { IfOk result (λ s. (read_chain s ≡ []) × (bytes_read s ≡ [])) }
         ensures read { (rules : Listed) → IfOk result (λ s. IsReadBy rules s) }
+        ensures store { IfOk result
+            (λ s. store_bytes (R.remaining s.file.device) s ≡ R.remaining file) }
     {
         let piece = vec![in alloc; 0u8; PIECE]?;
         Ok(StoreReader {
@@ -62,21 +66,28 @@ impl<R: Read + Drop> StoreReader<R> {
     ) -> Result<(), StoreRefusal>
         requires { IsReadBy rules.now self.old }
         ensures read { OnOk result (IsReadBy rules.now self.new) }
-        ensures all { OnOk result (IsTrue self.new.file.is_at_end) }
+        ensures all { OnOk result
+            (IsTrue self.new.file.is_at_end × IsAtEnd (R.remaining self.new.file.device)) }
+        ensures refused { IfErr result
+            (λ r. IsReadRefused rules.now r (bytes_read self.old) (bytes_read self.new)) }
+        ensures grows { OnOk result
+            ((more : List ℕ) × (bytes_read self.new ≡ bytes_read self.old ++ more)) }
+        // The file is blamed exactly where a call of it failed.
+        ensures device { IsBlamed result self.old.file.history.failures
+            self.new.file.history.failures }
+        // What is known of the store stays so.
+        ensures store { Keeps (store_bytes (R.remaining self.old.file.device) self.old)
+            (store_bytes (R.remaining self.new.file.device) self.new) }
     {
-        for _ in 0..u64::MAX {
+        'pieces: loop {
             let count = self.file.read(&mut self.piece)?;
             if count == 0 {
                 return Ok(());
             }
             let records = self.records.feed(&self.piece[..count])?;
             self.chain.follow_all(tags, rules, records)?;
-            if self.records.is_damaged() {
-                return Err(StoreRefusal::Damaged(self.records.next()));
-            }
+            check_sound(&self.records)?;
         }
-        // So many pieces no file has.
-        Err(StoreRefusal::File)
     }
 
     /// The blocks of the records that were read, and the state after them. It takes no memory.
@@ -93,4 +104,16 @@ impl<R: Read + Drop> StoreReader<R> {
     {
         self.chain.block(number)
     }
+}
+
+/// Refused where the records have shown damage (702).
+fn check_sound(records: &RecordReader) -> Result<(), StoreRefusal>
+    ensures sound { OnOk result (records.now.is_damaged ≡ false) }
+    ensures refused { IfErr result
+        (λ r. (records.now.is_damaged ≡ true) × (r ≡ Damaged records.now.next)) }
+{
+    if records.is_damaged() {
+        return Err(StoreRefusal::Damaged(records.next()));
+    }
+    Ok(())
 }

@@ -25,9 +25,10 @@ pub enum StoreRefusal {
 }
 
 impl Display for StoreRefusal {
+    ghost use Rattle.std.specs.Prelude.{Some};
     ghost use Rattle.log_store.specs.Refusals.{store_text};
 
-    ghost output = { store_text };
+    ghost output = { λ refusal. Some (store_text refusal) };
 
     fn fmt<W: fmt::Write>(&self, f: &mut Formatter<W>) -> fmt::Result {
         match self {

@@ -11,7 +11,7 @@ ghost use Rattle.block_store.specs.Loading.{Holds, IsBehind};
 ghost use Rattle.block_store.specs.Record.{record_bytes};
 ghost use Rattle.store_replay.specs.Lawful.{AreLawful};
 ghost use Rattle.log_roles.specs.Committing.{Receives, block_at, committed_chain};
-ghost use Rattle.log_store.specs.Storing.{IsOfMachine, IsReceiveRefused, IsStored, rules_of, stored_chain};
+ghost use Rattle.log_store.specs.Storing.{IsOfMachine, IsOpened, IsOpenRefused, IsReceiveRefused, IsStored, cut_of, rules_of, stored_chain};
 
 use crate::refusal::StoreRefusal;
 use block_store::{End, Loaded, append, load};
@@ -56,6 +56,10 @@ impl<D: Read + Write + Seek + OpenFile + Drop> StoredChain<D> {
         ensures lawful { IfOk result
             (λ p. AreLawful (table_of (arc_value rules)) [] (stored_chain p.0)) }
         ensures rules { IfOk result (λ p. rules_of p.0 ≡ arc_value rules) }
+        ensures opened { IfOk result
+            (λ p. IsOpened (D.remaining file) (stored_chain p.0) p.1) }
+        ensures refused { IfErr result
+            (λ r. IsOpenRefused (table_of (arc_value rules)) (D.remaining file) r) }
     {
         let mut file = Counted::new(file);
         let loaded = load(alloc, &mut file)?;
@@ -133,8 +137,9 @@ impl<D: Read + Write + Seek + OpenFile + Drop> StoredChain<D> {
 
 /// How many bytes stand behind the whole records of a store.
 fn held_of(loaded: &Loaded) -> Result<usize, StoreRefusal>
-    ensures { (before now : List ℕ) → Holds loaded.now.end before now loaded.now.blocks.items loaded.now.held →
+    ensures behind { (before now : List ℕ) → Holds loaded.now.end before now loaded.now.blocks.items loaded.now.held →
         IfOk result (λ held. IsBehind before now loaded.now.blocks.items held) }
+    ensures cut { result ≡ cut_of loaded.now.end loaded.now.held }
 {
     match loaded.end {
         End::Clean | End::Torn => Ok(loaded.held),

@@ -1,6 +1,6 @@
-use Rattle.std.proofs.Common.{rules, OnOk, subst, sym}
+use Rattle.std.proofs.Common.{rules, IfErr, OnOk, subst, sym}
 use Rattle.endorsement_policy.specs.Endorsed.{Listed}
-use Rattle.log_store.specs.Reading.{IsReadBy}
+use Rattle.log_store.specs.Reading.{IsReadBy, IsReadRefused, bytes_read}
 use Rattle.log_store.proofs.following.StoreFollower.catch_up.Goals as goal
 
 pub catch_up-requires : goal.catch_up-requires
@@ -11,3 +11,8 @@ catch_up-requires g c =
 pub returns-clause-followed : goal.returns-clause-followed
 returns-clause-followed g c =
     subst (λ (listed : Listed). OnOk c.catch_up.result (IsReadBy listed c.catch_up.new.self)) c.rules.ensures c.catch_up.ensures.read
+
+pub returns-clause-refused : goal.returns-clause-refused
+returns-clause-refused g c =
+    subst (λ (listed : Listed). IfErr c.catch_up.result (λ r. IsReadRefused listed r (bytes_read c.args.self.now.reader) (bytes_read c.catch_up.new.self))) c.rules.ensures
+    c.catch_up.ensures.refused

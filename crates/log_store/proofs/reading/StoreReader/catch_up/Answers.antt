@@ -1,40 +1,103 @@
-use Rattle.std.proofs.Common.{rules, ◌≡◌, ◌++◌, ℕ, [], List, length, take, drop, ap, ◌∙◌, sym, subst}
-use Rattle.std.proofs.Math.Seq.{take-append_seam}
+use Rattle.std.proofs.Common.{rules, ◌≡◌, ℕ, ◌<◌, ◌++◌, [], length, take, subst, sym, ap, arith}
+use Rattle.std.specs.Io.KnownBytes.{prepend_known}
+use Rattle.std.proofs.lemmas.List.{length-take}
 use Rattle.ledger_model.specs.Chain.{Chain}
 use Rattle.ledger_setting.specs.Rule.{table_of}
-use Rattle.block_store.specs.Progress.{FeedsBy, Reads}
-use Rattle.block_store.proofs.Reading.{reads_on}
-use Rattle.store_replay.specs.Lawful.{AreLawful}
+use Rattle.block_store.specs.Progress.{Progress, Reads}
+use Rattle.block_store.specs.Store.{Loads}
+use Rattle.block_store.specs.declared.end.End.TheVariants.{Damaged}
+use Rattle.block_store.proofs.Reading.{left_falls, reads_small}
+use Rattle.store_replay.specs.Lawful.{AreLawful, IsRecommitRefused}
 use Rattle.store_replay.proofs.Lawful.{lawful_joined}
 use Rattle.log_roles.specs.Following.{followed_chain}
+use Rattle.log_store.proofs.Known.{damaged_loads, grows_on, keeps_more, keeps_on, longer_on, next_small, piece_read, shown_same}
 use Rattle.log_store.proofs.reading.StoreReader.catch_up.Goals as goal
 
-pub loop-preserved : goal.loop-preserved
-loop-preserved g c =
-    let p = c.loop.self.records in
-    let q = c.feed.new.self in
-    let piece = take c.in_ok-count.count c.deref.result.now in
+pub returns-in_err-follow_all-clause-refused : goal.returns-in_err-follow_all-clause-refused
+returns-in_err-follow_all-clause-refused g c =
+    let inv = c.pieces.invariant.read in
     let buffer = c.read.new.buffer in
-    let size : length buffer ≡ c.loop.self.piece.len = search rules in
-    let same : c.deref.result.now ≡ buffer =
-    c.deref.ensures.value ∙ ap (λ (n : ℕ). take n (buffer ++ drop (length buffer) c.loop.self.piece.items)) (sym size)
-    ∙ take-append_seam buffer (drop (length buffer) c.loop.self.piece.items)
-    in
+    let moved = c.read.new.self.history.moved in
+    let size : length buffer ≡ c.pieces.self.piece.len = search rules in
+    let same = shown_same buffer c.pieces.self.piece.items c.deref.result.now c.pieces.self.piece.len size c.deref.ensures.value in
+    let before = followed_chain c.pieces.self.chain in
     let more = c.in_ok-records.records.items in
-    let before = followed_chain c.loop.self.chain in
-    let bytes = c.loop.self.file.history.moved in
-    let inv = c.loop.invariant in
-    let fed : Reads p.next (p.held ++ piece) more q = subst (λ d. FeedsBy d p piece more q) inv.1 c.in_ok-records.ensures.fed in
-    let read : Reads 1 (bytes ++ piece) (before ++ more) q = reads_on 1 bytes before p piece more q inv.1 inv.0 fed in
+    let read = piece_read c.pieces.self.file.history.moved moved buffer c.deref.result.now c.in_ok-count.count before more c.pieces.self.records
+    c.feed.new.self inv.0 inv.1 c.in_ok-records.ensures.fed same c.in_ok-count.ensures.once.1 in
+    let why : (cs : Chain) × (last : Progress) × Reads 1 moved cs last × IsRecommitRefused (table_of c.args.rules.now) cs c.in_err-follow_all.field-0.0 =
+    (before ++ more, c.feed.new.self, read, c.in_err-follow_all.ensures.refused inv.2) in
+    search rules
+
+pub returns-in_err-check_sound-clause-refused : goal.returns-in_err-check_sound-clause-refused
+returns-in_err-check_sound-clause-refused g c =
+    let inv = c.pieces.invariant.read in
+    let buffer = c.read.new.buffer in
+    let moved = c.read.new.self.history.moved in
+    let size : length buffer ≡ c.pieces.self.piece.len = search rules in
+    let same = shown_same buffer c.pieces.self.piece.items c.deref.result.now c.pieces.self.piece.len size c.deref.ensures.value in
+    let before = followed_chain c.pieces.self.chain in
+    let more = c.in_ok-records.records.items in
+    let q = c.feed.new.self in
     let rule = table_of c.args.rules.now in
-    let lawful : AreLawful rule [] (before ++ more) = lawful_joined rule before more inv.2 c.in_ok-follow_all.ensures.lawful in
-    let moved : c.read.new.self.history.moved ≡ bytes ++ piece =
-    c.in_ok-count.ensures.1 ∙ ap (λ (t : List ℕ). bytes ++ take c.in_ok-count.count t) (sym same)
-    in
-    let all = c.in_ok-follow_all.ensures.followed in (
-      subst (λ (chain : Chain). Reads 1 c.read.new.self.history.moved chain q) (sym all)
-          (subst (λ (t : List ℕ). Reads 1 t (before ++ more) q) (sym moved) read),
-      search rules,
-      subst (λ (chain : Chain). AreLawful rule [] chain) (sym all) lawful,
-      search rules,
-    )
+    let read = piece_read c.pieces.self.file.history.moved moved buffer c.deref.result.now c.in_ok-count.count before more c.pieces.self.records
+    q inv.0 inv.1 c.in_ok-records.ensures.fed same c.in_ok-count.ensures.once.1 in
+    let why : (cs : Chain) × Loads 1 moved cs (Damaged q.next) × AreLawful rule [] cs = (
+      before ++ more,
+      damaged_loads 1 moved (before ++ more) q (search rules) read,
+      lawful_joined rule before more inv.2 c.in_ok-follow_all.ensures.lawful,
+    ) in
+    search rules
+
+pub pieces-smaller : goal.pieces-smaller
+pieces-smaller g c =
+    let inv = c.pieces.invariant.read in
+    let p = c.pieces.self.records in
+    let buffer = c.read.new.buffer in
+    let count = c.in_ok-count.count in
+    let size : length buffer ≡ c.pieces.self.piece.len = search rules in
+    let same = shown_same buffer c.pieces.self.piece.items c.deref.result.now c.pieces.self.piece.len size c.deref.ensures.value in
+    let long = ap length same in
+    let within = c.in_ok-count.ensures.once.0 in
+    let many : 0 < count = search rules in
+    let piece = take count c.deref.result.now in
+    let some : 0 < length piece = omega (arith, within, long, many, length-take count c.deref.result.now) in
+    let bytes = c.pieces.self.file.history.moved in
+    let chain = followed_chain c.pieces.self.chain in
+    let limits = c.in_ok-records.ensures in
+    left_falls p piece c.in_ok-records.records.items c.feed.new.self inv.1 (search rules) limits.fed (next_small 1 bytes chain p (omega arith) inv.0)
+    (reads_small 1 bytes chain p inv.0) limits.next limits.held some
+
+pub pieces-preserved : goal.pieces-preserved
+pieces-preserved g c =
+    let inv = c.pieces.invariant.read in
+    let buffer = c.read.new.buffer in
+    let moved = c.read.new.self.history.moved in
+    let size : length buffer ≡ c.pieces.self.piece.len = search rules in
+    let same = shown_same buffer c.pieces.self.piece.items c.deref.result.now c.pieces.self.piece.len size c.deref.ensures.value in
+    let before = followed_chain c.pieces.self.chain in
+    let more = c.in_ok-records.records.items in
+    let q = c.feed.new.self in
+    let rule = table_of c.args.rules.now in
+    let read = piece_read c.pieces.self.file.history.moved moved buffer c.deref.result.now c.in_ok-count.count before more c.pieces.self.records
+    q inv.0 inv.1 c.in_ok-records.ensures.fed same c.in_ok-count.ensures.once.1 in
+    let lawful = lawful_joined rule before more inv.2 c.in_ok-follow_all.ensures.lawful in
+    let all = c.in_ok-follow_all.ensures.followed in
+    let old = c.args.self.now.file in
+    let file = c.pieces.self.file in
+    let piece = take c.in_ok-count.count buffer in
+    let left = g.R.Read.remaining in
+    let kept = keeps_more file.history.moved moved piece (left file.device) (left c.read.new.self.device) c.in_ok-count.ensures.once.1
+    c.in_ok-count.ensures.known.0 in
+    record {
+      read = (
+        subst (λ (chain : Chain). Reads 1 moved chain q) (sym all) read,
+        search rules,
+        subst (λ (chain : Chain). AreLawful rule [] chain) (sym all) lawful,
+        search rules,
+      );
+      longer = longer_on old.history.moved file.history.moved moved piece c.pieces.invariant.longer c.in_ok-count.ensures.once.1;
+      grows = grows_on old.history.moved file.history.moved moved piece c.pieces.invariant.grows c.in_ok-count.ensures.once.1;
+      failures = search rules;
+      store = keeps_on (prepend_known old.history.moved (left old.device)) (prepend_known file.history.moved (left file.device))
+          (prepend_known moved (left c.read.new.self.device)) c.pieces.invariant.store kept;
+    }
