@@ -133,6 +133,14 @@ impl Seat {
         Ok(entry_at(&snapshot, key)?)
     }
 
+    /// What this seat has seen or was told of, for others to learn. It takes no memory.
+    pub fn told(&self) -> Told
+        ensures { (cell_of_told result ≡ peer_of self.now) ×
+            (told_list result ≡ seen_chain self.now) }
+    {
+        self.reader.told()
+    }
+
     /// Takes in what the peer's writer told. One of the two lists begins with the other, and the
     /// seat has then seen the longer one.
     pub fn learn(&mut self, told: &Told)

@@ -152,6 +152,14 @@ impl PeerWriter {
         self.cell.newest()
     }
 
+    /// What the writer committed, for seats to learn. It takes no memory.
+    pub fn told(&self) -> Told
+        ensures { (cell_of_told result ≡ peer_of_writer self.now) ×
+            (told_list result ≡ published_chain self.now) }
+    {
+        self.cell.told()
+    }
+
     /// Puts one whole block, with the flags of its transactions, after the list in one step, and
     /// tells of that list. Four workers check the envelopes on the state after the list.
     ///

@@ -37,10 +37,10 @@ abbrev sizes : List Parcel → ℕ → ℕ → ℕ
 sizes got seat zero = 0
 sizes got seat (suc n) = length (of seat got) + sizes got (seat + 1) n
 
-of_other : (p : ℕ) (x : Parcel) (got : List Parcel) → p ≢ x.from → of p (x ∷ got) ≡ of p got
+pub of_other : (p : ℕ) (x : Parcel) (got : List Parcel) → p ≢ x.from → of p (x ∷ got) ≡ of p got
 of_other p x got other = ap (λ (b : Bool). if b then x.envelope ∷ of p got else of p got) (ne_eqb p x.from other)
 
-of_here : (p : ℕ) (x : Parcel) (got : List Parcel) → p ≡ x.from → of p (x ∷ got) ≡ x.envelope ∷ of p got
+pub of_here : (p : ℕ) (x : Parcel) (got : List Parcel) → p ≡ x.from → of p (x ∷ got) ≡ x.envelope ∷ of p got
 of_here p x got here = ap (λ (b : Bool). if b then x.envelope ∷ of p got else of p got) (eq-eqb p x.from here)
 
 sizes-none : (seat n : ℕ) → sizes [] seat n ≡ 0
@@ -54,7 +54,7 @@ sizes-below x got seat (suc n) below =
     let rest = sizes-below x got (seat + 1) n (omega (arith, below)) in
     omega (arith, ap (λ (es : List Envelope). length es) (of_other seat x got other), rest)
 
-same_or_not : (a b : ℕ) → (a ≡ b) ⊎ (a ≢ b)
+pub same_or_not : (a b : ℕ) → (a ≡ b) ⊎ (a ≢ b)
 same_or_not a b = ⊎_elim (λ h. inl h.1) (λ h. inr h.1) (eqb_tells a b)
 
 sizes-within : (x : Parcel) (got : List Parcel) (seat n : ℕ) → seat ≤ x.from → x.from < seat + n → sizes (x ∷ got) seat n ≡ suc (sizes got seat n)

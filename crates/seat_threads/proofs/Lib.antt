@@ -1,8 +1,11 @@
 pub mod Chaining
 pub mod Getting
+pub mod Growing
+pub mod Handing
 pub mod Places
 pub mod Retiring
 pub mod Rounding
 pub mod Sending
+pub mod Sifting
 pub mod Sums
 pub mod Telling

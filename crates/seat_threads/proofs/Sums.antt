@@ -5,6 +5,7 @@ use Rattle.std.proofs.Math.Nat.{suc-mul, mul-le-mul_right}
 use Rattle.simulator.specs.declared.refusal.SimRefusal.TheVariants.{UnknownChaincode, NotInstalled, BadPolicy, BadMembership, Trapped, Spent, Status, Stale, Memory}
 use Rattle.peer_node.specs.declared.refusal.FinishRefusal.{FinishRefusal}
 use Rattle.peer_node.specs.declared.refusal.FinishRefusal.TheVariants.{Simulation, NotEntered}
+use Rattle.ledger_model.specs.Chain.{Chain}
 use Rattle.seat_threads.specs.declared.counts.Counts.{Counts}
 use Rattle.seat_threads.specs.Rounds.{Outcome, rounds_in, sum_of, no_rounds, with_refused, with_outcome, counts_of, envelopes_in}
 use Rattle.seat_threads.specs.Work.{Task, AllCameTo, total_of}
@@ -55,9 +56,10 @@ envelopes-append (Ok x ∷ xs) ys = ap (λ l. x ∷ l) (envelopes-append xs ys)
 envelopes-append (Err r ∷ xs) ys = envelopes-append xs ys
 
 -- each seat has worked all rounds
-pub totalled : (task : Task) (seat : ℕ) (seats : List (List Outcome)) → AllCameTo task seat seats → rounds_in (total_of seats) ≡ length seats * task.rounds
-totalled task seat [] all = omega arith
-totalled task seat (outcomes ∷ others) all =
+pub totalled : (task : Task) (whole : Chain) (seat : ℕ) (seats : List (List Outcome)) → AllCameTo task whole seat seats →
+    rounds_in (total_of seats) ≡ length seats * task.rounds
+totalled task whole seat [] all = omega arith
+totalled task whole seat (outcomes ∷ others) all =
     let one = counted outcomes in
-    let rest = totalled task (seat + 1) others all.1 in
-    omega (arith, summed (counts_of outcomes) (total_of others), one, all.0.0, rest, suc-mul (length others) task.rounds)
+    let rest = totalled task whole (seat + 1) others all.1 in
+    omega (arith, summed (counts_of outcomes) (total_of others), one, all.0.1.0, rest, suc-mul (length others) task.rounds)

@@ -5,9 +5,10 @@ use Rattle.fab_types.specs.declared.envelope.Envelope.{Envelope}
 use Rattle.envelope_ordering.specs.Given.{WasGiven, WasCut}
 use Rattle.intake.specs.declared.rule.Parcel.{Parcel}
 use Rattle.intake.specs.Seats.{intake_of_receiver, knows}
-use Rattle.peer_node.specs.Writers.{published_chain, rules_of}
+use Rattle.peer_node.specs.Writers.{published_chain, peer_of_writer, rules_of}
 use Rattle.seat_threads.specs.declared.desk.Desk.{Desk}
 use Rattle.seat_threads.specs.Chains.{IsFirstOf}
+use Rattle.seat_threads.specs.Work.{Home}
 
 -- the envelopes that were got, in their order
 abbrev pub envelopes_got : List Parcel → List Envelope
@@ -35,8 +36,12 @@ IsInStep d = HasFirst d × HasAll d
 abbrev pub IsAtWork : Desk → Type 0
 IsAtWork d = HasFirst d × HasAll d × HasOrdered (envelopes_got (knows d.receiver).got) d
 
--- of one intake, with one set of rules and one way of ordering
+-- where the seats work that submit to it
+abbrev pub home_of : Desk → Home
+home_of d = record { intake = intake_of_receiver d.receiver; peer = peer_of_writer d.writer }
+
+-- of one intake and one peer, with one set of rules and one way of ordering
 abbrev pub IsSameDesk : Desk → Desk → Type 0
 IsSameDesk a b =
     (intake_of_receiver a.receiver ≡ intake_of_receiver b.receiver) × (rules_of a.writer ≡ rules_of b.writer) × (a.orderer.limits ≡ b.orderer.limits)
-    × (a.orderer.reorder ≡ b.orderer.reorder)
+    × (a.orderer.reorder ≡ b.orderer.reorder) × (peer_of_writer a.writer ≡ peer_of_writer b.writer)

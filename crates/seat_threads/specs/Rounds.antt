@@ -1,5 +1,5 @@
 -- The rounds of a seat: what each proposes, what it comes to, and how rounds are counted.
-use Rattle.std.specs.Prelude.{◌≡◌, ℕ, ◌+◌, ◌==◌, ◌⊎◌, List, [], ◌∷◌, ◌++◌, length, fold, slice_get, Option, Some, None, Result, Ok, Err, if◌then◌else◌}
+use Rattle.std.specs.Prelude.{◌≡◌, ℕ, ◌+◌, ◌==◌, ◌⊎◌, List, [], ◌∷◌, ◌++◌, length, fold, Option, Some, None, Result, Ok, Err, if◌then◌else◌}
 use Rattle.std.specs.Int.{w64, to_be_bytes}
 use Rattle.fab_types.specs.declared.proposal.Proposal.{Proposal}
 use Rattle.fab_types.specs.declared.proposal.Proposal.TheVariants.{Call}
@@ -12,6 +12,7 @@ use Rattle.peer_node.specs.declared.refusal.FinishRefusal.TheVariants.{Simulatio
 use Rattle.endorser.specs.Endorsing.{Endorsing}
 use Rattle.peer_node.specs.Refusals.{of_memory}
 use Rattle.peer_node.specs.Seats.{Endorses}
+use mathlib.Core.List.{IsPrefix}
 use Rattle.ledger_model.specs.Chain.{Bytes, Chain}
 use Rattle.seat_threads.specs.declared.counts.Counts.{Counts}
 use Rattle.seat_threads.specs.declared.refusal.SeatsRefusal.{SeatsRefusal}
@@ -25,17 +26,24 @@ proposal_of chaincode seat round = Call (record { chaincode = chaincode; argumen
 abbrev pub Outcome : Type 0
 Outcome = Result Envelope FinishRefusal
 
--- What a proposal comes to: an envelope with this endorser's endorsement alone, or the refusal to endorse, or want of memory for the envelope
+-- What a proposal comes to: an envelope with this endorser's endorsement alone, or the refusal to endorse, or want of memory for the envelope, before
+-- a chain was seen or behind it
 abbrev pub ComesTo : Endorsing → Proposal → (before after : Chain) → Outcome → Type 0
 ComesTo e p before after (Ok x) = (tag : Endorsement) × Endorses e p before after (Ok (x.payload, tag)) × (x.endorsements ≡ tag ∷ [])
-ComesTo e p before after (Err r) = Endorses e p before after (Err r) ⊎ (r ≡ of_memory)
+ComesTo e p before after (Err r) = Endorses e p before after (Err r) ⊎ ((r ≡ of_memory) × IsPrefix before after)
 
--- each round of a seat came to the outcome at its place
-abbrev pub CameTo : Endorsing → Bytes → (seat rounds : ℕ) → List Outcome → Type 0
-CameTo e chaincode seat rounds outcomes =
-    (length outcomes ≡ rounds)
-    × ((round : ℕ) (outcome : Outcome) → slice_get outcomes round ≡ Some outcome →
-    (before after : Chain) × ComesTo e (proposal_of chaincode seat round) before after outcome)
+-- The rounds of a seat from this one on came to these outcomes: the first one began with the chain `before`, each saw a chain that goes on with what was seen
+-- before it, and the last one left `after`
+abbrev pub ComeInTurn : Endorsing → Bytes → (seat round : ℕ) → (before after : Chain) → List Outcome → Type 0
+ComeInTurn e chaincode seat round before after [] = after ≡ before
+ComeInTurn e chaincode seat round before after (outcome ∷ outcomes) =
+    (seen : Chain) × IsPrefix before seen × ComesTo e (proposal_of chaincode seat round) before seen outcome
+    × ComeInTurn e chaincode seat (round + 1) seen after outcomes
+
+-- all rounds of a seat came to these outcomes
+abbrev pub CameTo : Endorsing → Bytes → (seat rounds : ℕ) → (before after : Chain) → List Outcome → Type 0
+CameTo e chaincode seat rounds before after outcomes =
+    (length outcomes ≡ rounds) × ComeInTurn e chaincode seat 0 before after outcomes
 
 -- the envelopes among these, in their order
 abbrev pub envelopes_in : List Outcome → List Envelope

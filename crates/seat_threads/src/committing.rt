@@ -4,7 +4,7 @@ ghost use Rattle.std.specs.Prelude.{◌≡◌, ◌≤◌, [], ◌∷◌, ◌++�
 ghost use Rattle.std.specs.Arc.{arc_value};
 ghost use Rattle.wire.specs.Links.{AreLinked};
 ghost use Rattle.committer.specs.Fits.{Fits, blocks_of};
-ghost use Rattle.peer_node.specs.Writers.{published_chain, rules_of, next_by};
+ghost use Rattle.peer_node.specs.Writers.{published_chain, peer_of_writer, rules_of, next_by};
 ghost use Rattle.seat_threads.specs.Chains.{IsFirstOf};
 
 use committer::CommitRefusal;
@@ -26,6 +26,7 @@ pub fn commit_rest<R: Threads + Wait + Sync>(
     requires first { IsFirstOf (arc_value (rules_of writer.old)) blocks.now
         (published_chain writer.old) }
     ensures rules { rules_of writer.new ≡ rules_of writer.old }
+    ensures peer { peer_of_writer writer.new ≡ peer_of_writer writer.old }
     ensures first { IsFirstOf (arc_value (rules_of writer.old)) blocks.now
         (published_chain writer.new) }
     ensures all { OnOk result (length (published_chain writer.new) ≡ length blocks.now) }
@@ -44,6 +45,7 @@ fn commit<R: Threads + Wait + Sync>(
 ) -> Result<(), AllocError>
     requires { Fits (blocks_of (published_chain writer.old)) block.now }
     ensures rules { rules_of writer.new ≡ rules_of writer.old }
+    ensures peer { peer_of_writer writer.new ≡ peer_of_writer writer.old }
     ensures committed { OnOk result
         (published_chain writer.new
         ≡ published_chain writer.old ++

@@ -1,14 +1,16 @@
 //! Workers on threads of their own.
 
 ghost use Rattle.std.specs.Prelude.{◌≡◌, ◌<◌, ◌≤◌, ◌+◌, ◌^◌, [], length, vec_capacity, IfOk, OnOk};
-ghost use Rattle.atomic_table.specs.Seated.{TableId};
-ghost use Rattle.intake.specs.Seats.{intake_of_receiver, knows};
-ghost use Rattle.seat_threads.specs.Desks.{IsAtWork, IsSameDesk};
-ghost use Rattle.seat_threads.specs.Work.{Task, Works, IsWorkerOf, AreWorkersOf, AllPromise, HasRetired};
+ghost use Rattle.intake.specs.Seats.{knows};
+ghost use Rattle.snapshot_cell.specs.Seats.{cell_of_told, told_list};
+ghost use Rattle.peer_node.specs.Writers.{peer_of_writer};
+ghost use Rattle.seat_threads.specs.Desks.{IsAtWork, IsSameDesk, home_of};
+ghost use Rattle.seat_threads.specs.Work.{Task, Home, Works, IsWorkerOf, AreWorkersOf, AllPromise, HasRetired};
 
 use crate::counts::Counts;
 use crate::desk::Desk;
 use crate::worker::Worker;
+use peer_node::Told;
 use std::alloc::{AllocError, Global};
 use std::snapshot::Snapshot;
 use std::sync::atomic::AtomicU64;
@@ -54,9 +56,9 @@ impl Crew {
     ) -> Result<(), AllocError>
         requires none { self.old.threads.items ≡ [] }
         requires room { length workers.old.items ≤ vec_capacity self.old.threads }
-        ensures each { (task : Task) (intake : TableId) → rounds ≡ task.rounds →
-            AreWorkersOf task intake (length workers.old.items) workers.old.items →
-            AllPromise task intake self.new.threads.items }
+        ensures each { (task : Task) (home : Home) → rounds ≡ task.rounds →
+            AreWorkersOf task home (length workers.old.items) workers.old.items →
+            AllPromise task home self.new.threads.items }
         ensures all { OnOk result (length self.new.threads.items ≡ length workers.old.items) }
         ensures most { length self.new.threads.items ≤ length workers.old.items }
     {
@@ -76,10 +78,10 @@ impl Crew {
         ended: Arc<AtomicU64>,
     ) -> Result<(), AllocError>
         requires { length self.old.threads.items < vec_capacity self.old.threads }
-        ensures each { (task : Task) (intake : TableId) → rounds ≡ task.rounds →
-            IsWorkerOf task intake (length self.old.threads.items) worker →
-            AllPromise task intake self.old.threads.items →
-            AllPromise task intake self.new.threads.items }
+        ensures each { (task : Task) (home : Home) → rounds ≡ task.rounds →
+            IsWorkerOf task home (length self.old.threads.items) worker →
+            AllPromise task home self.old.threads.items →
+            AllPromise task home self.new.threads.items }
         ensures one { OnOk result
             (length self.new.threads.items ≡ length self.old.threads.items + 1) }
         ensures most { length self.new.threads.items ≤ length self.old.threads.items + 1 }
@@ -94,33 +96,37 @@ impl Crew {
         Ok(())
     }
 
-    /// Joins the threads, takes in the seats of their workers, and adds up what they counted.
-    pub fn retire<R: Threads>(self, rt: &R, desk: &mut Desk) -> Counts
+    /// Joins the threads, takes in the seats of their workers, adds up what they counted, and tells
+    /// of the longest list that one of them or the peer has seen.
+    pub fn retire<R: Threads>(self, rt: &R, desk: &mut Desk) -> (Counts, Told)
         requires work { IsAtWork desk.old }
         requires each { (task : Task) × (task.rounds < 2 ^ 32)
-            × AllPromise task (intake_of_receiver desk.old.receiver) self.threads.items }
+            × AllPromise task (home_of desk.old) self.threads.items }
         requires count { length self.threads.items < 2 ^ 32 }
         ensures work { IsAtWork desk.new }
         ensures same { IsSameDesk desk.new desk.old }
         ensures retired { (task : Task)
-            → AllPromise task (intake_of_receiver desk.old.receiver) self.threads.items
-            → HasRetired task (length self.threads.items) result
+            → AllPromise task (home_of desk.old) self.threads.items
+            → HasRetired task (told_list result.1) (length self.threads.items) result.0
             (knows desk.old.receiver).known (knows desk.new.receiver).known }
         ensures senders { (knows desk.new.receiver).senders ≡ (knows desk.old.receiver).senders }
+        ensures seen { cell_of_told result.1 ≡ peer_of_writer desk.old.writer }
     {
         let Crew {
             mut threads,
             ended: _,
         } = self;
         let mut counts = Counts::none();
+        let mut seen = desk.writer.told();
         for _joined in 0..threads.len() {
             let thread = threads.take_last();
             let worker = thread.join(rt);
             counts = worker.counts.plus(counts);
+            seen.learn(&worker.seat.told());
             desk.retire(worker.sender);
         }
         threads.destroy_empty();
-        counts
+        (counts, seen)
     }
 }
 

@@ -2,20 +2,22 @@
 
 ghost use Rattle.std.specs.Prelude.{◌≡◌, ℕ, ◌<◌, ◌+◌, ◌*◌, ◌^◌, [], length, All, IfOk, IfErr, false};
 ghost use Rattle.std.specs.Arc.{arc_value};
-ghost use Rattle.atomic_table.specs.Seated.{TableId};
+ghost use Rattle.ledger_model.specs.Chain.{Chain, history};
 ghost use Rattle.ledger_model.specs.Judged.{judged_chain};
+ghost use Rattle.ledger_model.specs.Serial.{AllHandedOut};
 ghost use Rattle.simulator.specs.Execution.{exec_of};
 ghost use Rattle.wire.specs.Links.{AreLinked};
 ghost use Rattle.intake.specs.Mail.{receiver};
-ghost use Rattle.intake.specs.Seats.{intake_of_receiver, knows};
+ghost use Rattle.intake.specs.Seats.{knows};
 ghost use Rattle.ledger_setting.specs.Rule.{table_of};
+ghost use Rattle.ledger_setting.specs.declared.verdict.Audit.TheVariants.{Agrees};
 ghost use Rattle.ledger_setting.specs.Limits.{limits_of};
-ghost use Rattle.peer_node.specs.Seats.{endorsing_of};
+ghost use Rattle.peer_node.specs.Seats.{IsSeat};
 ghost use Rattle.peer_node.specs.Writers.{rules_of};
-ghost use Rattle.fabric_core.specs.Audit.{AuditSays};
-ghost use Rattle.seat_threads.specs.Desks.{IsInStep, IsAtWork};
+ghost use Rattle.fabric_core.specs.Audit.{AuditSays, valid_count};
+ghost use Rattle.seat_threads.specs.Desks.{IsInStep, IsAtWork, home_of};
 ghost use Rattle.seat_threads.specs.Reports.{task_of, counts_told, TellsOfSeats, IsSeatsRefused, IsOpeningRefused, IsWorkRefused, IsCountRefused};
-ghost use Rattle.seat_threads.specs.Work.{Task, AreSenders, AreWorkersOf};
+ghost use Rattle.seat_threads.specs.Work.{Task, Home, AreSenders, AreWorkersOf};
 
 use crate::counts::Counts;
 use crate::crew::Crew;
@@ -58,6 +60,9 @@ pub struct Report {
 /// are dropped and counted as missing. Where the tick would need a number past the last one, what
 /// waits stays without a block.
 ///
+/// Each round of a seat sees a list of whole blocks that begins with what the round before saw. All
+/// these lists and the peer's chain begin one list, and so the audit of the chain agrees.
+///
 /// Refused for want of memory or of a thread (9), where a seat got no place in the cell as the peer
 /// was opened (431; no contract says when that is), and where a round of a seat was given no entry
 /// (432). Where no further thread can be made, the seats that have one work to their end, and what
@@ -93,7 +98,7 @@ fn opened<R: Threads + Wait + Sync>(
     ensures count { IfOk result (λ t. length t.0.items ≡ genesis.now.seats) }
     ensures workers { IfOk result
         (λ t. (rounds : ℕ) → AreWorkersOf (task_of genesis.now chaincode.now rounds)
-        (intake_of_receiver t.1.receiver) genesis.now.seats t.0.items) }
+        (home_of t.1) genesis.now.seats t.0.items) }
     ensures receiver { IfOk result
         (λ t. knows t.1.receiver ≡ receiver genesis.now.seats genesis.now.seats [] []) }
     ensures work { IfOk result (λ t. IsAtWork t.1) }
@@ -145,10 +150,10 @@ fn workers(
     requires { length seats.items ≡ length senders.items }
     ensures length { IfOk result (λ v. length v.items ≡ length senders.items) }
     ensures each { IfOk result
-        (λ v. (task : Task) (intake : TableId) → task.chaincode ≡ chaincode.now →
-        All (λ s. endorsing_of s ≡ task.endorsing) seats.items →
-        AreSenders intake senders.items →
-        AreWorkersOf task intake (length senders.items) v.items) }
+        (λ v. (task : Task) (home : Home) → task.chaincode ≡ chaincode.now →
+        All (IsSeat task.endorsing home.peer) seats.items →
+        AreSenders home.intake senders.items →
+        AreWorkersOf task home (length senders.items) v.items) }
 {
     let mut workers = Vec::with_capacity(alloc, seats.len())?;
     for _worker in 0..seats.len() {
@@ -183,30 +188,30 @@ fn at_work<R: Threads + Wait + Sync + Send + Copy + 'static>(
     requires receiver { knows desk.old.receiver
         ≡ receiver (length workers.old.items) (length workers.old.items) [] [] }
     requires workers { (task : Task) × (rounds ≡ task.rounds) ×
-        AreWorkersOf task (intake_of_receiver desk.old.receiver) (length workers.old.items)
-        workers.old.items }
+        AreWorkersOf task (home_of desk.old) (length workers.old.items) workers.old.items }
     ensures counted { IfOk result
         (λ r. r.endorsed + r.refused ≡ length workers.old.items * rounds) }
     ensures tells { IfOk result
         (λ r. (task : Task) → rounds ≡ task.rounds →
         task.endorsing.book ≡ arc_value genesis.now.book →
+        task.endorsing.listed ≡ arc_value genesis.now.rules →
         task.endorsing.listed ≡ arc_value (rules_of desk.old.writer) →
-        AreWorkersOf task (intake_of_receiver desk.old.receiver) (length workers.old.items)
-        workers.old.items →
+        AreWorkersOf task (home_of desk.old) (length workers.old.items) workers.old.items →
         TellsOfSeats task (length workers.old.items) desk.old.orderer.reorder
         desk.old.orderer.limits r) }
     ensures refused { IfErr result
         (λ r. (task : Task) → rounds ≡ task.rounds →
-        AreWorkersOf task (intake_of_receiver desk.old.receiver) (length workers.old.items)
-        workers.old.items →
+        AreWorkersOf task (home_of desk.old) (length workers.old.items) workers.old.items →
         IsWorkRefused task (length workers.old.items) r) }
 {
     let mut crew = Crew::new(alloc, workers.len())?;
     let started = crew.start_all(rt, workers, rounds);
     take_until_ended(rt, &crew.ended, crew.threads.len() as u64, desk);
-    let counts = crew.retire(rt, desk);
+    let (counts, mut seen) = crew.retire(rt, desk);
     desk.take_rest(rt);
     desk.tick(rt);
+    // What the seats saw and what was committed begin one list.
+    seen.learn(&desk.writer.told());
     started?;
     reported(alloc, genesis, desk, counts)
 }
@@ -227,6 +232,13 @@ fn reported(
         AuditSays (exec_of (arc_value genesis.now.book))
         (judged_chain (table_of (arc_value (rules_of desk.now.writer))) desk.now.orderer.chain)
         r.audit) }
+    // It agrees where each VALID payload was handed out, by the genesis's rules.
+    ensures honest { IfOk result
+        (λ r. (chain : Chain) →
+        chain ≡ judged_chain (table_of (arc_value genesis.now.rules)) desk.now.orderer.chain →
+        arc_value (rules_of desk.now.writer) ≡ arc_value genesis.now.rules →
+        AllHandedOut (exec_of (arc_value genesis.now.book)) chain (history chain) →
+        r.audit ≡ Agrees (valid_count (history chain))) }
     ensures refused { IfErr result (IsCountRefused counts) }
 {
     if let Some(refusal) = counts.refusal() {

@@ -1,9 +1,8 @@
 //! A seat on a thread of its own.
 
 ghost use Rattle.std.specs.Prelude.{◌≡◌, ◌∷◌, ◌++◌, []};
-ghost use Rattle.ledger_model.specs.Chain.{Chain};
 ghost use Rattle.intake.specs.Seats.{intake_of_sender, number, put};
-ghost use Rattle.peer_node.specs.Seats.{endorsing_of};
+ghost use Rattle.peer_node.specs.Seats.{seen_chain, peer_of, endorsing_of};
 ghost use Rattle.seat_threads.specs.Rounds.{proposal_of, ComesTo};
 ghost use Rattle.seat_threads.specs.Work.{Works};
 
@@ -50,11 +49,11 @@ impl Worker {
 
     /// The envelope of a round. Refused as the seat's endorsement is, and for want of memory.
     fn endorse(&mut self, round: u32) -> Result<Envelope, FinishRefusal>
-        ensures comes { (before after : Chain) ×
-            ComesTo (endorsing_of self.old.seat)
+        ensures comes { ComesTo (endorsing_of self.old.seat)
             (proposal_of self.old.chaincode self.old.number round)
-            before after result }
-        ensures endorser { endorsing_of self.new.seat ≡ endorsing_of self.old.seat }
+            (seen_chain self.old.seat) (seen_chain self.new.seat) result }
+        ensures seat { (endorsing_of self.new.seat ≡ endorsing_of self.old.seat) ×
+            (peer_of self.new.seat ≡ peer_of self.old.seat) }
         ensures same { (self.new.number ≡ self.old.number) ×
             (self.new.chaincode ≡ self.old.chaincode) }
         ensures sender { self.new.sender ≡ self.old.sender }

@@ -1,6 +1,6 @@
 //! How a cell is opened.
 
-ghost use Rattle.std.specs.Prelude.{◌≡◌, ◌<◌, ◌≤◌, ◌^◌, [], length, IfOk};
+ghost use Rattle.std.specs.Prelude.{◌≡◌, ◌<◌, ◌≤◌, ◌^◌, [], length, drop, IfOk};
 ghost use Rattle.std.specs.Arc.{arc_value};
 ghost use Rattle.left_right.specs.Sides.{view};
 ghost use Rattle.world_state.specs.Shared.{blocks_in};
@@ -86,6 +86,7 @@ fn known<R: Wait>(
     ensures shows { IfOk result (λ w. arc_value w.desk.shown.value.snapshot ≡ front.now.seen.log) }
     ensures same { IfOk result (λ w. w.desk.shown.value.front.seen.book ≡ front.now.seen.book) }
     ensures knows { IfOk result (λ w. view w.desk.place ≡ knowing front.now.seen.book) }
+    ensures ready { IfOk result (λ w. drop w.behind w.log.items ≡ []) }
 {
     let one = Kept {
         snapshot: Arc::try_clone(&snapshot)?,
@@ -121,6 +122,7 @@ fn fill(
         (λ _. (length readers.new.items ≡ seats) ×
         EachBegins front.now.seen.book front.now.seen.log readers.new.items) }
     ensures shown { inner.new.desk.shown.value ≡ inner.old.desk.shown.value }
+    ensures same { (inner.new.log ≡ inner.old.log) × (inner.new.behind ≡ inner.old.behind) }
 {
     for _seat in 0..seats {
         let Ok(reader) = seat(inner, front) else {
@@ -143,6 +145,7 @@ fn seat(
         (λ r. (cell_of_reader r ≡ front.now.seen.book) × (seen_list r ≡ front.now.seen.log)) }
     ensures knows { view inner.new.desk.place ≡ view inner.old.desk.place }
     ensures shown { inner.new.desk.shown.value ≡ inner.old.desk.shown.value }
+    ensures same { (inner.new.log ≡ inner.old.log) × (inner.new.behind ≡ inner.old.behind) }
 {
     let mut reader = inner.factory().reader()?;
     reader.learn::<Learns>(inner.tell::<Tells>());

@@ -57,6 +57,16 @@ impl Reader {
         }
     }
 
+    /// What this seat has seen or was told of, for others to learn. It takes no memory.
+    pub fn told(&self) -> Told
+        ensures { (cell_of_told result ≡ cell_of_reader self.now) ×
+            (told_list result ≡ seen_list self.now) }
+    {
+        Told {
+            front: self.front.again(),
+        }
+    }
+
     /// Takes in what the writer told. One of the two lists begins with the other, and the seat has
     /// then seen the longer one. It takes no memory.
     pub fn learn(&mut self, told: &Told)

@@ -10,10 +10,12 @@ use core::mem::replace_with;
 use left_right::writer;
 use std::alloc::{AllocError, Global};
 use std::sync::{Arc, Wait};
+use std::thread;
 use world_state::Snapshot;
 
 /// The writer. Contracts see the list of whole blocks that it published (`published_list`), and
-/// which cell it is of; the list is changed by `publish` alone. It is ended by `close`.
+/// which cell it is of; the list is changed by `publish` alone. Whatever a call answered, nothing
+/// waits to be shown. It is ended by `close`.
 pub struct Writer {
     pub(crate) inner: writer::Writer<Kept, Next, Knowledge, Tie>,
     pub(crate) front: Front,
@@ -22,13 +24,32 @@ pub struct Writer {
     pub ghost one_history: { (arc_value history).head.book ≡ front.seen.book },
     pub ghost same: { inner.desk.shown.value.front.seen.book ≡ front.seen.book },
     pub ghost shows: { arc_value inner.desk.shown.value.snapshot ≡ front.seen.log },
+    pub ghost ready: { drop inner.behind inner.log.items ≡ [] },
 }
 
-/// What the writer tells: a list of whole blocks that it published (`told_list`). Any number of
-/// seats may learn it. Nothing else makes or changes one.
+/// What the writer tells, or a seat: a list of whole blocks that was published (`told_list`). Any
+/// number of seats may learn it. Nothing else makes one.
 #[derive(Drop)]
 pub struct Told {
     pub(crate) front: Front,
+}
+
+impl Told {
+    ghost use mathlib.Core.List.{IsPrefix};
+    ghost use Rattle.snapshot_cell.specs.Seats.{told_list, cell_of_told};
+
+    /// Takes in what another told: this is the longer of the two lists then, with which both begin.
+    /// It takes no memory.
+    pub fn learn(&mut self, other: &Told)
+        requires { cell_of_told other.now ≡ cell_of_told self.old }
+        ensures mine { IsPrefix (told_list self.old) (told_list self.new) }
+        ensures others { IsPrefix (told_list other.now) (told_list self.new) }
+        ensures same { cell_of_told self.new ≡ cell_of_told self.old }
+    {
+        if self.front.begins(&other.front) {
+            self.front = other.front.again();
+        }
+    }
 }
 
 impl Writer {
@@ -43,8 +64,21 @@ impl Writer {
         &*self.inner.published().snapshot
     }
 
+    /// What the writer published, for seats to learn. It takes no memory.
+    pub fn told(&self) -> Told
+        ensures { (cell_of_told result ≡ cell_of_writer self.now) ×
+            (told_list result ≡ published_list self.now) }
+    {
+        Told {
+            front: self.front.again(),
+        }
+    }
+
     /// Shows the seats the next snapshot, which has one block more, in one step. What is told names
-    /// its blocks. The only error is want of memory (9): what is published is then as it was.
+    /// its blocks. It waits for readers inside, and for one more owner of the snapshot.
+    ///
+    /// The only error is want of memory (9), before anything is to be shown: what is published is
+    /// then as it was, and the next call finds nothing that waits.
     pub fn publish<R: Wait>(&mut self, rt: &R, next: Snapshot) -> Result<Told, AllocError>
         requires { OneMore (published_list self.old) next }
         ensures published { IfOk result (λ _. published_list self.new ≡ next) }
@@ -57,11 +91,9 @@ impl Writer {
         let Ok(()) = self.inner.append(operation) else {
             return Err(AllocError);
         };
-        turn(rt, &mut self.inner)?;
+        turn(rt, &mut self.inner);
         self.front = shown_front(rt, self.inner.published());
-        Ok(Told {
-            front: self.front.again(),
-        })
+        Ok(self.told())
     }
 
     /// The operation that puts this snapshot into a copy.
@@ -90,7 +122,7 @@ impl Writer {
     }
 }
 
-/// Shows readers what the last operation has.
+/// Tries to show readers what the last operation has.
 fn show<R: Wait>(
     rt: &R,
     inner: writer::Writer<Kept, Next, Knowledge, Tie>,
@@ -101,31 +133,38 @@ fn show<R: Wait>(
     requires { (xs : List Next) × (op : Next) ×
         (drop inner.behind inner.log.items ≡ xs ++ op ∷ []) ×
         (op.parent.seen.book ≡ inner.desk.shown.value.front.seen.book) }
-    ensures { (xs : List Next) → (op : Next) → drop inner.behind inner.log.items ≡ xs ++ op ∷ [] →
+    ensures shown { (xs : List Next) → (op : Next) →
+        drop inner.behind inner.log.items ≡ xs ++ op ∷ [] →
         MatchResult result.1
         (λ _. (arc_value result.0.desk.shown.value.snapshot ≡ arc_value op.snapshot) ×
         (result.0.desk.shown.value.front.seen.book ≡ op.parent.seen.book))
         (λ _. result.0.desk.shown.value ≡ inner.desk.shown.value) }
+    ensures left { MatchResult result.1
+        (λ _. drop result.0.behind result.0.log.items ≡ [])
+        (λ _. drop result.0.behind result.0.log.items ≡ drop inner.behind inner.log.items) }
 {
     inner.publish_as::<Sees, R>(rt)
 }
 
-/// Shows readers, by this writer, what its last operation has.
-fn turn<R: Wait>(
-    rt: &R,
-    inner: &mut writer::Writer<Kept, Next, Knowledge, Tie>,
-) -> Result<(), AllocError>
+/// Shows readers what the last operation has, again until its snapshot has one more owner. One is
+/// refused only while it has as many as can be counted.
+fn turn<R: Wait>(rt: &R, inner: &mut writer::Writer<Kept, Next, Knowledge, Tie>)
     requires { (xs : List Next) × (op : Next) ×
         (drop inner.old.behind inner.old.log.items ≡ xs ++ op ∷ []) ×
         (op.parent.seen.book ≡ inner.old.desk.shown.value.front.seen.book) }
-    ensures { (xs : List Next) → (op : Next) →
+    ensures shown { (xs : List Next) → (op : Next) →
         drop inner.old.behind inner.old.log.items ≡ xs ++ op ∷ [] →
-        MatchResult result
-        (λ _. (arc_value inner.new.desk.shown.value.snapshot ≡ arc_value op.snapshot) ×
-        (inner.new.desk.shown.value.front.seen.book ≡ op.parent.seen.book))
-        (λ _. inner.new.desk.shown.value ≡ inner.old.desk.shown.value) }
+        (arc_value inner.new.desk.shown.value.snapshot ≡ arc_value op.snapshot) ×
+        (inner.new.desk.shown.value.front.seen.book ≡ op.parent.seen.book) }
+    ensures left { drop inner.new.behind inner.new.log.items ≡ [] }
 {
-    replace_with(inner, rt, |inner, rt| show(rt, inner))
+    'tries: for _ in rt.forever() {
+        if replace_with(inner, rt, |inner, rt| show(rt, inner)).is_ok() {
+            return;
+        }
+        thread::yield_now();
+    }
+    unreachable!()
 }
 
 /// The front of a copy that readers are shown. Such a copy is whole: `absorb_first` made it.

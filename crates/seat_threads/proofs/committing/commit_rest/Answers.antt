@@ -29,7 +29,7 @@ loop-index-preserved g c =
     let there : slice_get blocks (length (published_chain w)) ≡ Some b = ap (slice_get blocks) inv.2 ∙ at in
     let made = c.in_ok-commit.ensures.committed ∙ ap (λ rules. published_chain w ++ next_by (arc_value rules) (published_chain w) b ∷ []) inv.0 in
     let more = one_more (arc_value (rules_of c.args.writer.now)) blocks (published_chain w) (published_chain c.commit.new.writer) b inv.1 there made in
-    (c.commit.ensures.rules ∙ inv.0, more.0, more.1 ∙ ap (λ (n : ℕ). n + 1) inv.2)
+    (c.commit.ensures.rules ∙ inv.0, more.0, more.1 ∙ ap (λ (n : ℕ). n + 1) inv.2, c.commit.ensures.peer ∙ inv.3)
 
 pub returns-clause-all : goal.returns-clause-all
 returns-clause-all g c =

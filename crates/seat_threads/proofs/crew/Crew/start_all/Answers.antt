@@ -1,14 +1,13 @@
 use Rattle.std.proofs.Common.{rules, ◌≡◌, ◌+◌, ℕ, length, arith}
-use Rattle.atomic_table.specs.Seated.{TableId}
 use Rattle.seat_threads.specs.declared.worker.Worker.{Worker}
-use Rattle.seat_threads.specs.Work.{Task, IsWorkerOf}
+use Rattle.seat_threads.specs.Work.{Task, Home, IsWorkerOf}
 use Rattle.seat_threads.proofs.Places.{taken}
 use Rattle.seat_threads.proofs.Retiring.{next_seat}
 use Rattle.seat_threads.proofs.crew.Crew.start_all.Goals as goal
 
 -- the worker at a place of the list is that of a seat
-abbrev IsPlaced : Task → TableId → ℕ → ℕ → Worker → Type 0
-IsPlaced task intake seats place w = (seat : ℕ) × (place + seat + 1 ≡ seats) × IsWorkerOf task intake seat w
+abbrev IsPlaced : Task → Home → ℕ → ℕ → Worker → Type 0
+IsPlaced task home seats place w = (seat : ℕ) × (place + seat + 1 ≡ seats) × IsWorkerOf task home seat w
 
 pub loop-started-preserved : goal.loop-started-preserved
 loop-started-preserved g c =
@@ -19,26 +18,26 @@ loop-started-preserved g c =
       search rules,
       search rules,
       omega (arith, inv.2, c.start.ensures.room),
-      λ task intake same h.
-          let both = inv.3 task intake same h in
-          let last = taken (IsPlaced task intake seats) c.loop-started.workers.items _ c.take_last.result c.take_last.ensures.items both.0 in
+      λ task home same h.
+          let both = inv.3 task home same h in
+          let last = taken (IsPlaced task home seats) c.loop-started.workers.items _ c.take_last.result c.take_last.ensures.items both.0 in
           let here : left + 1 + started ≡ seats = omega (arith, last.2, inv.0, inv.1) in
-          (last.0, c.start.ensures.each task intake same (next_seat task intake seats left started c.take_last.result last.1 here) both.1),
+          (last.0, c.start.ensures.each task home same (next_seat task home seats left started c.take_last.result last.1 here) both.1),
     )
 
 pub returns-in_err-ended-clause-each : goal.returns-in_err-ended-clause-each
-returns-in_err-ended-clause-each g c = λ task intake same h. (c.loop-started.invariant.3 task intake same h).1
+returns-in_err-ended-clause-each g c = λ task home same h. (c.loop-started.invariant.3 task home same h).1
 
 pub returns-in_err-start-clause-each : goal.returns-in_err-start-clause-each
-returns-in_err-start-clause-each g c = λ task intake same h.
+returns-in_err-start-clause-each g c = λ task home same h.
     let inv = c.loop-started.invariant in
     let seats = length c.args.workers.now.items in
     let left = length c.take_last.new.self.items in
     let started = length c.loop-started.self.threads.items in
-    let both = inv.3 task intake same h in
-    let last = taken (IsPlaced task intake seats) c.loop-started.workers.items _ c.take_last.result c.take_last.ensures.items both.0 in
+    let both = inv.3 task home same h in
+    let last = taken (IsPlaced task home seats) c.loop-started.workers.items _ c.take_last.result c.take_last.ensures.items both.0 in
     let here : left + 1 + started ≡ seats = omega (arith, last.2, inv.0, inv.1) in
-    c.start.ensures.each task intake same (next_seat task intake seats left started c.take_last.result last.1 here) both.1
+    c.start.ensures.each task home same (next_seat task home seats left started c.take_last.result last.1 here) both.1
 
 pub returns-in_err-start-clause-most : goal.returns-in_err-start-clause-most
 returns-in_err-start-clause-most g c =
@@ -47,4 +46,4 @@ returns-in_err-start-clause-most g c =
     omega (arith, most, inv.0, inv.1)
 
 pub returns-clause-each : goal.returns-clause-each
-returns-clause-each g c = λ task intake same h. (c.loop-started.invariant.3 task intake same h).1
+returns-clause-each g c = λ task home same h. (c.loop-started.invariant.3 task home same h).1

@@ -2,7 +2,7 @@ use Rattle.std.proofs.Common.{rules, ◌≡◌, ℕ, ◌+◌, [], ◌∷◌, ◌
 use Rattle.std.proofs.lemmas.List.{append-nil}
 use Rattle.intake.specs.declared.sender.SenderSeat.{SenderSeat}
 use Rattle.intake.specs.Seats.{intake_of_sender, number, put}
-use Rattle.peer_node.specs.Seats.{endorsing_of}
+use Rattle.peer_node.specs.Seats.{seen_chain, endorsing_of}
 use Rattle.seat_threads.specs.declared.worker.Worker.{Worker}
 use Rattle.seat_threads.specs.Rounds.{CameTo, rounds_in, with_endorsed, with_refused}
 use Rattle.seat_threads.proofs.Rounding.{HasWorked, next_round}
@@ -17,8 +17,9 @@ loop-round-init g c = record {
   seat = refl;
   intake_is = refl;
   sender = refl;
+  peer = refl;
   outcomes = [];
-  came = (refl, λ round outcome at. absurd (cc));
+  came = (refl, refl);
   sent = sym (append-nil (put c.args.self.sender));
   counted = c.none-self.ensures;
 }
@@ -46,12 +47,12 @@ loop-round-preserved g c =
     let same = c.endorse.ensures in
     elim c.match-endorse.branch [
       | in-Ok w ↦ subst (λ (next : Worker). HasWorked first (round + 1) next) (sym w.self-is)
-          (next_round first now _ round (Ok w.in-Ok.envelope) h w.in-Ok.ensures.comes same.endorser same.same.1 same.same.0
+          (next_round first now _ round (Ok w.in-Ok.envelope) h w.in-Ok.ensures.comes same.seat same.same.1 same.same.0
           (w.submit.ensures.same.0 ∙ ap intake_of_sender same.sender) (w.submit.ensures.same.1 ∙ ap number same.sender)
           (w.submit.ensures.put ∙ ap (λ (s : SenderSeat). put s ++ w.in-Ok.envelope ∷ []) same.sender)
           (ap with_endorsed same.counts))
       | in-Err w ↦ subst (λ (next : Worker). HasWorked first (round + 1) next) (sym w.self-is)
-          (next_round first now _ round (Err w.in-Err.refusal) h w.in-Err.ensures.comes same.endorser same.same.1 same.same.0
+          (next_round first now _ round (Err w.in-Err.refusal) h w.in-Err.ensures.comes same.seat same.same.1 same.same.0
           (ap intake_of_sender same.sender) (ap number same.sender)
           (ap put same.sender ∙ sym (append-nil (put now.sender)))
           (w.refuse.ensures ∙ ap (with_refused w.in-Err.refusal) same.counts))
@@ -64,5 +65,12 @@ returns g c =
     let end : c.loop-round.round ≡ c.args.rounds = search rules in (
       h.intake_is,
       h.sender,
-      (h.outcomes, subst (λ (n : ℕ). CameTo (endorsing_of first.seat) first.chaincode first.number n h.outcomes) end h.came, h.sent, h.counted),
+      h.peer,
+      (
+        h.outcomes,
+        subst (λ (n : ℕ). CameTo (endorsing_of first.seat) first.chaincode first.number n (seen_chain first.seat) (seen_chain c.loop-round.self.seat) h.outcomes)
+            end h.came,
+        h.sent,
+        h.counted,
+      ),
     )
