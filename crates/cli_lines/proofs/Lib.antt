@@ -1,3 +1,4 @@
+pub mod Answering
 pub mod Found
 pub mod KeyFiles
 pub mod Printing

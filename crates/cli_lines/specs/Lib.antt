@@ -2,3 +2,5 @@ pub mod Lines
 pub mod Told
 pub mod Texts
 pub mod Sealing
+pub mod Opening
+pub mod Places

@@ -1,11 +1,21 @@
 -- What the program prints of a failure.
 use Rattle.std.specs.Prelude.{◌++◌, ℕ, List, [], Option, Some, None, codes, option_map}
-use Rattle.std.specs.Fmt.{decimal}
+use Rattle.std.specs.Fmt.{decimal, signed_decimal}
+use Rattle.std.specs.Int.{w32, cast_signed}
 use Rattle.block_store.specs.End.{end_text}
 use Rattle.committer.specs.Numbers.{refusal_number as commit_number}
 use Rattle.json_genesis.specs.Numbers.{refusal_number as genesis_number}
+use Rattle.json_genesis.specs.declared.refusal.GenesisRefusal.{GenesisRefusal}
+use Rattle.json_genesis.specs.declared.refusal.GenesisRefusal.TheVariants as genesis
 use Rattle.wasm_file.specs.Texts.{refusal_text as module_text}
-use Rattle.simulator.specs.RefusalNumber.{refusal_text as simulation_text}
+use Rattle.wasm_file.specs.declared.module.ModuleRefusal.{ModuleRefusal}
+use Rattle.wasm_file.specs.declared.module.ModuleRefusal.TheVariants as module_refusal
+use Rattle.wasm_ast.specs.Traps.{trap_number}
+use Rattle.simulator.specs.RefusalNumber.{refusal_number as simulation_number}
+use Rattle.simulator.specs.declared.refusal.SimRefusal.{SimRefusal}
+use Rattle.simulator.specs.declared.refusal.SimRefusal.TheVariants as simulation
+use Rattle.cli_lines.specs.declared.files.FileFault.{FileFault}
+use Rattle.cli_lines.specs.declared.files.FileFault.TheVariants as file
 use Rattle.cli_lines.specs.declared.failure.Failure.{Failure}
 use Rattle.cli_lines.specs.declared.failure.Failure.TheVariants as failure
 
@@ -13,7 +23,13 @@ use Rattle.cli_lines.specs.declared.failure.Failure.TheVariants as failure
 abbrev pub refused : ℕ → List ℕ
 refused n = codes "refused " ++ decimal n
 
--- the text of a failure, empty where it is told otherwise. None of a status, which is written as a signed number
+-- the text of a simulation's refusal. The word that a chaincode returned is written as a signed number
+abbrev pub simulation_text : SimRefusal → List ℕ
+simulation_text (simulation.Trapped kind used) = codes "refused 402 trap " ++ decimal (trap_number kind)
+simulation_text (simulation.Status status) = codes "refused 404 status " ++ signed_decimal (cast_signed w32 status)
+simulation_text refusal = refused (simulation_number refusal)
+
+-- the text of a failure, empty where it is told otherwise
 abbrev pub failure_text : Failure → Option (List ℕ)
 failure_text failure.Usage = Some []
 failure_text failure.Memory = Some (codes "refused 9")
@@ -22,7 +38,7 @@ failure_text (failure.Module refusal) = Some (module_text refusal)
 failure_text (failure.Genesis refusal) = Some (refused (genesis_number refusal))
 failure_text failure.KeyFile = Some (codes "refused 809")
 failure_text failure.NoSecret = Some (codes "refused 808")
-failure_text (failure.Simulation refusal) = simulation_text refusal
+failure_text (failure.Simulation refusal) = Some (simulation_text refusal)
 failure_text failure.NoPlace = Some (codes "refused 431")
 failure_text failure.NotEntered = Some (codes "refused 432")
 failure_text (failure.Commit refusal) = Some (refused (commit_number refusal))
@@ -36,9 +52,27 @@ failure_text failure.Output = Some []
 abbrev pub line : List ℕ → List ℕ
 line text = text ++ codes "\n"
 
--- the line by which a failure is told at the end. None where it is told otherwise, or its text is not said
+-- what is printed of a failure at the end: nothing more where that is done, or cannot be. None of a usage, which is the program's
 abbrev pub last_line : Failure → Option (List ℕ)
 last_line failure.Usage = None
-last_line failure.Printed = None
-last_line failure.Output = None
+last_line failure.Printed = Some []
+last_line failure.Output = Some []
 last_line f = option_map line (failure_text f)
+
+-- ---- each cause as the failure that tells it
+
+abbrev pub file_failure : FileFault → Failure
+file_failure file.Memory = failure.Memory
+file_failure file.Device = failure.File
+
+abbrev pub module_failure : ModuleRefusal → Failure
+module_failure module_refusal.Memory = failure.Memory
+module_failure refusal = failure.Module refusal
+
+abbrev pub genesis_failure : GenesisRefusal → Failure
+genesis_failure genesis.Memory = failure.Memory
+genesis_failure refusal = failure.Genesis refusal
+
+abbrev pub simulation_failure : SimRefusal → Failure
+simulation_failure simulation.Memory = failure.Memory
+simulation_failure refusal = failure.Simulation refusal

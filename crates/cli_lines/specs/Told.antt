@@ -1,5 +1,5 @@
 -- What the program tells by the lines that it prints.
-use Rattle.std.specs.Prelude.{◌≡◌, ◌<◌, ◌≤◌, ◌⊎◌, ℕ, List, Bool, true, false, Option, Result, Ok, Err}
+use Rattle.std.specs.Prelude.{◌≡◌, ◌<◌, ◌≤◌, ◌⊎◌, ℕ, List, Bool, true, false, Option, Result, Ok, Err, IfSome}
 use Rattle.std.specs.Io.KnownBytes.{Appends}
 use Rattle.cli_lines.specs.declared.failure.Failure.{Failure}
 use Rattle.cli_lines.specs.declared.failure.Failure.TheVariants as failure
@@ -42,3 +42,23 @@ IsSilent e = (before after : Told) → Says before after e
 abbrev pub Tells : {A : Type 0} → (before after : Told) → Result A Failure → Type 0
 Tells before after (Ok a) = IsMore before after × (after.failed ≡ before.failed)
 Tells before after (Err e) = IsMore before after × Says before after e
+
+-- a cause that may come at any call: no memory, a file that could not be opened, read or written, a text that could not be printed
+abbrev pub IsBrokenOff : Failure → Type 0
+IsBrokenOff failure.Memory = Unit {0}
+IsBrokenOff failure.File = Unit {0}
+IsBrokenOff failure.Output = Unit {0}
+IsBrokenOff _ = ⊥
+
+-- a task that was broken off
+abbrev pub BreaksOff : {A : Type 0} → Result A Failure → Type 0
+BreaksOff (Ok a) = ⊥
+BreaksOff (Err f) = IsBrokenOff f
+
+-- A task comes to its answer and to the text that was printed, unless it was broken off
+abbrev pub Answers : {A : Type 0} → (Result A Failure → List ℕ → Type 0) → (before after : Told) → Result A Failure → Type 0
+Answers Comes before after answer = BreaksOff answer ⊎ ((text : List ℕ) × Comes answer text × Prints before after text)
+
+-- what a file holds, where that is known
+abbrev pub IsHeld : Option (List ℕ) → List ℕ → Type 0
+IsHeld held bytes = IfSome held (λ known. bytes ≡ known)

@@ -3,10 +3,11 @@
 //! What is here answers nothing and prints nothing on the standard output. Where there is no memory
 //! for a sentence, it is left out.
 
-ghost use Rattle.std.specs.Prelude.{◌≡◌, IfOk, IfSome, take};
+ghost use Rattle.std.specs.Prelude.{◌≡◌, IfOk, IfSome, OnOk, take};
+ghost use Rattle.cli_lines.specs.Told.{IsHeld};
 
 use crate::failure::Failure;
-use crate::files::{Access, FileFault, Files, read_at_most};
+use crate::files::{Access, FileFault, Files, read_all, read_at_most};
 use crate::meanings::{failure_words, meaning};
 use std::alloc::{AllocError, Global};
 use std::fmt::{self, Display, Formatter, Write};
@@ -57,7 +58,9 @@ pub fn explain<F: Files>(
     files: &mut F,
     place: &Location<'_>,
     words: Result<String, AllocError>,
-) {
+)
+    ensures kept { F.bytes files.new ≡ F.bytes files.old }
+{
     let sentence = match words {
         Ok(words) => format!(in alloc; "{place}: {words}"),
         Err(error) => Err(error),
@@ -74,12 +77,16 @@ pub fn explain_numbered<F: Files>(
     place: &Location<'_>,
     words: &str,
     number: u16,
-) {
+)
+    ensures kept { F.bytes files.new ≡ F.bytes files.old }
+{
     explain(alloc, files, place, format!(in alloc; "{words} ({number})"));
 }
 
 /// Says what the number on the standard output stands for, which is a refusal of what is at a place.
-pub fn explain_number<F: Files>(alloc: Global, files: &mut F, place: &Location<'_>, number: u16) {
+pub fn explain_number<F: Files>(alloc: Global, files: &mut F, place: &Location<'_>, number: u16)
+    ensures kept { F.bytes files.new ≡ F.bytes files.old }
+{
     explain_numbered(alloc, files, place, meaning(number), number);
 }
 
@@ -89,7 +96,9 @@ pub fn explain_bad_line<F: Files>(
     files: &mut F,
     place: &Location<'_>,
     reason: Result<String, AllocError>,
-) {
+)
+    ensures kept { F.bytes files.new ≡ F.bytes files.old }
+{
     let words = match reason {
         Ok(reason) => format!(in alloc; "{reason} (bad line)"),
         Err(error) => Err(error),
@@ -98,7 +107,9 @@ pub fn explain_bad_line<F: Files>(
 }
 
 /// Says why a file could not be used so (703).
-pub fn explain_trouble<F: Files>(alloc: Global, files: &mut F, name: &str, access: Access) {
+pub fn explain_trouble<F: Files>(alloc: Global, files: &mut F, name: &str, access: Access)
+    ensures kept { F.bytes files.new ≡ F.bytes files.old }
+{
     if let Ok(trouble) = files.trouble(alloc, name, access) {
         explain_numbered(alloc, files, &Location::file(name), &trouble, 703);
     }
@@ -111,10 +122,27 @@ pub fn read_explained<F: Files>(
     name: &str,
     most: u64,
 ) -> Result<Vec<u8>, FileFault>
-    ensures { IfOk result
+    ensures bytes { IfOk result
         (λ v. IfSome (F.bytes files.old name.now) (λ bytes. v.items ≡ take most bytes)) }
+    ensures kept { OnOk result (F.bytes files.new ≡ F.bytes files.old) }
+    ensures input { OnOk result (F.input_bytes files.new ≡ F.input_bytes files.old) }
 {
     let read = read_at_most(alloc, files, name, most);
+    explain_read(alloc, files, name, &read);
+    read
+}
+
+/// All the bytes of a file. Says why they were not read, if that is so.
+pub fn read_all_explained<F: Files>(
+    alloc: Global,
+    files: &mut F,
+    name: &str,
+) -> Result<Vec<u8>, FileFault>
+    ensures bytes { IfOk result (λ v. IsHeld (F.bytes files.old name.now) v.items) }
+    ensures kept { OnOk result (F.bytes files.new ≡ F.bytes files.old) }
+    ensures input { OnOk result (F.input_bytes files.new ≡ F.input_bytes files.old) }
+{
+    let read = read_all(alloc, files, name);
     explain_read(alloc, files, name, &read);
     read
 }
@@ -125,7 +153,10 @@ pub fn explain_read<F: Files>(
     files: &mut F,
     name: &str,
     read: &Result<Vec<u8>, FileFault>,
-) {
+)
+    ensures unchanged { OnOk read.now (files.new ≡ files.old) }
+    ensures kept { F.bytes files.new ≡ F.bytes files.old }
+{
     if matches!(read, Err(FileFault::Device)) {
         explain_trouble(alloc, files, name, Access::Read);
     }
@@ -138,7 +169,9 @@ pub fn explain_failure<F: Files>(
     files: &mut F,
     place: &Location<'_>,
     failure: &Failure,
-) {
+)
+    ensures kept { F.bytes files.new ≡ F.bytes files.old }
+{
     if let Some(words) = failure_words(alloc, failure) {
         explain(alloc, files, place, words);
     }

@@ -1,6 +1,9 @@
 //! Why a task was not done.
 
-ghost use Rattle.cli_lines.specs.Told.{IsSilent};
+ghost use Rattle.std.specs.Prelude.{◌≡◌};
+ghost use Rattle.cli_lines.specs.Texts.{file_failure, genesis_failure, module_failure, simulation_failure};
+ghost use Rattle.cli_lines.specs.Told.{IsBrokenOff, IsSilent};
+ghost use Rattle.cli_lines.specs.declared.failure.Failure.TheVariants.{Memory};
 
 use crate::files::FileFault;
 use block_store::End;
@@ -64,7 +67,7 @@ impl Display for Failure {
             Failure::Genesis(refusal) => write!(f, "{refusal}"),
             Failure::KeyFile => write!(f, "refused 809"),
             Failure::NoSecret => write!(f, "refused 808"),
-            Failure::Simulation(refusal) => write!(f, "{refusal}"),
+            Failure::Simulation(refusal) => write!(f, "{}", SimulationText(*refusal)),
             Failure::NoPlace => write!(f, "refused 431"),
             Failure::NotEntered => write!(f, "refused 432"),
             Failure::Commit(refusal) => write!(f, "{refusal}"),
@@ -76,8 +79,29 @@ impl Display for Failure {
     }
 }
 
+/// What the program prints of a simulation's refusal: a status as a signed number.
+#[derive(Clone, Copy)]
+pub(crate) struct SimulationText(pub(crate) SimRefusal);
+
+impl Display for SimulationText {
+    ghost use Rattle.std.specs.Prelude.{Some};
+    ghost use Rattle.cli_lines.specs.Texts.{simulation_text};
+
+    ghost output = { λ t. Some (simulation_text t.0) };
+
+    fn fmt<W: Write>(&self, f: &mut Formatter<W>) -> fmt::Result {
+        match self.0 {
+            SimRefusal::Status(status) => {
+                let status = status.cast_signed();
+                write!(f, "refused 404 status {status}")
+            }
+            refusal => write!(f, "{refusal}"),
+        }
+    }
+}
+
 impl From<FileFault> for Failure {
-    ghost from_gives = { λ _ r. IsSilent r };
+    ghost from_gives = { λ e r. IsSilent r × IsBrokenOff r × (r ≡ file_failure e) };
 
     fn from(fault: FileFault) -> Failure {
         match fault {
@@ -88,7 +112,7 @@ impl From<FileFault> for Failure {
 }
 
 impl From<ModuleRefusal> for Failure {
-    ghost from_gives = { λ _ r. IsSilent r };
+    ghost from_gives = { λ e r. IsSilent r × (r ≡ module_failure e) };
 
     fn from(refusal: ModuleRefusal) -> Failure {
         match refusal {
@@ -99,7 +123,7 @@ impl From<ModuleRefusal> for Failure {
 }
 
 impl From<GenesisRefusal> for Failure {
-    ghost from_gives = { λ _ r. IsSilent r };
+    ghost from_gives = { λ e r. IsSilent r × (r ≡ genesis_failure e) };
 
     fn from(refusal: GenesisRefusal) -> Failure {
         match refusal {
@@ -110,7 +134,7 @@ impl From<GenesisRefusal> for Failure {
 }
 
 impl From<SimRefusal> for Failure {
-    ghost from_gives = { λ _ r. IsSilent r };
+    ghost from_gives = { λ e r. IsSilent r × (r ≡ simulation_failure e) };
 
     fn from(refusal: SimRefusal) -> Failure {
         match refusal {
@@ -121,7 +145,7 @@ impl From<SimRefusal> for Failure {
 }
 
 impl From<AllocError> for Failure {
-    ghost from_gives = { λ _ r. IsSilent r };
+    ghost from_gives = { λ _ r. IsSilent r × IsBrokenOff r × (r ≡ Memory) };
 
     fn from(_refused: AllocError) -> Failure {
         Failure::Memory
@@ -129,7 +153,7 @@ impl From<AllocError> for Failure {
 }
 
 impl<T: Drop> From<AllocFailed<T>> for Failure {
-    ghost from_gives = { λ _ r. IsSilent r };
+    ghost from_gives = { λ _ r. IsSilent r × IsBrokenOff r × (r ≡ Memory) };
 
     fn from(_refused: AllocFailed<T>) -> Failure {
         Failure::Memory
@@ -137,7 +161,7 @@ impl<T: Drop> From<AllocFailed<T>> for Failure {
 }
 
 impl From<io::Error> for Failure {
-    ghost from_gives = { λ _ r. IsSilent r };
+    ghost from_gives = { λ _ r. IsSilent r × IsBrokenOff r };
 
     fn from(error: io::Error) -> Failure {
         if error.kind() == ErrorKind::OutOfMemory {

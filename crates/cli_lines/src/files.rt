@@ -1,6 +1,8 @@
 //! The files that the program is given.
 
-ghost use Rattle.std.specs.Prelude.{◌≡◌, ℕ, List, Option, None, IfSome, IfOk, take};
+ghost use Rattle.std.specs.Prelude.{◌≡◌, ℕ, Bool, true, false, [], List, Option, Some, None, IfSome, IfOk, IsTrue, OnOk, take};
+ghost use Rattle.cli_lines.specs.Places.{IsFileOf};
+ghost use Rattle.cli_lines.specs.Told.{IsHeld};
 
 use std::alloc::{AllocError, Global};
 use std::fs::OpenFile;
@@ -25,18 +27,31 @@ pub trait Files {
     /// The bytes of the file of a name, where they are known.
     ghost bytes: { Self → List ℕ → Option (List ℕ) } = { λ _ _. None };
 
+    /// The bytes of the standard input, from where it was read to, where they are known.
+    ghost input_bytes: { Self → Option (List ℕ) } = { λ _. None };
+
+    /// Whether what is written is known. Then no name is a link's or a device's.
+    ghost is_known: { Bool } = { false };
+
     /// Opens a file for reading, from its first byte on. None where it cannot be opened.
     fn open(&mut self, name: &str) -> Option<Self::Reader>
-        ensures { IfSome result (λ r. Self.Reader.remaining r ≡ bytes self.old name.now) };
+        ensures read { IfSome result (λ r. Self.Reader.remaining r ≡ bytes self.old name.now) }
+        ensures kept { bytes self.new ≡ bytes self.old }
+        ensures input { input_bytes self.new ≡ input_bytes self.old };
 
     /// Where that goes which is written under a name.
     ///
     /// A fault where the name is a folder's or no file can have it, where it is that of a link that
     /// leads nowhere, and where it cannot be looked at.
-    fn target(&mut self, alloc: Global, name: &str) -> Result<Target, FileFault>;
+    fn target(&mut self, alloc: Global, name: &str) -> Result<Target, FileFault>
+        ensures file { is_known ≡ true → IfOk result (IsFileOf name.now) }
+        ensures kept { bytes self.new ≡ bytes self.old }
+        ensures input { input_bytes self.new ≡ input_bytes self.old };
 
     /// Whether both names lead to one file.
-    fn is_same(&mut self, name: &str, other: &str) -> bool;
+    fn is_same(&mut self, name: &str, other: &str) -> bool
+        ensures kept { bytes self.new ≡ bytes self.old }
+        ensures input { input_bytes self.new ≡ input_bytes self.old };
 
     /// Takes the file of a name for the program alone. None where that cannot be done, and where
     /// another one has the file so, by `open_store` too.
@@ -49,14 +64,17 @@ pub trait Files {
     /// Makes a file for writing, in the place of a file of that name, and takes it as `lock` does.
     /// None where that cannot be done, where anything but a file has the name, and where another one
     /// has that file.
-    fn create(&mut self, name: &str) -> Option<Self::Writer>;
+    fn create(&mut self, name: &str) -> Option<Self::Writer>
+        ensures { is_known ≡ true → IfSome result (λ w. Self.Writer.contents w ≡ Some []) };
 
     /// Opens a device or a pipe for writing. None where that cannot be done.
     fn open_device(&mut self, name: &str) -> Option<Self::Writer>;
 
-    /// Gives a file another name, in the place of a file that has it. Answers whether that was
-    /// done.
-    fn rename(&mut self, from: &str, to: &str) -> bool;
+    /// Closes a file that was made for writing and gives it another name, in the place of a file
+    /// that has it. Answers whether that was done.
+    fn keep(&mut self, writer: Self::Writer, from: &str, to: &str) -> bool
+        ensures { is_known ≡ true → IsTrue result
+            → bytes self.new to.now ≡ Self.Writer.contents writer };
 
     /// Takes a file away, where that can be done.
     fn remove(&mut self, name: &str);
@@ -64,23 +82,35 @@ pub trait Files {
     /// Opens a file for reading, from its first byte on, and for writing at its end, and makes it
     /// where there is none. The program has it for itself alone. None where that cannot be done,
     /// and where another one has the file so, by `lock` too.
-    fn open_store(&mut self, name: &str) -> Option<Self::Store>;
+    fn open_store(&mut self, name: &str) -> Option<Self::Store>
+        ensures read { IfSome result (λ s. Self.Store.remaining s ≡ bytes self.old name.now) }
+        ensures input { input_bytes self.new ≡ input_bytes self.old };
 
     /// The standard input, from where it was read to.
-    fn input(&mut self) -> Self::Input;
+    fn input(&mut self) -> Self::Input
+        ensures read { Self.Input.remaining result ≡ input_bytes self.old }
+        ensures kept { bytes self.new ≡ bytes self.old };
 
     /// Who is told how far a replay is, until this is dropped.
-    fn watch(&mut self) -> Self::Watch;
+    fn watch(&mut self) -> Self::Watch
+        ensures kept { bytes self.new ≡ bytes self.old }
+        ensures input { input_bytes self.new ≡ input_bytes self.old };
 
     /// Says a line to whoever runs the program, on the standard error.
-    fn remark(&mut self, line: &str);
+    fn remark(&mut self, line: &str)
+        ensures kept { bytes self.new ≡ bytes self.old }
+        ensures input { input_bytes self.new ≡ input_bytes self.old };
 
     /// Says in the same way, in a sentence, why a line on the standard output refuses something.
-    fn explain(&mut self, sentence: &str);
+    fn explain(&mut self, sentence: &str)
+        ensures kept { bytes self.new ≡ bytes self.old }
+        ensures input { input_bytes self.new ≡ input_bytes self.old };
 
     /// Why a file could not be used so, as far as another look at it tells, in words without its
     /// name.
-    fn trouble(&mut self, alloc: Global, name: &str, access: Access) -> Result<String, AllocError>;
+    fn trouble(&mut self, alloc: Global, name: &str, access: Access) -> Result<String, AllocError>
+        ensures kept { bytes self.new ≡ bytes self.old }
+        ensures input { input_bytes self.new ≡ input_bytes self.old };
 }
 
 /// What a file is used for.
@@ -133,8 +163,10 @@ pub fn read_at_most<F: Files>(
     name: &str,
     most: u64,
 ) -> Result<Vec<u8>, FileFault>
-    ensures { IfOk result
+    ensures bytes { IfOk result
         (λ v. IfSome (F.bytes files.old name.now) (λ bytes. v.items ≡ take most bytes)) }
+    ensures kept { OnOk result (F.bytes files.new ≡ F.bytes files.old) }
+    ensures input { OnOk result (F.input_bytes files.new ≡ F.input_bytes files.old) }
 {
     let Some(reader) = files.open(name) else {
         return Err(FileFault::Device);
@@ -145,6 +177,15 @@ pub fn read_at_most<F: Files>(
 }
 
 /// All the bytes of a file.
-pub fn read_all<F: Files>(alloc: Global, files: &mut F, name: &str) -> Result<Vec<u8>, FileFault> {
-    read_at_most(alloc, files, name, u64::MAX)
+pub fn read_all<F: Files>(alloc: Global, files: &mut F, name: &str) -> Result<Vec<u8>, FileFault>
+    ensures bytes { IfOk result (λ v. IsHeld (F.bytes files.old name.now) v.items) }
+    ensures kept { OnOk result (F.bytes files.new ≡ F.bytes files.old) }
+    ensures input { OnOk result (F.input_bytes files.new ≡ F.input_bytes files.old) }
+{
+    let Some(mut reader) = files.open(name) else {
+        return Err(FileFault::Device);
+    };
+    let mut bytes = Vec::new(alloc);
+    reader.read_to_end(&mut bytes)?;
+    Ok(bytes)
 }

@@ -1,9 +1,8 @@
 //! The seeds of a key file, and who can endorse with them.
 
-ghost use Rattle.std.specs.Prelude.{◌≡◌, true, false, Ok, Err, IfErr, IfOk, IfSome, OnOk, option_map};
+ghost use Rattle.std.specs.Prelude.{◌≡◌, true, false, Ok, Err, IfErr, IfOk, OnOk, option_map};
 ghost use Rattle.std.specs.List.{find, list_any};
-ghost use Rattle.key_file.specs.KeyFiles.{IsKeyFile};
-ghost use Rattle.cli_lines.specs.Sealing.{lacks_seed};
+ghost use Rattle.cli_lines.specs.Sealing.{HasSeeds, IsNoKeyFile, lacks_seed};
 ghost use Rattle.cli_lines.specs.Told.{IsSilent};
 ghost use Rattle.cli_lines.specs.declared.failure.Failure.TheVariants.{NoSecret};
 
@@ -36,9 +35,11 @@ pub fn keys_in<F: Files>(
     files: &mut F,
     name: &str,
 ) -> Result<Vec<SigningKey>, Failure>
-    ensures spelled { IfOk result
-        (λ keys. IfSome (F.bytes files.old name.now) (λ bytes. IsKeyFile bytes keys.items)) }
+    ensures spelled { IfOk result (λ keys. HasSeeds (F.bytes files.old name.now) keys.items) }
     ensures silent { IfErr result IsSilent }
+    ensures refused { IfErr result (IsNoKeyFile (F.bytes files.old name.now)) }
+    ensures kept { OnOk result (F.bytes files.new ≡ F.bytes files.old) }
+    ensures input { OnOk result (F.input_bytes files.new ≡ F.input_bytes files.old) }
 {
     let bytes = read_explained(alloc, files, name, MOST_READ)?;
     match read_keys(alloc, &bytes) {
@@ -53,9 +54,11 @@ pub fn keys_in<F: Files>(
 
 /// The seeds in the key file of this name. Refused as `keys_in` is.
 pub fn signers_in<F: Files>(alloc: Global, files: &mut F, name: &str) -> Result<Signers, Failure>
-    ensures spelled { IfOk result
-        (λ seeds. IfSome (F.bytes files.old name.now) (λ bytes. IsKeyFile bytes seeds)) }
+    ensures spelled { IfOk result (λ seeds. HasSeeds (F.bytes files.old name.now) seeds) }
     ensures silent { IfErr result IsSilent }
+    ensures refused { IfErr result (IsNoKeyFile (F.bytes files.old name.now)) }
+    ensures kept { OnOk result (F.bytes files.new ≡ F.bytes files.old) }
+    ensures input { OnOk result (F.input_bytes files.new ≡ F.input_bytes files.old) }
 {
     Ok(Signers::new(keys_in(alloc, files, name)?))
 }
@@ -83,6 +86,7 @@ pub fn need_secrets<F: Files>(
         → list_any (lacks_seed genesis.now.rules.value genesis.now.signers.value) orgs.now ≡ false }
     ensures refused { result ≡ Err NoSecret
         → list_any (lacks_seed genesis.now.rules.value genesis.now.signers.value) orgs.now ≡ true }
+    ensures only { IfErr result (λ f. f ≡ NoSecret) }
     ensures unchanged { OnOk result (files.new ≡ files.old) }
     ensures silent { IfErr result IsSilent }
 {

@@ -20,12 +20,14 @@ mod verdict;
 
 pub use explaining::{
     Location, explain, explain_bad_line, explain_failure, explain_number, explain_numbered,
-    explain_read, explain_trouble, read_explained,
+    explain_read, explain_trouble, read_all_explained, read_explained,
 };
 pub use failure::Failure;
 pub use files::{Access, FileFault, Files, Target, read_all, read_at_most};
 pub use keys::{explain_no_seed, keys_in, lacks_seed, need_secrets, signers_in};
-pub use lines::{hex_of, id_of, print_committed, print_line, print_payload, version_of};
+pub use lines::{
+    hex_of, id_of, print_committed, print_line, print_payload, print_simulation, version_of,
+};
 pub use meanings::{block_words, flags_words, meaning, simulation_words};
 pub use opening::{genesis_holding, genesis_in, modules_in};
 pub use printer::Printer;

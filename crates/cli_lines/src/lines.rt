@@ -1,15 +1,16 @@
 //! Lines, and what the program prints of a transaction, and of a block that was committed.
 
-ghost use Rattle.std.specs.Prelude.{◌≡◌, ◌<◌, IfOk, OnOk, string_bytes};
+ghost use Rattle.std.specs.Prelude.{◌≡◌, ◌<◌, true, IfErr, IfOk, OnErr, OnOk, string_bytes};
 ghost use Rattle.std.specs.Io.KnownBytes.{Appends};
 ghost use Rattle.std.specs.List.{flat_map};
-ghost use Rattle.cli_lines.specs.Lines.{committed_text, hex_text, id_text, payload_text, range_text, read_text, version_text, write_text};
+ghost use Rattle.cli_lines.specs.Lines.{committed_text, hex_text, id_text, payload_text, range_text, read_text, simulation_line, version_text, write_text};
 ghost use Rattle.cli_lines.specs.Texts.{line};
-ghost use Rattle.cli_lines.specs.Told.{Prints, Tells};
+ghost use Rattle.cli_lines.specs.Told.{IsBrokenOff, Prints, Tells};
 
-use crate::failure::Failure;
+use crate::failure::{Failure, SimulationText};
 use crate::printer::Printer;
 use fab_types::{Flag, Payload, RangeItem, ReadItem, Version, WriteItem};
+use simulator::SimRefusal;
 use std::alloc::{AllocError, Global};
 use std::io::Write;
 use wire::payload_id;
@@ -17,7 +18,9 @@ use wire::payload_id;
 /// Prints a text and the line's end.
 pub fn print_line<W: Write>(text: &String, out: &mut Printer<'_, W>) -> Result<(), Failure>
     ensures tells { Tells out.old out.new result }
+    ensures lost { IfErr result IsBrokenOff }
     ensures printed { OnOk result (out.old.printed < out.new.printed) }
+    ensures failed { OnErr result (out.new.failed ≡ true) }
     ensures line { OnOk result
         (Appends out.old.bytes out.new.bytes (line (string_bytes text.now))) }
 {
@@ -55,6 +58,7 @@ fn print_read<W: Write>(
     out: &mut Printer<'_, W>,
 ) -> Result<(), Failure>
     ensures tells { Tells out.old out.new result }
+    ensures lost { IfErr result IsBrokenOff }
     ensures prints { OnOk result (Prints out.old out.new (read_text read.now)) }
 {
     let key = hex_of(alloc, read.key.as_slice())?;
@@ -73,6 +77,7 @@ fn print_range<W: Write>(
     out: &mut Printer<'_, W>,
 ) -> Result<(), Failure>
     ensures tells { Tells out.old out.new result }
+    ensures lost { IfErr result IsBrokenOff }
     ensures prints { OnOk result (Prints out.old out.new (range_text range.now)) }
 {
     let start = hex_of(alloc, range.start().as_slice())?;
@@ -87,6 +92,7 @@ fn print_write<W: Write>(
     out: &mut Printer<'_, W>,
 ) -> Result<(), Failure>
     ensures tells { Tells out.old out.new result }
+    ensures lost { IfErr result IsBrokenOff }
     ensures prints { OnOk result (Prints out.old out.new (write_text write.now)) }
 {
     let key = hex_of(alloc, write.key.as_slice())?;
@@ -105,6 +111,7 @@ fn print_reads<W: Write>(
     out: &mut Printer<'_, W>,
 ) -> Result<(), Failure>
     ensures tells { Tells out.old out.new result }
+    ensures lost { IfErr result IsBrokenOff }
     ensures prints { OnOk result (Prints out.old out.new (flat_map read_text reads.now)) }
 {
     for read in reads {
@@ -119,6 +126,7 @@ fn print_ranges<W: Write>(
     out: &mut Printer<'_, W>,
 ) -> Result<(), Failure>
     ensures tells { Tells out.old out.new result }
+    ensures lost { IfErr result IsBrokenOff }
     ensures prints { OnOk result (Prints out.old out.new (flat_map range_text ranges.now)) }
 {
     for range in ranges {
@@ -133,6 +141,7 @@ fn print_writes<W: Write>(
     out: &mut Printer<'_, W>,
 ) -> Result<(), Failure>
     ensures tells { Tells out.old out.new result }
+    ensures lost { IfErr result IsBrokenOff }
     ensures prints { OnOk result (Prints out.old out.new (flat_map write_text writes.now)) }
 {
     for write in writes {
@@ -148,6 +157,7 @@ pub fn print_payload<W: Write>(
     out: &mut Printer<'_, W>,
 ) -> Result<(), Failure>
     ensures tells { Tells out.old out.new result }
+    ensures lost { IfErr result IsBrokenOff }
     ensures prints { OnOk result (Prints out.old out.new (payload_text payload.now)) }
 {
     let id = id_of(alloc, payload)?;
@@ -159,6 +169,19 @@ pub fn print_payload<W: Write>(
     print_writes(alloc, payload.writes().as_slice(), out)
 }
 
+/// Prints why a simulation was refused.
+pub fn print_simulation<W: Write>(
+    refusal: SimRefusal,
+    out: &mut Printer<'_, W>,
+) -> Result<(), Failure>
+    ensures tells { Tells out.old out.new result }
+    ensures lost { IfErr result IsBrokenOff }
+    ensures prints { OnOk result (Prints out.old out.new (simulation_line refusal)) }
+    ensures failed { OnErr result (out.new.failed ≡ true) }
+{
+    writeln!(out, "{}", SimulationText(refusal))
+}
+
 /// Prints the number of a block that was committed, and its flags.
 pub fn print_committed<W: Write>(
     number: usize,
@@ -166,7 +189,9 @@ pub fn print_committed<W: Write>(
     out: &mut Printer<'_, W>,
 ) -> Result<(), Failure>
     ensures tells { Tells out.old out.new result }
+    ensures lost { IfErr result IsBrokenOff }
     ensures prints { OnOk result (Prints out.old out.new (committed_text number flags.now)) }
+    ensures failed { OnErr result (out.new.failed ≡ true) }
 {
     write!(out, "committed {number} flags")?;
     for flag in flags {

@@ -1,8 +1,12 @@
 //! The genesis of a file, and the modules of another.
 
-ghost use Rattle.std.specs.Prelude.{◌≡◌, ◌≤◌, length, IfOk, IfErr};
+ghost use Rattle.std.specs.Prelude.{◌≡◌, ◌≤◌, [], length, IfOk, IfErr};
 ghost use Rattle.json_genesis.specs.Spelling.{Spells, SpellsHolding, SpellsModules};
+ghost use Rattle.std.specs.Str.{IsUtf8};
+ghost use Rattle.json_genesis.specs.declared.refusal.GenesisRefusal.TheVariants.{Json};
+ghost use Rattle.cli_lines.specs.Opening.{AreNoModules, IsNoGenesis};
 ghost use Rattle.cli_lines.specs.Told.{IsSilent};
+ghost use Rattle.cli_lines.specs.declared.failure.Failure.TheVariants as failure;
 
 use crate::failure::Failure;
 use chaincode_book::Held;
@@ -16,6 +20,7 @@ use std::alloc::Global;
 pub fn genesis_in(alloc: Global, bytes: &[u8]) -> Result<Genesis, Failure>
     ensures spelled { IfOk result (λ g. Spells bytes.now g) }
     ensures silent { IfErr result IsSilent }
+    ensures refused { IfErr result (IsNoGenesis bytes.now []) }
 {
     Ok(read_genesis(alloc, text_of(bytes)?)?)
 }
@@ -25,6 +30,7 @@ pub fn genesis_holding(alloc: Global, bytes: &[u8], held: Vec<Held>) -> Result<G
     requires held { length held.items ≤ 64 }
     ensures spelled { IfOk result (λ g. SpellsHolding bytes.now held.items g) }
     ensures silent { IfErr result IsSilent }
+    ensures refused { IfErr result (IsNoGenesis bytes.now held.items) }
 {
     Ok(read_genesis_holding(alloc, text_of(bytes)?, held)?)
 }
@@ -36,6 +42,7 @@ pub fn modules_in(alloc: Global, bytes: &[u8]) -> Result<Vec<Held>, Failure>
     ensures spelled { IfOk result (λ held. SpellsModules bytes.now held.items) }
     ensures count { IfOk result (λ held. length held.items ≤ 64) }
     ensures silent { IfErr result IsSilent }
+    ensures refused { IfErr result (AreNoModules bytes.now) }
 {
     Ok(read_modules(alloc, text_of(bytes)?)?)
 }
@@ -44,6 +51,7 @@ pub fn modules_in(alloc: Global, bytes: &[u8]) -> Result<Vec<Held>, Failure>
 fn text_of(bytes: &[u8]) -> Result<&str, Failure>
     ensures text { IfOk result (λ text. text.now ≡ bytes.now) }
     ensures silent { IfErr result IsSilent }
+    ensures refused { IfErr result (λ f. ¬ IsUtf8 bytes.now × (f ≡ failure.Genesis Json)) }
 {
     match std::str::from_utf8(bytes) {
         Ok(text) => Ok(text),

@@ -1,8 +1,8 @@
 //! Where lines are printed.
 
-ghost use Rattle.std.specs.Prelude.{◌≡◌, ◌<◌, true, IfSome, OnOk, OnErr};
+ghost use Rattle.std.specs.Prelude.{◌≡◌, ◌<◌, true, IfErr, IfSome, OnOk, OnErr};
 ghost use Rattle.std.specs.Io.KnownBytes.{Appends, Keeps};
-ghost use Rattle.cli_lines.specs.Told.{Prints, Says, Tells, Told, nothing_told};
+ghost use Rattle.cli_lines.specs.Told.{IsBrokenOff, Prints, Says, Tells, Told, nothing_told};
 
 use crate::failure::Failure;
 use std::fmt::Display;
@@ -48,6 +48,7 @@ impl<'w, W: Write> Printer<'w, W> {
             (IfSome (D.output text) (Appends self.old.bytes self.new.bytes)) }
         ensures prints { OnOk result (IfSome (D.output text) (Prints self.old self.new)) }
         ensures failed { OnErr result (self.new.failed ≡ true) }
+        ensures lost { IfErr result IsBrokenOff }
     {
         let Some(printed) = self.printed.checked_add(1) else {
             self.has_failed = true;
@@ -71,6 +72,7 @@ impl<'w, W: Write> Printer<'w, W> {
         ensures printed { self.new.printed ≡ self.old.printed }
         ensures bytes { Keeps self.old.bytes self.new.bytes }
         ensures failed { OnErr result (self.new.failed ≡ true) }
+        ensures lost { IfErr result IsBrokenOff }
     {
         match self.out.flush() {
             Ok(()) => Ok(()),
@@ -84,7 +86,8 @@ impl<'w, W: Write> Printer<'w, W> {
 
 /// Why a text could not be printed.
 fn reason(error: &io::Error) -> Failure
-    ensures { (before after : Told) → after.failed ≡ true → Says before after result }
+    ensures says { (before after : Told) → after.failed ≡ true → Says before after result }
+    ensures lost { IsBrokenOff result }
 {
     if error.kind() == ErrorKind::OutOfMemory {
         Failure::Memory

@@ -1,5 +1,8 @@
 //! What the words ask for.
 
+ghost use Rattle.std.specs.Prelude.{◌≡◌, IfOk, codes, map, string_bytes};
+ghost use Rattle.cli_words.specs.Commands.{IsCommandOf, command_name, work_name};
+
 use crate::commands::commands;
 use clap::ArgMatches;
 use clap::error::ErrorKind;
@@ -161,16 +164,23 @@ impl From<clap::Error> for WordsFault {
 ///
 /// Usage where they are no command, or a word is missing, left over, or no hex, count, name, key,
 /// number of a block or profile within its limits.
-pub fn parse<'a>(alloc: Global, words: &'a [String]) -> Result<Task<'a>, WordsFault> {
-    let matches = commands(alloc)?.try_get_matches_from(words)?;
-    task_of(alloc, &matches)
-}
-
-/// The task of what was matched.
-fn task_of<'a>(alloc: Global, matches: &ArgMatches<'a>) -> Result<Task<'a>, WordsFault> {
-    let Some((name, command)) = matches.subcommand() else {
+pub fn parse<'a>(alloc: Global, words: &'a [String]) -> Result<Task<'a>, WordsFault>
+    ensures { IfOk result (IsCommandOf (map string_bytes words.now)) }
+{
+    let Some(name) = words.first() else {
         return Err(WordsFault::Usage);
     };
+    let matches = commands(alloc)?.try_get_matches_from(words)?;
+    match matches.subcommand() {
+        Some((_, command)) => task_of(alloc, name, command),
+        None => Err(WordsFault::Usage),
+    }
+}
+
+/// What a command of this name asks for, by what was matched behind the name.
+fn task_of<'a>(alloc: Global, name: &str, command: &ArgMatches<'a>) -> Result<Task<'a>, WordsFault>
+    ensures { IfOk result (λ task. command_name task ≡ name.now) }
+{
     match name {
         "check" => check(command),
         "digest" => digest(command),
@@ -181,24 +191,32 @@ fn task_of<'a>(alloc: Global, matches: &ArgMatches<'a>) -> Result<Task<'a>, Word
     }
 }
 
-fn check<'a>(command: &ArgMatches<'a>) -> Result<Task<'a>, WordsFault> {
+fn check<'a>(command: &ArgMatches<'a>) -> Result<Task<'a>, WordsFault>
+    ensures { IfOk result (λ task. command_name task ≡ codes "check") }
+{
     let module = text(command, "MODULE")?;
     let profile = profile_of(command)?;
     Ok(Task::Check { module, profile })
 }
 
-fn digest<'a>(command: &ArgMatches<'a>) -> Result<Task<'a>, WordsFault> {
+fn digest<'a>(command: &ArgMatches<'a>) -> Result<Task<'a>, WordsFault>
+    ensures { IfOk result (λ task. command_name task ≡ codes "digest") }
+{
     let module = text(command, "MODULE")?;
     let profile = profile_of(command)?;
     Ok(Task::Digest { module, profile })
 }
 
-fn order<'a>(command: &ArgMatches<'a>) -> Result<Task<'a>, WordsFault> {
+fn order<'a>(command: &ArgMatches<'a>) -> Result<Task<'a>, WordsFault>
+    ensures { IfOk result (λ task. command_name task ≡ codes "order") }
+{
     let genesis = text(command, "GENESIS")?;
     Ok(Task::Order { genesis })
 }
 
-fn public<'a>(command: &ArgMatches<'a>) -> Result<Task<'a>, WordsFault> {
+fn public<'a>(command: &ArgMatches<'a>) -> Result<Task<'a>, WordsFault>
+    ensures { IfOk result (λ task. command_name task ≡ codes "public") }
+{
     let keys = text(command, "KEYS")?;
     Ok(Task::Public { keys })
 }
@@ -209,7 +227,9 @@ fn of_genesis<'a>(
     alloc: Global,
     name: &str,
     command: &ArgMatches<'a>,
-) -> Result<Task<'a>, WordsFault> {
+) -> Result<Task<'a>, WordsFault>
+    ensures { IfOk result (λ task. command_name task ≡ name.now) }
+{
     let begin = Beginning {
         genesis: text(command, "GENESIS")?,
         modules: command.get_str("modules"),
@@ -220,11 +240,9 @@ fn of_genesis<'a>(
 }
 
 /// What a command of this name asks for.
-fn work_of<'a>(
-    alloc: Global,
-    name: &str,
-    command: &ArgMatches<'a>,
-) -> Result<Work<'a>, WordsFault> {
+fn work_of<'a>(alloc: Global, name: &str, command: &ArgMatches<'a>) -> Result<Work<'a>, WordsFault>
+    ensures { IfOk result (λ work. work_name work ≡ name.now) }
+{
     match name {
         "sim" => simulate(alloc, command),
         "run" => run(command),
@@ -238,34 +256,44 @@ fn work_of<'a>(
     }
 }
 
-fn simulate<'a>(alloc: Global, command: &ArgMatches<'a>) -> Result<Work<'a>, WordsFault> {
+fn simulate<'a>(alloc: Global, command: &ArgMatches<'a>) -> Result<Work<'a>, WordsFault>
+    ensures { IfOk result (λ work. work_name work ≡ codes "sim") }
+{
     Ok(Work::Simulate {
         proposal: Proposal::Call(call(alloc, command, command.get_str("nonce"))?),
         store: command.get_str("store"),
     })
 }
 
-fn run<'a>(command: &ArgMatches<'a>) -> Result<Work<'a>, WordsFault> {
+fn run<'a>(command: &ArgMatches<'a>) -> Result<Work<'a>, WordsFault>
+    ensures { IfOk result (λ work. work_name work ≡ codes "run") }
+{
     Ok(Work::Run {
         events: text(command, "EVENTS")?,
         store: command.get_str("store"),
     })
 }
 
-fn threads<'a>(command: &ArgMatches<'a>) -> Result<Work<'a>, WordsFault> {
+fn threads<'a>(command: &ArgMatches<'a>) -> Result<Work<'a>, WordsFault>
+    ensures { IfOk result (λ work. work_name work ≡ codes "threads") }
+{
     Ok(Work::Threads {
         rounds: count(text(command, "ROUNDS")?)?,
         chaincode: chaincode(command)?,
     })
 }
 
-fn audit<'a>(command: &ArgMatches<'a>) -> Result<Work<'a>, WordsFault> {
+fn audit<'a>(command: &ArgMatches<'a>) -> Result<Work<'a>, WordsFault>
+    ensures { IfOk result (λ work. work_name work ≡ codes "audit") }
+{
     Ok(Work::Audit {
         store: text(command, "STORE")?,
     })
 }
 
-fn show<'a>(command: &ArgMatches<'a>) -> Result<Work<'a>, WordsFault> {
+fn show<'a>(command: &ArgMatches<'a>) -> Result<Work<'a>, WordsFault>
+    ensures { IfOk result (λ work. work_name work ≡ codes "show") }
+{
     Ok(Work::Show {
         store: text(command, "STORE")?,
         from: command.get_str("from").map_or(Ok(1), block)?,
@@ -273,7 +301,9 @@ fn show<'a>(command: &ArgMatches<'a>) -> Result<Work<'a>, WordsFault> {
     })
 }
 
-fn state<'a>(alloc: Global, command: &ArgMatches<'a>) -> Result<Work<'a>, WordsFault> {
+fn state<'a>(alloc: Global, command: &ArgMatches<'a>) -> Result<Work<'a>, WordsFault>
+    ensures { IfOk result (λ work. work_name work ≡ codes "state") }
+{
     Ok(Work::State {
         store: text(command, "STORE")?,
         at: command.get_str("at").map_or(Ok(LAST_BLOCK), block)?,
@@ -281,21 +311,27 @@ fn state<'a>(alloc: Global, command: &ArgMatches<'a>) -> Result<Work<'a>, WordsF
     })
 }
 
-fn trace<'a>(alloc: Global, command: &ArgMatches<'a>) -> Result<Work<'a>, WordsFault> {
+fn trace<'a>(alloc: Global, command: &ArgMatches<'a>) -> Result<Work<'a>, WordsFault>
+    ensures { IfOk result (λ work. work_name work ≡ codes "trace") }
+{
     Ok(Work::Trace {
         most: command.get_str("steps").map_or(Ok(MOST_COUNT), count)?,
         call: call(alloc, command, None)?,
     })
 }
 
-fn marks<'a>(command: &ArgMatches<'a>) -> Result<Work<'a>, WordsFault> {
+fn marks<'a>(command: &ArgMatches<'a>) -> Result<Work<'a>, WordsFault>
+    ensures { IfOk result (λ work. work_name work ≡ codes "marks") }
+{
     Ok(Work::Marks {
         store: text(command, "STORE")?,
     })
 }
 
 /// What a command of this name asks for that works on lines as they come.
-fn role_of<'a>(name: &str, command: &ArgMatches<'a>) -> Result<Work<'a>, WordsFault> {
+fn role_of<'a>(name: &str, command: &ArgMatches<'a>) -> Result<Work<'a>, WordsFault>
+    ensures { IfOk result (λ work. work_name work ≡ name.now) }
+{
     match name {
         "commit" => Ok(Work::Commit {
             store: text(command, "STORE")?,
