@@ -1,10 +1,10 @@
 -- Lines, read piece by piece.
-use Rattle.std.proofs.Common.{◌≡◌, ◌≢◌, ◌+◌, ◌<◌, ◌==◌, ℕ, zero, suc, Bool, true, false, cond, List, [], ◌∷◌, ◌++◌, Option, Some, None, IfSome, get_or, length, take, drop, refl, sym, ap, ◌∙◌, subst, append_assoc, append-nil, arith, eq-eqb}
+use Rattle.std.proofs.Common.{◌≡◌, ◌≢◌, ◌+◌, ◌<◌, ◌==◌, ℕ, zero, suc, Bool, false, cond, List, [], ◌∷◌, ◌++◌, Option, Some, None, IfSome, get_or, length, take, refl, sym, ap, ◌∙◌, subst, append_assoc, append-nil, length-append, arith, eq-eqb}
 use Rattle.std.proofs.lemmas.Bool.{ne_eqb}
 use Rattle.std.proofs.lemmas.List.{take_all}
 use Rattle.std.specs.Prelude.{if◌then◌else◌}
 use Rattle.std.specs.Io.KnownBytes.{Consumes, Keeps, prepend_known}
-use Rattle.cli_session.specs.Reading.{onto, lines_in, TakesLines, TakesPart, IsPiece, NoEnd, IsCut}
+use Rattle.cli_session.specs.Reading.{onto, lines_in, HasFirst, TakesLines, TakesPart, IsPiece, NoEnd, IsCut}
 use Rattle.cli_session.specs.declared.reading.Piece.{Piece}
 use Rattle.cli_session.specs.declared.reading.Piece.TheVariants.{More, Ended, NoneLeft}
 
@@ -128,6 +128,34 @@ last_line (Some xs) (Some ys) (Some zs) before after p piece some =
     at [] h = absurd (omega (arith, h))
     at (y ∷ l) h = refl
 
+pub has_first : (a b : Option (List ℕ)) (ls : List (List ℕ)) → TakesLines a b ls → HasFirst a ls
+has_first None b ls p = tt
+has_first (Some xs) None ls p = absurd p
+has_first (Some xs) (Some ys) ls p = (lines_in ys, p)
+
+-- ---- a line that is too long
+
+-- a line that has so many bytes
+abbrev pub Longer : ℕ → Option (List ℕ) → Type 0
+Longer n held = (l : List ℕ) × (n < length l) × HasFirst held (l ∷ [])
+
+part_longer : (n : ℕ) (a c : Option (List ℕ)) (part : List ℕ) → TakesPart a c part → n < length part → Longer n a
+part_longer n None c part p long = (part, long, tt)
+part_longer n (Some xs) None part p long = absurd p
+part_longer n (Some xs) (Some ys) part p long = at part (lines_in ys) long p
+  where
+    at : (f : List ℕ) (ks : List (List ℕ)) → n < length f → lines_in xs ≡ onto f ks → Longer n (Some xs)
+    at [] ks long e = absurd (omega (arith, long))
+    at (b ∷ bs) [] long e = (b ∷ bs, long, ([], e))
+    at (b ∷ bs) (k ∷ ks) long e = let all = length-append (b ∷ bs) k in ((b ∷ bs) ++ k, omega (arith, all, long), (ks, e))
+
+pub too_long : (n : ℕ) (p : Piece) (a b c : Option (List ℕ)) (before after : List ℕ) → TakesPart a b before → IsPiece p b c before after →
+    n < length after → Longer n a
+too_long n More a b c before after part piece long = part_longer n a c after (piece_more a b c before after part piece) long
+too_long n Ended a b c before after part piece long = (after, long, has_first a c (after ∷ []) (piece_ended a b c before after part piece))
+too_long n NoneLeft a b c before after part piece long =
+    part_longer n a b before part (subst (λ (l : List ℕ). n < length l) piece.0 long)
+
 -- ---- line by line
 
 pub lines_none : (a : Option (List ℕ)) → TakesLines a a []
@@ -139,6 +167,12 @@ lines_more None b c ls l p q = tt
 lines_more (Some xs) None c ls l p q = absurd p
 lines_more (Some xs) (Some ys) None ls l p q = absurd q
 lines_more (Some xs) (Some ys) (Some zs) ls l p q = p ∙ ap (λ (ks : List (List ℕ)). ls ++ ks) q ∙ sym (append_assoc ls (l ∷ []) (lines_in zs))
+
+pub first_more : (a b : Option (List ℕ)) (ls : List (List ℕ)) (l : List ℕ) → TakesLines a b ls → HasFirst b (l ∷ []) → HasFirst a (ls ++ l ∷ [])
+first_more None b ls l p q = tt
+first_more (Some xs) None ls l p q = absurd p
+first_more (Some xs) (Some ys) ls l p q =
+    (q.0, p ∙ ap (λ (ks : List (List ℕ)). ls ++ ks) q.1 ∙ sym (append_assoc ls (l ∷ []) q.0))
 
 pub lines_all : (a b : Option (List ℕ)) (ls : List (List ℕ)) → TakesLines a b ls → IfSome b (λ ys. lines_in ys ≡ []) → IfSome a (λ xs. ls ≡ lines_in xs)
 lines_all None b ls p none = tt

@@ -1,6 +1,5 @@
 -- What is printed of a reply, where an arm takes what the arms before it did not.
-use Rattle.std.proofs.Common.{◌≡◌, ℕ, List, [], ◌∷◌, ◌++◌, Option, Some, None, IfSome, Result, Ok, Err, OnOk, refl, sym, ap, subst}
-use Rattle.std.specs.Fmt.{◌++?◌}
+use Rattle.std.proofs.Common.{◌≡◌, ℕ, List, [], Some, None, Result, OnOk, refl, ap, subst}
 use Rattle.json_events.specs.declared.bindings.Bindings.{Bindings}
 use Rattle.fab_types.specs.declared.flag.Flag.{Flag}
 use Rattle.fab_types.specs.Payloads.{Payload}
@@ -9,29 +8,15 @@ use Rattle.orderer.specs.declared.report.BatchReport.{BatchReport}
 use Rattle.fabric_core.specs.Numbers.{reply_number}
 use Rattle.fabric_core.specs.declared.event.Reply.{Reply}
 use Rattle.fabric_core.specs.declared.event.Reply.TheVariants as reply
-use Rattle.simulator.specs.RefusalNumber.{refusal_text}
 use Rattle.simulator.specs.declared.refusal.SimRefusal.{SimRefusal}
-use Rattle.simulator.specs.declared.refusal.SimRefusal.TheVariants as refusal
 use Rattle.cli_lines.specs.Texts.{line, refused}
 use Rattle.cli_lines.specs.Told.{Told, Prints}
-use Rattle.cli_session.specs.Replies.{reply_text, begin_text, finish_text, simulation_line}
+use Rattle.cli_session.specs.Replies.{reply_text, begin_text, finish_text}
 use Rattle.cli_session.specs.Stages.{Gets}
 
 -- the same text in other words
 pub prints_as : {A E : Type 0} (r : Result A E) (t u : Told) (a b : List ℕ) → a ≡ b → OnOk r (Prints t u a) → OnOk r (Prints t u b)
 prints_as r t u a b same = subst (λ (text : List ℕ). OnOk r (Prints t u text)) same
-
--- a refusal that is no status
-pub simulated : (r : SimRefusal) (P : List ℕ → Type 0) → ((s : ℕ) → r ≡ refusal.Status s → ⊥) → IfSome (refusal_text r ++? Some (10 ∷ [])) P →
-    P (simulation_line r)
-simulated (refusal.Status s) P not h = absurd (not s refl)
-simulated (refusal.Trapped kind used) P not h = h
-simulated r P not h = h
-
-pub simulated_ok : {A E : Type 0} (r : SimRefusal) (x : Result A E) (P : List ℕ → Type 0) → ((s : ℕ) → r ≡ refusal.Status s → ⊥) →
-    OnOk x (IfSome (refusal_text r ++? Some (10 ∷ [])) P) → OnOk x (P (simulation_line r))
-simulated_ok r (Ok a) P not h = simulated r P not h
-simulated_ok r (Err e) P not h = tt
 
 -- a reply that was not begun, or not endorsed
 pub begin_other : (peer seat : ℕ) (r : Reply) → ((h : ℕ) → r ≡ reply.Begun h → ⊥) → reply_text r ≡ begin_text peer seat r

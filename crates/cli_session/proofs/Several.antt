@@ -1,16 +1,19 @@
 -- Lines, one after another.
-use Rattle.std.proofs.Common.{◌≡◌, ℕ, List, [], ◌∷◌, ◌++◌, ◌⊎◌, inl, inr, refl, sym, ap, subst, ◌∙◌, append_assoc}
+use Rattle.std.proofs.Common.{◌≡◌, ℕ, suc, ◌+◌, List, [], ◌∷◌, ◌++◌, ◌⊎◌, inl, inr, Option, length, refl, sym, ap, subst, ◌∙◌, append_assoc, length-append, arith}
 use Rattle.std.proofs.lemmas.List.{append-nil}
 use Rattle.json_events.specs.declared.action.Action.{Action}
 use Rattle.json_events.specs.declared.action.Action.TheVariants as action
 use Rattle.json_events.specs.declared.bindings.Bindings.{Bindings}
-use Rattle.fabric_core.specs.Inside.{State}
 use Rattle.fabric_core.specs.declared.event.Event.{Event}
 use Rattle.fabric_core.specs.declared.event.Reply.{Reply}
-use Rattle.cli_lines.specs.Told.{Told, Prints}
+use Rattle.cli_lines.specs.Told.{Told, IsBrokenOff, Prints}
+use Rattle.cli_lines.specs.declared.failure.Failure.{Failure}
+use Rattle.cli_lines.specs.declared.failure.Failure.TheVariants.{BadLine}
 use Rattle.cli_lines.proofs.Printing.{prints_none, prints_then}
 use Rattle.cli_session.specs.Stages.{Stage, IsStepOf, DoesPrint}
-use Rattle.cli_session.specs.Running.{Does, IsLine, AreLines}
+use Rattle.cli_session.specs.Reading.{HasFirst, TakesLines}
+use Rattle.cli_session.specs.Running.{Does, IsLine, AreLines, IsBadLine, MeetsBadLine, StopsAt}
+use Rattle.cli_session.proofs.Pieces.{first_more, has_first}
 use Rattle.cli_session.proofs.Steps.{Runs, runs_none, runs_one, runs_joined}
 
 -- no line
@@ -52,6 +55,35 @@ line_more ls l old mid new t u v first next = (
   lines_then ls l old mid new first.0 next.0 first.1 next.1 first.2 next.2,
   prints_then t u v first.1 next.1 first.3 next.3,
 )
+
+-- behind the lines that are done comes a bad one
+pub meets : (a b : Option (List ℕ)) (ls : List (List ℕ)) (l : List ℕ) (old mid : Stage) (t u v : Told) (number : ℕ) (f : Failure) →
+    number ≡ suc (length ls) → TakesLines a b ls → DoesPrint (AreLines ls) old mid t u → HasFirst b (l ∷ []) → f ≡ BadLine number →
+    IsBadLine l mid.names → v ≡ u → MeetsBadLine a old t v f
+meets a b ls l old mid t u v number f counted takes does first is bad same =
+    record {
+      lines = ls;
+      next = l;
+      told = does.0;
+      text = does.1;
+      end = mid;
+      first = first_more a b ls l takes first;
+      does = does.2;
+      bad = bad;
+      prints = subst (λ (w : Told). Prints t w does.1) (sym same) does.3;
+      is = is ∙ ap BadLine counted;
+    }
+
+-- the same, where the next line stops the task
+pub meets_or_lost : (a b c : Option (List ℕ)) (ls : List (List ℕ)) (l : List ℕ) (old mid : Stage) (t u v : Told) (number : ℕ) (f : Failure) →
+    number ≡ suc (length ls) → TakesLines a b ls → DoesPrint (AreLines ls) old mid t u → TakesLines b c (l ∷ []) →
+    StopsAt number (IsBadLine l mid.names) u v f → IsBrokenOff f ⊎ MeetsBadLine a old t v f
+meets_or_lost a b c ls l old mid t u v number f counted takes does next (inl lost) = inl lost
+meets_or_lost a b c ls l old mid t u v number f counted takes does next (inr s) =
+    inr (meets a b ls l old mid t u v number f counted takes does (has_first b c (l ∷ []) next) s.0 s.1 s.2)
+
+pub one_line_more : (number : ℕ) (ls : List (List ℕ)) (l : List ℕ) → number ≡ suc (length ls) → number + 1 ≡ suc (length (ls ++ l ∷ []))
+one_line_more number ls l counted = let all = length-append ls (l ∷ []) in omega (arith, all, counted)
 
 -- ---- their steps
 

@@ -1,17 +1,17 @@
 -- Steps that are printed, and those of several lines.
-use Rattle.std.proofs.Common.{◌≡◌, ℕ, List, [], ◌∷◌, ◌++◌, Result, Ok, Err, IfOk, IfErr, OnOk, map, refl, sym, ap, ap₂, subst, ◌∙◌, append_assoc}
+use Rattle.std.proofs.Common.{◌≡◌, ℕ, List, [], ◌∷◌, ◌++◌, inl, inr, Result, Ok, Err, IfOk, IfErr, OnOk, refl, sym, ap, subst, ◌∙◌}
 use Rattle.std.proofs.lemmas.List.{map-append}
 use Rattle.simulator.specs.Execution.{exec_of}
 use Rattle.json_events.specs.declared.bindings.Bindings.{Bindings}
-use Rattle.fabric_core.specs.System.{Rules, World, IsStep, AreSteps}
-use Rattle.fabric_core.specs.Inside.{State, rules_of, TakesStep, KeepsRules}
+use Rattle.fabric_core.specs.System.{Rules, World, AreSteps}
+use Rattle.fabric_core.specs.Inside.{State, rules_of, KeepsRules}
 use Rattle.fabric_core.specs.declared.event.Event.{Event}
 use Rattle.fabric_core.specs.declared.event.Reply.{Reply}
-use Rattle.cli_lines.specs.Told.{Told, IsMore, Prints, Tells, IsSilent}
+use Rattle.cli_lines.specs.Told.{Told, IsMore, Prints, Tells, IsBrokenOff, IsSilent}
 use Rattle.cli_lines.specs.declared.failure.Failure.{Failure}
 use Rattle.cli_lines.proofs.Silence.{tells_by}
 use Rattle.cli_session.specs.Stages.{Stage, StepsTo, Stay, IsStepOf, DoesPrint}
-use Rattle.cli_session.specs.Running.{events_of, replies_of}
+use Rattle.cli_session.specs.Running.{StopsAt, events_of, replies_of}
 
 -- a step whose reply was printed
 pub step_printed : {A E : Type 0} (told : Result A E) {F : Type 0} (reply : Result Reply F) (event : Event) (said : Reply → List ℕ)
@@ -59,6 +59,21 @@ tells_last t u (Err e) more whole silent = tells_by t u e more silent
 pub any_ok : {A E : Type 0} (r : Result A E) (P : Type 0) → P → OnOk r P
 any_ok (Ok x) P h = h
 any_ok (Err e) P h = tt
+
+-- ---- a line that stops the run
+
+pub lost_stops : {A : Type 0} (r : Result A Failure) (number : ℕ) (Why : Type 0) (t u : Told) → IfErr r IsBrokenOff → IfErr r (StopsAt number Why t u)
+lost_stops (Ok x) number Why t u lost = tt
+lost_stops (Err f) number Why t u lost = inl lost
+
+stop_by : (number : ℕ) (P Q : Type 0) (t u : Told) (f : Failure) → (P → Q) → StopsAt number P t u f → StopsAt number Q t u f
+stop_by number P Q t u f by (inl lost) = inl lost
+stop_by number P Q t u f by (inr s) = inr (s.0, by s.1, s.2)
+
+pub stops_by : {A : Type 0} (r : Result A Failure) (number : ℕ) (P Q : Type 0) (t u : Told) → (P → Q) → IfErr r (StopsAt number P t u) →
+    IfErr r (StopsAt number Q t u)
+stops_by (Ok x) number P Q t u by s = tt
+stops_by (Err f) number P Q t u by s = stop_by number P Q t u f by s
 
 -- ---- the steps of a run
 

@@ -4,3 +4,4 @@ pub mod States
 pub mod Stages
 pub mod Running
 pub mod Whole
+pub mod Stored

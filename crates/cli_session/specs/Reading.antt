@@ -1,5 +1,5 @@
 -- The lines of a file, and how they are read.
-use Rattle.std.specs.Prelude.{◌≡◌, ◌≢◌, ◌<◌, ◌+◌, ◌==◌, ℕ, List, [], ◌∷◌, ◌++◌, Option, Some, None, IfSome, if◌then◌else◌, get_or, length, take}
+use Rattle.std.specs.Prelude.{◌≡◌, ◌≢◌, ◌<◌, ◌+◌, ◌==◌, ℕ, List, [], ◌∷◌, ◌++◌, Option, Some, None, IfSome, if◌then◌else◌, get_or, length}
 use Rattle.std.specs.Io.KnownBytes.{Keeps}
 use Rattle.cli_session.specs.declared.reading.Piece.{Piece}
 use Rattle.cli_session.specs.declared.reading.Piece.TheVariants.{More, Ended, NoneLeft}
@@ -29,10 +29,18 @@ TakesPart None new part = Unit {0}
 TakesPart (Some xs) None part = ⊥
 TakesPart (Some xs) (Some ys) part = lines_in xs ≡ onto part (lines_in ys)
 
+-- known bytes have these lines at their front
+abbrev pub HasFirst : Option (List ℕ) → List (List ℕ) → Type 0
+HasFirst held lines = IfSome held (λ bytes. (others : List (List ℕ)) × (lines_in bytes ≡ lines ++ others))
+
+-- how many bytes a line has at most, its end not counted
+abbrev pub longest_line : ℕ
+longest_line = 2097152
+
 -- what is next in a file
 abbrev pub IsNext : Next → Option (List ℕ) → Option (List ℕ) → Type 0
 IsNext (Line line) old new = TakesLines old new (line.items ∷ [])
-IsNext TooLong old new = Unit {0}
+IsNext TooLong old new = (l : List ℕ) × (longest_line < length l) × HasFirst old (l ∷ [])
 IsNext End old new = IfSome old (λ xs. lines_in xs ≡ [])
 
 -- what a line has got, where known bytes were read

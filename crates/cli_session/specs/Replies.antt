@@ -1,26 +1,15 @@
 -- What the program prints of a reply.
-use Rattle.std.specs.Prelude.{◌++◌, ℕ, List, [], ◌∷◌, Option, Some, None, codes}
-use Rattle.std.specs.Fmt.{decimal, signed_decimal}
-use Rattle.std.specs.Int.{w32, cast_signed}
+use Rattle.std.specs.Prelude.{◌++◌, ℕ, List, [], Option, Some, None, codes}
+use Rattle.std.specs.Fmt.{decimal}
 use Rattle.std.specs.List.{flat_map}
-use Rattle.wasm_ast.specs.Traps.{trap_number}
 use Rattle.fab_types.specs.Payloads.{Payload}
 use Rattle.orderer.specs.Numbers.{abort_number}
 use Rattle.orderer.specs.declared.arrangement.AbortCause.{AbortCause}
 use Rattle.orderer.specs.declared.report.BatchReport.{BatchReport}
 use Rattle.fabric_core.specs.declared.event.Reply.{Reply}
 use Rattle.fabric_core.specs.declared.event.Reply.TheVariants as reply
-use Rattle.simulator.specs.RefusalNumber.{refusal_number}
-use Rattle.simulator.specs.declared.refusal.SimRefusal.{SimRefusal}
-use Rattle.simulator.specs.declared.refusal.SimRefusal.TheVariants as refusal
-use Rattle.cli_lines.specs.Lines.{committed_text, id_text}
+use Rattle.cli_lines.specs.Lines.{committed_text, id_text, simulation_line}
 use Rattle.cli_lines.specs.Texts.{refused, line}
-
--- of a simulation that was refused
-abbrev pub simulation_line : SimRefusal → List ℕ
-simulation_line (refusal.Trapped kind used) = line (codes "refused 402 trap " ++ decimal (trap_number kind))
-simulation_line (refusal.Status status) = codes "refused 404 status " ++ (signed_decimal (cast_signed w32 status) ++ codes "\n")
-simulation_line r = line (refused (refusal_number r))
 
 -- of a batch: its block, if it made one, and each transaction that is left out
 abbrev pub made_text : Option ℕ → ℕ → List ℕ

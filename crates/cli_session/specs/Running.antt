@@ -1,7 +1,9 @@
 -- What the lines of a file of events do to a system, and what is printed of it.
-use Rattle.std.specs.Prelude.{◌≡◌, ◌≢◌, ◌⊎◌, ℕ, List, [], ◌∷◌, ◌++◌, Option, Some, IfSome, map, string_bytes}
+use Rattle.std.specs.Prelude.{◌≡◌, ◌≢◌, ◌<◌, ◌⊎◌, ℕ, suc, List, [], ◌∷◌, ◌++◌, Option, Some, None, IfSome, length, map, string_bytes}
+use Rattle.std.specs.Str.{IsUtf8}
 use Rattle.json_events.specs.Bound.{bound_as, envelope_named}
 use Rattle.json_events.specs.Spelling.{Spells}
+use Rattle.json_events.specs.declared.bindings.Bindings.{Bindings}
 use Rattle.json_events.specs.declared.action.Action.{Action}
 use Rattle.json_events.specs.declared.action.Action.TheVariants as action
 use Rattle.fab_types.specs.declared.envelope.Envelope.{Envelope}
@@ -15,8 +17,10 @@ use Rattle.fabric_core.specs.declared.event.Event.{Event}
 use Rattle.fabric_core.specs.declared.event.Event.TheVariants as event
 use Rattle.fabric_core.specs.declared.event.Reply.{Reply}
 use Rattle.cli_lines.specs.Texts.{line, refused}
-use Rattle.cli_lines.specs.Told.{Told}
-use Rattle.cli_session.specs.Reading.{lines_in}
+use Rattle.cli_lines.specs.Told.{Told, Prints, IsBrokenOff}
+use Rattle.cli_lines.specs.declared.failure.Failure.{Failure}
+use Rattle.cli_lines.specs.declared.failure.Failure.TheVariants.{BadLine}
+use Rattle.cli_session.specs.Reading.{HasFirst, lines_in, longest_line}
 use Rattle.cli_session.specs.Replies.{reply_text, begin_text, finish_text}
 use Rattle.cli_session.specs.Stages.{Stage, IsStepOf, Stay, Gets, DoesPrint}
 
@@ -60,6 +64,16 @@ Does (action.Commit peer) old told text new = IsStepOf (event.Commit peer) reply
 abbrev pub IsLine : List ℕ → Stage → List (Event × Reply) → List ℕ → Stage → Type 0
 IsLine l old told text new = (a : Action) × Spells l a × Does a old told text new
 
+-- names of an action stand for no envelope
+abbrev pub IsUnbound : Action → Bindings → Type 0
+IsUnbound (action.SubmitEndorsed names) bindings = envelope_named (bound_as bindings) (map string_bytes names.items) ≡ None
+IsUnbound a bindings = ⊥
+
+-- a line stands for nothing that can be done: it is too long, or no text, or spells no action, or one whose names stand for nothing
+abbrev pub IsBadLine : List ℕ → Bindings → Type 0
+IsBadLine l bindings =
+    (longest_line < length l) ⊎ ((¬ IsUtf8 l) ⊎ (((a : Action) → ¬ Spells l a) ⊎ ((a : Action) × Spells l a × IsUnbound a bindings)))
+
 -- what lines do, one after another
 abbrev pub AreLines : List (List ℕ) → Stage → List (Event × Reply) → List ℕ → Stage → Type 0
 AreLines [] old told text new = (told ≡ []) × (text ≡ []) × (new ≡ old)
@@ -80,3 +94,20 @@ events_of told = map (λ (t : Event × Reply). t.0) told
 
 abbrev pub replies_of : List (Event × Reply) → List Reply
 replies_of told = map (λ (t : Event × Reply). t.1) told
+
+-- an action in the line of this number was broken off, or it cannot be done, for this cause, and nothing was
+abbrev pub StopsAt : ℕ → Type 0 → (before after : Told) → Failure → Type 0
+StopsAt number Why before after f = IsBrokenOff f ⊎ ((f ≡ BadLine number) × Why × (after ≡ before))
+
+-- behind the lines of a file that are done comes a bad one, at which the task stops
+pub record MeetsBadLine (held : Option (List ℕ)) (old : Stage) (before after : Told) (f : Failure) : Type 0 where
+  pub lines : List (List ℕ)
+  pub next : List ℕ
+  pub told : List (Event × Reply)
+  pub text : List ℕ
+  pub end : Stage
+  pub first : HasFirst held (lines ++ next ∷ [])
+  pub does : AreLines lines old told text end
+  pub bad : IsBadLine next end.names
+  pub prints : Prints before after text
+  pub is : f ≡ BadLine (suc (length lines))

@@ -1,5 +1,6 @@
 -- A whole run: its lines, and what is printed behind them.
-use Rattle.std.specs.Prelude.{◌≡◌, ◌++◌, ℕ, Bool, true, false, List, [], Option, Some, None, IfSome}
+use Rattle.std.specs.Prelude.{◌≡◌, ◌++◌, ◌⊎◌, ℕ, suc, Bool, true, false, List, [], ◌∷◌, length, Option, Some, None, IfSome, Result, Ok, Err}
+use Rattle.std.specs.List.{list_any}
 use Rattle.json_events.specs.Bound.{bound_as}
 use Rattle.ledger_model.specs.Chain.{Chain}
 use Rattle.ledger_model.specs.Execution.{Exec}
@@ -14,11 +15,14 @@ use Rattle.fabric_core.specs.Headline.{IsRun}
 use Rattle.fabric_core.specs.declared.event.Event.{Event}
 use Rattle.fabric_core.specs.declared.event.Reply.{Reply}
 use Rattle.cli_lines.specs.Lines.{audit_text, does_agree}
+use Rattle.cli_lines.specs.Sealing.{lacks_seed}
 use Rattle.cli_lines.specs.Told.{Told, Prints}
-use Rattle.cli_session.specs.Reading.{lines_in}
+use Rattle.cli_lines.specs.declared.failure.Failure.{Failure}
+use Rattle.cli_lines.specs.declared.failure.Failure.TheVariants as failure
+use Rattle.cli_session.specs.Reading.{HasFirst, lines_in}
 use Rattle.cli_session.specs.States.{state_text}
 use Rattle.cli_session.specs.Stages.{Stage}
-use Rattle.cli_session.specs.Running.{AreLines, events_of, replies_of}
+use Rattle.cli_session.specs.Running.{AreLines, IsBadLine, events_of, replies_of}
 
 -- behind the lines: the state after a chain, and what its audit says; nothing, where there is no peer
 abbrev pub EndsWith : Exec → Option Chain → Bool → List ℕ → Type 0
@@ -45,8 +49,8 @@ pub record IsOpening (g : Genesis) (s : Stage) : Type 0 where
   pub names : (name : List ℕ) → bound_as s.names name ≡ None
 
 -- These lines are done from the opening on, and their steps are a run of the system. Behind what they print stands what is printed
--- of the first peer's chain
-pub record IsWholeRun (g : Genesis) (lines : List (List ℕ)) (good : Bool) (text : List ℕ) : Type 0 where
+-- of the first peer's chain, which is stored
+pub record IsWholeRun (g : Genesis) (IsStored : Option Chain → Type 0) (lines : List (List ℕ)) (good : Bool) (text : List ℕ) : Type 0 where
   pub start : Stage
   pub end : Stage
   pub told : List (Event × Reply)
@@ -56,12 +60,35 @@ pub record IsWholeRun (g : Genesis) (lines : List (List ℕ)) (good : Bool) (tex
   pub does : AreLines lines start told front end
   pub run : IsRun (rules_by g) g.peers.items g.seats (limits_of g) g.reorder (events_of told) (replies_of told) end.system.world false
   pub ends : EndsWith (exec_of g.book.value) (chain_of (rules_by g) end.system.world 0) good rest
+  pub stored : IsStored (chain_of (rules_by g) end.system.world 0)
   pub whole : text ≡ front ++ rest
 
--- What `run` comes to. Its lines are those of the events file, where it is known what that holds
-pub record ComesTo (g : Genesis) (events : Option (List ℕ)) (good : Bool) (before after : Told) : Type 0 where
+-- Behind the lines that are done comes the line of this number, counted from 1, which is a bad one
+pub record EndsAtBadLine (g : Genesis) (events : Option (List ℕ)) (number : ℕ) (text : List ℕ) : Type 0 where
   pub lines : List (List ℕ)
-  pub all : IfSome events (λ bytes. lines ≡ lines_in bytes)
-  pub text : List ℕ
-  pub whole : IsWholeRun g lines good text
-  pub prints : Prints before after text
+  pub next : List ℕ
+  pub start : Stage
+  pub end : Stage
+  pub told : List (Event × Reply)
+  pub first : HasFirst events (lines ++ next ∷ [])
+  pub opens : IsOpening g start
+  pub does : AreLines lines start told text end
+  pub bad : IsBadLine next end.names
+  pub counted : number ≡ suc (length lines)
+
+-- What the lines of an events file come to, which holds these bytes, as far as that is known: a whole run, or one that ends at a bad line
+abbrev pub LinesComeTo : Genesis → Option (List ℕ) → (Option Chain → Type 0) → Result Bool Failure → List ℕ → Type 0
+LinesComeTo g events IsStored (Ok good) text =
+    (lines : List (List ℕ)) × IfSome events (λ bytes. lines ≡ lines_in bytes) × IsWholeRun g IsStored lines good text
+LinesComeTo g events IsStored (Err (failure.BadLine number)) text = EndsAtBadLine g events number text
+LinesComeTo g events IsStored (Err f) text = ⊥
+
+-- a peer's organisation lacks its seed
+abbrev pub lacks_secret : Genesis → Bool
+lacks_secret g = list_any (lacks_seed g.rules.value g.signers.value) g.peers.items
+
+-- What `run` answers and prints: what its lines come to, or nothing where a seed is missing
+abbrev pub ComesTo : Genesis → Option (List ℕ) → (Option Chain → Type 0) → Result Bool Failure → List ℕ → Type 0
+ComesTo g events IsStored answer text =
+    ((lacks_secret g ≡ false) × LinesComeTo g events IsStored answer text)
+    ⊎ ((lacks_secret g ≡ true) × (answer ≡ Err failure.NoSecret) × (text ≡ []))

@@ -1,7 +1,7 @@
 //! Why a line of events is refused or a bad one, in words on the standard error.
 
 ghost use Rattle.std.specs.Prelude.{IfErr, IfOk};
-ghost use Rattle.cli_lines.specs.Told.{IsSilent};
+ghost use Rattle.cli_lines.specs.Told.{IsBrokenOff, IsSilent};
 ghost use Rattle.cli_session.specs.Reading.{IsNext};
 
 use crate::reading::{Next, next_line};
@@ -45,6 +45,7 @@ pub(crate) fn next_explained<F: Files, B: BufRead>(
     lines: &mut B,
 ) -> Result<Next, Failure>
     ensures silent { IfErr result IsSilent }
+    ensures lost { IfErr result IsBrokenOff }
     ensures next { IfOk result (λ n. IsNext n (B.remaining lines.old) (B.remaining lines.new)) }
 {
     let next = next_line(alloc, lines);

@@ -1,19 +1,18 @@
 //! What the program prints of a system and its blocks.
 
-ghost use Rattle.std.specs.Prelude.{◌≡◌, Ok, OnOk, map};
+ghost use Rattle.std.specs.Prelude.{◌≡◌, Ok, IfErr, OnOk, map};
 ghost use Rattle.std.specs.List.{flat_map};
 ghost use Rattle.std.specs.Map.Iter.{deref_pair};
 ghost use Rattle.fabric_core.specs.declared.event.Reply.{Reply};
 ghost use Rattle.fabric_core.specs.declared.event.Reply.TheVariants.{Ordered};
-ghost use Rattle.cli_lines.specs.Told.{Prints, Tells};
-ghost use Rattle.cli_session.specs.Replies.{batch_text, begin_text, endorsed_text, finish_text, made_text, reply_text, simulation_line};
+ghost use Rattle.cli_lines.specs.Told.{IsBrokenOff, Prints, Tells};
+ghost use Rattle.cli_session.specs.Replies.{batch_text, begin_text, endorsed_text, finish_text, made_text, reply_text};
 ghost use Rattle.cli_session.specs.States.{entry_text, state_text};
 
-use cli_lines::{Failure, Printer, hex_of, id_of, print_committed, version_of};
+use cli_lines::{Failure, Printer, hex_of, id_of, print_committed, print_simulation, version_of};
 use fab_types::{Key, Payload, Value, Version};
 use fabric_core::Reply;
 use orderer::BatchReport;
-use simulator::SimRefusal;
 use std::alloc::{AllocError, Global};
 use std::io::Write;
 use world_state::Snapshot;
@@ -25,6 +24,7 @@ pub(crate) fn print_state<W: Write>(
     out: &mut Printer<'_, W>,
 ) -> Result<(), Failure>
     ensures tells { Tells out.old out.new result }
+    ensures lost { IfErr result IsBrokenOff }
     ensures prints { OnOk result (Prints out.old out.new (state_text snapshot.now)) }
 {
     let entries = snapshot.entries(alloc)?;
@@ -38,6 +38,7 @@ fn print_entries<W: Write>(
     out: &mut Printer<'_, W>,
 ) -> Result<(), Failure>
     ensures tells { Tells out.old out.new result }
+    ensures lost { IfErr result IsBrokenOff }
     ensures prints { OnOk result
         (Prints out.old out.new (flat_map entry_text (map deref_pair entries.now))) }
 {
@@ -56,6 +57,7 @@ fn print_entry<W: Write>(
     out: &mut Printer<'_, W>,
 ) -> Result<(), Failure>
     ensures tells { Tells out.old out.new result }
+    ensures lost { IfErr result IsBrokenOff }
     ensures prints { OnOk result
         (Prints out.old out.new (entry_text (key.now, (value.now, version)))) }
 {
@@ -72,6 +74,7 @@ fn print_made<W: Write>(
     out: &mut Printer<'_, W>,
 ) -> Result<(), Failure>
     ensures tells { Tells out.old out.new result }
+    ensures lost { IfErr result IsBrokenOff }
     ensures prints { OnOk result (Prints out.old out.new (made_text block count)) }
 {
     match block {
@@ -83,6 +86,7 @@ fn print_made<W: Write>(
 /// Prints the block of a batch, where it made one, and what was aborted.
 fn print_batch<W: Write>(report: &BatchReport, out: &mut Printer<'_, W>) -> Result<(), Failure>
     ensures tells { Tells out.old out.new result }
+    ensures lost { IfErr result IsBrokenOff }
     ensures prints { OnOk result (Prints out.old out.new (batch_text report.now)) }
 {
     print_made(report.block, report.count, out)?;
@@ -95,6 +99,7 @@ fn print_batch<W: Write>(report: &BatchReport, out: &mut Printer<'_, W>) -> Resu
 /// Prints that an envelope was taken, and the batches that it ended.
 fn print_batches<W: Write>(reports: &[BatchReport], out: &mut Printer<'_, W>) -> Result<(), Failure>
     ensures tells { Tells out.old out.new result }
+    ensures lost { IfErr result IsBrokenOff }
     ensures prints { OnOk result
         (Prints out.old out.new (reply_text (Ordered reports.now))) }
 {
@@ -105,23 +110,10 @@ fn print_batches<W: Write>(reports: &[BatchReport], out: &mut Printer<'_, W>) ->
     Ok(())
 }
 
-/// Prints why a simulation was refused.
-fn print_refusal<W: Write>(refusal: SimRefusal, out: &mut Printer<'_, W>) -> Result<(), Failure>
-    ensures tells { Tells out.old out.new result }
-    ensures prints { OnOk result (Prints out.old out.new (simulation_line refusal)) }
-{
-    match refusal {
-        SimRefusal::Status(status) => {
-            let status = status.cast_signed();
-            writeln!(out, "refused 404 status {status}")
-        }
-        refusal => writeln!(out, "{refusal}"),
-    }
-}
-
 /// Prints a reply. Of one with the height of a begin or with a payload, nothing.
 fn print_reply<W: Write>(reply: &Reply, out: &mut Printer<'_, W>) -> Result<(), Failure>
     ensures tells { Tells out.old out.new result }
+    ensures lost { IfErr result IsBrokenOff }
     ensures prints { OnOk result (Prints out.old out.new (reply_text reply.now)) }
 {
     match reply {
@@ -130,7 +122,7 @@ fn print_reply<W: Write>(reply: &Reply, out: &mut Printer<'_, W>) -> Result<(), 
         Reply::Ordered(reports) => print_batches(reports.as_slice(), out),
         Reply::Cut(report) => print_batch(report, out),
         Reply::Committed(number, flags) => print_committed(*number, flags.as_slice(), out),
-        Reply::Refused(refusal) => print_refusal(*refusal, out),
+        Reply::Refused(refusal) => print_simulation(*refusal, out),
         reply => match reply.number() {
             Some(number) => writeln!(out, "refused {number}"),
             None => Ok(()),
@@ -146,6 +138,7 @@ fn print_begin<W: Write>(
     out: &mut Printer<'_, W>,
 ) -> Result<(), Failure>
     ensures tells { Tells out.old out.new result }
+    ensures lost { IfErr result IsBrokenOff }
     ensures prints { OnOk result (Prints out.old out.new (begin_text peer seat reply.now)) }
 {
     match reply {
@@ -162,6 +155,7 @@ fn print_endorsed<W: Write>(
     out: &mut Printer<'_, W>,
 ) -> Result<(), Failure>
     ensures tells { Tells out.old out.new result }
+    ensures lost { IfErr result IsBrokenOff }
     ensures prints { OnOk result (Prints out.old out.new (endorsed_text name.now payload.now)) }
 {
     let id = id_of(alloc, payload)?;
@@ -176,6 +170,7 @@ fn print_finish<W: Write>(
     out: &mut Printer<'_, W>,
 ) -> Result<(), Failure>
     ensures tells { Tells out.old out.new result }
+    ensures lost { IfErr result IsBrokenOff }
     ensures prints { OnOk result (Prints out.old out.new (finish_text name.now reply.now)) }
 {
     match reply {
@@ -191,6 +186,7 @@ pub(crate) fn print_step<W: Write>(
     out: &mut Printer<'_, W>,
 ) -> Result<(), Failure>
     ensures tells { Tells out.old out.new result }
+    ensures lost { IfErr result IsBrokenOff }
     ensures prints { OnOk result
         ((r : Reply) × (reply.now ≡ Ok r) × Prints out.old out.new (reply_text r)) }
 {
@@ -208,6 +204,7 @@ pub(crate) fn print_begun<W: Write>(
     out: &mut Printer<'_, W>,
 ) -> Result<(), Failure>
     ensures tells { Tells out.old out.new result }
+    ensures lost { IfErr result IsBrokenOff }
     ensures prints { OnOk result
         ((r : Reply) × (reply.now ≡ Ok r) × Prints out.old out.new (begin_text peer seat r)) }
 {
@@ -225,6 +222,7 @@ pub(crate) fn print_finished<W: Write>(
     out: &mut Printer<'_, W>,
 ) -> Result<(), Failure>
     ensures tells { Tells out.old out.new result }
+    ensures lost { IfErr result IsBrokenOff }
     ensures prints { OnOk result
         ((r : Reply) × (reply.now ≡ Ok r) × Prints out.old out.new (finish_text name.now r)) }
 {

@@ -1,7 +1,8 @@
 //! The place of the store that a run writes.
 
-ghost use Rattle.std.specs.Prelude.{IfErr};
-ghost use Rattle.cli_lines.specs.Told.{IsSilent};
+ghost use Rattle.std.specs.Prelude.{◌≡◌, true, IfErr, IfOk};
+ghost use Rattle.cli_lines.specs.Places.{IsFileOf};
+ghost use Rattle.cli_lines.specs.Told.{IsBrokenOff, IsSilent};
 
 use crate::session::RunFiles;
 use cli_lines::{
@@ -28,6 +29,8 @@ pub(crate) fn place_of<F: Files>(
     store: &str,
 ) -> Result<Place<F::Lock>, Failure>
     ensures silent { IfErr result IsSilent }
+    ensures lost { IfErr result IsBrokenOff }
+    ensures file { F.is_known ≡ true → IfOk result (λ p. IsFileOf store.now p.target) }
 {
     let found = files.target(alloc, store);
     explain_target(alloc, files, store, &found);
@@ -64,6 +67,7 @@ fn explain_target<F: Files>(
 /// Takes the file of a name for the program alone. Refused where another one has it.
 fn lock_of<F: Files>(alloc: Global, files: &mut F, name: &str) -> Result<F::Lock, Failure>
     ensures silent { IfErr result IsSilent }
+    ensures lost { IfErr result IsBrokenOff }
 {
     let Some(lock) = files.lock(name) else {
         explain_trouble(alloc, files, name, Access::Write);

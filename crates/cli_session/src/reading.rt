@@ -1,7 +1,7 @@
 //! The lines of a file of events.
 
 ghost use Rattle.std.specs.Prelude.{◌≡◌, ◌≤◌, ◌<◌, IfErr, IfOk, get_or, length};
-ghost use Rattle.cli_lines.specs.Told.{IsSilent};
+ghost use Rattle.cli_lines.specs.Told.{IsBrokenOff, IsSilent};
 ghost use Rattle.cli_session.specs.Reading.{IsCut, IsNext, IsPiece, NoEnd};
 
 use cli_lines::Failure;
@@ -50,6 +50,7 @@ struct Cut {
 /// come.
 pub(crate) fn next_line<B: BufRead>(alloc: Global, lines: &mut B) -> Result<Next, Failure>
     ensures silent { IfErr result IsSilent }
+    ensures lost { IfErr result IsBrokenOff }
     ensures next { IfOk result (λ n. IsNext n (B.remaining lines.old) (B.remaining lines.new)) }
 {
     let mut line = Vec::new(alloc);

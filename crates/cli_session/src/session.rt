@@ -1,16 +1,18 @@
 //! The command `run`: a system, on which the lines of a file are events.
 
-ghost use Rattle.std.specs.Prelude.{◌≡◌, ◌≢◌, ◌<◌, false, IfErr, IfOk, OnErr, OnOk, map, string_bytes};
+ghost use Rattle.std.specs.Prelude.{◌≡◌, ◌≢◌, ◌<◌, ◌⊎◌, false, None, IfErr, IfOk, OnErr, OnOk, map, option_map, string_bytes};
+ghost use Rattle.json_events.specs.Bound.{bound_as, envelope_named};
 ghost use Rattle.simulator.specs.Execution.{exec_of};
 ghost use Rattle.fabric_core.specs.declared.event.Event.TheVariants.{Begin, Finish};
 ghost use Rattle.wire.specs.FaultNumbers.{number_of};
 ghost use Rattle.wire.specs.declared.fault.WireFault.TheVariants.{Memory};
 ghost use Rattle.cli_lines.specs.Texts.{line, refused};
-ghost use Rattle.cli_lines.specs.Told.{IsSilent, Prints, Tells, Told};
+ghost use Rattle.cli_lines.specs.Told.{Answers, IsBrokenOff, IsSilent, Prints, Tells, Told};
 ghost use Rattle.cli_session.specs.Replies.{begin_text, finish_text, reply_text};
-ghost use Rattle.cli_session.specs.Running.{Does, DoesAll, IsBytes, IsLine, IsNamed};
+ghost use Rattle.cli_session.specs.Running.{Does, DoesAll, IsBadLine, IsBytes, IsLine, IsNamed, IsUnbound, MeetsBadLine, StopsAt};
 ghost use Rattle.cli_session.specs.Stages.{DoesPrint, Gets, IsStepOf, Stay, StepsTo, first_chain, stage_at};
-ghost use Rattle.cli_session.specs.Whole.{ComesTo, EndsPrinted};
+ghost use Rattle.cli_session.specs.Stored.{HoldsAsked, HoldsPlaced};
+ghost use Rattle.cli_session.specs.Whole.{ComesTo, EndsPrinted, LinesComeTo};
 
 use crate::explaining::{Refused, explain_line, next_explained, refused_by};
 use crate::lines::{print_begun, print_finished, print_state, print_step};
@@ -74,10 +76,11 @@ pub fn run<T: Threads + Sync, F: Files, W: Write>(
 ) -> Result<bool, Failure>
     ensures tells { Tells out.old out.new result }
     ensures differs { IfOk result (λ good. good ≡ false → out.old.printed < out.new.printed) }
-    // What the lines of the events come to is printed, then the first peer's state and its audit.
-    ensures run { IfOk result
-        (λ good. ComesTo genesis.now (F.bytes files.old names.now.events.now) good out.old
-        out.new) }
+    // What the lines of the events come to is printed, then the first peer's state and its audit;
+    // and the store that was asked for has that peer's chain.
+    ensures answers { Answers (ComesTo genesis.now (F.bytes files.old names.now.events.now)
+        (HoldsAsked F.is_known (F.bytes files.new) (option_map (λ s. s.now) names.now.store)))
+        out.old out.new result }
 {
     need_secrets(alloc, files, genesis, &genesis.peers)?;
     let Some(events) = files.open(names.events) else {
@@ -100,8 +103,9 @@ fn run_read<T: Threads + Sync, F: Files, B: BufRead, W: Write>(
 ) -> Result<bool, Failure>
     ensures tells { Tells out.old out.new result }
     ensures differs { IfOk result (λ good. good ≡ false → out.old.printed < out.new.printed) }
-    ensures run { IfOk result
-        (λ good. ComesTo genesis.now (B.remaining lines.old) good out.old out.new) }
+    ensures comes { Answers (LinesComeTo genesis.now (B.remaining lines.old)
+        (HoldsAsked F.is_known (F.bytes files.new) (option_map (λ s. s.now) names.now.store)))
+        out.old out.new result }
 {
     match names.store {
         Some(store) => {
@@ -143,8 +147,9 @@ fn run_into<T: Threads + Sync, F: Files, B: BufRead, W: Write>(
 ) -> Result<bool, Failure>
     ensures tells { Tells out.old out.new result }
     ensures differs { IfOk result (λ good. good ≡ false → out.old.printed < out.new.printed) }
-    ensures run { IfOk result
-        (λ good. ComesTo genesis.now (B.remaining lines.old) good out.old out.new) }
+    ensures comes { Answers (LinesComeTo genesis.now (B.remaining lines.old)
+        (HoldsPlaced F.is_known (F.bytes files.new) (option_map (λ t. t.now) store.entry))) out.old
+        out.new result }
 {
     ordering_laws();
     let system = System::new(alloc, genesis)?;
@@ -172,6 +177,13 @@ impl<T: Threads + Sync> Session<'_, T> {
         out: &mut Printer<'_, W>,
     ) -> Result<bool, Failure>
         ensures tells { Tells out.old out.new result }
+        ensures stops { IfErr result
+            (λ f. IsBrokenOff f
+            ⊎ MeetsBadLine (B.remaining lines.old) (stage_at self.old.system self.old.bindings) out.old
+            out.new f) }
+        ensures stored { OnOk result
+            (HoldsPlaced F.is_known (F.bytes files.new) (option_map (λ t. t.now) store.entry)
+            (first_chain self.new.system)) }
         ensures differs { IfOk result (λ good. good ≡ false → out.old.printed < out.new.printed) }
         ensures does { IfOk result
             (λ good. (mid : Told) ×
@@ -196,6 +208,10 @@ impl<T: Threads + Sync> Session<'_, T> {
         out: &mut Printer<'_, W>,
     ) -> Result<(), Failure>
         ensures tells { Tells out.old out.new result }
+        ensures stops { IfErr result
+            (λ f. IsBrokenOff f
+            ⊎ MeetsBadLine (B.remaining lines.old) (stage_at self.old.system self.old.bindings) out.old
+            out.new f) }
         ensures does { OnOk result
             (DoesAll (B.remaining lines.old) (stage_at self.old.system self.old.bindings)
             (stage_at self.new.system self.new.bindings) out.old out.new) }
@@ -208,7 +224,7 @@ impl<T: Threads + Sync> Session<'_, T> {
                 Next::End => return Ok(()),
             }
         }
-        Err(Failure::BadLine(usize::MAX))
+        Err(Failure::File)
     }
 
     /// Does what the line at a place stands for, as `take_line`. Says why it was refused, if it was,
@@ -222,6 +238,8 @@ impl<T: Threads + Sync> Session<'_, T> {
         out: &mut Printer<'_, W>,
     ) -> Result<(), Failure>
         ensures tells { Tells out.old out.new result }
+        ensures stops { IfErr result
+            (StopsAt number (IsBadLine line.now self.old.bindings) out.old out.new) }
         ensures does { OnOk result
             (DoesPrint (IsLine line.now)
             (stage_at self.old.system self.old.bindings)
@@ -249,6 +267,8 @@ impl<T: Threads + Sync> Session<'_, T> {
         out: &mut Printer<'_, W>,
     ) -> Result<(), Failure>
         ensures tells { Tells out.old out.new result }
+        ensures stops { IfErr result
+            (StopsAt number (IsBadLine line.now self.old.bindings) out.old out.new) }
         ensures does { OnOk result
             (DoesPrint (IsLine line.now)
             (stage_at self.old.system self.old.bindings)
@@ -272,6 +292,8 @@ impl<T: Threads + Sync> Session<'_, T> {
         out: &mut Printer<'_, W>,
     ) -> Result<(), Failure>
         ensures tells { Tells out.old out.new result }
+        ensures stops { IfErr result
+            (StopsAt number (IsUnbound action self.old.bindings) out.old out.new) }
         ensures does { OnOk result
             (DoesPrint (Does action)
             (stage_at self.old.system self.old.bindings)
@@ -314,6 +336,7 @@ impl<T: Threads + Sync> Session<'_, T> {
     /// One step, whose reply is printed.
     fn step<W: Write>(&mut self, event: Event, out: &mut Printer<'_, W>) -> Result<(), Failure>
         ensures tells { Tells out.old out.new result }
+        ensures lost { IfErr result IsBrokenOff }
         ensures does { OnOk result
             (DoesPrint (IsStepOf event reply_text Stay)
             (stage_at self.old.system self.old.bindings)
@@ -334,6 +357,7 @@ impl<T: Threads + Sync> Session<'_, T> {
         out: &mut Printer<'_, W>,
     ) -> Result<(), Failure>
         ensures tells { Tells out.old out.new result }
+        ensures lost { IfErr result IsBrokenOff }
         ensures does { OnOk result
             (DoesPrint (IsStepOf (Begin peer seat proposal) (begin_text peer seat) Stay)
             (stage_at self.old.system self.old.bindings)
@@ -358,6 +382,7 @@ impl<T: Threads + Sync> Session<'_, T> {
         out: &mut Printer<'_, W>,
     ) -> Result<(), Failure>
         ensures tells { Tells out.old out.new result }
+        ensures lost { IfErr result IsBrokenOff }
         ensures does { OnOk result
             (DoesPrint
             (IsStepOf (Finish peer seat) (finish_text (string_bytes name))
@@ -375,6 +400,7 @@ impl<T: Threads + Sync> Session<'_, T> {
     /// Gives what a reply endorses, if it does, its name.
     fn bind_reply(&mut self, name: String, reply: Result<Reply, AllocError>) -> Result<(), Failure>
         ensures silent { IfErr result IsSilent }
+        ensures lost { IfErr result IsBrokenOff }
         ensures names { OnOk result
             (IfOk reply (λ r. Gets (string_bytes name) r self.old.bindings self.new.bindings)) }
         ensures system { self.new.system ≡ self.old.system }
@@ -388,6 +414,7 @@ impl<T: Threads + Sync> Session<'_, T> {
     /// The same of a reply.
     fn bind(&mut self, name: String, reply: Reply) -> Result<(), Failure>
         ensures silent { IfErr result IsSilent }
+        ensures lost { IfErr result IsBrokenOff }
         ensures names { OnOk result
             (Gets (string_bytes name) reply self.old.bindings self.new.bindings) }
         ensures system { self.new.system ≡ self.old.system }
@@ -409,6 +436,10 @@ impl<T: Threads + Sync> Session<'_, T> {
         out: &mut Printer<'_, W>,
     ) -> Result<(), Failure>
         ensures tells { Tells out.old out.new result }
+        ensures stops { IfErr result
+            (StopsAt number
+            (envelope_named (bound_as self.old.bindings) (map string_bytes names.now) ≡ None) out.old
+            out.new) }
         ensures does { OnOk result
             (DoesPrint (IsNamed (map string_bytes names.now))
             (stage_at self.old.system self.old.bindings)
@@ -428,6 +459,7 @@ impl<T: Threads + Sync> Session<'_, T> {
         out: &mut Printer<'_, W>,
     ) -> Result<(), Failure>
         ensures tells { Tells out.old out.new result }
+        ensures lost { IfErr result IsBrokenOff }
         ensures does { OnOk result
             (DoesPrint (IsBytes bytes.now)
             (stage_at self.old.system self.old.bindings)
@@ -450,6 +482,7 @@ impl<T: Threads + Sync> Session<'_, T> {
         out: &mut Printer<'_, W>,
     ) -> Result<bool, Failure>
         ensures tells { Tells out.old out.new result }
+        ensures lost { IfErr result IsBrokenOff }
         ensures differs { IfOk result (λ good. good ≡ false → out.old.printed < out.new.printed) }
         ensures ends { IfOk result
             (λ good. EndsPrinted (exec_of genesis.now.book.value) (first_chain self.now.system) good
@@ -466,6 +499,7 @@ impl<T: Threads + Sync> Session<'_, T> {
 /// Prints why bytes are no envelope.
 fn print_fault<W: Write>(fault: WireFault, out: &mut Printer<'_, W>) -> Result<(), Failure>
     ensures tells { Tells out.old out.new result }
+    ensures lost { IfErr result IsBrokenOff }
     ensures prints { OnOk result
         ((fault ≢ Memory) × Prints out.old out.new (line (refused (number_of fault)))) }
 {

@@ -1,16 +1,20 @@
 //! The store that a run writes.
 
-ghost use Rattle.std.specs.Prelude.{IfErr};
-ghost use Rattle.cli_lines.specs.Told.{IsSilent};
+ghost use Rattle.std.specs.Prelude.{◌≡◌, ℕ, true, List, IfErr, IfOk, OnOk};
+ghost use Rattle.std.specs.Io.KnownBytes.{Appends};
+ghost use Rattle.block_store.specs.Record.{record_bytes};
+ghost use Rattle.world_state.specs.Shared.{blocks_in};
+ghost use Rattle.cli_lines.specs.Places.{IsFileOf};
+ghost use Rattle.cli_lines.specs.Told.{IsBrokenOff, IsSilent};
+ghost use Rattle.cli_session.specs.Stored.{Holds, store_bytes};
 
 use crate::placing::part_of;
-use block_store::{AppendFault, append};
+use block_store::encode_record;
 use cli_lines::{Access, Failure, Files, Location, Target, explain_numbered, explain_trouble};
 use fab_types::CommittedBlock;
 use std::alloc::Global;
 use std::io::Write;
 use std::sync::Arc;
-use store_devices::Counted;
 use world_state::Snapshot;
 
 /// Writes a chain as a store.
@@ -24,6 +28,10 @@ pub(crate) fn write_store<F: Files>(
     snapshot: &Snapshot,
 ) -> Result<(), Failure>
     ensures silent { IfErr result IsSilent }
+    ensures lost { IfErr result IsBrokenOff }
+    ensures stored { OnOk result
+        ((name : List ℕ) → IsFileOf name target.now
+        → Holds F.is_known (F.bytes files.new) name snapshot.now) }
 {
     match target {
         Target::File(name) => write_beside(alloc, files, name, snapshot, true),
@@ -52,6 +60,9 @@ fn write_beside<F: Files>(
     is_there: bool,
 ) -> Result<(), Failure>
     ensures silent { IfErr result IsSilent }
+    ensures lost { IfErr result IsBrokenOff }
+    ensures stored { OnOk result
+        (Holds F.is_known (F.bytes files.new) name.now snapshot.now) }
 {
     let part = part_of(alloc, name)?;
     let Some(writer) = files.create(&part) else {
@@ -61,8 +72,8 @@ fn write_beside<F: Files>(
     let chain = write_chain(alloc, writer, snapshot);
     explain_written(alloc, files, &part, &chain);
     let written = match chain {
-        Ok(_writer) if is_there => replace_file(alloc, files, &part, name),
-        Ok(_writer) => place_file(alloc, files, &part, name),
+        Ok(writer) if is_there => replace_file(alloc, files, writer, &part, name),
+        Ok(writer) => place_file(alloc, files, writer, &part, name),
         Err(failure) => Err(failure),
     };
     if written.is_err() {
@@ -71,16 +82,20 @@ fn write_beside<F: Files>(
     written
 }
 
-/// Gives a file the name of another one, whose place it takes.
+/// Gives a file that was written the name of another one, whose place it takes.
 fn replace_file<F: Files>(
     alloc: Global,
     files: &mut F,
+    writer: F::Writer,
     part: &str,
     name: &str,
 ) -> Result<(), Failure>
     ensures silent { IfErr result IsSilent }
+    ensures lost { IfErr result IsBrokenOff }
+    ensures kept { F.is_known ≡ true → OnOk result
+        (F.bytes files.new name.now ≡ F.Writer.contents writer) }
 {
-    if files.rename(part, name) {
+    if files.keep(writer, part, name) {
         Ok(())
     } else {
         explain_numbered(alloc, files, &Location::file(part), NOT_RENAMED, 703);
@@ -88,15 +103,25 @@ fn replace_file<F: Files>(
     }
 }
 
-/// Gives a file a name that no file has, in the place of an empty one that nobody else has.
-fn place_file<F: Files>(alloc: Global, files: &mut F, part: &str, name: &str) -> Result<(), Failure>
+/// Gives a file that was written a name that no file has, in the place of an empty one that nobody
+/// else has.
+fn place_file<F: Files>(
+    alloc: Global,
+    files: &mut F,
+    writer: F::Writer,
+    part: &str,
+    name: &str,
+) -> Result<(), Failure>
     ensures silent { IfErr result IsSilent }
+    ensures lost { IfErr result IsBrokenOff }
+    ensures kept { F.is_known ≡ true → OnOk result
+        (F.bytes files.new name.now ≡ F.Writer.contents writer) }
 {
     let Some(_lock) = files.lock_new(name) else {
         explain_numbered(alloc, files, &Location::file(name), NAME_TAKEN, 703);
         return Err(Failure::File);
     };
-    let placed = replace_file(alloc, files, part, name);
+    let placed = replace_file(alloc, files, writer, part, name);
     if placed.is_err() {
         files.remove(name);
     }
@@ -125,32 +150,56 @@ fn explain_written<F: Files, W>(
 const NOT_WRITTEN: &str = "it was not written to its end; see whether the disk is full";
 
 /// Writes a chain as a whole store, and gives the writer back.
-fn write_chain<W: Write + Drop>(alloc: Global, writer: W, snapshot: &Snapshot) -> Result<W, Failure>
+fn write_chain<W: Write + Drop>(
+    alloc: Global,
+    mut writer: W,
+    snapshot: &Snapshot,
+) -> Result<W, Failure>
     ensures silent { IfErr result IsSilent }
+    ensures lost { IfErr result IsBrokenOff }
+    ensures written { IfOk result
+        (λ w. Appends (W.contents writer) (W.contents w) (store_bytes snapshot.now)) }
 {
-    let mut device = Counted::new(writer);
-    write_blocks(alloc, &mut device, snapshot.blocks())?;
-    let mut writer = device.into_inner();
+    write_blocks(alloc, &mut writer, snapshot.blocks())?;
     match writer.flush() {
         Ok(()) => Ok(writer),
         Err(_) => Err(Failure::File),
     }
 }
 
-/// Appends the record of each block.
-fn write_blocks<W: Write + Drop>(
+/// Writes the record of each block.
+fn write_blocks<W: Write>(
     alloc: Global,
-    device: &mut Counted<W>,
+    writer: &mut W,
     blocks: &[Arc<CommittedBlock>],
 ) -> Result<(), Failure>
     ensures silent { IfErr result IsSilent }
+    ensures lost { IfErr result IsBrokenOff }
+    ensures written { OnOk result
+        (Appends (W.contents writer.old) (W.contents writer.new)
+        (store_bytes (blocks_in blocks.now))) }
 {
     for committed in blocks {
-        match append(alloc, device, committed.block(), committed.flags()) {
-            Ok(()) => {}
-            Err(AppendFault::Memory) => return Err(Failure::Memory),
-            Err(AppendFault::Device(_)) => return Err(Failure::File),
-        }
+        write_record(alloc, writer, committed)?;
     }
     Ok(())
+}
+
+/// Writes the record of a block.
+fn write_record<W: Write>(
+    alloc: Global,
+    writer: &mut W,
+    committed: &CommittedBlock,
+) -> Result<(), Failure>
+    ensures silent { IfErr result IsSilent }
+    ensures lost { IfErr result IsBrokenOff }
+    ensures written { OnOk result
+        (Appends (W.contents writer.old) (W.contents writer.new)
+        (record_bytes committed.now)) }
+{
+    let bytes = encode_record(alloc, committed.block(), committed.flags())?;
+    match writer.write_all(&bytes) {
+        Ok(()) => Ok(()),
+        Err(_) => Err(Failure::File),
+    }
 }

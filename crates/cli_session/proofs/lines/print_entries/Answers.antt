@@ -1,4 +1,4 @@
-use Rattle.std.proofs.Common.{◌≡◌, ℕ, List, [], ◌∷◌, ◌++◌, map, refl, sym, ap}
+use Rattle.std.proofs.Common.{◌≡◌, ℕ, List, [], ◌∷◌, ◌++◌, map, refl, ap}
 use Rattle.std.specs.List.{flat_map}
 use Rattle.std.specs.Map.Iter.{deref_pair}
 use Rattle.cli_lines.proofs.Printing.{prints_all, prints_same}

@@ -1,4 +1,4 @@
-use Rattle.std.proofs.Common.{[], ◌++◌, map, take}
+use Rattle.std.proofs.Common.{[], ◌++◌, take}
 use Rattle.std.specs.List.{flat_map}
 use Rattle.std.specs.Map.Iter.{deref_pair}
 use Rattle.cli_lines.specs.Told.{Prints}

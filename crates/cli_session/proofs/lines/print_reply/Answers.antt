@@ -1,5 +1,4 @@
-use Rattle.cli_lines.proofs.Printing.{prints_none}
-use Rattle.cli_session.proofs.Printed.{by_number, no_number, prints_as}
+use Rattle.cli_session.proofs.Printed.{by_number, prints_as}
 use Rattle.cli_session.proofs.lines.print_reply.Goals as goal
 
 pub returns-in-Some-clause-prints : goal.returns-in-Some-clause-prints

@@ -1,25 +1,38 @@
-use Rattle.std.proofs.Common.{◌∙◌, ℕ, List, Option, ap, subst}
-use Rattle.std.proofs.lemmas.Result.{IfOk-weaker, err_from_is_err_and}
+use Rattle.std.proofs.Common.{◌≡◌, ◌∙◌, ℕ, true, false, List, [], Option, Err, inr, option_map, ap, refl, subst}
+use Rattle.std.specs.List.{list_any}
+use Rattle.std.proofs.lemmas.Result.{err_from_is_err_and}
+use Rattle.cli_lines.proofs.Printing.{prints_none}
 use Rattle.cli_lines.proofs.Silence.{no_less, tells_by}
-use Rattle.cli_session.specs.Whole.{ComesTo}
+use Rattle.cli_lines.specs.Sealing.{lacks_seed}
+use Rattle.cli_lines.specs.Told.{Answers}
+use Rattle.cli_session.specs.Stored.{HoldsAsked}
+use Rattle.cli_session.specs.Whole.{LinesComeTo}
 use Rattle.cli_session.proofs.Pieces.{fresh_reader}
+use Rattle.cli_session.proofs.Whole.{with_secrets}
 use Rattle.cli_session.proofs.session.run.Goals as goal
 
 pub returns-in_err-need_secrets : goal.returns-in_err-need_secrets
 returns-in_err-need_secrets g c =
     let p = err_from_is_err_and c.from_residual.result c.from_residual.ensures.1 in
+    let e = c.in_err-need_secrets.ensures in
+    let lacks = lacks_seed c.args.genesis.now.rules.value c.args.genesis.now.signers.value in
+    let lack = subst (λ (orgs : List (List ℕ)). list_any lacks orgs ≡ true) c.deref.ensures.value (e.refused (ap Err e.only)) in
     rw (p.1, p.2) (record {
-      tells = tells_by c.args.out.now c.args.out.now _ (no_less c.args.out.now) c.in_err-need_secrets.ensures.silent;
+      tells = tells_by c.args.out.now c.args.out.now _ (no_less c.args.out.now) e.silent;
       differs = tt;
-      run = tt;
+      answers = inr ([], inr (lack, ap Err e.only, refl), prints_none c.args.out.now);
     })
 
-pub returns-clause-run : goal.returns-clause-run
-returns-clause-run g c =
+pub returns-clause-answers : goal.returns-clause-answers
+returns-clause-answers g c =
     let r = c.in_ok-lines.ensures in
+    let genesis = c.args.genesis.now in
+    let lacks = lacks_seed genesis.rules.value genesis.signers.value in
     let name = c.args.names.now.events.now in
     let held = g.F.Files.bytes c.args.files.now name in
-    let same = ap (λ x. g.F.Reader.Read.remaining x) r.inner ∙ c.in-Some.ensures ∙ ap (λ f. g.F.Files.bytes f name) c.in_ok-need_secrets.ensures.unchanged in
-    IfOk-weaker c.run_read.result _ _ (λ good h.
-    subst (λ (o : Option (List ℕ)). ComesTo c.args.genesis.now o good c.args.out.now c.run_read.new.out)
-    (fresh_reader _ _ _ held r.capacity r.empty same) h) c.run_read.ensures.run
+    let stored = HoldsAsked g.F.Files.is_known (g.F.Files.bytes c.run_read.new.files) (option_map (λ s. s.now) c.args.names.now.store) in
+    let same = ap (λ x. g.F.Reader.Read.remaining x) r.inner ∙ c.in-Some.ensures.read ∙ ap (λ f. g.F.Files.bytes f name) c.in_ok-need_secrets.ensures.unchanged in
+    let none = subst (λ (orgs : List (List ℕ)). list_any lacks orgs ≡ false) c.deref.ensures.value (c.in_ok-need_secrets.ensures.ok refl) in
+    with_secrets genesis held stored c.args.out.now c.run_read.new.out c.run_read.result none
+    (subst (λ (o : Option (List ℕ)). Answers (LinesComeTo genesis o stored) c.args.out.now c.run_read.new.out c.run_read.result)
+    (fresh_reader _ _ _ held r.capacity r.empty same) c.run_read.ensures.comes)

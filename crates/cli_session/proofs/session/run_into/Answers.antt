@@ -1,18 +1,17 @@
 use Rattle.std.proofs.Common.{arith, refl}
-use Rattle.std.proofs.lemmas.Result.{IfOk-weaker}
 use Rattle.ledger_setting.specs.Limits.{limits_of}
 use Rattle.fabric_core.specs.System.{fresh_orderer}
 use Rattle.cli_session.specs.Stages.{Stage, stage_at}
 use Rattle.cli_session.proofs.Whole.{comes_to}
 use Rattle.cli_session.proofs.session.run_into.Goals as goal
 
-pub returns-clause-run : goal.returns-clause-run
-returns-clause-run g c =
+pub returns-clause-comes : goal.returns-clause-comes
+returns-clause-comes g c =
     let genesis = c.args.genesis.now in
     let law = c.ordering_laws.ensures.step in
     let began = c.ordering_laws.ensures.opening (fresh_orderer (limits_of genesis) genesis.reorder) (omega (arith, genesis.count_in_range.0)) (refl, refl) in
     let start : Stage = record { system = c.in_ok-system.system; names = c.new-bindings.result } in
     let end = c.run_to_end.new.self in
-    IfOk-weaker c.run_to_end.result _ _ (λ good h.
-    comes_to genesis law began (g.B.Read.remaining c.args.lines.now) good start (stage_at end.system end.bindings) c.args.out.now c.run_to_end.new.out
-    (record { system = c.in_ok-system.ensures; names = c.new-bindings.ensures }) h) c.run_to_end.ensures.does
+    comes_to genesis law began (g.B.Read.remaining c.args.lines.now) _ c.run_to_end.result start (stage_at end.system end.bindings) c.args.out.now
+    c.run_to_end.new.out (record { system = c.in_ok-system.ensures; names = c.new-bindings.ensures }) c.run_to_end.ensures.does
+    c.run_to_end.ensures.stops c.run_to_end.ensures.stored

@@ -15,6 +15,7 @@ returns-in-Ok g c =
     let bound = c.bind_reply in
     record {
       tells = tells_last c.args.out.now c.print_finished.new.out bound.result c.in-Ok.ensures.tells.0 c.in-Ok.ensures.tells.1 bound.ensures.silent;
+      lost = bound.ensures.lost;
       does =
           step_and_names bound.result reply.result (Finish c.args.peer c.args.seat) (finish_text name) (Gets name)
           (stage_at c.args.self.now.system c.args.self.now.bindings)

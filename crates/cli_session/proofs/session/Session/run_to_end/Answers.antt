@@ -1,3 +1,4 @@
+use Rattle.std.proofs.Common.{inl}
 use Rattle.std.proofs.lemmas.Result.{err_from_is_err_and}
 use Rattle.cli_lines.proofs.Silence.{tells_by, and_more}
 use Rattle.cli_session.proofs.session.Session.run_to_end.Goals as goal
@@ -10,6 +11,8 @@ returns-in_err-write_store g c =
           c.in_err-write_store.ensures.silent;
       differs = tt;
       does = tt;
+      stops = inl c.in_err-write_store.ensures.lost;
+      stored = tt;
     })
 
 pub returns-in_ok-write_store-clause-does : goal.returns-in_ok-write_store-clause-does
@@ -20,3 +23,8 @@ returns-in_ok-is_good-clause-does g c = (c.run_lines.new.out, c.in_ok-run_lines.
 
 pub returns-in_ok-is_good-2-clause-does : goal.returns-in_ok-is_good-2-clause-does
 returns-in_ok-is_good-2-clause-does g c = (c.run_lines.new.out, c.in_ok-run_lines.ensures.does, c.in_ok-is_good.ensures.ends)
+
+pub returns-in_err-run_lines-clause-stops : goal.returns-in_err-run_lines-clause-stops
+returns-in_err-run_lines-clause-stops g c =
+    let p = err_from_is_err_and c.from_residual.result c.from_residual.ensures.1 in
+    rw (p.1, p.2) c.in_err-run_lines.ensures.stops

@@ -1,4 +1,4 @@
-use Rattle.std.proofs.Common.{◌≢◌, ◌≡◌, ℕ, List, [], inl, inr, refl}
+use Rattle.std.proofs.Common.{◌≢◌, [], inl, inr, refl}
 use Rattle.fabric_core.specs.declared.event.Event.TheVariants.{Submit}
 use Rattle.wire.specs.FaultNumbers.{number_of}
 use Rattle.wire.specs.declared.fault.WireFault.TheVariants.{Memory}

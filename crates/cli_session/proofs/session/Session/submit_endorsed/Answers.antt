@@ -3,7 +3,7 @@ use Rattle.fabric_core.specs.declared.event.Event.TheVariants.{Submit}
 use Rattle.cli_session.specs.Replies.{reply_text}
 use Rattle.cli_session.specs.Running.{IsNamed}
 use Rattle.cli_session.specs.Stages.{IsStepOf, Stay, stage_at}
-use Rattle.cli_session.proofs.Steps.{does_by}
+use Rattle.cli_session.proofs.Steps.{does_by, lost_stops}
 use Rattle.cli_session.proofs.session.Session.submit_endorsed.Goals as goal
 
 pub returns-in-Some-clause-does : goal.returns-in-Some-clause-does
@@ -14,3 +14,6 @@ returns-in-Some-clause-does g c =
     (stage_at c.step.new.self.system c.step.new.self.bindings)
     c.args.out.now c.step.new.out
     (λ told text s. record { envelope = e; named = sym c.in_ok-found.ensures ∙ c.in-Some.is; step = s }) c.step.ensures.does
+
+pub returns-in-Some-clause-stops : goal.returns-in-Some-clause-stops
+returns-in-Some-clause-stops g c = lost_stops c.step.result c.args.number _ c.args.out.now c.step.new.out c.step.ensures.lost
