@@ -1,5 +1,5 @@
 -- Lines of marks behind lines.
-use Rattle.std.proofs.Common.{◌≡◌, List, [], ◌∷◌, ◌++◌, Option, map, sym, subst, ap, ◌∙◌}
+use Rattle.std.proofs.Common.{◌≡◌, List, [], ◌∷◌, ◌++◌, Option, None, Result, Ok, Err, IfSome, IfErr, OnOk, map, inl, inr, refl, sym, subst, ap, ◌∙◌}
 use Rattle.std.proofs.lemmas.List.{append-nil, map-append}
 use Rattle.std.proofs.lemmas.List.Concat.{flat_map-append}
 use Rattle.std.specs.List.{flat_map}
@@ -8,9 +8,18 @@ use Rattle.fab_types.specs.Committed.{Committed}
 use Rattle.fab_types.specs.declared.block.Block.{Block}
 use Rattle.ledger_model.specs.Chain.{Bytes, Chain}
 use Rattle.log_orderer.specs.Marks.{block_marks}
+use Rattle.ledger_setting.specs.Rule.{table_of}
+use Rattle.ledger_setting.specs.declared.genesis.Genesis.{Genesis}
+use Rattle.store_replay.specs.Replay.{ReplaysFrom}
+use Rattle.store_replay.specs.declared.replaying.Replayed.{Replayed}
 use Rattle.cli_lines.specs.Texts.{line}
-use Rattle.cli_show.specs.Marks.{HasTexts, chain_marks}
+use Rattle.cli_lines.specs.Told.{Answers, IsBrokenOff, Tells, Told}
+use Rattle.cli_lines.specs.declared.failure.Failure.{Failure}
+use Rattle.cli_show.specs.Answers.{UnlessFault, fault_of}
+use Rattle.cli_show.specs.Marks.{HasTexts, Marks, TellsMarks, chain_marks}
+use Rattle.cli_lines.proofs.Answering.{answers_by}
 use Rattle.cli_show.proofs.Behind.{appends_more, appends_none}
+use Rattle.cli_show.proofs.Replays.{unless_fault}
 
 pub no_texts : (b : Option Bytes) → HasTexts [] b b
 no_texts b = appends_none b
@@ -39,3 +48,16 @@ pub block_behind : (chain longer : Chain) (c : Committed) (a b d : Option Bytes)
     HasTexts (block_marks c.block) b d → HasTexts (chain_marks longer) a d
 block_behind chain longer c a b d is h k =
     subst (λ (ts : List Bytes). HasTexts ts a d) (sym (chain_longer chain longer c is)) (more_texts (chain_marks chain) (block_marks c.block) a b d h k)
+
+marks_told : (chain : Chain) (t u : Told) (r : Result (Unit {0}) Failure) → Tells t u r → OnOk r (HasTexts (chain_marks chain) t.bytes u.bytes) →
+    IfErr r IsBrokenOff → Answers (TellsMarks chain) t u r
+marks_told chain t u (Ok x) tells marks lost = inr (_, (refl, refl), record { more = tells.0; whole = tells.1; bytes = marks })
+marks_told chain t u (Err f) tells marks lost = inl lost
+
+-- what `marks` comes to
+pub store_told : (g : Genesis) (held : Option Bytes) (r : Replayed) (t u : Told) (answer : Result (Unit {0}) Failure) →
+    ReplaysFrom (table_of g.rules.value) held r → Tells t u answer → IfSome (fault_of r) (λ failure. (answer ≡ Err failure) × (u ≡ t)) →
+    OnOk answer (HasTexts (chain_marks r.snapshot) t.bytes u.bytes) → (fault_of r ≡ None → IfErr answer IsBrokenOff) → Answers (Marks g held) t u answer
+store_told g held r t u answer replay tells fault marks lost =
+    answers_by (UnlessFault (fault_of r) (TellsMarks r.snapshot)) (Marks g held) t u answer (λ text h. (r, replay, h))
+    (unless_fault (fault_of r) (TellsMarks r.snapshot) t u answer fault (λ none. marks_told r.snapshot t u answer tells marks (lost none)))

@@ -1,26 +1,15 @@
 -- A module that was read is all that its file holds.
-use Rattle.std.proofs.Common.{◌≡◌, ◌≤◌, ◌++◌, ℕ, Option, Some, None, IfSome, length, take, min, codes, ap, subst, ◌∙◌, append_assoc, arith}
+use Rattle.std.proofs.Common.{◌≡◌, ◌≤◌, ℕ, Option, Some, None, IfErr, OnOk, Result, Ok, Err, length, take, min, ap, inl, inr, refl, ◌∙◌, arith}
 use Rattle.std.proofs.lemmas.List.{length-take, take_all}
-use Rattle.std.specs.Fmt.{decimal}
-use Rattle.std.specs.Io.KnownBytes.{Appends}
-use Rattle.hex.specs.Hex.{encode_lower}
-use Rattle.sha2.specs.Sha256.{sha256}
 use Rattle.wasm_profile.specs.declared.profile.Profile.{Profile}
 use Rattle.ledger_model.specs.Chain.{Bytes}
-use Rattle.wasm_file.specs.Modules.{IsDefinedBy}
-use Rattle.cli_lines.specs.Texts.{line}
-use Rattle.cli_show.specs.Modules.{IsChecked, IsDigested, valid_text}
-
-abbrev pub written : (functions size : ℕ) → Bytes
-written functions size = codes "valid functions=" ++ (decimal functions ++ (codes " bytes=" ++ (decimal size ++ codes "\n")))
-
-joined : (x y z w v : Bytes) → x ++ (y ++ (z ++ (w ++ v))) ≡ x ++ y ++ z ++ w ++ v
-joined x y z w v = simp append_assoc
-
--- the line, as it is written piece by piece
-pub as_line : (functions size : ℕ) (a b : Option Bytes) → Appends a b (written functions size) → Appends a b (line (valid_text functions size))
-as_line functions size a b h =
-    subst (λ (t : Bytes). Appends a b t) (joined (codes "valid functions=") (decimal functions) (codes " bytes=") (decimal size) (codes "\n")) h
+use Rattle.wasm_file.specs.Modules.{IsDefinedBy, NoModule}
+use Rattle.wasm_file.specs.declared.module.ModuleRefusal.{ModuleRefusal}
+use Rattle.cli_lines.specs.Texts.{module_failure}
+use Rattle.cli_lines.specs.Told.{Answers, IsBrokenOff, IsHeld, Prints, Told}
+use Rattle.cli_lines.specs.declared.failure.Failure.{Failure}
+use Rattle.cli_show.specs.Modules.{IsFrontOf, TellsOfModule}
+use Rattle.cli_show.proofs.Answering.{untold}
 
 -- what is shorter than what was asked for is all
 whole : (read bytes : Bytes) → read ≡ take 262145 bytes → length read ≤ 262144 → read ≡ bytes
@@ -28,24 +17,19 @@ whole read bytes is short =
     let cut : length read ≡ min 262145 (length bytes) = ap (λ (xs : Bytes). length xs) is ∙ length-take 262145 bytes in
     is ∙ take_all 262145 bytes (omega (arith, cut, short))
 
-pub checked : (held : Option Bytes) (read : Bytes) (profile : Profile) (functions size : ℕ) (a b : Option Bytes) →
-    IfSome held (λ bytes. read ≡ take 262145 bytes) → IsDefinedBy profile read functions → size ≡ length read →
-    Appends a b (line (valid_text functions size)) → IfSome held (λ bytes. IsChecked profile bytes a b)
-checked None read profile functions size a b is defined counted h = tt
-checked (Some bytes) read profile functions size a b is defined counted h =
-    let same : read ≡ bytes = whole read bytes is defined.1.0 in (
-      functions,
-      subst (λ (xs : Bytes). IsDefinedBy profile xs functions) same defined,
-      subst (λ (n : ℕ). Appends a b (line (valid_text functions n))) (counted ∙ ap (λ (xs : Bytes). length xs) same) h,
-    )
+all_read : (held : Option Bytes) (read : Bytes) → IsFrontOf held read → length read ≤ 262144 → IsHeld held read
+all_read None read is short = tt
+all_read (Some bytes) read is short = whole read bytes is short
 
-pub digested : (held : Option Bytes) (read : Bytes) (profile : Profile) (functions : ℕ) (text : Bytes) (a b : Option Bytes) →
-    IfSome held (λ bytes. read ≡ take 262145 bytes) → IsDefinedBy profile read functions → text ≡ encode_lower (sha256 read) →
-    Appends a b (line text) → IfSome held (λ bytes. IsDigested profile bytes a b)
-digested None read profile functions text a b is defined spelled h = tt
-digested (Some bytes) read profile functions text a b is defined spelled h =
-    let same : read ≡ bytes = whole read bytes is defined.1.0 in (
-      functions,
-      subst (λ (xs : Bytes). IsDefinedBy profile xs functions) same defined,
-      subst (λ (t : Bytes). Appends a b (line t)) (spelled ∙ ap (λ (xs : Bytes). encode_lower (sha256 xs)) same) h,
-    )
+pub module_told : (said : ℕ → Bytes → Bytes) (profile : Profile) (held : Option Bytes) (read : Bytes) (functions : ℕ) (text : Bytes) (t u : Told)
+    (r : Result (Unit {0}) Failure) → IsFrontOf held read → IsDefinedBy profile read functions → text ≡ said functions read → IfErr r IsBrokenOff →
+    OnOk r (Prints t u text) → Answers (TellsOfModule said profile held) t u r
+module_told said profile held read functions text t u (Ok x) front defined is lost printed =
+    inr (text, (read, all_read held read front defined.1.0, functions, defined, is), printed)
+module_told said profile held read functions text t u (Err f) front defined is lost printed = inl lost
+
+pub module_refused : (said : ℕ → Bytes → Bytes) (profile : Profile) (held : Option Bytes) (read : Bytes) (refusal : ModuleRefusal) (failure : Failure)
+    (t : Told) → IsFrontOf held read → NoModule profile read refusal → failure ≡ module_failure refusal →
+    Answers (TellsOfModule said profile held) t t (Err failure)
+module_refused said profile held read refusal failure t front why is =
+    untold (TellsOfModule said profile held) t (Err failure) (read, front, refusal, why, is, refl)

@@ -1,18 +1,21 @@
 -- What `state` answers of a store.
-use Rattle.std.specs.Prelude.{ℕ, List, [], ◌∷◌, Option, Some, None, take}
+use Rattle.std.specs.Prelude.{◌≡◌, ℕ, List, [], ◌∷◌, Option, Some, None, Result, Ok, Err, take}
 use Rattle.std.specs.FinMap.{entries}
 use Rattle.serde_json.specs.Data.{Data}
 use Rattle.block_store.specs.declared.end.End.{End}
 use Rattle.block_store.specs.declared.end.End.TheVariants.{Clean, Torn, Damaged, DeviceFailed}
 use Rattle.committer.specs.declared.refusal.CommitRefusal.{CommitRefusal}
-use Rattle.ledger_model.specs.Chain.{Chain, history}
+use Rattle.ledger_model.specs.Chain.{Bytes, Chain, history}
 use Rattle.ledger_model.specs.State.{state}
 use Rattle.endorsement_policy.specs.Endorsed.{Listed}
 use Rattle.json_chain.specs.Memberships.{standing_behind}
+use Rattle.ledger_setting.specs.Rule.{table_of}
+use Rattle.ledger_setting.specs.declared.genesis.Genesis.{Genesis}
+use Rattle.store_replay.specs.Replay.{ReplaysFrom}
 use Rattle.store_replay.specs.declared.replaying.Replayed.{Replayed}
 use Rattle.cli_lines.specs.declared.failure.Failure.{Failure}
 use Rattle.cli_lines.specs.declared.failure.Failure.TheVariants.{Flags, Commit, Store}
-use Rattle.cli_show.specs.Lines.{entries_json, writes_json}
+use Rattle.cli_show.specs.Lines.{AreLines, entries_json, writes_json}
 use Rattle.cli_show.specs.declared.showing.Part.{Part}
 use Rattle.cli_show.specs.declared.showing.Part.TheVariants as part
 
@@ -48,3 +51,16 @@ abbrev pub part_json : Listed → Part → ℕ → Chain → List Data
 part_json r part.Entries at chain = state_json at chain
 part_json r (part.Writes key) at chain = writes_json key.now (history (take at chain))
 part_json r part.Members at chain = members_json r at chain ∷ []
+
+-- what a task comes to, unless it has a fault: then that is all
+abbrev pub UnlessFault : Option Failure → (Result (Unit {0}) Failure → Bytes → Type 0) → Result (Unit {0}) Failure → Bytes → Type 0
+UnlessFault None Comes answer text = Comes answer text
+UnlessFault (Some failure) Comes answer text = (answer ≡ Err failure) × (text ≡ [])
+
+abbrev pub ShowsPart : Listed → Part → ℕ → Chain → Result (Unit {0}) Failure → Bytes → Type 0
+ShowsPart r part at chain answer text = (answer ≡ Ok tt) × AreLines (part_json r part at chain) text
+
+-- `state`: a part of the state after the block of a number of the store in a file, unless something is wrong with the store
+abbrev pub States : Genesis → Part → ℕ → Option Bytes → Result (Unit {0}) Failure → Bytes → Type 0
+States g part at held answer text =
+    (r : Replayed) × ReplaysFrom (table_of g.rules.value) held r × UnlessFault (fault_of r) (ShowsPart g.rules.value part at r.snapshot) answer text

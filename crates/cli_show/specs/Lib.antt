@@ -1,8 +1,10 @@
 pub mod Spans
 pub mod Lines
 pub mod Missing
-pub mod Findings
-pub mod Modules
 pub mod Answers
+pub mod Findings
+pub mod Simulations
+pub mod Modules
 pub mod Version
 pub mod Marks
+pub mod Tracing

@@ -1,4 +1,4 @@
--- What printing lines of JSON does to the bytes that a writer holds.
+-- Lines of JSON, and what printing them does to the bytes that a writer holds.
 use Rattle.std.specs.Prelude.{◌≡◌, ℕ, List, ◌∷◌, Option, Some, None, map}
 use Rattle.std.specs.List.{flat_map}
 use Rattle.std.specs.Io.KnownBytes.{Appends}
@@ -12,6 +12,10 @@ use Rattle.json_chain.specs.Standing.{blocks_json}
 pub use Rattle.json_chain.specs.Writes.{write_json, writes_json}
 use Rattle.cli_lines.specs.Texts.{line}
 use Rattle.cli_show.specs.Spans.{within}
+
+-- a text of lines, each of which is read back as the value at its place
+abbrev pub AreLines : List Data → Bytes → Type 0
+AreLines ds text = (texts : List Bytes) × (map read texts ≡ map Some ds) × (text ≡ flat_map line texts)
 
 -- Behind what was held, where that is known, there are lines now, each of which is read back as the value at its place.
 abbrev pub HasLines : List Data → (before after : Option Bytes) → Type 0

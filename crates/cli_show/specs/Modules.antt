@@ -1,30 +1,34 @@
 -- What is printed of a module.
-use Rattle.std.specs.Prelude.{ℕ, ◌++◌, Option, codes, length}
+use Rattle.std.specs.Prelude.{◌≡◌, ℕ, [], ◌++◌, Option, IfSome, Result, Ok, Err, codes, length, take}
 use Rattle.std.specs.Fmt.{decimal}
-use Rattle.std.specs.Io.KnownBytes.{Appends}
 use Rattle.hex.specs.Hex.{encode_lower}
 use Rattle.sha2.specs.Sha256.{sha256}
 use Rattle.wasm_profile.specs.declared.profile.Profile.{Profile}
 use Rattle.ledger_model.specs.Chain.{Bytes}
 use Rattle.wasm_file.specs.Modules.{IsDefinedBy, NoModule}
-use Rattle.cli_lines.specs.Texts.{line}
+use Rattle.wasm_file.specs.declared.module.ModuleRefusal.{ModuleRefusal}
+use Rattle.cli_lines.specs.Texts.{line, module_failure}
+use Rattle.cli_lines.specs.Told.{IsHeld}
 use Rattle.cli_lines.specs.declared.failure.Failure.{Failure}
-use Rattle.cli_lines.specs.declared.failure.Failure.TheVariants as failure
 
 abbrev pub valid_text : (functions size : ℕ) → Bytes
-valid_text functions size = codes "valid functions=" ++ decimal functions ++ codes " bytes=" ++ decimal size
+valid_text functions size = codes "valid functions=" ++ (decimal functions ++ (codes " bytes=" ++ (decimal size ++ codes "\n")))
 
--- `check`: the bytes are a valid module of the profile, and the line has its counts of functions and bytes
-abbrev pub IsChecked : Profile → Bytes → (before after : Option Bytes) → Type 0
-IsChecked profile bytes before after =
-    (functions : ℕ) × IsDefinedBy profile bytes functions × Appends before after (line (valid_text functions (length bytes)))
+-- what is read of a module's file: one byte more than a module has at most
+abbrev pub IsFrontOf : Option Bytes → Bytes → Type 0
+IsFrontOf held read = IfSome held (λ bytes. read ≡ take 262145 bytes)
 
--- `digest`: the bytes are a valid module of the profile, and the line is their SHA-256 in lower-case hex
-abbrev pub IsDigested : Profile → Bytes → (before after : Option Bytes) → Type 0
-IsDigested profile bytes before after =
-    (functions : ℕ) × IsDefinedBy profile bytes functions × Appends before after (line (encode_lower (sha256 bytes)))
+-- a file holds a valid module of the profile, of which this text is printed, or its bytes are none
+abbrev pub TellsOfModule : (ℕ → Bytes → Bytes) → Profile → Option Bytes → Result (Unit {0}) Failure → Bytes → Type 0
+TellsOfModule said profile held (Ok done) text =
+    (bytes : Bytes) × IsHeld held bytes × (functions : ℕ) × IsDefinedBy profile bytes functions × (text ≡ said functions bytes)
+TellsOfModule said profile held (Err failure) text =
+    (read : Bytes) × IsFrontOf held read × (refusal : ModuleRefusal) × NoModule profile read refusal × (failure ≡ module_failure refusal) × (text ≡ [])
 
--- a failure that says of bytes why they are no valid module of the profile
-abbrev pub IsNoModule : Profile → Bytes → Failure → Type 0
-IsNoModule profile bytes (failure.Module refusal) = NoModule profile bytes refusal
-IsNoModule profile bytes _ = Unit {0}
+-- `check`: how many functions the module defines, and how many bytes it has
+abbrev pub Checks : Profile → Option Bytes → Result (Unit {0}) Failure → Bytes → Type 0
+Checks profile held answer text = TellsOfModule (λ functions bytes. valid_text functions (length bytes)) profile held answer text
+
+-- `digest`: its SHA-256 in lower-case hex
+abbrev pub Digests : Profile → Option Bytes → Result (Unit {0}) Failure → Bytes → Type 0
+Digests profile held answer text = TellsOfModule (λ functions bytes. line (encode_lower (sha256 bytes))) profile held answer text

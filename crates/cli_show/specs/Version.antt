@@ -1,9 +1,17 @@
--- The numbers by which programs are told apart.
-use Rattle.std.specs.Prelude.{ℕ, codes}
+-- The numbers by which programs are told apart, and what `version` prints of them.
+use Rattle.std.specs.Prelude.{◌≡◌, ℕ, [], ◌∷◌, Result, Ok, codes}
 use Rattle.serde_json.specs.Data.{Data, number, unsigned, object, member, no_members}
+use Rattle.ledger_model.specs.Chain.{Bytes}
+use Rattle.cli_lines.specs.declared.failure.Failure.{Failure}
+use Rattle.cli_show.specs.Lines.{AreLines}
+use Rattle.cli_show.specs.declared.versioning.TheConstants.{PROGRAM, LINES, RULES, STORE}
 
 -- {"lines":1,"program":1,"rules":1,"store":1}
 abbrev pub version_json : (program lines rules store : ℕ) → Data
 version_json program lines rules store =
     object (member (codes "lines") (number (unsigned lines)) (member (codes "program") (number (unsigned program))
     (member (codes "rules") (number (unsigned rules)) (member (codes "store") (number (unsigned store)) no_members))))
+
+-- `version`: a line of this program's
+abbrev pub Versions : Result (Unit {0}) Failure → Bytes → Type 0
+Versions answer text = (answer ≡ Ok tt) × AreLines (version_json PROGRAM LINES RULES STORE ∷ []) text

@@ -1,14 +1,16 @@
 //! The command `audit`.
 
-ghost use Rattle.std.specs.Prelude.{◌≡◌, ◌<◌, false, IfOk};
-ghost use Rattle.cli_lines.specs.Told.{Tells};
+ghost use Rattle.std.specs.Prelude.{IfErr, OnOk};
+ghost use Rattle.cli_lines.specs.Told.{Answers, IsBrokenOff, Prints, Tells};
+ghost use Rattle.cli_show.specs.Findings.{Audits, AuditsReplay, finding_text};
 
 use crate::explaining::explain_findings;
-use crate::missing::first_missing;
+use crate::findings::{ends_with, finding_of, is_good};
 use crate::replaying::replayed;
-use block_store::End;
+use crate::showing::end_fault;
 use cli_lines::{Failure, Files, Printer, print_audit};
 use endorsement_policy::Workers;
+use json_chain::Finding;
 use ledger_setting::Genesis;
 use std::alloc::Global;
 use std::io::Write;
@@ -28,13 +30,15 @@ pub fn audit<T: Threads + Sync, F: Files, W: Write>(
     out: &mut Printer<'_, W>,
 ) -> Result<(), Failure>
     ensures tells { Tells out.old out.new result }
+    ensures answers { Answers (Audits genesis.now (F.bytes files.old store.now)) out.old out.new
+        result }
 {
     let replayed = replayed(workers, alloc, files, genesis, store)?;
     explain_findings(alloc, files, genesis, store, &replayed);
     print_replayed(alloc, genesis, &replayed, out)
 }
 
-/// Prints what was found of a store.
+/// Prints how many blocks a store has, and what is found of it.
 fn print_replayed<W: Write>(
     alloc: Global,
     genesis: &Genesis,
@@ -42,40 +46,28 @@ fn print_replayed<W: Write>(
     out: &mut Printer<'_, W>,
 ) -> Result<(), Failure>
     ensures tells { Tells out.old out.new result }
+    ensures answers { Answers (AuditsReplay genesis.now replayed.now) out.old out.new result }
 {
+    let finding = finding_of(alloc, genesis, replayed)?;
     let blocks = replayed.blocks;
     writeln!(out, "blocks {blocks}")?;
-    let is_good = print_findings(alloc, genesis, replayed, out)?;
-    match replayed.end {
-        End::Clean if is_good => Ok(()),
-        End::Clean => Err(Failure::Printed),
-        end => Err(Failure::Store(end)),
-    }
+    print_finding(finding, out)?;
+    ends_with(is_good(finding, replayed.end), end_fault(replayed.end))
 }
 
-/// Prints the first thing that is wrong with the committed blocks, or what their audit says, and
-/// answers whether nothing was found.
-fn print_findings<W: Write>(
-    alloc: Global,
-    genesis: &Genesis,
-    replayed: &Replayed,
-    out: &mut Printer<'_, W>,
-) -> Result<bool, Failure>
+/// Prints the first thing that is wrong with the blocks of a store, or what their audit says.
+fn print_finding<W: Write>(finding: Finding, out: &mut Printer<'_, W>) -> Result<(), Failure>
     ensures tells { Tells out.old out.new result }
-    ensures differs { IfOk result (λ good. good ≡ false → out.old.printed < out.new.printed) }
+    ensures lost { IfErr result IsBrokenOff }
+    ensures prints { OnOk result (Prints out.old out.new (finding_text finding)) }
 {
-    if let Some(number) = replayed.differs {
-        writeln!(out, "flags differ {number}")?;
-        return Ok(false);
+    match finding {
+        Finding::FlagsDiffer(block) => writeln!(out, "flags differ {block}"),
+        Finding::Unfit(refusal) => writeln!(out, "{refusal}"),
+        Finding::NotAtHand(block) => writeln!(out, "refused 406 block {block}"),
+        Finding::Audited(audit) => {
+            print_audit(audit, out)?;
+            Ok(())
+        }
     }
-    if let Some(refusal) = replayed.refused {
-        let refusal = Failure::Commit(refusal);
-        writeln!(out, "{refusal}")?;
-        return Ok(false);
-    }
-    if let Some(number) = first_missing(&genesis.book, replayed.snapshot.blocks()) {
-        writeln!(out, "refused 406 block {number}")?;
-        return Ok(false);
-    }
-    print_audit(fabric_core::audit(alloc, genesis, &replayed.snapshot)?, out)
 }

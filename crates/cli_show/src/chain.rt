@@ -1,7 +1,7 @@
 //! The lines of a chain.
 
-ghost use Rattle.std.specs.Prelude.{◌≡◌, None, OnOk};
-ghost use Rattle.cli_lines.specs.Told.{Tells};
+ghost use Rattle.std.specs.Prelude.{◌≡◌, None, IfErr, OnOk};
+ghost use Rattle.cli_lines.specs.Told.{IsBrokenOff, Tells};
 ghost use Rattle.world_state.specs.Shared.{blocks_in};
 ghost use Rattle.json_chain.specs.Standing.{blocks_json, membership_behind};
 ghost use Rattle.cli_show.specs.Lines.{HasLines, chain_json};
@@ -28,6 +28,7 @@ pub fn print_chain<W: Write>(
     out: &mut Printer<'_, W>,
 ) -> Result<(), Failure>
     ensures tells { Tells out.old out.new result }
+    ensures lost { IfErr result IsBrokenOff }
     ensures lines { OnOk result
         (HasLines (chain_json genesis.now span.from span.to snapshot.now) out.old.bytes
         out.new.bytes) }
@@ -64,6 +65,7 @@ fn print_blocks<W: Write>(
     out: &mut Printer<'_, W>,
 ) -> Result<(), Failure>
     ensures tells { Tells out.old out.new result }
+    ensures lost { IfErr result IsBrokenOff }
     ensures lines { OnOk result
         (HasLines
         (blocks_json rules.now (membership_behind None (blocks_in earlier.now))

@@ -1,9 +1,9 @@
 //! The commands `check` and `digest`.
 
-ghost use Rattle.std.specs.Prelude.{IfSome, IfOk, IfErr, OnOk};
-ghost use Rattle.cli_lines.specs.Told.{IsSilent, Tells};
-ghost use Rattle.wasm_file.specs.Modules.{IsDefinedBy};
-ghost use Rattle.cli_show.specs.Modules.{IsChecked, IsDigested, IsNoModule};
+ghost use Rattle.std.specs.Prelude.{IfOk, IfErr};
+ghost use Rattle.cli_lines.specs.Told.{Answers, Tells};
+ghost use Rattle.wasm_file.specs.Modules.{IsDefinedBy, NoModule};
+ghost use Rattle.cli_show.specs.Modules.{Checks, Digests};
 
 use crate::explaining::explain_module;
 use cli_lines::{Failure, Files, Printer, print_line, read_explained};
@@ -29,8 +29,8 @@ pub fn check<F: Files, W: Write>(
     out: &mut Printer<'_, W>,
 ) -> Result<(), Failure>
     ensures tells { Tells out.old out.new result }
-    ensures valid { OnOk result (IfSome (F.bytes files.old name.now) (λ bytes.
-        IsChecked profile bytes out.old.bytes out.new.bytes)) }
+    ensures answers { Answers (Checks profile (F.bytes files.old name.now)) out.old out.new
+        result }
 {
     let bytes = read_explained(alloc, files, name, MOST_READ)?;
     let functions = functions_explained(alloc, files, name, &bytes, profile)?;
@@ -50,8 +50,8 @@ pub fn digest<F: Files, W: Write>(
     out: &mut Printer<'_, W>,
 ) -> Result<(), Failure>
     ensures tells { Tells out.old out.new result }
-    ensures digest { OnOk result (IfSome (F.bytes files.old name.now) (λ bytes.
-        IsDigested profile bytes out.old.bytes out.new.bytes)) }
+    ensures answers { Answers (Digests profile (F.bytes files.old name.now)) out.old out.new
+        result }
 {
     let bytes = read_explained(alloc, files, name, MOST_READ)?;
     functions_explained(alloc, files, name, &bytes, profile)?;
@@ -59,33 +59,19 @@ pub fn digest<F: Files, W: Write>(
     print_line(&digest, out)
 }
 
-/// How many functions the module in a file of this name defines, as `functions_of` says. Says why it
-/// is refused, if it is.
+/// How many functions the module in a file of this name defines. Says why it is refused, if it is:
+/// where the bytes are none of the profile that is valid.
 fn functions_explained<F: Files>(
     alloc: Global,
     files: &mut F,
     name: &str,
     bytes: &[u8],
     profile: Profile,
-) -> Result<usize, Failure>
-    ensures silent { IfErr result IsSilent }
+) -> Result<usize, ModuleRefusal>
     ensures valid { IfOk result (λ functions. IsDefinedBy profile bytes.now functions) }
+    ensures refused { IfErr result (λ refusal. NoModule profile bytes.now refusal) }
 {
-    let functions = functions_of(alloc, bytes, profile);
+    let functions = defined_functions(alloc, bytes, profile);
     explain_module(alloc, files, name, bytes, profile, &functions);
     functions
-}
-
-/// How many functions a module defines. Refused where the bytes are none of the profile that is
-/// valid.
-fn functions_of(alloc: Global, bytes: &[u8], profile: Profile) -> Result<usize, Failure>
-    ensures silent { IfErr result IsSilent }
-    ensures valid { IfOk result (λ functions. IsDefinedBy profile bytes.now functions) }
-    ensures refused { IfErr result (λ failure. IsNoModule profile bytes.now failure) }
-{
-    match defined_functions(alloc, bytes, profile) {
-        Ok(functions) => Ok(functions),
-        Err(ModuleRefusal::Memory) => Err(Failure::Memory),
-        Err(refusal) => Err(Failure::Module(refusal)),
-    }
 }

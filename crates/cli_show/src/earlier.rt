@@ -1,7 +1,11 @@
 //! The chain as it was earlier.
 
-ghost use Rattle.std.specs.Prelude.{◌≡◌, ◌∷◌, [], ◌++◌, IfOk, take};
+ghost use Rattle.std.specs.Prelude.{◌≡◌, ◌∷◌, [], ◌+◌, ◌++◌, IfErr, IfOk, length, take};
+ghost use Rattle.wire.specs.Links.{AreLinked};
+ghost use Rattle.committer.specs.Fits.{blocks_of};
+ghost use Rattle.cli_lines.specs.Told.{IsBrokenOff, IsSilent};
 
+use cli_lines::Failure;
 use committer::CommitRefusal;
 use fab_types::CommittedBlock;
 use std::alloc::Global;
@@ -15,8 +19,10 @@ pub(crate) fn first_blocks(
     alloc: Global,
     snapshot: &Snapshot,
     count: usize,
-) -> Result<Snapshot, CommitRefusal>
-    ensures { IfOk result (λ s. s ≡ take count snapshot.now) }
+) -> Result<Snapshot, Failure>
+    ensures chain { IfOk result (λ s. s ≡ take count snapshot.now) }
+    ensures silent { IfErr result IsSilent }
+    ensures lost { AreLinked [] (blocks_of snapshot.now) → IfErr result IsBrokenOff }
 {
     let blocks = snapshot.blocks();
     let mut earlier = Snapshot::empty(alloc);
@@ -31,11 +37,14 @@ fn with_next(
     alloc: Global,
     snapshot: &Snapshot,
     committed: &CommittedBlock,
-) -> Result<Snapshot, CommitRefusal>
-    ensures { IfOk result (λ s. s ≡ snapshot.now ++ committed.now ∷ []) }
+) -> Result<Snapshot, Failure>
+    ensures chain { IfOk result (λ s. s ≡ snapshot.now ++ committed.now ∷ []) }
+    ensures silent { IfErr result IsSilent }
+    ensures lost { committed.now.block.header.number ≡ length snapshot.now + 1
+        → IfErr result IsBrokenOff }
 {
     if committed.block().header.number.get() as usize != snapshot.height() + 1 {
-        return Err(CommitRefusal::Number);
+        return Err(Failure::Commit(CommitRefusal::Number));
     }
     let block = committed.block().clone()?;
     let flags = committed.flags().to_vec(alloc)?;

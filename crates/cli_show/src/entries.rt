@@ -1,16 +1,17 @@
 //! The lines of a state.
 
-ghost use Rattle.std.specs.Prelude.{OnOk, map, take};
+ghost use Rattle.std.specs.Prelude.{[], IfErr, OnOk, map, take};
 ghost use Rattle.std.specs.FinMap.{entries};
 ghost use Rattle.std.specs.Map.Iter.{deref_pair};
-ghost use Rattle.cli_lines.specs.Told.{Tells};
+ghost use Rattle.cli_lines.specs.Told.{IsBrokenOff, Tells};
+ghost use Rattle.wire.specs.Links.{AreLinked};
+ghost use Rattle.committer.specs.Fits.{blocks_of};
 ghost use Rattle.ledger_model.specs.Chain.{history};
 ghost use Rattle.ledger_model.specs.State.{state};
 ghost use Rattle.cli_show.specs.Lines.{HasLines, entries_json};
 
 use crate::earlier::first_blocks;
 use cli_lines::{Failure, Printer, print_line};
-use committer::CommitRefusal;
 use fab_types::{Key, Value, Version};
 use json_chain::entry_line;
 use std::alloc::Global;
@@ -26,6 +27,7 @@ pub fn print_state<W: Write>(
     out: &mut Printer<'_, W>,
 ) -> Result<(), Failure>
     ensures tells { Tells out.old out.new result }
+    ensures lost { AreLinked [] (blocks_of snapshot.now) → IfErr result IsBrokenOff }
     ensures lines { OnOk result
         (HasLines (entries_json (entries (state (history (take at snapshot.now)))))
         out.old.bytes out.new.bytes) }
@@ -33,11 +35,8 @@ pub fn print_state<W: Write>(
     if at >= snapshot.height() {
         return print_state_of(alloc, snapshot, out);
     }
-    match first_blocks(alloc, snapshot, at) {
-        Ok(earlier) => print_state_of(alloc, &earlier, out),
-        Err(CommitRefusal::Memory) => Err(Failure::Memory),
-        Err(refusal) => Err(Failure::Commit(refusal)),
-    }
+    let earlier = first_blocks(alloc, snapshot, at)?;
+    print_state_of(alloc, &earlier, out)
 }
 
 fn print_state_of<W: Write>(
@@ -46,6 +45,7 @@ fn print_state_of<W: Write>(
     out: &mut Printer<'_, W>,
 ) -> Result<(), Failure>
     ensures tells { Tells out.old out.new result }
+    ensures lost { IfErr result IsBrokenOff }
     ensures lines { OnOk result
         (HasLines (entries_json (entries (state (history snapshot.now)))) out.old.bytes
         out.new.bytes) }
@@ -60,6 +60,7 @@ fn print_entries<W: Write>(
     out: &mut Printer<'_, W>,
 ) -> Result<(), Failure>
     ensures tells { Tells out.old out.new result }
+    ensures lost { IfErr result IsBrokenOff }
     ensures lines { OnOk result
         (HasLines (entries_json (map deref_pair entries.now)) out.old.bytes out.new.bytes) }
 {

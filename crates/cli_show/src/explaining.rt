@@ -31,11 +31,14 @@ pub(crate) fn explain_module<F: Files>(
     name: &str,
     bytes: &[u8],
     profile: Profile,
-    functions: &Result<usize, Failure>,
+    functions: &Result<usize, ModuleRefusal>,
 ) {
-    if let Err(Failure::Module(refusal)) = functions {
-        let reason = module_reason(alloc, profile, bytes, refusal);
-        explain(alloc, files, &Location::file(name), reason);
+    match functions {
+        Ok(_) | Err(ModuleRefusal::Memory) => {}
+        Err(refusal) => {
+            let reason = module_reason(alloc, profile, bytes, refusal);
+            explain(alloc, files, &Location::file(name), reason);
+        }
     }
 }
 

@@ -1,8 +1,8 @@
 //! What is found of a store.
 
-ghost use Rattle.std.specs.Prelude.{◌≡◌, ◌<◌, [], IfOk};
-ghost use Rattle.cli_lines.specs.Told.{Tells};
-ghost use Rattle.cli_show.specs.Findings.{EndsBy, Finds, is_good};
+ghost use Rattle.std.specs.Prelude.{◌≡◌, ◌<◌, [], IfErr, IfOk};
+ghost use Rattle.cli_lines.specs.Told.{IsBrokenOff, Tells};
+ghost use Rattle.cli_show.specs.Findings.{EndsBy, Finds, ends_with, is_good};
 
 use crate::missing::first_missing;
 use block_store::End;
@@ -22,6 +22,7 @@ pub fn print_ending<W: Write>(
     out: &mut Printer<'_, W>,
 ) -> Result<bool, Failure>
     ensures tells { Tells out.old out.new result }
+    ensures lost { IfErr result IsBrokenOff }
     ensures printed { IfOk result (λ _. out.old.printed < out.new.printed) }
     ensures line { IfOk result
         (EndsBy genesis.now replayed.now out.old.bytes out.new.bytes) }
@@ -34,7 +35,11 @@ pub fn print_ending<W: Write>(
 
 /// The first thing that is wrong with the committed blocks, or what their audit says. The only
 /// error is want of memory.
-fn finding_of(alloc: Global, genesis: &Genesis, replayed: &Replayed) -> Result<Finding, AllocError>
+pub(crate) fn finding_of(
+    alloc: Global,
+    genesis: &Genesis,
+    replayed: &Replayed,
+) -> Result<Finding, AllocError>
     ensures { IfOk result (Finds genesis.now replayed.now) }
 {
     if let Some(number) = replayed.differs {
@@ -50,11 +55,22 @@ fn finding_of(alloc: Global, genesis: &Genesis, replayed: &Replayed) -> Result<F
 }
 
 /// Whether all transactions agree with their reruns, and the store ends with its last record.
-fn is_good(finding: Finding, end: End) -> bool
+pub(crate) fn is_good(finding: Finding, end: End) -> bool
     ensures { result ≡ is_good finding end }
 {
     matches!(
         (finding, end),
         (Finding::Audited(Audit::Agrees { .. }), End::Clean)
     )
+}
+
+/// How a task ends that told what it found: by a failure, or by whether nothing is wrong.
+pub(crate) fn ends_with(is_good: bool, failure: Option<Failure>) -> Result<(), Failure>
+    ensures { result ≡ ends_with is_good failure }
+{
+    match failure {
+        Some(failure) => Err(failure),
+        None if is_good => Ok(()),
+        None => Err(Failure::Printed),
+    }
 }

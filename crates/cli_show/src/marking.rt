@@ -1,11 +1,11 @@
 //! The command `marks`.
 
-ghost use Rattle.std.specs.Prelude.{◌≡◌, IfSome, OnOk, map};
-ghost use Rattle.cli_lines.specs.Told.{Tells};
+ghost use Rattle.std.specs.Prelude.{◌≡◌, None, IfErr, IfSome, OnOk, map};
+ghost use Rattle.cli_lines.specs.Told.{Answers, IsBrokenOff, Tells};
 ghost use Rattle.world_state.specs.Shared.{blocks_in};
 ghost use Rattle.log_orderer.specs.Marks.{block_marks, envelope_mark};
 ghost use Rattle.cli_show.specs.Answers.{fault_of};
-ghost use Rattle.cli_show.specs.Marks.{HasTexts, chain_marks};
+ghost use Rattle.cli_show.specs.Marks.{HasTexts, Marks, chain_marks};
 
 use crate::explaining::explain_fault;
 use crate::replaying::replayed;
@@ -35,6 +35,8 @@ pub fn marks<T: Threads + Sync, F: Files, W: Write>(
     out: &mut Printer<'_, W>,
 ) -> Result<(), Failure>
     ensures tells { Tells out.old out.new result }
+    ensures answers { Answers (Marks genesis.now (F.bytes files.old store.now)) out.old out.new
+        result }
 {
     let replayed = replayed(workers, alloc, files, genesis, store)?;
     explain_fault(alloc, files, store, &replayed);
@@ -48,6 +50,7 @@ pub fn print_marks<W: Write>(
     out: &mut Printer<'_, W>,
 ) -> Result<(), Failure>
     ensures tells { Tells out.old out.new result }
+    ensures lost { fault_of replayed.now ≡ None → IfErr result IsBrokenOff }
     ensures refused { IfSome (fault_of replayed.now) (λ failure.
         (result ≡ Err failure) × (out.new ≡ out.old)) }
     ensures marks { OnOk result
@@ -66,6 +69,7 @@ fn print_blocks<W: Write>(
     out: &mut Printer<'_, W>,
 ) -> Result<(), Failure>
     ensures tells { Tells out.old out.new result }
+    ensures lost { IfErr result IsBrokenOff }
     ensures marks { OnOk result
         (HasTexts (chain_marks (blocks_in blocks.now)) out.old.bytes out.new.bytes) }
 {
@@ -82,6 +86,7 @@ fn print_block<W: Write>(
     out: &mut Printer<'_, W>,
 ) -> Result<(), Failure>
     ensures tells { Tells out.old out.new result }
+    ensures lost { IfErr result IsBrokenOff }
     ensures marks { OnOk result
         (HasTexts (block_marks committed.now.block) out.old.bytes out.new.bytes) }
 {
@@ -96,6 +101,7 @@ fn print_envelopes<W: Write>(
     out: &mut Printer<'_, W>,
 ) -> Result<(), Failure>
     ensures tells { Tells out.old out.new result }
+    ensures lost { IfErr result IsBrokenOff }
     ensures marks { OnOk result
         (HasTexts (map envelope_mark envelopes.now) out.old.bytes out.new.bytes) }
 {

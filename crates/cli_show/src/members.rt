@@ -1,14 +1,15 @@
 //! The line of who stands.
 
-ghost use Rattle.std.specs.Prelude.{◌≡◌, [], ◌∷◌, OnOk, take};
-ghost use Rattle.cli_lines.specs.Told.{Tells};
+ghost use Rattle.std.specs.Prelude.{◌≡◌, [], ◌∷◌, IfErr, OnOk, take};
+ghost use Rattle.wire.specs.Links.{AreLinked};
+ghost use Rattle.committer.specs.Fits.{blocks_of};
+ghost use Rattle.cli_lines.specs.Told.{IsBrokenOff, Tells};
 ghost use Rattle.json_chain.specs.Memberships.{standing_behind};
 ghost use Rattle.cli_show.specs.Answers.{members_json};
 ghost use Rattle.cli_show.specs.Lines.{HasLines};
 
 use crate::earlier::first_blocks;
 use cli_lines::{Failure, Printer, print_line};
-use committer::CommitRefusal;
 use endorsement_policy::Rules;
 use json_chain::standing_line;
 use std::alloc::Global;
@@ -26,17 +27,15 @@ pub fn print_members<W: Write>(
     out: &mut Printer<'_, W>,
 ) -> Result<(), Failure>
     ensures tells { Tells out.old out.new result }
+    ensures lost { AreLinked [] (blocks_of snapshot.now) → IfErr result IsBrokenOff }
     ensures line { OnOk result
         (HasLines (members_json rules.now at snapshot.now ∷ []) out.old.bytes out.new.bytes) }
 {
     if at >= snapshot.height() {
         return print_members_of(alloc, rules, snapshot, out);
     }
-    match first_blocks(alloc, snapshot, at) {
-        Ok(earlier) => print_members_of(alloc, rules, &earlier, out),
-        Err(CommitRefusal::Memory) => Err(Failure::Memory),
-        Err(refusal) => Err(Failure::Commit(refusal)),
-    }
+    let earlier = first_blocks(alloc, snapshot, at)?;
+    print_members_of(alloc, rules, &earlier, out)
 }
 
 fn print_members_of<W: Write>(
@@ -46,6 +45,7 @@ fn print_members_of<W: Write>(
     out: &mut Printer<'_, W>,
 ) -> Result<(), Failure>
     ensures tells { Tells out.old out.new result }
+    ensures lost { IfErr result IsBrokenOff }
     ensures line { OnOk result
         (HasLines (standing_behind rules.now snapshot.now ∷ []) out.old.bytes out.new.bytes) }
 {

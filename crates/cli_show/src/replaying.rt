@@ -1,7 +1,9 @@
 //! The chain of a store.
 
-ghost use Rattle.std.specs.Prelude.{IfErr};
-ghost use Rattle.cli_lines.specs.Told.{IsSilent};
+ghost use Rattle.std.specs.Prelude.{IfErr, IfOk};
+ghost use Rattle.ledger_setting.specs.Rule.{table_of};
+ghost use Rattle.store_replay.specs.Replay.{ReplaysFrom};
+ghost use Rattle.cli_lines.specs.Told.{IsBrokenOff, IsSilent};
 
 use cli_lines::{Access, Failure, Files, explain_trouble};
 use endorsement_policy::Workers;
@@ -21,6 +23,9 @@ pub(crate) fn replayed<T: Threads + Sync, F: Files>(
     name: &str,
 ) -> Result<Replayed, Failure>
     ensures silent { IfErr result IsSilent }
+    ensures lost { IfErr result IsBrokenOff }
+    ensures replayed { IfOk result
+        (ReplaysFrom (table_of genesis.now.rules.value) (F.bytes files.old name.now)) }
 {
     let Some(reader) = files.open(name) else {
         explain_trouble(alloc, files, name, Access::Read);

@@ -1,14 +1,17 @@
 //! The commands `show` and `state`.
 
-ghost use Rattle.std.specs.Prelude.{◌≡◌, IfSome, OnOk};
-ghost use Rattle.cli_lines.specs.Told.{Tells};
-ghost use Rattle.cli_show.specs.Answers.{fault_of, part_json};
+ghost use Rattle.std.specs.Prelude.{◌≡◌, [], None, IfErr, IfSome, OnOk};
+ghost use Rattle.wire.specs.Links.{AreLinked};
+ghost use Rattle.committer.specs.Fits.{blocks_of};
+ghost use Rattle.cli_lines.specs.Told.{Answers, IsBrokenOff, Tells};
+ghost use Rattle.cli_show.specs.Answers.{States, block_fault, end_fault, fault_of, part_json};
+ghost use Rattle.cli_show.specs.Findings.{Shows, ShowsReplay};
 ghost use Rattle.cli_show.specs.Lines.{HasLines};
 
 use crate::chain::print_chain;
 use crate::entries::print_state;
 use crate::explaining::{explain_fault, explain_findings};
-use crate::findings::print_ending;
+use crate::findings::{ends_with, print_ending};
 use crate::members::print_members;
 use crate::replaying::replayed;
 use crate::span::Span;
@@ -61,6 +64,9 @@ pub fn show<T: Threads + Sync, F: Files, W: Write>(
     out: &mut Printer<'_, W>,
 ) -> Result<(), Failure>
     ensures tells { Tells out.old out.new result }
+    ensures answers { Answers
+        (Shows genesis.now shown.now.span.from shown.now.span.to
+        (F.bytes files.old shown.now.store.now)) out.old out.new result }
 {
     let replayed = replayed(workers, alloc, files, genesis, shown.store)?;
     explain_findings(alloc, files, genesis, shown.store, &replayed);
@@ -76,13 +82,12 @@ fn print_shown<W: Write>(
     out: &mut Printer<'_, W>,
 ) -> Result<(), Failure>
     ensures tells { Tells out.old out.new result }
+    ensures answers { Answers (ShowsReplay genesis.now span.from span.to replayed.now) out.old
+        out.new result }
 {
     print_chain(alloc, genesis, &replayed.snapshot, span, out)?;
-    if print_ending(alloc, genesis, replayed, out)? {
-        Ok(())
-    } else {
-        Err(Failure::Printed)
-    }
+    let is_good = print_ending(alloc, genesis, replayed, out)?;
+    ends_with(is_good, None)
 }
 
 /// Prints the state after the block of a number, each write to a key up to it, or who stands there,
@@ -99,6 +104,9 @@ pub fn state<T: Threads + Sync, F: Files, W: Write>(
     out: &mut Printer<'_, W>,
 ) -> Result<(), Failure>
     ensures tells { Tells out.old out.new result }
+    ensures answers { Answers
+        (States genesis.now asked.now.part asked.now.at (F.bytes files.old asked.now.store.now))
+        out.old out.new result }
 {
     let replayed = replayed(workers, alloc, files, genesis, asked.store)?;
     explain_fault(alloc, files, asked.store, &replayed);
@@ -120,6 +128,9 @@ pub fn print_asked<W: Write>(
     ensures lines { OnOk result
         (HasLines (part_json rules.now part.entry at replayed.now.snapshot) out.old.bytes
         out.new.bytes) }
+    // The blocks of a store that is whole are linked.
+    ensures lost { fault_of replayed.now ≡ None
+        → AreLinked [] (blocks_of replayed.now.snapshot) → IfErr result IsBrokenOff }
 {
     if let Some(failure) = fault_of(replayed) {
         return Err(failure);
@@ -139,10 +150,24 @@ pub(crate) fn fault_of(replayed: &Replayed) -> Option<Failure>
     if let Some(block) = replayed.differs {
         return Some(Failure::Flags(block));
     }
+    chain_fault(replayed)
+}
+
+/// Why the chain of a store is not whole: why a block does not fit, or else how the store ends.
+pub(crate) fn chain_fault(replayed: &Replayed) -> Option<Failure>
+    ensures { result ≡ block_fault replayed.now.refused replayed.now.end }
+{
     if let Some(refusal) = replayed.refused {
         return Some(Failure::Commit(refusal));
     }
-    match replayed.end {
+    end_fault(replayed.end)
+}
+
+/// The failure that an end of a store is, unless it is that of its last record.
+pub(crate) fn end_fault(end: End) -> Option<Failure>
+    ensures { result ≡ end_fault end }
+{
+    match end {
         End::Clean => None,
         end => Some(Failure::Store(end)),
     }

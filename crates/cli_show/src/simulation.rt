@@ -1,10 +1,13 @@
 //! The command `sim`.
 
-ghost use Rattle.cli_lines.specs.Told.{Tells};
+ghost use Rattle.std.specs.Prelude.{option_map};
+ghost use Rattle.cli_lines.specs.Told.{Answers, Tells};
+ghost use Rattle.cli_show.specs.Answers.{UnlessFault, block_fault};
+ghost use Rattle.cli_show.specs.Simulations.{Simulates, SimulatesOn};
 
 use crate::explaining::explain_chain;
 use crate::replaying::replayed;
-use block_store::End;
+use crate::showing::chain_fault;
 use cli_lines::{Failure, Files, Printer, print_payload};
 use endorsement_policy::Workers;
 use fab_types::Proposal;
@@ -36,10 +39,17 @@ pub fn simulate<T: Threads + Sync, F: Files, W: Write>(
     out: &mut Printer<'_, W>,
 ) -> Result<(), Failure>
     ensures tells { Tells out.old out.new result }
+    ensures answers { Answers
+        (Simulates genesis.now simulated.now.proposal.now
+        (option_map (λ name. F.bytes files.old name.now) simulated.now.store)) out.old out.new
+        result }
 {
     let proposal = simulated.proposal;
     match simulated.store {
-        None => print_call(alloc, genesis, &Snapshot::empty(alloc), proposal, out),
+        None => {
+            let empty = Snapshot::empty(alloc);
+            print_call(alloc, genesis, &empty, proposal, out)
+        }
         Some(name) => {
             let replayed = replayed(workers, alloc, files, genesis, name)?;
             explain_chain(alloc, files, name, &replayed);
@@ -57,13 +67,13 @@ fn print_call_after<W: Write>(
     out: &mut Printer<'_, W>,
 ) -> Result<(), Failure>
     ensures tells { Tells out.old out.new result }
+    ensures answers { Answers
+        (UnlessFault (block_fault replayed.now.refused replayed.now.end)
+        (SimulatesOn genesis.now proposal.now replayed.now.snapshot)) out.old out.new result }
 {
-    if let Some(refusal) = replayed.refused {
-        return Err(Failure::Commit(refusal));
-    }
-    match replayed.end {
-        End::Clean => print_call(alloc, genesis, &replayed.snapshot, proposal, out),
-        end => Err(Failure::Store(end)),
+    match chain_fault(replayed) {
+        Some(failure) => Err(failure),
+        None => print_call(alloc, genesis, &replayed.snapshot, proposal, out),
     }
 }
 
@@ -76,6 +86,8 @@ fn print_call<W: Write>(
     out: &mut Printer<'_, W>,
 ) -> Result<(), Failure>
     ensures tells { Tells out.old out.new result }
+    ensures answers { Answers (SimulatesOn genesis.now proposal.now snapshot.now) out.old out.new
+        result }
 {
     let payload = simulator::simulate(alloc, &*genesis.book, snapshot, proposal)?;
     print_payload(alloc, &payload, out)

@@ -1,6 +1,9 @@
 //! The command `trace`.
 
-ghost use Rattle.cli_lines.specs.Told.{Tells};
+ghost use Rattle.std.specs.Prelude.{◌≡◌, List, ℕ, IfErr, IfOk, OnOk};
+ghost use Rattle.wasm_trace.specs.Standing.{standing};
+ghost use Rattle.cli_lines.specs.Told.{Answers, IsBrokenOff, Prints, Tells};
+ghost use Rattle.cli_show.specs.Tracing.{IsTrace, NextStep, Traces, named_text, outcome_text};
 
 use cli_lines::{Failure, Printer};
 use fab_types::Call;
@@ -14,6 +17,8 @@ use wasm_trace::Stepper;
 
 /// Runs a call on the empty state by reduction. Prints so many at most of the steps that cost fuel,
 /// each with its number from 1 on, and how the call ends.
+///
+/// Refused exactly where the book has no chaincode of the call's name (401).
 pub fn trace<W: Write>(
     alloc: Global,
     genesis: &Genesis,
@@ -22,6 +27,7 @@ pub fn trace<W: Write>(
     out: &mut Printer<'_, W>,
 ) -> Result<(), Failure>
     ensures tells { Tells out.old out.new result }
+    ensures answers { Answers (Traces genesis.now call.now most) out.old out.new result }
 {
     let Some(chaincode) = genesis.book.get(&call.chaincode) else {
         return Err(Failure::Simulation(SimRefusal::UnknownChaincode));
@@ -40,61 +46,60 @@ fn trace_on<H: Host, W: Write>(
     out: &mut Printer<'_, W>,
 ) -> Result<(), Failure>
     ensures tells { Tells out.old out.new result }
+    ensures lost { IfErr result IsBrokenOff }
+    ensures traces { OnOk result
+        ((text : List ℕ) × IsTrace chaincode.now.«module» (H.answers host.old)
+        (H.records host.old) chaincode.now.fuel most text × Prints out.old out.new text) }
 {
+    // It says that the module is valid.
+    let _module = chaincode.module.module();
     let mut stepper = Stepper::new(alloc, &chaincode.module, chaincode.fuel)?;
-    print_steps(&mut stepper, host, most, out)
-}
-
-/// Prints the first steps that cost fuel, and how the run ends: long before the count of the loop
-/// does.
-fn print_steps<H: Host, W: Write>(
-    stepper: &mut Stepper<'_>,
-    host: &mut H,
-    most: u32,
-    out: &mut Printer<'_, W>,
-) -> Result<(), Failure>
-    ensures tells { Tells out.old out.new result }
-{
     let mut printed = 0;
-    for _ in 0..u64::MAX {
-        if let Some(outcome) = stepper.step(host)? {
-            return print_outcome(outcome, out);
-        }
-        if printed < most && print_step(stepper, printed + 1, out)? {
-            printed += 1;
+    loop {
+        match stepper.step(host)? {
+            None => printed = print_step(&stepper, most, printed, out)?,
+            Some(outcome) => return print_outcome(outcome, out),
         }
     }
-    Ok(())
 }
 
-/// Prints the last step by its number, if it cost fuel. Whether it did.
+/// Prints the last step by the number behind those that are printed, if it cost fuel and `most` are
+/// not printed yet. Answers how many are printed then.
 fn print_step<W: Write>(
     stepper: &Stepper<'_>,
-    number: u32,
+    most: u32,
+    printed: u32,
     out: &mut Printer<'_, W>,
-) -> Result<bool, Failure>
+) -> Result<u32, Failure>
     ensures tells { Tells out.old out.new result }
+    ensures lost { IfErr result IsBrokenOff }
+    ensures prints { IfOk result
+        (λ count. (text : List ℕ)
+        × NextStep (named_text (standing stepper.now).shown (standing stepper.now).at.fuel) most
+        printed count text × Prints out.old out.new text) }
 {
+    if most <= printed {
+        return Ok(printed);
+    }
     match stepper.render()? {
-        None => Ok(false),
+        None => Ok(printed),
         Some(step) => {
+            let number = printed + 1;
             writeln!(out, "{number} {step}")?;
-            Ok(true)
+            Ok(number)
         }
     }
 }
 
-/// The word as a signed number (two's complement).
-fn signed(word: u32) -> i32 {
-    i32::from_be_bytes(word.to_be_bytes())
-}
-
+/// Prints how a call ended, with the word that it left as a signed number.
 fn print_outcome<W: Write>(outcome: Outcome, out: &mut Printer<'_, W>) -> Result<(), Failure>
     ensures tells { Tells out.old out.new result }
+    ensures lost { IfErr result IsBrokenOff }
+    ensures prints { OnOk result (Prints out.old out.new (outcome_text outcome)) }
 {
     match outcome {
         Outcome::Returned { status, used } => {
-            let status = signed(status);
+            let status = status.cast_signed();
             writeln!(out, "returned {status} used {used}")
         }
         Outcome::Trapped { kind, used } => {

@@ -2,9 +2,9 @@
 
 ghost use Rattle.std.specs.Prelude.{◌≡◌, [], ◌∷◌, IfOk, OnOk};
 ghost use Rattle.serde_json.specs.View.{view};
-ghost use Rattle.cli_lines.specs.Told.{Tells};
+ghost use Rattle.cli_lines.specs.Told.{Answers, Tells};
 ghost use Rattle.cli_show.specs.Lines.{HasLines};
-ghost use Rattle.cli_show.specs.Version.{version_json};
+ghost use Rattle.cli_show.specs.Version.{Versions, version_json};
 
 use cli_lines::{Failure, Printer, print_line};
 use json_chain::{Object, line_of};
@@ -27,6 +27,7 @@ const STORE: u8 = 1;
 /// Prints these numbers as a line of JSON.
 pub fn version<W: Write>(alloc: Global, out: &mut Printer<'_, W>) -> Result<(), Failure>
     ensures tells { Tells out.old out.new result }
+    ensures answers { Answers Versions out.old out.new result }
     ensures line { OnOk result
         (HasLines (version_json PROGRAM LINES RULES STORE ∷ []) out.old.bytes out.new.bytes) }
 {

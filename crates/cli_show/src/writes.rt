@@ -1,8 +1,8 @@
 //! The lines of writes to a key.
 
-ghost use Rattle.std.specs.Prelude.{OnOk, take};
+ghost use Rattle.std.specs.Prelude.{IfErr, OnOk, take};
 ghost use Rattle.json_chain.specs.Writes.{placed_at};
-ghost use Rattle.cli_lines.specs.Told.{Tells};
+ghost use Rattle.cli_lines.specs.Told.{IsBrokenOff, Tells};
 ghost use Rattle.ledger_model.specs.Chain.{history, transactions_from};
 ghost use Rattle.cli_show.specs.Lines.{HasLines, write_json, writes_json};
 
@@ -23,6 +23,7 @@ pub fn print_writes<W: Write>(
     out: &mut Printer<'_, W>,
 ) -> Result<(), Failure>
     ensures tells { Tells out.old out.new result }
+    ensures lost { IfErr result IsBrokenOff }
     ensures lines { OnOk result
         (HasLines (writes_json key.now (history (take at snapshot.now))) out.old.bytes
         out.new.bytes) }
@@ -43,6 +44,7 @@ fn print_writes_in<W: Write>(
     out: &mut Printer<'_, W>,
 ) -> Result<(), Failure>
     ensures tells { Tells out.old out.new result }
+    ensures lost { IfErr result IsBrokenOff }
     ensures lines { OnOk result
         (HasLines
         (writes_json key.now
@@ -71,6 +73,7 @@ fn print_write<W: Write>(
     out: &mut Printer<'_, W>,
 ) -> Result<(), Failure>
     ensures tells { Tells out.old out.new result }
+    ensures lost { IfErr result IsBrokenOff }
     ensures lines { OnOk result
         (HasLines
         (write_json key.now

@@ -1,28 +1,39 @@
-use Rattle.std.proofs.Common.{◌≡◌, IfSome, arith, length, subst}
+use Rattle.std.proofs.Common.{◌≡◌, ℕ, ap, inl, arith, length, subst}
 use Rattle.std.proofs.lemmas.Result.{err_from_is_err_and}
-use Rattle.std.specs.Io.KnownBytes.{Appends}
 use Rattle.ledger_model.specs.Chain.{Bytes}
-use Rattle.wasm_file.specs.Modules.{IsDefinedBy}
+use Rattle.wasm_file.specs.Modules.{IsDefinedBy, NoModule}
 use Rattle.cli_lines.proofs.Silence.{no_less, tells_by}
-use Rattle.cli_show.specs.Modules.{IsChecked}
-use Rattle.cli_show.proofs.Behind.{on_ok}
-use Rattle.cli_show.proofs.Read.{as_line, checked, written}
+use Rattle.cli_show.specs.Modules.{valid_text}
+use Rattle.cli_show.proofs.Read.{module_refused, module_told}
 use Rattle.cli_show.proofs.checking.check.Goals as goal
+
+abbrev said : ℕ → Bytes → Bytes
+said functions bytes = valid_text functions (length bytes)
+
+pub returns-in_err-bytes : goal.returns-in_err-bytes
+returns-in_err-bytes g c =
+    let p = err_from_is_err_and c.from_residual.result c.from_residual.ensures.1 in
+    rw p.1 (record { tells = tells_by c.args.out.now c.args.out.now p.0 (no_less c.args.out.now) p.2.0; answers = inl p.2.1 })
 
 pub returns-in_err-functions-clause-tells : goal.returns-in_err-functions-clause-tells
 returns-in_err-functions-clause-tells g c =
     let p = err_from_is_err_and c.from_residual-in_err-functions.result c.from_residual-in_err-functions.ensures.1 in
-    rw (p.1, p.2) (tells_by c.args.out.now c.args.out.now _ (no_less c.args.out.now) c.in_err-functions.ensures.silent)
+    rw p.1 (tells_by c.args.out.now c.args.out.now p.0 (no_less c.args.out.now) p.2.0)
 
-pub returns-clause-valid : goal.returns-clause-valid
-returns-clause-valid g c =
-    let held = g.F.Files.bytes c.args.files.now c.args.name.now in
+pub returns-in_err-functions-clause-answers : goal.returns-in_err-functions-clause-answers
+returns-in_err-functions-clause-answers g c =
+    let p = err_from_is_err_and c.from_residual-in_err-functions.result c.from_residual-in_err-functions.ensures.1 in
+    let why = subst (λ (xs : Bytes). NoModule c.args.profile xs c.in_err-functions.field-0.0) c.deref.ensures.value c.in_err-functions.ensures.refused in
+    rw p.1 (module_refused said c.args.profile (g.F.Files.bytes c.args.files.now c.args.name.now) c.in_ok-bytes.bytes.items c.in_err-functions.field-0.0
+    p.0 c.args.out.now c.in_ok-bytes.ensures.bytes why p.2.1)
+
+pub returns-clause-answers : goal.returns-clause-answers
+returns-clause-answers g c =
     let read = c.in_ok-bytes.bytes.items in
     let functions = c.in_ok-functions.functions in
     let size = c.len-length.result in
-    let a = c.args.out.now.bytes in
-    let b = c.writeln.new.self.bytes in
     let defined = subst (λ (xs : Bytes). IsDefinedBy c.args.profile xs functions) c.deref.ensures.value c.in_ok-functions.ensures.valid in
     let counted : size ≡ length read = omega (arith, c.in_ok-bytes.bytes.ok.0, c.len-length.ensures) in
-    on_ok c.writeln.result (Appends a b (written functions size)) (IfSome held (λ bytes. IsChecked c.args.profile bytes a b))
-    (λ h. checked held read c.args.profile functions size a b c.in_ok-bytes.ensures defined counted (as_line functions size a b h)) c.writeln.ensures.text
+    module_told said c.args.profile (g.F.Files.bytes c.args.files.now c.args.name.now) read functions (valid_text functions size) c.args.out.now
+    c.writeln.new.self c.writeln.result c.in_ok-bytes.ensures.bytes defined (ap (valid_text functions) counted) c.writeln.ensures.lost
+    c.writeln.ensures.prints

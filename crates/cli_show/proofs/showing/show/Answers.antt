@@ -1,8 +1,24 @@
+use Rattle.std.proofs.Common.{inl}
 use Rattle.std.proofs.lemmas.Result.{err_from_is_err_and}
+use Rattle.cli_lines.proofs.Answering.{answers_by}
 use Rattle.cli_lines.proofs.Silence.{no_less, tells_by}
+use Rattle.cli_show.specs.Findings.{Shows, ShowsReplay}
 use Rattle.cli_show.proofs.showing.show.Goals as goal
 
 pub returns-in_err-replayed : goal.returns-in_err-replayed
 returns-in_err-replayed g c =
     let p = err_from_is_err_and c.from_residual.result c.from_residual.ensures.1 in
-    rw (p.1, p.2) (record { tells = tells_by c.args.out.now c.args.out.now _ (no_less c.args.out.now) c.in_err-replayed.ensures.silent })
+    rw (p.1, p.2) (record {
+      tells = tells_by c.args.out.now c.args.out.now _ (no_less c.args.out.now) c.in_err-replayed.ensures.silent;
+      answers = inl c.in_err-replayed.ensures.lost;
+    })
+
+pub returns-clause-answers : goal.returns-clause-answers
+returns-clause-answers g c =
+    let genesis = c.args.genesis.now in
+    let shown = c.args.shown.now in
+    let r = c.in_ok-replayed.replayed in
+    let last = c.print_shown in
+    answers_by (ShowsReplay genesis shown.span.from shown.span.to r)
+    (Shows genesis shown.span.from shown.span.to (g.F.Files.bytes c.args.files.now shown.store.now)) c.args.out.now last.new.out last.result
+    (λ text h. (r, c.in_ok-replayed.ensures.replayed, h)) last.ensures.answers

@@ -1,8 +1,26 @@
+use Rattle.std.proofs.Common.{OnOk, inl, subst}
 use Rattle.std.proofs.lemmas.Result.{err_from_is_err_and}
 use Rattle.cli_lines.proofs.Silence.{no_less, tells_by}
+use Rattle.endorsement_policy.specs.Endorsed.{Listed}
+use Rattle.cli_show.specs.Answers.{part_json}
+use Rattle.cli_show.specs.Lines.{HasLines}
+use Rattle.cli_show.proofs.Replays.{state_told}
 use Rattle.cli_show.proofs.showing.state.Goals as goal
 
 pub returns-in_err-replayed : goal.returns-in_err-replayed
 returns-in_err-replayed g c =
     let p = err_from_is_err_and c.from_residual.result c.from_residual.ensures.1 in
-    rw (p.1, p.2) (record { tells = tells_by c.args.out.now c.args.out.now _ (no_less c.args.out.now) c.in_err-replayed.ensures.silent })
+    rw (p.1, p.2) (record {
+      tells = tells_by c.args.out.now c.args.out.now _ (no_less c.args.out.now) c.in_err-replayed.ensures.silent;
+      answers = inl c.in_err-replayed.ensures.lost;
+    })
+
+pub returns-clause-answers : goal.returns-clause-answers
+returns-clause-answers g c =
+    let asked = c.args.asked.now in
+    let r = c.in_ok-replayed.replayed in
+    let last = c.print_asked in
+    let lines = subst (λ (l : Listed). OnOk last.result (HasLines (part_json l asked.part asked.at r.snapshot) c.args.out.now.bytes last.new.out.bytes))
+    c.deref.ensures last.ensures.lines in
+    state_told c.args.genesis.now asked.part asked.at (g.F.Files.bytes c.args.files.now asked.store.now) r c.args.out.now last.new.out last.result
+    c.in_ok-replayed.ensures.replayed last.ensures.tells last.ensures.refused lines last.ensures.lost

@@ -1,9 +1,12 @@
-use Rattle.std.proofs.Common.{[], ◌∷◌, ap, ◌∙◌, Some, arith, string_bytes}
+use Rattle.std.proofs.Common.{[], ◌∷◌, ap, ◌∙◌, Some, Result, Ok, Err, OnOk, IfErr, inl, inr, arith, refl, string_bytes}
 use Rattle.std.specs.Io.KnownBytes.{Appends}
 use Rattle.serde_json.specs.Data.{Data}
 use Rattle.cli_lines.specs.Texts.{line}
+use Rattle.cli_lines.specs.Told.{Answers, IsBrokenOff, Tells, Told}
+use Rattle.cli_lines.specs.declared.failure.Failure.{Failure}
 use Rattle.cli_show.specs.Lines.{HasLines}
-use Rattle.cli_show.specs.Version.{version_json}
+use Rattle.cli_show.specs.Version.{Versions, version_json}
+use Rattle.cli_show.proofs.Answering.{lines_printed}
 use Rattle.cli_show.proofs.Behind.{on_ok, one_line}
 use Rattle.cli_show.proofs.versioning.version.Goals as goal
 
@@ -18,3 +21,14 @@ returns-clause-line g c =
     let reads = c.in_ok-line.ensures ∙ ap (λ (d : Data). Some d) c.in_ok-numbers.ensures in
     on_ok c.print_line.result (Appends before after (line text)) (HasLines (version_json 1 1 1 1 ∷ []) before after)
     (λ h. one_line (version_json 1 1 1 1) text before after reads h) c.print_line.ensures.line
+
+told : (t u : Told) (r : Result (Unit {0}) Failure) → Tells t u r → OnOk r (HasLines (version_json 1 1 1 1 ∷ []) t.bytes u.bytes) → IfErr r IsBrokenOff →
+    Answers Versions t u r
+told t u (Ok x) tells lines lost =
+    let p = lines_printed (version_json 1 1 1 1 ∷ []) t u tells.0 tells.1 lines in
+    inr (p.0, (refl, p.1), p.2)
+told t u (Err f) tells lines lost = inl lost
+
+pub returns-clause-answers : goal.returns-clause-answers
+returns-clause-answers g c =
+    told c.args.out.now c.print_line.new.out c.print_line.result c.print_line.ensures.tells (returns-clause-line g c) c.print_line.ensures.lost

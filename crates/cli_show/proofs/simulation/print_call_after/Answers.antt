@@ -1,0 +1,23 @@
+use Rattle.std.proofs.Common.{Option, Some, Err, refl, sym, ◌∙◌, subst}
+use Rattle.cli_lines.specs.Told.{Answers}
+use Rattle.cli_lines.specs.declared.failure.Failure.{Failure}
+use Rattle.cli_show.specs.Answers.{UnlessFault}
+use Rattle.cli_show.specs.Simulations.{SimulatesOn}
+use Rattle.cli_show.proofs.Answering.{untold}
+use Rattle.cli_show.proofs.simulation.print_call_after.Goals as goal
+
+pub returns-in-Some-clause-answers : goal.returns-in-Some-clause-answers
+returns-in-Some-clause-answers g c =
+    let r = c.args.replayed.now in
+    let does = SimulatesOn c.args.genesis.now c.args.proposal.now r.snapshot in
+    let is = sym c.in-Some.is ∙ c.chain_fault.ensures in
+    subst (λ (o : Option Failure). Answers (UnlessFault o does) c.args.out.now c.args.out.now (Err c.in-Some.failure)) is
+    (untold (UnlessFault (Some c.in-Some.failure) does) c.args.out.now (Err c.in-Some.failure) (refl, refl))
+
+pub returns-in-None-clause-answers : goal.returns-in-None-clause-answers
+returns-in-None-clause-answers g c =
+    let r = c.args.replayed.now in
+    let does = SimulatesOn c.args.genesis.now c.args.proposal.now r.snapshot in
+    let is = sym c.in-None.is ∙ c.chain_fault.ensures in
+    subst (λ (o : Option Failure). Answers (UnlessFault o does) c.args.out.now c.print_call.new.out c.print_call.result) is
+    c.print_call.ensures.answers
