@@ -91,10 +91,10 @@ fn query_lines<T: Threads + Sync, F: Files, W: Write>(
     ensures tells { Tells out.old out.new result }
 {
     for number in 1..u64::MAX {
-        match lines.next_explained(alloc, files)? {
-            Some(line) => take_line(alloc, files, asked, reader, line, number, out)?,
-            None => return Ok(()),
+        if !lines.read_explained(alloc, files)? {
+            return Ok(());
         }
+        take_line(alloc, files, asked, reader, lines.line(), number, out)?;
         if !lines.is_at_hand() {
             out.flush()?;
         }

@@ -5,8 +5,8 @@ ghost use Rattle.cli_lines.specs.Told.{Tells};
 ghost use Rattle.cli_roles.specs.Seen.{has_hash, is_fork};
 ghost use Rattle.log_store.specs.Storing.{IsStored, rules_of, stored_chain};
 
-use crate::ending::end;
 use crate::explaining::{explain_block, explain_cut, explain_store};
+use crate::filter::end;
 use crate::input::InputLines;
 use crate::log_genesis::LogGenesis;
 use crate::seen::{SignedSeen, is_signed, signed_seen_in};
@@ -160,10 +160,10 @@ fn commit_lines<
     ensures tells { Tells out.old out.new result }
 {
     for number in 1..u64::MAX {
-        match lines.next_explained(alloc, files)? {
-            Some(line) => take_line(alloc, files, peer, chain, line, number, out)?,
-            None => return Ok(()),
+        if !lines.read_explained(alloc, files)? {
+            return Ok(());
         }
+        take_line(alloc, files, peer, chain, lines.line(), number, out)?;
         if !lines.is_at_hand() {
             out.flush()?;
         }

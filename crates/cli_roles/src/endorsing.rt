@@ -10,8 +10,8 @@ ghost use Rattle.endorsement_policy.specs.Judge.{plain_after};
 ghost use Rattle.log_store.specs.Following.{IsFollowed, endorses_by, read_chain};
 ghost use Rattle.org_keys.specs.Signers.{is_at_hand, tag_for};
 
-use crate::ending::end;
 use crate::explaining::{explain_proposal, explain_store, explain_stranger};
+use crate::filter::end;
 use crate::input::InputLines;
 use crate::log_genesis::LogGenesis;
 use crate::seen::seen_bytes;
@@ -242,10 +242,10 @@ fn endorse_lines<T: Threads + Sync, V: Watch, F: Files, S: Read + Drop, R: Read 
     ensures tells { Tells out.old out.new result }
 {
     for number in 1..u64::MAX {
-        match lines.next_explained(alloc, files)? {
-            Some(line) => take_line(alloc, files, member, follower, line, number, out)?,
-            None => return Ok(()),
+        if !lines.read_explained(alloc, files)? {
+            return Ok(());
         }
+        take_line(alloc, files, member, follower, lines.line(), number, out)?;
         if !lines.is_at_hand() {
             out.flush()?;
         }

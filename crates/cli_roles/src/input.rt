@@ -1,11 +1,13 @@
 //! The lines of the standard input, as they come.
 
-ghost use Rattle.std.specs.Prelude.{IfErr};
-ghost use Rattle.cli_lines.specs.Told.{IsSilent};
+ghost use Rattle.std.specs.Prelude.{◌≡◌, IfErr, IfOk};
+ghost use Rattle.cli_lines.specs.Told.{IsBrokenOff, IsSilent};
+ghost use Rattle.cli_roles.specs.Input.{IsEnded, IsNext};
 
 use cli_lines::{Failure, Files, Location, explain_numbered};
 use std::alloc::Global;
 use std::io::{BufRead, BufReader, Read};
+use std::marker::Model;
 
 /// So many bytes are asked for at a time.
 const CAPACITY: usize = 65_536;
@@ -15,17 +17,30 @@ const INPUT: &str = "standard input";
 
 const NOT_READ: &str = "it cannot be read to its end";
 
-/// A reader of lines.
+/// A reader of lines. Contracts see the line that was read last, and the bytes behind it, where they
+/// are known.
 #[derive(Drop)]
 pub struct InputLines<R: Read> {
     input: BufReader<R>,
     line: Vec<u8>,
 }
 
+impl<R: Read> Model for InputLines<R> {
+    ghost use Rattle.std.specs.Io.Buffered.{reader_remaining};
+    ghost use Rattle.cli_roles.specs.Input.{Input};
+
+    ghost Value = { Input };
+
+    ghost view = { λ lines.
+        record { last = lines.line.items; left = reader_remaining R.remaining lines.input } };
+}
+
 impl<R: Read + Drop> InputLines<R> {
     /// The lines of an input, from where it was read to.
     pub fn new(alloc: Global, input: R) -> Result<InputLines<R>, Failure>
+        ensures whole { IfOk result (λ lines. lines.left ≡ R.remaining input) }
         ensures silent { IfErr result IsSilent }
+        ensures lost { IfErr result IsBrokenOff }
     {
         Ok(InputLines {
             input: BufReader::with_capacity(alloc, CAPACITY, input)?,
@@ -33,35 +48,50 @@ impl<R: Read + Drop> InputLines<R> {
         })
     }
 
-    /// The next line, without its end. None where no whole line is left.
-    pub fn next(&mut self) -> Result<Option<&[u8]>, Failure>
+    /// Reads the next line. Answers whether there is one: a line is read with its end.
+    pub fn read_next(&mut self) -> Result<bool, Failure>
+        ensures next { IfOk result (λ there. IsNext there self.old self.new) }
         ensures silent { IfErr result IsSilent }
+        ensures lost { IfErr result IsBrokenOff }
     {
         self.line.clear();
         self.input.read_until(b'\n', &mut self.line)?;
-        match self.line.pop() {
-            Some(b'\n') => Ok(Some(self.line.as_slice())),
-            _ => Ok(None),
-        }
+        Ok(take_end(&mut self.line))
     }
 
     /// The same. Says why the input was not read, if it was not.
-    pub fn next_explained<F: Files>(
+    pub fn read_explained<F: Files>(
         &mut self,
         alloc: Global,
         files: &mut F,
-    ) -> Result<Option<&[u8]>, Failure>
+    ) -> Result<bool, Failure>
+        ensures next { IfOk result (λ there. IsNext there self.old self.new) }
         ensures silent { IfErr result IsSilent }
+        ensures lost { IfErr result IsBrokenOff }
     {
-        let next = self.next();
+        let next = self.read_next();
         if let Err(Failure::File) = &next {
             explain_numbered(alloc, files, &Location::file(INPUT), NOT_READ, 703);
         }
         next
     }
 
+    /// The line that was read last, without its end.
+    pub fn line(&self) -> &[u8]
+        ensures { result.now ≡ self.now.last }
+    {
+        &self.line
+    }
+
     /// Whether a further line was read with the last one.
     pub fn is_at_hand(&self) -> bool {
         self.input.buffer().contains(&b'\n')
     }
+}
+
+/// Takes the end off a line. Answers whether it has one.
+fn take_end(line: &mut Vec<u8>) -> bool
+    ensures { IsEnded result line.old.items line.new.items }
+{
+    matches!(line.pop(), Some(b'\n'))
 }

@@ -15,9 +15,9 @@
 #![tactic(auto)]
 
 mod committing;
-mod ending;
 mod endorsing;
 mod explaining;
+mod filter;
 mod input;
 mod log_genesis;
 mod marks;
@@ -25,9 +25,9 @@ mod ordering;
 mod seen;
 
 pub use committing::commit;
-pub use ending::end;
 pub use endorsing::{Endorsing, endorse};
 pub use explaining::explain_store;
+pub use filter::{end, hand_on};
 pub use input::InputLines;
 pub use log_genesis::LogGenesis;
 pub use ordering::order;

@@ -1,30 +1,38 @@
 //! What the text of a log's line says where it is no mark of an orderer.
 
-ghost use Rattle.std.specs.Prelude.{ℕ, List};
+ghost use Rattle.std.specs.Prelude.{◌≡◌, ◌↔◌, ℕ, List, IsTrue};
 ghost use Rattle.orderer.specs.Ordering.{Ordering};
 ghost use Rattle.log_orderer.specs.Skipped.{IsSkippedBy};
-ghost use Rattle.cli_roles.specs.Marks.{IsMarkOrNone};
+ghost use Rattle.cli_roles.specs.Marks.{IsMarkOrNone, NamesAnotherIn};
+ghost use Rattle.cli_roles.specs.Parts.{behind_first, first_word};
 
 use crate::seen::seen_in;
 use log_orderer::Skip;
 
-/// The index of a line, and its text: what stands before the first space, and behind it.
-pub(crate) fn index_and_text(line: &str) -> (&str, &str) {
-    line.split_once(' ').unwrap_or((line, ""))
+/// The first word of a text, and what stands behind it and a space: nothing where there is none.
+pub(crate) fn parted(text: &str) -> (&str, &str)
+    ensures { (result.0.now ≡ first_word text.now) × (result.1.now ≡ behind_first text.now) }
+{
+    match text.split_once(' ') {
+        Some(parts) => parts,
+        None => (text, ""),
+    }
 }
 
 /// Whether a text names the file of a genesis by its digest, and another one than this.
-pub(crate) fn names_another_genesis(text: &str, digest: &str) -> bool {
-    match text.split_once(' ') {
-        Some(("genesis", named)) => named != digest,
-        _ => false,
+pub(crate) fn names_another_genesis(text: &str, digest: &str) -> bool
+    ensures { IsTrue result ↔ NamesAnotherIn digest.now text.now }
+{
+    match text.strip_prefix("genesis ") {
+        Some(named) => named != digest,
+        None => false,
     }
 }
 
 /// Whether a text that is no mark leaves open which genesis file counts: it names none, and tells
 /// of no block that was seen.
 pub(crate) fn leaves_genesis_open(text: &str) -> bool {
-    !matches!(text.split_once(' '), Some(("genesis", _))) && seen_in(text).is_none()
+    !text.starts_with("genesis ") && seen_in(text).is_none()
 }
 
 /// Whether a skipped line is an envelope or `tick` all the same.

@@ -1,8 +1,10 @@
 //! What an organisation says of the blocks that it has, and what it signs of that.
 
-ghost use Rattle.std.specs.Prelude.{◌≡◌, IfOk};
+ghost use Rattle.std.specs.Prelude.{◌≡◌, ◌↔◌, IfOk, IsTrue, Some, option_map};
+ghost use Rattle.cli_roles.specs.Seen.{AreWords, IsListedPublic, IsPublic, IsSeen, SpellsSeen, SpellsSigned, sighting_of, signature_in};
 ghost use Rattle.cli_roles.specs.Seen.{is_signed, seen_bytes};
 
+use crate::marks::parted;
 use endorsement_policy::{Rules, Standing};
 use fab_types::{OrgName, Tag};
 use hex::FromHex;
@@ -21,7 +23,9 @@ pub(crate) struct Seen<'a> {
 
 /// The block that a text says was seen. None where the text is another one: so is one with a
 /// signature where no organisation can have the name.
-pub(crate) fn seen_in(text: &str) -> Option<Seen<'_>> {
+pub(crate) fn seen_in(text: &str) -> Option<Seen<'_>>
+    ensures { IsSeen text.now (option_map sighting_of result) }
+{
     let seen = spelled_seen(text)?;
     if seen.signature.is_some() && OrgName::from_slice(seen.org.as_bytes()).is_none() {
         return None;
@@ -30,18 +34,25 @@ pub(crate) fn seen_in(text: &str) -> Option<Seen<'_>> {
 }
 
 /// The block that the words of a text name, whatever the name.
-fn spelled_seen(text: &str) -> Option<Seen<'_>> {
-    let Some(("seen", rest)) = text.split_once(' ') else {
-        return None;
-    };
-    let (org, rest) = rest.split_once(' ')?;
-    let (number, rest) = rest.split_once(' ')?;
-    let (digits, signature) = match rest.split_once(' ') {
-        Some((digits, signature)) => (digits, Some(<[u8; 64]>::from_hex(signature).ok()?)),
-        None => (rest, None),
-    };
+fn spelled_seen(text: &str) -> Option<Seen<'_>>
+    ensures { SpellsSeen text.now (option_map sighting_of result) }
+{
+    match parted(text) {
+        ("seen", words) => seen_by(words),
+        _ => None,
+    }
+}
+
+/// The block that these words name: an organisation, a number, a hash and maybe a signature.
+fn seen_by(words: &str) -> Option<Seen<'_>>
+    ensures { AreWords words.now (option_map sighting_of result) }
+{
+    let (org, numbered) = parted(words);
+    let (number, hashed) = parted(numbered);
+    let (digits, _) = parted(hashed);
     let number = number.parse::<u32>().ok()?;
     let hash = <[u8; 32]>::from_hex(digits).ok()?;
+    let signature = signature_in(hashed)?;
     Some(Seen {
         org,
         number,
@@ -50,14 +61,35 @@ fn spelled_seen(text: &str) -> Option<Seen<'_>> {
     })
 }
 
+/// The signature that stands behind a hash, if anything does. None where that is no signature.
+fn signature_in(hashed: &str) -> Option<Option<[u8; 64]>>
+    ensures { result ≡ signature_in hashed.now }
+{
+    match hashed.split_once(' ') {
+        Some((_, digits)) => Some(Some(<[u8; 64]>::from_hex(digits).ok()?)),
+        None => Some(None),
+    }
+}
+
 /// Whether an organisation of this name is listed with a public key.
-pub(crate) fn has_public_key(rules: &Rules, org: &str) -> bool {
+pub(crate) fn has_public_key(rules: &Rules, org: &str) -> bool
+    ensures { IsTrue result ↔ IsListedPublic rules.now org.now }
+{
     let Some(org) = OrgName::from_slice(org.as_bytes()) else {
         return false;
     };
     match rules.organisation(&org) {
-        Some(organisation) => matches!(organisation.key, OrgKey::Public(_)),
+        Some(organisation) => is_public(&organisation.key),
         None => false,
+    }
+}
+
+fn is_public(key: &OrgKey) -> bool
+    ensures { IsTrue result ↔ IsPublic (Some key.now) }
+{
+    match key {
+        OrgKey::Public(_) => true,
+        OrgKey::Shared(_) => false,
     }
 }
 
@@ -72,7 +104,9 @@ pub(crate) struct SignedSeen {
 
 /// The block that a text says was seen, where it has a signature. None where the text is another
 /// one, or no organisation can have the name.
-pub(crate) fn signed_seen_in(text: &str) -> Option<SignedSeen> {
+pub(crate) fn signed_seen_in(text: &str) -> Option<SignedSeen>
+    ensures { SpellsSigned text.now result }
+{
     let seen = spelled_seen(text)?;
     let signature = seen.signature?;
     let org = OrgName::from_slice(seen.org.as_bytes())?;

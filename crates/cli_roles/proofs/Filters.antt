@@ -1,0 +1,134 @@
+-- Lines that are done one after another.
+use Rattle.std.proofs.Common.{◌≡◌, inl, inr, ℕ, ◌+◌, List, [], ◌∷◌, ◌++◌, length, Option, true, false, Result, Ok, Err, OnOk, IfErr, refl, sym, ap, subst, ◌∙◌, append_assoc, arith}
+use Rattle.std.proofs.lemmas.List.{append-nil, length-append}
+use Rattle.cli_lines.specs.Texts.{line}
+use Rattle.cli_lines.specs.Told.{Told, Answers, IsBrokenOff, Prints}
+use Rattle.cli_lines.specs.declared.failure.Failure.{Failure}
+use Rattle.cli_lines.proofs.Printing.{prints_none, prints_then}
+use Rattle.cli_roles.proofs.Lines.{lines_none, lines_more, all_lines, first_lines}
+use Rattle.cli_roles.specs.Input.{Input, IsNext, TakesLines}
+use Rattle.cli_roles.specs.Filters.{DoesOrEnds, AreDone, Filters, IsEndedBy, PrintsSo}
+
+-- ---- a task by its parts
+
+-- done, by the one text that it printed
+pub done_by : {A : Type 0} (Does Ends : List ℕ → Type 0) (t u : Told) (r : Result A Failure) (text : List ℕ) → OnOk r (Prints t u text)
+    → IfErr r IsBrokenOff → Does text → Answers (DoesOrEnds Does Ends) t u r
+done_by Does Ends t u (Ok a) text prints lost does = inr (text, does, prints)
+done_by Does Ends t u (Err e) text prints lost does = inl lost
+
+-- ended, by the line that says why
+pub ended_by : (A : Type 0) (Does Ends : List ℕ → Type 0) (t u : Told) (e : Failure) (said : List ℕ) → IsEndedBy said t u e → Ends (line said)
+    → Answers (DoesOrEnds {A = A} Does Ends) t u (Err e)
+ended_by A Does Ends t u e said (inl lost) ends = inl lost
+ended_by A Does Ends t u e said (inr by) ends = inr (line said, (by.0, ends), by.1)
+
+-- what it comes to is more than that
+pub comes_by : {A : Type 0} (Does Ends Done Ended : List ℕ → Type 0) → ((text : List ℕ) → Does text → Done text)
+    → ((text : List ℕ) → Ends text → Ended text) → (t u : Told) (r : Result A Failure) → Answers (DoesOrEnds Does Ends) t u r
+    → Answers (DoesOrEnds Done Ended) t u r
+comes_by Does Ends Done Ended does ends t u r (inl lost) = inl lost
+comes_by Does Ends Done Ended does ends t u (Ok a) (inr c) = inr (c.0, does c.0 c.1, c.2)
+comes_by Does Ends Done Ended does ends t u (Err e) (inr c) = inr (c.0, (c.1.0, ends c.0 c.1.1), c.2)
+
+-- done, by some text that it printed
+pub done_so : {A : Type 0} (Does Ends : List ℕ → Type 0) (t u : Told) (r : Result A Failure) → OnOk r (PrintsSo Does t u) → IfErr r IsBrokenOff
+    → Answers (DoesOrEnds Does Ends) t u r
+done_so Does Ends t u (Ok a) so lost = inr so
+done_so Does Ends t u (Err e) so lost = inl lost
+
+-- behind nothing, and more than that is so of the text
+pub so_behind : {A : Type 0} (P Q : List ℕ → Type 0) (t u v : Told) (r : Result A Failure) → Prints t u [] → ((text : List ℕ) → P text → Q text)
+    → OnOk r (PrintsSo P u v) → OnOk r (PrintsSo Q t v)
+so_behind P Q t u v (Ok a) none more so = (so.0, more so.0 so.1, prints_then t u v [] so.0 none so.2)
+so_behind P Q t u v (Err e) none more so = tt
+
+-- ---- lines
+
+module _ {S : Type 0} (Does : ℕ → S → List ℕ → List ℕ → S → Type 0) where
+  -- one line more
+  pub done_more : (ls : List (List ℕ)) (number : ℕ) (old mid new : S) (l text more : List ℕ) → AreDone Does number old ls text mid
+      → Does (number + length ls) mid l more new → AreDone Does number old (ls ++ l ∷ []) (text ++ more) new
+  done_more [] number old mid new l text more first next =
+      let at : number + 0 ≡ number = omega arith in
+      let here : Does number old l more new =
+      subst (λ (s : S). Does number s l more new) first.1 (subst (λ (n : ℕ). Does n mid l more new) at next) in
+      (more, [], new, here, (refl, refl), ap (λ (t : List ℕ). t ++ more) first.0 ∙ sym (append-nil more))
+  done_more (k ∷ ls) number old mid new l text more first next =
+      let at : number + length (k ∷ ls) ≡ (number + 1) + length ls = omega arith in (
+        first.0,
+        first.1 ++ more,
+        first.2,
+        first.3,
+        done_more ls (number + 1) first.2 mid new l first.1 more first.4 (subst (λ (n : ℕ). Does n mid l more new) at next),
+        ap (λ (t : List ℕ). t ++ more) first.5 ∙ append_assoc first.0 first.1 more,
+      )
+
+  -- lines of an input were done, before that of this number, and what was printed
+  pub record HasDone (input left : Option (List ℕ)) (old : S) (number : ℕ) (new : S) (t u : Told) : Type 0 where
+    pub lines : List (List ℕ)
+    pub text : List ℕ
+    pub taken : TakesLines input left lines
+    pub next : number ≡ length lines + 1
+    pub done : AreDone Does 1 old lines text new
+    pub prints : Prints t u text
+
+  pub none_done : (input : Option (List ℕ)) (s : S) (t : Told) → HasDone input input s 1 s t t
+  none_done input s t =
+      record { lines = []; text = []; taken = lines_none input; next = refl; done = (refl, refl); prints = prints_none t }
+
+  -- what was printed was handed on
+  pub done_kept : (input left : Option (List ℕ)) (old : S) (number : ℕ) (new : S) (t u v : Told) → HasDone input left old number new t u
+      → ((text : List ℕ) → Prints t u text → Prints t v text) → HasDone input left old number new t v
+  done_kept input left old number new t u v h kept =
+      record { lines = h.lines; text = h.text; taken = h.taken; next = h.next; done = h.done; prints = kept h.text h.prints }
+
+  module _ (Ends : ℕ → S → List ℕ → List ℕ → Type 0) where
+    -- one line more was done
+    pub one_done : {A : Type 0} (input : Option (List ℕ)) (before after : Input) (old mid new : S) (number : ℕ) (t u v : Told) (a : A)
+        → HasDone input before.left old number mid t u → IsNext true before after
+        → Answers (DoesOrEnds (λ text. Does number mid after.last text new) (Ends number mid after.last)) u v (Ok a)
+        → HasDone input after.left old (number + 1) new t v
+    one_done input before after old mid new number t u v a h is (inl lost) = absurd lost
+    one_done input before after old mid new number t u v a h is (inr c) =
+        let l = after.last in
+        let at : number ≡ 1 + length h.lines = omega (arith, h.next) in
+        let next : number + 1 ≡ length (h.lines ++ l ∷ []) + 1 = omega (arith, h.next, length-append h.lines (l ∷ [])) in
+        record {
+          lines = h.lines ++ l ∷ [];
+          text = h.text ++ c.0;
+          taken = lines_more h.lines input before after h.taken is;
+          next = next;
+          done = done_more h.lines 1 old mid new l h.text c.0 h.done (subst (λ (n : ℕ). Does n mid l c.0 new) at c.1);
+          prints = prints_then t u v h.text c.0 h.prints c.2;
+        }
+
+    -- all lines were done
+    pub all_done : {A : Type 0} (input : Option (List ℕ)) (before after : Input) (old new : S) (number : ℕ) (t u : Told) (a : A)
+        → HasDone input before.left old number new t u → IsNext false before after → Answers (Filters Does Ends old input) t u (Ok a)
+    all_done input before after old new number t u a h none =
+        inr (h.text, (h.lines, (all_lines input before.left h.lines h.taken none, (new, h.done))), h.prints)
+
+    -- a line ended it
+    pub last_done : (A : Type 0) (input : Option (List ℕ)) (before after : Input) (old mid new : S) (number : ℕ) (t u v : Told) (e : Failure)
+        → HasDone input before.left old number mid t u → IsNext true before after
+        → Answers (DoesOrEnds {A = A} (λ text. Does number mid after.last text new) (Ends number mid after.last)) u v (Err e)
+        → Answers (Filters {A = A} Does Ends old input) t v (Err e)
+    last_done A input before after old mid new number t u v e h is (inl lost) = inl lost
+    last_done A input before after old mid new number t u v e h is (inr c) =
+        let l = after.last in
+        let end : Ends (length h.lines + 1) mid l c.0 = subst (λ (n : ℕ). Ends n mid l c.0) h.next c.1.1 in
+        inr (
+          h.text ++ c.0,
+          (
+            h.lines ++ l ∷ [],
+            (
+              c.1.0,
+              (
+                first_lines input after.left (h.lines ++ l ∷ []) (lines_more h.lines input before after h.taken is),
+                (h.lines, l, h.text, c.0, mid, refl, h.done, end, refl),
+              ),
+            ),
+          ),
+          prints_then t u v h.text c.0 h.prints c.2,
+        )
