@@ -79,8 +79,8 @@ impl<'a> Files for Fed<'a> {
         self.disk.open_device(name)
     }
 
-    fn rename(&mut self, from: &str, to: &str) -> bool {
-        self.disk.rename(from, to)
+    fn keep(&mut self, writer: File, from: &str, to: &str) -> bool {
+        self.disk.keep(writer, from, to)
     }
 
     fn remove(&mut self, name: &str) {

@@ -1,2 +1,5 @@
 pub mod Lines
 pub mod Telling
+pub mod Verdicts
+pub mod Beginning
+pub mod Opened

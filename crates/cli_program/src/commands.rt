@@ -1,13 +1,14 @@
 //! The program, but for the machine that it runs on.
 
-ghost use Rattle.std.specs.Prelude.{◌≡◌, ◌<◌, true, false, IfSome, OnOk};
-ghost use Rattle.std.specs.Io.KnownBytes.{Appends};
-ghost use Rattle.cli_lines.specs.Texts.{last_line};
-ghost use Rattle.cli_lines.specs.Told.{IsMore, IsTold, Says, Tells, Told};
+ghost use Rattle.std.specs.Prelude.{◌≡◌, ◌<◌, [], true, false, OnErr, OnOk, map, option_map, string_bytes};
+ghost use Rattle.cli_lines.specs.Told.{Answers, IsMore, IsTold, Prints, Says, Tells, Told};
+ghost use Rattle.cli_program.specs.Ends.{CarriesOut, Ends, PrintsLast, failure_status};
+ghost use Rattle.cli_program.specs.Tasks.{Begins, Comes, IsPart, Runs, Works, known_files};
 
 use crate::opening::{opened, order_log};
 use crate::public::public;
 use crate::threading::threads;
+use crate::verdict::answer_of;
 use cli_lines::{Failure, Files, Location, Printer, explain_failure};
 use cli_query::query;
 use cli_roles::{Endorsing, LogGenesis, commit, endorse};
@@ -24,6 +25,20 @@ use std::io::Write;
 use std::sync::Wait;
 use std::thread::{Threads, available_parallelism};
 
+/// What tasks work with.
+#[derive(Clone, Copy)]
+struct Machine<'a, R> {
+    rt: &'a R,
+    alloc: Global,
+}
+
+/// What a task works on: a genesis, and the name of its file.
+#[derive(Clone, Copy)]
+struct Subject<'a> {
+    name: &'a str,
+    log: &'a LogGenesis,
+}
+
 /// Does what the words ask for, the command first, and answers the exit status: 0 for done, 1 for a
 /// refusal or a difference, which are printed, and 2 where the words name no task. Where a text
 /// cannot be printed, it is 1. What was printed is handed on at the end.
@@ -37,8 +52,13 @@ pub fn program<R: Threads + Wait + Sync + Send + Copy + 'static, F: Files, W: Wr
     ensures status { result < 3 }
     ensures done { result ≡ 0 → out.new.failed ≡ out.old.failed }
     ensures told { 0 < result → IsTold out.old out.new }
+    // What the words ask for is done, where each text could be printed and handed on.
+    ensures answers { out.new.failed ≡ false
+        → Ends (map string_bytes words.now)
+        (known_files F.is_known (F.bytes files.old) (F.bytes files.new)
+        (F.input_bytes files.old)) out.old out.new result }
 {
-    match carry_out(rt, alloc, words, files, out) {
+    match carry_out(Machine { rt, alloc }, words, files, out) {
         Ok(()) => done(out),
         Err(failure) => {
             explain_refusal(alloc, files, words, &failure);
@@ -48,7 +68,9 @@ pub fn program<R: Threads + Wait + Sync + Send + Copy + 'static, F: Files, W: Wr
 }
 
 /// Says in words why a task was not done, or why the words name none, where that is not said yet.
-fn explain_refusal<F: Files>(alloc: Global, files: &mut F, words: &[String], failure: &Failure) {
+fn explain_refusal<F: Files>(alloc: Global, files: &mut F, words: &[String], failure: &Failure)
+    ensures { F.bytes files.new ≡ F.bytes files.old }
+{
     if let Failure::Usage = failure {
         if let Ok(reason) = words_reason(alloc, words) {
             files.explain(&reason);
@@ -63,6 +85,7 @@ fn done<W: Write>(out: &mut Printer<'_, W>) -> u8
     ensures status { result < 2 }
     ensures done { result ≡ 0 → out.new.failed ≡ out.old.failed }
     ensures told { 0 < result → out.new.failed ≡ true }
+    ensures ended { out.new.failed ≡ false → (result ≡ 0) × Prints out.old out.new [] }
 {
     if hand_on(out) { 0 } else { 1 }
 }
@@ -73,20 +96,33 @@ fn refused<W: Write>(failure: Failure, out: &mut Printer<'_, W>) -> u8
     ensures status { (0 < result) × (result < 3) }
     ensures told { (before : Told) → IsMore before out.old → Says before out.old failure
         → IsTold before out.new }
+    ensures ended { out.new.failed ≡ false
+        → (result ≡ failure_status failure) × PrintsLast failure out.old out.new }
 {
     let is_told = tell(failure, out).is_ok();
     let is_handed_on = hand_on(out);
-    if is_told && is_handed_on && matches!(failure, Failure::Usage) {
-        2
+    if is_told && is_handed_on {
+        failure_status(failure)
     } else {
         1
+    }
+}
+
+/// The status of a failure that was told: 2, where the words name no task.
+fn failure_status(failure: Failure) -> u8
+    ensures status { result ≡ failure_status failure }
+    ensures range { (0 < result) × (result < 3) }
+{
+    match failure {
+        Failure::Usage => 2,
+        _ => 1,
     }
 }
 
 /// Hands on what was printed. Whether that could be done.
 fn hand_on<W: Write>(out: &mut Printer<'_, W>) -> bool
     ensures more { IsMore out.old out.new }
-    ensures kept { result ≡ true → out.new.failed ≡ out.old.failed }
+    ensures kept { result ≡ true → Prints out.old out.new [] }
     ensures lost { result ≡ false → out.new.failed ≡ true }
 {
     match out.flush() {
@@ -99,7 +135,9 @@ fn hand_on<W: Write>(out: &mut Printer<'_, W>) -> bool
 fn tell<W: Write>(failure: Failure, out: &mut Printer<'_, W>) -> Result<(), Failure>
     ensures told { (before : Told) → IsMore before out.old → Says before out.old failure
         → IsTold before out.new }
-    ensures line { OnOk result (IfSome (last_line failure) (Appends out.old.bytes out.new.bytes)) }
+    ensures line { OnOk result (PrintsLast failure out.old out.new) }
+    ensures lost { OnErr result (out.new.failed ≡ true) }
+    ensures more { IsMore out.old out.new }
 {
     match failure {
         Failure::Printed | Failure::Output => Ok(()),
@@ -108,55 +146,85 @@ fn tell<W: Write>(failure: Failure, out: &mut Printer<'_, W>) -> Result<(), Fail
     }
 }
 
+/// Does what the words ask for.
 fn carry_out<R: Threads + Wait + Sync + Send + Copy + 'static, F: Files, W: Write>(
-    rt: &R,
-    alloc: Global,
+    machine: Machine<'_, R>,
     words: &[String],
     files: &mut F,
     out: &mut Printer<'_, W>,
 ) -> Result<(), Failure>
     ensures tells { Tells out.old out.new result }
+    ensures carries { CarriesOut (map string_bytes words.now)
+        (known_files F.is_known (F.bytes files.old) (F.bytes files.new)
+        (F.input_bytes files.old)) out.old out.new result }
 {
-    match parse(alloc, words) {
-        Ok(Task::Check { module, profile }) => check(alloc, files, module, profile, out),
-        Ok(Task::Digest { module, profile }) => digest(alloc, files, module, profile, out),
-        Ok(Task::Order { genesis }) => order_log(alloc, files, genesis, out),
-        Ok(Task::Public { keys }) => public(alloc, files, keys, out),
-        Ok(Task::Version) => version(alloc, out),
-        Ok(Task::Work { begin, work }) => with_genesis(rt, alloc, files, &begin, &work, out),
+    match parse(machine.alloc, words) {
+        Ok(task) => do_task(machine, files, &task, out),
         Err(WordsFault::Memory) => Err(Failure::Memory),
         Err(WordsFault::Usage) => Err(Failure::Usage),
+    }
+}
+
+/// Does a task.
+fn do_task<R: Threads + Wait + Sync + Send + Copy + 'static, F: Files, W: Write>(
+    machine: Machine<'_, R>,
+    files: &mut F,
+    task: &Task<'_>,
+    out: &mut Printer<'_, W>,
+) -> Result<(), Failure>
+    ensures tells { Tells out.old out.new result }
+    ensures comes { Comes task.now
+        (known_files F.is_known (F.bytes files.old) (F.bytes files.new)
+        (F.input_bytes files.old)) out.old out.new result }
+{
+    let alloc = machine.alloc;
+    match task {
+        Task::Check { module, profile } => check(alloc, files, module, *profile, out),
+        Task::Digest { module, profile } => digest(alloc, files, module, *profile, out),
+        Task::Order { genesis } => order_log(alloc, files, genesis, out),
+        Task::Public { keys } => public(alloc, files, keys, out),
+        Task::Version => version(alloc, out),
+        Task::Work { begin, work } => with_genesis(machine, files, begin, work, out),
     }
 }
 
 /// Does what is asked for of the genesis in a file, with the modules and the seeds of other files at
 /// hand.
 fn with_genesis<R: Threads + Wait + Sync + Send + Copy + 'static, F: Files, W: Write>(
-    rt: &R,
-    alloc: Global,
+    machine: Machine<'_, R>,
     files: &mut F,
     begin: &Beginning<'_>,
     work: &Work<'_>,
     out: &mut Printer<'_, W>,
 ) -> Result<(), Failure>
     ensures tells { Tells out.old out.new result }
+    ensures begins { let k = known_files F.is_known (F.bytes files.old) (F.bytes files.new)
+        (F.input_bytes files.old) in
+        Begins k begin.now (λ log. Works log work.now k) out.old out.new result }
 {
-    let log = opened(alloc, files, begin)?;
-    do_work(rt, alloc, files, begin.genesis, &log, work, out)
+    let log = opened(machine.alloc, files, begin)?;
+    let subject = Subject {
+        name: begin.genesis,
+        log: &log,
+    };
+    do_work(machine, files, subject, work, out)
 }
 
-/// Does what is asked for of a genesis, whose file has this name.
+/// Does what is asked for of a genesis.
 fn do_work<R: Threads + Wait + Sync + Send + Copy + 'static, F: Files, W: Write>(
-    rt: &R,
-    alloc: Global,
+    machine: Machine<'_, R>,
     files: &mut F,
-    name: &str,
-    log: &LogGenesis,
+    subject: Subject<'_>,
     work: &Work<'_>,
     out: &mut Printer<'_, W>,
 ) -> Result<(), Failure>
     ensures tells { Tells out.old out.new result }
+    ensures works { Works subject.entry.log.now work.now
+        (known_files F.is_known (F.bytes files.old) (F.bytes files.new)
+        (F.input_bytes files.old)) out.old out.new result }
 {
+    let Machine { rt, alloc } = machine;
+    let Subject { name, log } = subject;
     let genesis = &log.genesis;
     let workers = workers_of(rt);
     match work {
@@ -219,16 +287,18 @@ fn run_events<T: Threads + Sync, F: Files, W: Write>(
     out: &mut Printer<'_, W>,
 ) -> Result<(), Failure>
     ensures tells { Tells out.old out.new result }
+    ensures answers { Answers (Runs genesis.now
+        (known_files F.is_known (F.bytes files.old) (F.bytes files.new)
+        (F.input_bytes files.old)) names.now.events.now
+        (option_map (λ s. s.now) names.now.store)) out.old out.new result }
 {
-    if run(workers, alloc, files, genesis, names, out)? {
-        Ok(())
-    } else {
-        Err(Failure::Printed)
-    }
+    answer_of(run(workers, alloc, files, genesis, names, out))
 }
 
 /// What is asked for of a state.
-fn part_of(part: &StatePart) -> Part<'_> {
+fn part_of(part: &StatePart) -> Part<'_>
+    ensures { IsPart part.now result }
+{
     match part {
         StatePart::Entries => Part::Entries,
         StatePart::Writes(key) => Part::Writes(key),

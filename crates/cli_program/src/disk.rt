@@ -109,7 +109,7 @@ impl<'a> Files for Disk<'a> {
         File::options().write(true).open(self.0, name).ok()
     }
 
-    fn rename(&mut self, from: &str, to: &str) -> bool {
+    fn keep(&mut self, _writer: File, from: &str, to: &str) -> bool {
         fs::rename(self.0, from, to).is_ok()
     }
 

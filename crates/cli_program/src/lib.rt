@@ -14,6 +14,7 @@ mod public;
 mod terminal;
 mod threading;
 mod trouble;
+mod verdict;
 
 pub use cli_lines::{Files, Printer};
 pub use commands::program;

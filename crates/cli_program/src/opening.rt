@@ -1,12 +1,17 @@
 //! The genesis that a command works by, and the command `order`.
 
-ghost use Rattle.std.specs.Prelude.{◌≤◌, length, IfOk, IfErr};
-ghost use Rattle.cli_lines.specs.Told.{IsSilent, Tells};
+ghost use Rattle.std.specs.Prelude.{◌≡◌, ◌≤◌, [], length, option_map, IfOk, IfErr, IsOkAnd, MatchResult, OnOk};
+ghost use Rattle.json_genesis.specs.Spelling.{Spells, SpellsHolding, SpellsModules};
+ghost use Rattle.cli_lines.specs.Opening.{AreNoModules, IsNoGenesis};
+ghost use Rattle.cli_lines.specs.Sealing.{HasSeeds, IsNoKeyFile};
+ghost use Rattle.cli_lines.specs.Told.{Answers, IsBrokenOff, IsSilent, Tells};
+ghost use Rattle.cli_program.specs.Tasks.{OrdersBy, known_files};
+ghost use Rattle.cli_program.specs.Opening.{NotOpens, Opens, Signs, SpellsNoneWith, SpellsWith};
 
 use chaincode_book::Held;
 use cli_lines::{
     Failure, FileFault, Files, Location, Printer, explain, explain_read, genesis_holding,
-    genesis_in, modules_in, read_all, read_explained, signers_in,
+    genesis_in, modules_in, read_all, read_all_explained, signers_in,
 };
 use cli_roles::{LogGenesis, order};
 use cli_words::Beginning;
@@ -27,8 +32,12 @@ pub fn opened<F: Files>(
     begin: &Beginning<'_>,
 ) -> Result<LogGenesis, Failure>
     ensures silent { IfErr result IsSilent }
+    ensures opens { IfOk result (Opens (F.bytes files.old) begin.now) }
+    ensures refused { IfErr result (NotOpens (F.bytes files.old) begin.now) }
+    ensures kept { OnOk result (F.bytes files.new ≡ F.bytes files.old) }
+    ensures input { OnOk result (F.input_bytes files.new ≡ F.input_bytes files.old) }
 {
-    let bytes = read_explained(alloc, files, begin.genesis, u64::MAX)?;
+    let bytes = read_all_explained(alloc, files, begin.genesis)?;
     let genesis = genesis_of(alloc, files, begin, &bytes)?;
     let digest = Sha256::digest(bytes.as_slice());
     let log = LogGenesis { genesis, digest };
@@ -47,6 +56,14 @@ fn genesis_of<F: Files>(
     bytes: &[u8],
 ) -> Result<Genesis, Failure>
     ensures silent { IfErr result IsSilent }
+    ensures spelled { IfOk result
+        (SpellsWith bytes.now (option_map (λ name. F.bytes files.old name.now)
+        begin.now.modules)) }
+    ensures refused { IfErr result
+        (SpellsNoneWith bytes.now (option_map (λ name. F.bytes files.old name.now)
+        begin.now.modules)) }
+    ensures kept { OnOk result (F.bytes files.new ≡ F.bytes files.old) }
+    ensures input { OnOk result (F.input_bytes files.new ≡ F.input_bytes files.old) }
 {
     let Some(name) = begin.modules else {
         return genesis_explained(alloc, files, begin.genesis, bytes);
@@ -71,6 +88,9 @@ fn genesis_explained<F: Files>(
     bytes: &[u8],
 ) -> Result<Genesis, Failure>
     ensures silent { IfErr result IsSilent }
+    ensures spelled { IfOk result (Spells bytes.now) }
+    ensures refused { IfErr result (IsNoGenesis bytes.now []) }
+    ensures unchanged { OnOk result (files.new ≡ files.old) }
 {
     let genesis = genesis_in(alloc, bytes);
     explain_genesis(alloc, files, name, bytes, &genesis);
@@ -87,6 +107,9 @@ fn holding_explained<F: Files>(
 ) -> Result<Genesis, Failure>
     requires count { length held.items ≤ 64 }
     ensures silent { IfErr result IsSilent }
+    ensures spelled { IfOk result (SpellsHolding bytes.now held.items) }
+    ensures refused { IfErr result (IsNoGenesis bytes.now held.items) }
+    ensures unchanged { OnOk result (files.new ≡ files.old) }
 {
     let genesis = genesis_holding(alloc, bytes, held);
     explain_genesis(alloc, files, name, bytes, &genesis);
@@ -97,6 +120,10 @@ fn holding_explained<F: Files>(
 fn held(alloc: Global, read: &Result<Vec<u8>, FileFault>) -> Result<Vec<Held>, Failure>
     ensures count { IfOk result (λ held. length held.items ≤ 64) }
     ensures silent { IfErr result IsSilent }
+    ensures spelled { IfOk result
+        (λ held. IsOkAnd read.now (λ v. SpellsModules v.items held.items)) }
+    ensures refused { IfErr result
+        (λ f. MatchResult read.now (λ v. AreNoModules v.items f) (λ _. IsBrokenOff f)) }
 {
     match read {
         Ok(bytes) => modules_in(alloc, bytes),
@@ -111,7 +138,9 @@ fn explain_genesis<F: Files>(
     name: &str,
     bytes: &[u8],
     genesis: &Result<Genesis, Failure>,
-) {
+)
+    ensures { OnOk genesis.now (files.new ≡ files.old) }
+{
     if let Err(Failure::Genesis(refusal)) = genesis {
         let reason = genesis_reason(alloc, bytes, refusal);
         explain(alloc, files, &Location::file(name), reason);
@@ -138,6 +167,11 @@ fn explain_modules<F: Files>(
 /// The seeds in the key file of this name.
 fn signers<F: Files>(alloc: Global, files: &mut F, name: &str) -> Result<Arc<Signers>, Failure>
     ensures silent { IfErr result IsSilent }
+    ensures spelled { IfOk result
+        (λ signers. HasSeeds (F.bytes files.old name.now) signers.value) }
+    ensures refused { IfErr result (IsNoKeyFile (F.bytes files.old name.now)) }
+    ensures kept { OnOk result (F.bytes files.new ≡ F.bytes files.old) }
+    ensures input { OnOk result (F.input_bytes files.new ≡ F.input_bytes files.old) }
 {
     let signers = signers_in(alloc, files, name)?;
     Ok(Arc::new(alloc, signers)?)
@@ -150,6 +184,7 @@ fn with_signers(
 ) -> Result<LogGenesis, Failure>
     requires silent { IfErr signers IsSilent }
     ensures silent { IfErr result IsSilent }
+    ensures signed { Signs log signers result }
 {
     match signers {
         Ok(signers) => {
@@ -169,6 +204,9 @@ pub fn order_log<F: Files, W: Write>(
     out: &mut Printer<'_, W>,
 ) -> Result<(), Failure>
     ensures tells { Tells out.old out.new result }
+    ensures answers { Answers (OrdersBy
+        (known_files F.is_known (F.bytes files.old) (F.bytes files.new)
+        (F.input_bytes files.old)) name.now) out.old out.new result }
 {
     let begin = Beginning {
         genesis: name,

@@ -1,12 +1,17 @@
 //! The command `public`.
 
-ghost use Rattle.cli_lines.specs.Told.{Tells};
+ghost use Rattle.std.specs.Prelude.{IfErr, OnOk};
+ghost use Rattle.std.specs.List.{flat_map};
+ghost use Rattle.cli_lines.specs.Told.{Answers, IsBrokenOff, Prints, Tells};
+ghost use Rattle.cli_program.specs.Keys.{Publishes, public_text};
 
 use cli_lines::{Failure, Files, Printer, keys_in};
+use ed25519::SigningKey;
 use std::alloc::Global;
 use std::io::Write;
 
-/// Prints the public key of each seed in the key file of this name, in order.
+/// Prints the public key of each seed in the key file of this name, in order. Refused as `keys_in`
+/// is.
 pub fn public<F: Files, W: Write>(
     alloc: Global,
     files: &mut F,
@@ -14,8 +19,23 @@ pub fn public<F: Files, W: Write>(
     out: &mut Printer<'_, W>,
 ) -> Result<(), Failure>
     ensures tells { Tells out.old out.new result }
+    ensures answers { Answers (Publishes (F.bytes files.old name.now)) out.old out.new result }
 {
-    for key in &keys_in(alloc, files, name)? {
+    let keys = keys_in(alloc, files, name)?;
+    print_keys(alloc, &keys, out)
+}
+
+/// Prints the public key of each of these.
+fn print_keys<W: Write>(
+    alloc: Global,
+    keys: &[SigningKey],
+    out: &mut Printer<'_, W>,
+) -> Result<(), Failure>
+    ensures tells { Tells out.old out.new result }
+    ensures lost { IfErr result IsBrokenOff }
+    ensures prints { OnOk result (Prints out.old out.new (flat_map public_text keys.now)) }
+{
+    for key in keys {
         let public = hex::encode(alloc, key.public_key())?;
         writeln!(out, "public {public}")?;
     }

@@ -1,9 +1,8 @@
-use Rattle.std.proofs.Common.{rules}
-use Rattle.std.specs.Io.KnownBytes.{Appends}
+use Rattle.cli_lines.specs.Told.{Prints}
 use Rattle.cli_program.proofs.Lines.{last_if_printed}
 use Rattle.cli_program.proofs.commands.tell.Goals as goal
 
-pub returns-in_default : goal.returns-in_default
-returns-in_default g c =
-    let grown = Appends c.args.out.now.bytes c.writeln.new.self.bytes in
-    record { told = search rules; line = last_if_printed c.writeln.result c.args.failure grown c.writeln.ensures.text }
+pub returns-in_default-clause-line : goal.returns-in_default-clause-line
+returns-in_default-clause-line g c =
+    last_if_printed c.writeln.result c.args.failure (Prints c.args.out.now c.writeln.new.self) c.in_default.not-Printed c.in_default.not-Output
+    c.writeln.ensures.prints

@@ -1,8 +1,30 @@
+use Rattle.std.proofs.Common.{inl, inr, refl, subst}
 use Rattle.std.proofs.lemmas.Result.{err_from_is_err_and}
 use Rattle.cli_lines.proofs.Silence.{no_less, tells_by}
+use Rattle.cli_program.specs.Tasks.{KnownFiles, Works}
+use Rattle.cli_program.proofs.Beginning.{same_files}
 use Rattle.cli_program.proofs.commands.with_genesis.Goals as goal
 
 pub returns-in_err-log : goal.returns-in_err-log
 returns-in_err-log g c =
     let p = err_from_is_err_and c.from_residual.result c.from_residual.ensures.1 in
-    rw (p.1, p.2) (record { tells = tells_by c.args.out.now c.args.out.now _ (no_less c.args.out.now) c.in_err-log.ensures.silent })
+    let t = c.args.out.now in
+    let e = c.in_err-log.ensures in
+    rw (p.1, p.2) (record {
+      tells = tells_by t t _ (no_less t) e.silent;
+      begins = inr (c.in_err-log.field-0.0, e.refused, refl, refl);
+    })
+
+pub returns-clause-begins : goal.returns-clause-begins
+returns-clause-begins g c =
+    let log = c.in_ok-log.log in
+    let e = c.in_ok-log.ensures in
+    let r = c.do_work in
+    let w = c.args.work.now in
+    let known = g.F.Files.is_known in
+    let files = g.F.Files.bytes in
+    let input = g.F.Files.input_bytes in
+    let old = c.args.files.now in
+    let mid = c.opened.new.files in
+    let same = same_files known (files old) (files mid) (files r.new.files) (input old) (input mid) e.kept e.input in
+    inl (log, e.opens, subst (λ (k : KnownFiles). Works log w k c.args.out.now r.new.out r.result) same r.ensures.works)

@@ -1,8 +1,33 @@
+use Rattle.std.proofs.Common.{List, ℕ, [], Option, None, Result, inl, inr, refl, subst}
 use Rattle.std.proofs.lemmas.Result.{err_from_is_err_and}
+use Rattle.cli_lines.specs.Told.{Answers}
+use Rattle.cli_lines.proofs.Answering.{answers_by}
+use Rattle.cli_lines.proofs.Printing.{prints_none}
 use Rattle.cli_lines.proofs.Silence.{no_less, tells_by}
+use Rattle.cli_roles.specs.Orders.{Orders}
+use Rattle.cli_program.specs.Tasks.{KnownFiles, OrdersBy, known_files}
+use Rattle.cli_program.proofs.Beginning.{same_files}
 use Rattle.cli_program.proofs.opening.order_log.Goals as goal
 
 pub returns-in_err-log : goal.returns-in_err-log
 returns-in_err-log g c =
     let p = err_from_is_err_and c.from_residual.result c.from_residual.ensures.1 in
-    rw (p.1, p.2) (record { tells = tells_by c.args.out.now c.args.out.now _ (no_less c.args.out.now) c.in_err-log.ensures.silent })
+    let t = c.args.out.now in
+    let e = c.in_err-log.ensures in
+    rw (p.1, p.2) (record {
+      tells = tells_by t t _ (no_less t) e.silent;
+      answers = inr ([], inr (c.in_err-log.field-0.0, e.refused, refl, refl), prints_none t);
+    })
+
+pub returns-clause-answers : goal.returns-clause-answers
+returns-clause-answers g c =
+    let log = c.in_ok-log.log in
+    let e = c.in_ok-log.ensures in
+    let r = c.order in
+    let files = g.F.Files.bytes in
+    let input = g.F.Files.input_bytes in
+    let old = c.args.files.now in
+    let k = known_files g.F.Files.is_known (files old) (files r.new.files) (input old) in
+    let orders = subst (λ (i : Option (List ℕ)). Answers (Orders log.genesis log.digest i) c.args.out.now r.new.out r.result) e.input r.ensures.answers in
+    answers_by (Orders log.genesis log.digest (input old)) (OrdersBy k c.args.name.now) c.args.out.now r.new.out r.result
+    (λ text h. inl (log, e.opens, h)) orders

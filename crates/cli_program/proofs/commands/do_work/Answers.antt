@@ -1,0 +1,12 @@
+use Rattle.std.proofs.Common.{sym, subst}
+use Rattle.cli_words.specs.declared.task.Work.{Work}
+use Rattle.cli_program.specs.Tasks.{Works, known_files}
+use Rattle.cli_program.proofs.commands.do_work.Goals as goal
+
+pub returns-in-State-clause-works : goal.returns-in-State-clause-works
+returns-in-State-clause-works g c =
+    let r = c.state in
+    let input = g.F.Files.input_bytes c.args.files.now in
+    let k = known_files g.F.Files.is_known (g.F.Files.bytes c.args.files.now) (g.F.Files.bytes r.new.files) input in
+    subst (λ (w : Work). Works c.args.subject.log.now w k c.args.out.now r.new.out r.result) (sym c.in-State.is)
+    (c.part_of.result, c.part_of.ensures, r.ensures.answers)

@@ -1,0 +1,10 @@
+use Rattle.std.proofs.Common.{[]}
+use Rattle.cli_lines.proofs.Answering.{prints_kept}
+use Rattle.cli_lines.proofs.Printing.{prints_none}
+use Rattle.cli_program.proofs.commands.hand_on.Goals as goal
+
+pub returns-in-Ok-clause-kept : goal.returns-in-Ok-clause-kept
+returns-in-Ok-clause-kept g c =
+    let t = c.args.out.now in
+    let f = c.in-Ok.ensures in
+    λ done. prints_kept t t c.flush.new.self [] (prints_none t) f.tells.0 f.tells.1 f.bytes

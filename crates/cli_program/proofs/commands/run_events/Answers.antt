@@ -1,0 +1,29 @@
+use Rattle.std.proofs.Common.{List, ℕ, Option, Result, refl, subst, sym}
+use Rattle.std.specs.Prelude.{option_map}
+use Rattle.cli_lines.specs.Told.{Answers, Tells}
+use Rattle.cli_lines.specs.declared.failure.Failure.{Failure}
+use Rattle.cli_session.specs.Stored.{HoldsAsked}
+use Rattle.cli_session.specs.Whole.{ComesTo}
+use Rattle.cli_program.specs.Tasks.{Runs, known_files}
+use Rattle.cli_program.proofs.Verdicts.{verdict_tells, verdict_told}
+use Rattle.cli_program.proofs.commands.run_events.Goals as goal
+
+pub returns-clause-tells : goal.returns-clause-tells
+returns-clause-tells g c =
+    let r = c.run in
+    subst (λ (a : Result (Unit {0}) Failure). Tells c.args.out.now r.new.out a) (sym c.answer_of.ensures)
+    (verdict_tells c.args.out.now r.new.out r.result r.ensures.tells r.ensures.differs)
+
+pub returns-clause-answers : goal.returns-clause-answers
+returns-clause-answers g c =
+    let r = c.run in
+    let genesis = c.args.genesis.now in
+    let names = c.args.names.now in
+    let known = g.F.Files.is_known in
+    let before = g.F.Files.bytes c.args.files.now in
+    let after = g.F.Files.bytes r.new.files in
+    let store : Option (List ℕ) = option_map (λ s. s.now) names.store in
+    let P = ComesTo genesis (before names.events.now) (HoldsAsked known after store) in
+    let Q = Runs genesis (known_files known before after (g.F.Files.input_bytes c.args.files.now)) names.events.now store in
+    subst (λ (a : Result (Unit {0}) Failure). Answers Q c.args.out.now r.new.out a) (sym c.answer_of.ensures)
+    (verdict_told P Q c.args.out.now r.new.out r.result (λ text h. (r.result, refl, h)) r.ensures.answers)

@@ -1,0 +1,6 @@
+pub mod Verdicts
+pub mod Opening
+pub mod Keys
+pub mod Seats
+pub mod Tasks
+pub mod Ends

@@ -1,0 +1,91 @@
+-- What the program's tasks come to.
+use Rattle.std.specs.Prelude.{◌≡◌, ◌⊎◌, ℕ, Bool, List, [], Option, None, Result, Err, option_map}
+use Rattle.ledger_setting.specs.declared.genesis.Genesis.{Genesis}
+use Rattle.cli_lines.specs.Told.{Told, Answers, Tells}
+use Rattle.cli_lines.specs.declared.failure.Failure.{Failure}
+use Rattle.cli_words.specs.declared.task.Beginning.{Beginning}
+use Rattle.cli_words.specs.declared.task.StatePart.{StatePart}
+use Rattle.cli_words.specs.declared.task.StatePart.TheVariants as asked
+use Rattle.cli_words.specs.declared.task.Task.{Task}
+use Rattle.cli_words.specs.declared.task.Task.TheVariants as task
+use Rattle.cli_words.specs.declared.task.Work.{Work}
+use Rattle.cli_words.specs.declared.task.Work.TheVariants as work
+use Rattle.cli_roles.specs.declared.log_genesis.LogGenesis.{LogGenesis}
+use Rattle.cli_roles.specs.Orders.{Orders}
+use Rattle.cli_show.specs.Modules.{Checks, Digests}
+use Rattle.cli_show.specs.Simulations.{Simulates}
+use Rattle.cli_show.specs.declared.showing.Part.{Part}
+use Rattle.cli_show.specs.declared.showing.Part.TheVariants as part
+use Rattle.cli_show.specs.Findings.{Audits, Shows}
+use Rattle.cli_show.specs.Answers.{States}
+use Rattle.cli_show.specs.Tracing.{Traces}
+use Rattle.cli_show.specs.Marks.{Marks}
+use Rattle.cli_show.specs.Version.{Versions}
+use Rattle.cli_session.specs.Stored.{HoldsAsked}
+use Rattle.cli_session.specs.Whole.{ComesTo}
+use Rattle.cli_program.specs.Keys.{Publishes}
+use Rattle.cli_program.specs.Opening.{FilesHeld, IsOpened, IsNotOpened, Opens, NotOpens}
+use Rattle.cli_program.specs.Seats.{RunsSeats}
+use Rattle.cli_program.specs.Verdicts.{verdict_answer}
+
+-- what is known of the files round a task: whether it is known what is written, what they hold before it and behind it, and the input
+pub record KnownFiles : Type 0 where
+  pub writes : Bool
+  pub before : FilesHeld
+  pub after : FilesHeld
+  pub input : Option (List ℕ)
+
+abbrev pub known_files : Bool → (before after : FilesHeld) → (input : Option (List ℕ)) → KnownFiles
+known_files writes before after input = record { writes = writes; before = before; after = after; input = input }
+
+-- `run`: what the lines of its events come to, and what the store then holds
+abbrev pub Runs : Genesis → KnownFiles → (events : List ℕ) → (store : Option (List ℕ)) → Result (Unit {0}) Failure → List ℕ → Type 0
+Runs g k events store answer text =
+    (ended : Result Bool Failure) × (answer ≡ verdict_answer ended) × ComesTo g (k.before events) (HoldsAsked k.writes k.after store) ended text
+
+-- what of a state is asked for, in the words of `state`
+abbrev pub IsPart : StatePart → Part → Type 0
+IsPart asked.Entries p = p ≡ part.Entries
+IsPart (asked.Writes key) part.Entries = ⊥
+IsPart (asked.Writes key) (part.Writes k) = k.now ≡ key
+IsPart (asked.Writes key) part.Members = ⊥
+IsPart asked.Members p = p ≡ part.Members
+
+-- What is asked for of a genesis comes to an answer, and to what is printed meanwhile. Which texts `commit`, `endorse` and `query` print is not said
+abbrev pub Works : LogGenesis → Work → KnownFiles → (before after : Told) → Result (Unit {0}) Failure → Type 0
+Works log (work.Simulate p store) k before after answer =
+    Answers (Simulates log.genesis p (option_map (λ name. k.before name.now) store)) before after answer
+Works log (work.Run events store) k before after answer =
+    Answers (Runs log.genesis k events.now (option_map (λ name. name.now) store)) before after answer
+Works log (work.Threads chaincode rounds) k before after answer = Answers (RunsSeats log.genesis chaincode rounds) before after answer
+Works log (work.Audit store) k before after answer = Answers (Audits log.genesis (k.before store.now)) before after answer
+Works log (work.Show store from to) k before after answer = Answers (Shows log.genesis from to (k.before store.now)) before after answer
+Works log (work.State store at asked) k before after answer =
+    (p : Part) × IsPart asked p × Answers (States log.genesis p at (k.before store.now)) before after answer
+Works log (work.Trace call most) k before after answer = Answers (Traces log.genesis call most) before after answer
+Works log (work.Commit store) k before after answer = Tells before after answer
+Works log (work.Endorse org store agrees) k before after answer = Tells before after answer
+Works log (work.Query store) k before after answer = Tells before after answer
+Works log (work.Marks store) k before after answer = Answers (Marks log.genesis (k.before store.now)) before after answer
+
+-- the files of a genesis are read, and then this is done; or one of them is refused, and nothing is printed
+abbrev pub Begins : KnownFiles → Beginning → (LogGenesis → (before after : Told) → Result (Unit {0}) Failure → Type 0) → (before after : Told) →
+    Result (Unit {0}) Failure → Type 0
+Begins k b Does before after answer =
+    ((log : LogGenesis) × Opens k.before b log × Does log before after answer)
+    ⊎ ((f : Failure) × NotOpens k.before b f × (answer ≡ Err f) × (after ≡ before))
+
+-- `order`, by the genesis in a file alone
+abbrev pub OrdersBy : KnownFiles → (genesis : List ℕ) → Result (Unit {0}) Failure → List ℕ → Type 0
+OrdersBy k genesis answer text =
+    ((log : LogGenesis) × IsOpened (k.before genesis) None None log × Orders log.genesis log.digest k.input answer text)
+    ⊎ ((f : Failure) × IsNotOpened (k.before genesis) None None f × (answer ≡ Err f) × (text ≡ []))
+
+-- a task comes to an answer, and to what is printed meanwhile
+abbrev pub Comes : Task → KnownFiles → (before after : Told) → Result (Unit {0}) Failure → Type 0
+Comes (task.Check m profile) k before after answer = Answers (Checks profile (k.before m.now)) before after answer
+Comes (task.Digest m profile) k before after answer = Answers (Digests profile (k.before m.now)) before after answer
+Comes (task.Order genesis) k before after answer = Answers (OrdersBy k genesis.now) before after answer
+Comes (task.Public keys) k before after answer = Answers (Publishes (k.before keys.now)) before after answer
+Comes task.Version k before after answer = Answers Versions before after answer
+Comes (task.Work b w) k before after answer = Begins k b (λ log. Works log w k) before after answer
