@@ -22,6 +22,8 @@ mod fab_types_test;
 #[cfg(test)]
 mod fabric_core_test;
 #[cfg(test)]
+mod growths_test;
+#[cfg(test)]
 mod intake_test;
 #[cfg(test)]
 mod ledger_model_test;
