@@ -1,6 +1,6 @@
 # make install [PREFIX=/usr/local] [DESTDIR=..]   installs the proved program, the node and the clients. Nothing is begun, and in
 #                                                 /etc only the units of systemd are written
-# make users                                      makes the users that the units run as, once on each machine
+# make users                                      makes the users that the units run as, with their folders below /var/lib
 #
 # Below PREFIX/lib/regtuma lies what is needed of the repository, each file where it has it. ./ledger dist packs the same.
 PREFIX ?= /usr/local
@@ -11,7 +11,7 @@ UNITS = $(DESTDIR)/etc/systemd/system
 
 FILES = VERSION LICENSE Makefile README.md $(wildcard docs/*.md python/*.py node/*.example node/regtuma/*.py node/regtuma/*.js \
 	node/clients/*.mjs node/systemd/* examples/node/*) examples/page/template.html crates/cli_words/src/table.rt
-SCRIPTS = ledger node/certs.sh $(wildcard node/bin/*)
+SCRIPTS = ledger node/certs.sh node/change.py $(wildcard node/bin/*)
 
 .PHONY: install users
 install:
@@ -22,11 +22,13 @@ install:
 	@install -d $(BIN) $(UNITS)
 	@ln -sfn ../lib/regtuma/ledger $(BIN)/ledger
 	@ln -sfn ../lib/regtuma/node/certs.sh $(BIN)/regtuma-certs
+	@ln -sfn ../lib/regtuma/node/change.py $(BIN)/regtuma-change
 	@for name in regtuma regtuma-node regtuma-log; do ln -sfn ../lib/regtuma/node/bin/$$name $(BIN)/$$name || exit 1; done
 	@for unit in node/systemd/*; do sed 's|/usr/local|$(PREFIX)|g' $$unit > $(UNITS)/$$(basename $$unit) || exit 1; done
 	@echo "installed below $(DESTDIR)$(PREFIX)"
 
 users:
-	getent passwd regtuma > /dev/null || useradd --system --home-dir /var/lib/regtuma --shell /usr/sbin/nologin regtuma
-	getent passwd regtuma-etcd > /dev/null || \
-		useradd --system --home-dir /var/lib/regtuma-etcd --shell /usr/sbin/nologin regtuma-etcd
+	@for name in regtuma regtuma-etcd; do \
+		getent passwd $$name > /dev/null || \
+			useradd --system --create-home --home-dir /var/lib/$$name --shell /usr/sbin/nologin $$name || exit 1; \
+	done

@@ -61,17 +61,17 @@ export class Client {
     }
   }
 
-  /** What becomes of a call, whatever that is. */
+  /** What becomes of a call, whatever that is. Who asks again for the same waits for it. */
   async outcome(call) {
-    const patience = `?wait=${Math.max(1, this.seconds - 5)}`;
-    let said = await this.ask("POST", `/transactions${patience}`, call);
-    while (said.pending) said = await this.ask("GET", `/transactions/${said.id}${patience}`, undefined, [404]);
-    return said;
+    for (;;) {
+      const said = await this.ask("POST", this.#transactions, call);
+      if (!said.pending) return said;
+    }
   }
 
   /** Has several calls committed by one request, each made by `callOf`: the answer to each, in order. They must not conflict. */
   async submitAll(calls) {
-    const { answers } = await this.ask("POST", `/transactions?wait=${Math.max(1, this.seconds - 5)}`, { calls });
+    const { answers } = await this.ask("POST", this.#transactions, { calls });
     return Promise.all(answers.map((said, at) => said.pending ? this.outcome(calls[at]) : said));
   }
 
@@ -145,6 +145,11 @@ export class Client {
   /** The node whose turn it is. */
   get node() {
     return this.nodes[this.turn % this.nodes.length];
+  }
+
+  /** Where calls are posted: a node answers before the client takes it for dead. */
+  get #transactions() {
+    return `/transactions?wait=${Math.max(1, this.seconds - 5)}`;
   }
 
   /** The lines of an answer, as they come. One that is silent too long is ended. */

@@ -61,6 +61,8 @@ class Chain:
         self.unsaid: asyncio.Queue[int] = asyncio.Queue()
         # Who waits for the flag of a transaction, by its id.
         self.waiters: dict[str, list[asyncio.Future[dict]]] = {}
+        # Ids of those that this node has put into the log, and that are in no block yet.
+        self.in_log: set[str] = set()
         self.unput: list[tuple[str, asyncio.Future[None]]] = []
         self.put_wanted = asyncio.Event()
         self.counts: collections.Counter[str] = collections.Counter()
@@ -156,11 +158,11 @@ class Chain:
             self.grown.notify_all()
         if number % self.config.ledger.seen == 0:
             self.unsaid.put_nowait(number)
-        if self.waiters:
+        if self.waiters or self.in_log:
             for place, tx in enumerate(json.loads(await self.block(number))["txs"]):
                 self.resolve(tx["id"], {**tx, "block": number, "place": place})
         if ticks.is_full(number + 1):
-            for id in list(self.waiters):
+            for id in [*self.waiters, *self.in_log]:
                 self.resolve(id, {"id": id, "refused": FULL})
 
     async def keep_time(self) -> None:
@@ -235,18 +237,24 @@ class Chain:
                 del self.waiters[id]
 
     def resolve(self, id: str, outcome: dict) -> None:
+        self.in_log.discard(id)
         for waiter in self.waiters.pop(id, []):
             if not waiter.done():
                 waiter.set_result(outcome)
 
     # ---------------------------------------------------------------- envelopes
 
-    async def put(self, envelope: str) -> None:
-        """Puts an envelope into the log. What comes while one entry is under way goes into the next one together."""
+    async def put(self, id: str, envelope: str) -> None:
+        """Puts a transaction's envelope into the log. What comes while one entry is under way goes into the next one together."""
         done: asyncio.Future[None] = asyncio.get_running_loop().create_future()
         self.unput.append((envelope, done))
         self.put_wanted.set()
-        await done
+        self.in_log.add(id)
+        try:
+            await done
+        except LogError:
+            self.in_log.discard(id)
+            raise
 
     async def put_envelopes(self) -> None:
         while True:

@@ -18,9 +18,10 @@
     regtuma change FILE --orgs NAME,..
                                has the change in FILE committed, by organisations that have agreed: an upgrade or an amendment
 
-With --json what the node answers is printed as it is. Nodes and certificates are those of the environment's REGTUMA_NODES (URLs
-with commas between, asked in turn), REGTUMA_CERT, REGTUMA_KEY and REGTUMA_CA (files). The status is 0 where it was done; 1 where
-it was refused, is not VALID, is not there or is not well; 2 where the words name no task; 3 where no node answers.
+With --json what the node answers is printed as it is; --seconds N (40) is how long an answer may take. Nodes and certificates are
+those of the environment's REGTUMA_NODES (URLs with commas between, asked in turn), REGTUMA_CERT, REGTUMA_KEY and REGTUMA_CA
+(files). The status is 0 where it was done; 1 where it was refused, is not VALID, is not there or is not well; 2 where the words
+name no task; 3 where no node answers.
 """
 import argparse
 import json
@@ -111,7 +112,8 @@ def status(ledger: Client, words: argparse.Namespace) -> int:
 def watch(ledger: Client, words: argparse.Namespace) -> int:
     for block in ledger.blocks(words.first):
         for place, tx in enumerate(block["txs"]):
-            say(words, {"block": block["block"], "place": place, **tx}, f"{block['block']}.{place} {call(tx)}, flag {tx['flag']}, id {tx['id']}")
+            text = f"{block['block']}.{place} {call(tx)}, flag {tx['flag']}, id {tx['id']}"
+            say(words, {"block": block["block"], "place": place, **tx}, text)
     return DONE
 
 
@@ -153,7 +155,7 @@ def proposal_in(file: str) -> dict:
     except (OSError, ValueError) as error:
         raise Failed(f"{file} has no proposal: {error}") from None
     if not isinstance(said, dict) or not {"upgrade", "members"} & said.keys():
-        raise Failed(f"{file} has no upgrade and no amendment: change.py makes them")
+        raise Failed(f"{file} has no upgrade and no amendment: regtuma-change makes them")
     return said
 
 
@@ -186,6 +188,7 @@ def words_of(words: list[str]) -> argparse.Namespace:
         made = tasks.add_parser(do.__name__, allow_abbrev=False)
         made.set_defaults(do=do)
         made.add_argument("--json", action="store_true")
+        made.add_argument("--seconds", type=float, default=40.0, metavar="N")
         for place, count in places.items():
             made.add_argument(place, nargs=count or None, **({"default": ""} if count == "?" else {}))
         return made
@@ -211,7 +214,7 @@ def words_of(words: list[str]) -> argparse.Namespace:
 def main(words: list[str]) -> int:
     asked = words_of(words)
     try:
-        return asked.do(from_environment(), asked)
+        return asked.do(from_environment(asked.seconds), asked)
     except Failed as failed:
         said = {"why": str(failed), **failed.said}
         say(asked, said, outcome(said))

@@ -91,11 +91,10 @@ class Client:
 
     def outcome(self, call: dict) -> dict:
         """What becomes of a call or a change, whatever that is: an answer of the API with `valid`, `refused` or neither."""
-        patience = f"?wait={max(1.0, self.seconds - 5):g}"
         try:
-            said = self.ask("POST", "/transactions" + patience, call)
-            while said.get("pending"):
-                said = self.ask("GET", f"/transactions/{said['id']}{patience}", accept=(404,))
+            # Who asks again for the same call waits for it, or has it put where it is not under way.
+            while (said := self.ask("POST", self._transactions(), call)).get("pending"):
+                pass
             return said
         except NoAnswer as error:
             raise NoAnswer(str(error), {"id": id_of(call)}) from None
@@ -104,7 +103,7 @@ class Client:
         """Has several calls committed by one request, each of which `call_of` makes: the answer to each, in order, with `valid`,
         or with `refused` or `flag` and `why`. Calls of one request are simulated side by side, so they must not conflict."""
         calls = list(calls)
-        answers = self.ask("POST", f"/transactions?wait={max(1.0, self.seconds - 5):g}", {"calls": calls})["answers"]
+        answers = self.ask("POST", self._transactions(), {"calls": calls})["answers"]
         return [self.outcome(call) if said.get("pending") else said for call, said in zip(calls, answers)]
 
     def evaluate(self, chaincode: str, *args: str, arg: bytes | None = None) -> bytes:
@@ -186,6 +185,10 @@ class Client:
             if time.monotonic() > until:
                 raise why
             time.sleep(PAUSE)
+
+    def _transactions(self) -> str:
+        """Where calls are posted: a node answers before the client takes it for dead."""
+        return f"/transactions?wait={max(1.0, self.seconds - 5):g}"
 
     def _open(self, method: str, path: str, body: dict | None, seconds: float) -> http.client.HTTPResponse:
         """Begins a request at the node whose turn it is."""

@@ -4,8 +4,8 @@ import collections
 import json
 from typing import Any
 
-# The longest line: a block in hex, or a block's JSON.
-LONGEST = 1 << 24
+# The longest line, a block in hex, or a block's JSON, and how much is read at a time.
+LONGEST, PIECE = 1 << 24, 1 << 18
 # How long a filter may take for what it was given, once its input has ended, in seconds.
 LAST_SECONDS = 5
 
@@ -24,9 +24,12 @@ class Filter:
         self.process: asyncio.subprocess.Process | None = None
 
     async def start(self) -> None:
+        # Lines that nobody has taken yet, the beginning of the next one, and whether it is too long, and left out.
+        self.unread: collections.deque[str | TooLong] = collections.deque()
+        self.begun, self.is_cut = b"", False
         pipe = asyncio.subprocess.PIPE
         try:
-            self.process = await asyncio.create_subprocess_exec(*self.command, stdin=pipe, stdout=pipe, limit=LONGEST)
+            self.process = await asyncio.create_subprocess_exec(*self.command, stdin=pipe, stdout=pipe, limit=PIECE)
         except OSError as error:
             raise FilterEnded(f"{self.name}: {self.command[0]} cannot be run: {error.strerror}") from None
 
@@ -41,19 +44,25 @@ class Filter:
 
     async def line(self) -> str:
         """The next line that it says."""
-        is_whole = True
-        while True:
-            try:
-                line = await self.process.stdout.readuntil(b"\n")
-                break
-            except asyncio.LimitOverrunError as overrun:
-                is_whole = False
-                await self.process.stdout.readexactly(overrun.consumed)
-            except asyncio.IncompleteReadError:
-                raise FilterEnded(f"{self.name} ended with status {await self.process.wait()}") from None
-        if not is_whole:
-            raise TooLong(f"{self.name} has an answer of more than {LONGEST >> 20} MiB: ask for less")
-        return line.decode()[:-1]
+        while not self.unread:
+            await self._read()
+        line = self.unread.popleft()
+        if isinstance(line, TooLong):
+            raise line
+        return line
+
+    async def _read(self) -> None:
+        """Reads on: many lines at once, or a part of one."""
+        piece = await self.process.stdout.read(PIECE)
+        if not piece:
+            raise FilterEnded(f"{self.name} ended with status {await self.process.wait()}")
+        *lines, rest = (self.begun + piece).split(b"\n")
+        too_long = TooLong(f"{self.name} has an answer of more than {LONGEST >> 20} MiB: ask for less")
+        for line in lines:
+            self.unread.append(too_long if self.is_cut or len(line) > LONGEST else line.decode())
+            self.is_cut = False
+        self.is_cut = self.is_cut or len(rest) > LONGEST
+        self.begun = b"" if self.is_cut else rest
 
     async def close(self) -> None:
         """It ends behind what it was given, within some seconds."""

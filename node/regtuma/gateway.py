@@ -30,8 +30,6 @@ class Gateway:
         self.chosen_at = 0.0
         # Those under way, by their ids: who asks again for one waits for the same.
         self.under_way: dict[str, asyncio.Task[None]] = {}
-        # Those that this node has put into the log, and that are in no block yet.
-        self.in_log: set[str] = set()
         # How many bytes an envelope may have, once it is known.
         self.absolute: int | None = None
         self.links = {it: Link(it, config, chain.say) for it in config.nodes}
@@ -70,7 +68,7 @@ class Gateway:
         try:
             if "nonce" in body and (known := await self.status(id)):
                 return known
-            if id not in self.under_way and id not in self.in_log:
+            if id not in self.under_way and id not in self.chain.in_log:
                 self.check_open()
                 self.under_way[id] = asyncio.ensure_future(self.endorse_and_put(id, caller, proposal, named))
                 self.under_way[id].add_done_callback(lambda it: self.ended(id, it))
@@ -81,6 +79,11 @@ class Gateway:
             return await self.outcome(tx)
         except asyncio.TimeoutError:
             return {"id": id, "pending": True, "why": f"it is in no block yet; ask /transactions/{id} for it"}
+        except Refused:
+            # Another node may have put the same call meanwhile: then it is refused on the very state that it made.
+            if known := await self.status(id):
+                return known
+            raise
         finally:
             self.chain.forget(id, waiter)
 
@@ -113,15 +116,7 @@ class Gateway:
     async def endorse_and_put(self, id: str, caller: str, proposal: dict, named: list[str] | None) -> None:
         made = await self.endorsed(caller, proposal, named)
         await self.check_size(made)
-        self.in_log.add(id)
-        left = self.chain.wait_for(id)
-        left.add_done_callback(lambda _: self.in_log.discard(id))
-        try:
-            await self.chain.put(made)
-        except LogError:
-            self.in_log.discard(id)
-            self.chain.forget(id, left)
-            raise
+        await self.chain.put(id, made)
 
     async def check_size(self, made: str) -> None:
         """Whether the orderer takes an envelope of this size."""
@@ -151,9 +146,16 @@ class Gateway:
             if (refusal := lone_refusal(answers)) and (lone := lone + 1) == SURE:
                 raise refusal
             # Some are behind: all are asked anew, on the height of the one that is ahead.
+            self.leave_behind(answers, height)
             height, why = max(it["height"] for it in answers.values()), "the organisations do not simulate on one state"
             await asyncio.sleep(0.01 * turn)
         raise Refused(503, {"why": why})
+
+    def leave_behind(self, answers: dict[str, dict], height: int) -> None:
+        """Who did not come up to the height that was asked for is passed over, as one whose node of etcd has lost the others."""
+        for organisation, said in answers.items():
+            if said["height"] < height and organisation in self.links:
+                self.links[organisation].pass_over(f"it has {said['height']} blocks, and not yet {height}")
 
     def made(self, answers: dict[str, dict]) -> str | None:
         """The envelope of answers that agree; none where they do not."""

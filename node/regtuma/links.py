@@ -36,14 +36,18 @@ class Batches:
         raise NotImplementedError
 
     def ask(self, proposal: dict, height: int) -> asyncio.Future[dict | None]:
-        loop = asyncio.get_running_loop()
-        done: asyncio.Future[dict | None] = loop.create_future()
+        done: asyncio.Future[dict | None] = asyncio.get_running_loop().create_future()
         self.waiting.append((proposal, height, done))
+        if len(self.waiting) == 1:
+            self._begin()
+        return done
+
+    def _begin(self) -> None:
+        """Begins a request for those that wait, unless so many are under way: then the first that ends goes on with them."""
         if self.under_way < self.requests:
             self.under_way += 1
-            self.works.add(work := loop.create_task(self._work()))
+            self.works.add(work := asyncio.get_running_loop().create_task(self._work()))
             work.add_done_callback(self.works.discard)
-        return done
 
     async def _work(self) -> None:
         try:
@@ -52,9 +56,13 @@ class Batches:
             while self.waiting:
                 most = self.most()
                 batch, self.waiting = self.waiting[:most], self.waiting[most:]
+                if self.waiting:
+                    self._begin()
                 await self._answer(batch)
         finally:
             self.under_way -= 1
+            if self.waiting:
+                self._begin()
 
     async def _answer(self, batch: list[Waiting]) -> None:
         """Has a batch answered. Whatever fails, nobody waits for good."""
@@ -107,9 +115,13 @@ class Link(Batches):
             why = f"no answer in {patience:.1f} s"
         except (ValueError, OSError, aiohttp.ClientError) as error:
             why = (str(error) or repr(error))[:200]
+        self.pass_over(why)
+        return None
+
+    def pass_over(self, why: str) -> None:
+        """The node is not asked for a while."""
         self.say(f"no endorsement of {self.organisation}: {why}")
         self.down = time.monotonic() + DOWN_SECONDS
-        return None
 
 
 def answers_of(status: int, said: object, count: int) -> list[dict]:

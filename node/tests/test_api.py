@@ -104,7 +104,9 @@ class Routes(Case):
 
     async def test_what_is_no_request(self):
         self.assertEqual((await self.get("/nothing"))[0], 404)
-        self.assertEqual((await self.ask("DELETE", "/height"))[0], 405)
+        # OPTIONS is what a browser asks before it sends JSON for a foreign page, which needs a yes.
+        for method in ("DELETE", "OPTIONS"):
+            self.assertEqual((await self.ask(method, "/transactions"))[0], 405)
         for body, told in (("[1]", "the body is a JSON object"), ("{", "the body is no JSON"), ("", "the body is no JSON")):
             status, said = await self.ask("POST", "/transactions", data=body, headers={"Content-Type": "application/json"})
             self.assertEqual((status, said["why"]), (400, told))

@@ -6,7 +6,7 @@ from unittest import mock
 
 import support
 from regtuma import chain as chains
-from regtuma import config, filters
+from regtuma import config, filters, gateway
 from regtuma.chain import Asking, Awaited, Chain
 from regtuma.endorsing import Agreed, Endorsing
 from regtuma.etcd import LogError
@@ -194,7 +194,7 @@ class End(Case):
 class Entries(Case):
     async def put(self, *envelopes: str) -> list:
         work = asyncio.ensure_future(self.chain.put_envelopes())
-        done = await asyncio.gather(*(self.chain.put(it) for it in envelopes), return_exceptions=True)
+        done = await asyncio.gather(*(self.chain.put(it, it) for it in envelopes), return_exceptions=True)
         work.cancel()
         return done
 
@@ -293,6 +293,13 @@ class Calls(Case):
         await self.gateway.endorsed("Maker/alice", CALL, None)
         self.assertEqual([height for _, height in self.asked], [0, 0, 3, 3])
 
+    async def test_who_stays_behind_is_passed_over(self):
+        late = {**ENDORSED, "height": 2, "payload": "bb"}
+        self.answer(Maker=[ENDORSED] * 3, Carrier=[late] * 2)
+        self.assertEqual(await self.refusal(), (503, "the nodes that are up do not satisfy the policy of assets: Maker"))
+        self.assertEqual(self.asked, [("Maker", 0), ("Carrier", 0), ("Maker", 3), ("Carrier", 3)])
+        self.assertEqual(self.said, ["no endorsement of Carrier: it has 2 blocks, and not yet 3"])
+
     async def test_refusals(self):
         self.answer(Maker=[{"refused": "refused 404", "height": 3}], Carrier=[{"refused": "refused 404", "height": 3}])
         self.assertEqual(await self.refusal(), (422, "the chaincode refused the call"))
@@ -319,6 +326,11 @@ class Calls(Case):
         with self.assertRaisesRegex(Refused, "names the organisations that have agreed to it"):
             await self.gateway.submit("Maker/alice", change, 60.0)
 
+    async def test_so_many_are_under_way_at_most(self):
+        with mock.patch.object(gateway, "MOST_UNDER_WAY", 0), self.assertRaises(Refused) as raised:
+            await self.gateway.submit("Maker/alice", CALL, 60.0)
+        self.assertEqual((raised.exception.status, self.chain.waiters), (503, {}))
+
     async def test_one_nonce_is_put_once(self):
         self.answer(Maker=[ENDORSED] * 2, Carrier=[ENDORSED] * 2)
         work = asyncio.ensure_future(self.chain.put_envelopes())
@@ -336,6 +348,15 @@ class Calls(Case):
         self.chain.height = LAST_BLOCK
         self.assertEqual((await self.gateway.submit("Maker/alice", CALL, 5.0))["result"], "00")
 
+    async def test_one_that_another_node_has_put_meanwhile_is_not_refused(self):
+        tx = {"id": id_of(CALL), "block": 1, "place": 0, "flag": 0, "result": "00"}
+
+        async def ask(*_):
+            self.chain.query.known = {id_of(CALL): tx}
+            return {"refused": "refused 404", "height": 3}
+        self.gateway.ask = ask
+        self.assertEqual((await self.gateway.submit("Maker/alice", CALL, 5.0))["valid"], True)
+
     async def test_it_is_told_that_one_is_in_no_block_yet(self):
         self.answer(Maker=[ENDORSED], Carrier=[ENDORSED])
         work = asyncio.ensure_future(self.chain.put_envelopes())
@@ -349,7 +370,7 @@ class Calls(Case):
         for _ in range(2):
             self.assertTrue((await self.gateway.submit("Maker/alice", CALL, 0.1))["pending"])
             await self.entries(1)
-        self.assertEqual((len(self.chain.log.entries), self.gateway.in_log), (1, {id_of(CALL)}))
+        self.assertEqual((len(self.chain.log.entries), self.chain.in_log), (1, {id_of(CALL)}))
         self.chain.resolve(id_of(CALL), {"id": id_of(CALL), "refused": 441})
         await asyncio.sleep(0)
         self.assertTrue((await self.gateway.submit("Maker/alice", CALL, 0.1))["pending"])
@@ -363,7 +384,7 @@ class Calls(Case):
         for _ in range(2):
             failure, = await asyncio.gather(self.gateway.submit("Maker/alice", CALL, 60.0), return_exceptions=True)
             self.assertEqual(str(failure), "no majority")
-        self.assertEqual((self.gateway.in_log, self.chain.waiters), (set(), {}))
+        self.assertEqual((self.chain.in_log, self.chain.waiters), (set(), {}))
         work.cancel()
 
     async def test_what_is_too_large_is_not_put(self):

@@ -56,6 +56,8 @@ class Node:
             stream = web.StreamResponse()
             await stream.prepare(request)
             for piece in answer:
+                if piece == "nothing":
+                    await asyncio.sleep(60)
                 await stream.write(piece if isinstance(piece, bytes) else json.dumps(piece).encode() + b"\n")
             return stream
         status, said = answer
@@ -153,6 +155,20 @@ class Failures(unittest.IsolatedAsyncioTestCase):
                         [b'{"result": {"ev']]:
             with self.subTest(failure=failure):
                 self.assertEqual(await self.watched(await self.log(Node(failure), Node([told(event(5, "a"))])), 1), [b"5.0 a\n"])
+
+    async def test_a_silent_watch_is_left_where_its_node_fails(self):
+        first, second = Node([told(event(5, "a")), "nothing"], NO_LEADER), Node([told(event(6, "b"))], DONE)
+        log = await self.log(first, second)
+        with mock.patch.object(etcd, "LOOK", 0.1):
+            found = asyncio.ensure_future(self.watched(log, 2))
+            while not first.asked:
+                await asyncio.sleep(0.05)
+            self.assertFalse(await log.is_led())
+            self.assertEqual(await found, [b"5.0 a\n", b"6.0 b\n"])
+
+    async def test_a_watch_that_does_not_begin(self):
+        with mock.patch.object(etcd, "NODE_SECONDS", 0.5):
+            self.assertEqual(await self.watched(await self.log(Node("nothing"), Node([told(event(5, "a"))])), 1), [b"5.0 a\n"])
 
     async def test_events_that_come_in_pieces(self):
         text = json.dumps(told(event(5, "a"))).encode() + b"\n"

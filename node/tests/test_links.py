@@ -78,8 +78,8 @@ class Links(unittest.IsolatedAsyncioTestCase):
 
     async def test_nobody_hangs_where_something_fails(self):
         link = await self.link()
-        with mock.patch.object(Link, "post", side_effect=RuntimeError("boom")):
-            self.assertIsNone(await link.ask(CALL, 3))
+        with mock.patch.object(Link, "post", side_effect=RuntimeError("boom")), mock.patch.object(Link, "most", return_value=1):
+            self.assertEqual(await asyncio.gather(*(link.ask(CALL, 3) for _ in range(5))), [None] * 5)
 
 
 class ByHand(unittest.IsolatedAsyncioTestCase):

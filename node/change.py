@@ -1,15 +1,12 @@
 #!/usr/bin/env python3
-"""Changes a ledger that runs: who its members are, their keys, the policy for upgrades, and the code of its chaincodes.
+"""Makes a change of a ledger that runs: of who its members are, their keys and the policy for changes, or of a chaincode's code.
 
-    change.py members GENESIS STORE [--to FILE] [--add ENTRY].. [--key ENTRY].. [--remove NAME].. [--policy TEXT]
-                      [--keys FILE]..
-    change.py upgrade GENESIS STORE CHAINCODE DIGEST --policy TEXT [--profile N] [--fuel N]
-    change.py put ENDPOINTS PROPOSAL ANSWER..
-    change.py endorse ENDPOINTS PROPOSAL ENDORSER..
-    change.py module ENDPOINTS MODULE [--profile N]
-    change.py fetch ENDPOINTS DIGEST
+    regtuma-change members GENESIS STORE [--to FILE] [--add ENTRY].. [--key ENTRY].. [--remove NAME].. [--policy TEXT]
+                           [--keys FILE]..
+    regtuma-change upgrade GENESIS STORE CHAINCODE DIGEST --policy TEXT [--profile N] [--fuel N]
 
-`members` and `upgrade` print a proposal as `ledger endorse` reads it, and tell on the terminal what stands, and what will.
+Both print a proposal, as `regtuma agree`, `regtuma change` and `ledger endorse` read it, and tell on the terminal what stands, and
+what will.
 
 `members` is an amendment: it begins with what stands, or with the JSON in FILE, which is what `ledger state .. --members`
 printed and somebody changed. ENTRY is a file with what `ledger keygen` printed: `--add` takes a member in, `--key` replaces
@@ -19,14 +16,8 @@ could do so by losing one key is told, and which chaincodes nobody could call an
 
 Of an `upgrade` DIGEST is the one that `ledger digest` prints, N is 17 or 18 (1 or 2, and 16 more) for an open definition, by
 default 17, and the fuel is 100000.
-
-`put` puts the envelope into the log that several endorsers answered to the proposal: PROPOSAL and each ANSWER are files.
-`endorse` asks the endorsers itself: each ENDORSER is a command that runs `ledger endorse`, with --agree for an amendment.
-`module` puts a module into the log, where every `ledger order` skips it, and `fetch` prints the bytes of the one with a
-digest. ENDPOINTS are the URLs of etcd's nodes, with commas between.
 """
 import argparse
-import hashlib
 import json
 import pathlib
 import secrets
@@ -34,21 +25,18 @@ import subprocess
 import sys
 
 sys.dont_write_bytecode = True
-sys.path.insert(0, str(pathlib.Path(__file__).resolve().parents[2] / "python"))
-from client import NotEndorsed, envelope, submit
-from filters import NotStarted
-from log import Log, LogError
+sys.path.insert(0, str(pathlib.Path(__file__).resolve().parents[1] / "python"))
 from membership import Definition, Ledger, Membership, at_hand, check_usable, member_of, membership_of, needed, parsed, unmet
-from modules import module
 from network import Mistake
 from policies import is_satisfied
+from program import ROOT
 
-# The program, on the PATH.
-LEDGER = "ledger"
+# What runs the program.
+LEDGER = str(ROOT / "ledger")
 
 
 class NoChange(Exception):
-    """Why nothing is printed or put."""
+    """Why nothing is printed."""
 
 
 def tell(text: str) -> None:
@@ -66,7 +54,7 @@ def members(words: argparse.Namespace) -> None:
     check_usable(ledger, after)
     check_lock_out(ledger, after, words.keys)
     tell_perils(ledger, after)
-    tell(f"it has to be endorsed, by `ledger endorse .. --agree`, under the policy that stands: {stands.policy}")
+    tell(f"operators agree to it under the policy that stands: {stands.policy}")
     print(json.dumps({**after.fields(), "nonce": secrets.token_hex(16)}))
 
 
@@ -165,72 +153,16 @@ def upgrade(words: argparse.Namespace) -> None:
     print(json.dumps(proposal))
 
 
-# ---------------------------------------------------------------- the log
-
-
-def line_of(name: str) -> str:
-    """The one line of a file."""
-    lines = pathlib.Path(name).read_text(encoding="ascii").splitlines()
-    if len(lines) != 1:
-        raise NoChange(f"{name} has {len(lines)} lines, and not one")
-    return lines[0]
-
-
-def nonce_of(line: str) -> str:
-    return json.loads(line)["nonce"]
-
-
-def put(words: argparse.Namespace) -> None:
-    nonce = nonce_of(line_of(words.proposal))
-    made = envelope([line_of(it) for it in words.answers])
-    if nonce not in made:
-        raise NoChange(f"the answers are not to {words.proposal}")
-    print(f"put as {entered(words.endpoints, f'call-{nonce}', made)}")
-
-
-def endorse(words: argparse.Namespace) -> None:
-    line = line_of(words.proposal)
-    print(f"put as {submit(words.endpoints.split(','), f'call-{nonce_of(line)}', line, words.endorsers)}")
-
-
-def put_module(words: argparse.Namespace) -> None:
-    digits = str(module(words.module, words.profile, LEDGER)["module"])
-    digest = hashlib.sha256(bytes.fromhex(digits)).hexdigest()
-    print(f"put as {entered(words.endpoints, module_entry(digest), f'module {words.profile} {digits}')}")
-
-
-def module_entry(digest: str) -> str:
-    return f"call-module-{digest}"
-
-
-def entered(endpoints: str, name: str, mark: str) -> str:
-    """Puts an entry of one line into the log. Its name."""
-    Log(endpoints.split(",")).append(name, [mark])
-    return name
-
-
-def fetch(words: argparse.Namespace) -> None:
-    """Prints the bytes of a module. Who wrote them is nothing to it: they have the digest."""
-    line = Log(words.endpoints.split(",")).read(module_entry(words.digest))
-    if line is None:
-        raise NoChange(f"the log has no module {words.digest}")
-    data = bytes.fromhex(line.split(" ")[-1])
-    if hashlib.sha256(data).hexdigest() != words.digest:
-        raise NoChange(f"what the log has as module {words.digest} is another one")
-    sys.stdout.buffer.write(data)
-
-
 # ---------------------------------------------------------------- the words
 
 
 def words_of(words: list[str]) -> argparse.Namespace:
-    reader = argparse.ArgumentParser(description=__doc__, formatter_class=argparse.RawDescriptionHelpFormatter, allow_abbrev=False)
+    how = {"formatter_class": argparse.RawDescriptionHelpFormatter, "allow_abbrev": False}
+    reader = argparse.ArgumentParser(prog="regtuma-change", description=__doc__, **how)
     commands = reader.add_subparsers(required=True, metavar="COMMAND")
     made = {}
-    for do, places in [(members, "genesis store"), (upgrade, "genesis store chaincode digest"), (put, "endpoints proposal"),
-                       (endorse, "endpoints proposal"), (put_module, "endpoints module"), (fetch, "endpoints digest")]:
-        name = "module" if do is put_module else do.__name__
-        command = made[do] = commands.add_parser(name, allow_abbrev=False)
+    for do, places in [(members, "genesis store"), (upgrade, "genesis store chaincode digest")]:
+        command = made[do] = commands.add_parser(do.__name__, allow_abbrev=False)
         command.set_defaults(do=do)
         for place in places.split():
             command.add_argument(place)
@@ -241,9 +173,6 @@ def words_of(words: list[str]) -> argparse.Namespace:
     made[upgrade].add_argument("--policy", required=True, metavar="TEXT")
     made[upgrade].add_argument("--profile", type=int, choices=(1, 2, 17, 18), default=17)
     made[upgrade].add_argument("--fuel", type=int, default=100000)
-    made[put].add_argument("answers", nargs="+")
-    made[endorse].add_argument("endorsers", nargs="+")
-    made[put_module].add_argument("--profile", type=int, choices=(1, 2), default=1)
     return reader.parse_args(words)
 
 
@@ -252,8 +181,8 @@ def main(words: list[str]) -> int:
     try:
         asked.do(asked)
         return 0
-    except (NoChange, NotEndorsed, NotStarted, LogError, Mistake, OSError, ValueError, KeyError) as error:
-        print(f"change.py: {error}", file=sys.stderr)
+    except (NoChange, Mistake, OSError, ValueError, KeyError) as error:
+        print(f"regtuma-change: {error}", file=sys.stderr)
         return 1
 
 
