@@ -1,11 +1,11 @@
-"""examples/roles/change.py members: the amendment that it makes, what it tells of it, and what it refuses."""
+"""node/change.py members: the amendment that it makes, what it tells of it, and what it refuses."""
 import json
 import pathlib
 import re
 import sys
 
-from members import ABOUT_THE_PROGRAM
 from report import Ran, Report, run
+from tree import ABOUT_THE_PROGRAM
 
 # How long a command may take, in seconds.
 SECONDS = 120
@@ -70,7 +70,7 @@ class Changes:
         return Ran(ran.status, ran.out, "".join(said))
 
     def members(self, *words: str) -> Ran:
-        return self.run(sys.executable, self.tree / "examples/roles/change.py", "members", self.genesis, "empty.store", *words)
+        return self.run(sys.executable, self.tree / "node/change.py", "members", self.genesis, "empty.store", *words)
 
     def made(self, words: tuple[str, ...], members: list[dict], policy: str, *told: str) -> None:
         """An amendment that is made, and that the program takes for the next one."""
@@ -106,9 +106,9 @@ def try_changes(report: Report, tree: pathlib.Path, room: pathlib.Path, env: dic
     for words, *told in MISTAKES:
         ran = at.members(*words)
         last = ran.err.splitlines()[-1:] or [""]
-        is_told = ran.status == 1 and not ran.out and "Traceback" not in ran.err and last[0].startswith("change.py: ")
+        is_told = ran.status == 1 and not ran.out and "Traceback" not in ran.err and last[0].startswith("regtuma-change: ")
         is_told = is_told and all(it in last[0] for it in told)
         report.case(f"members {' '.join(words)}", is_told, f"status {ran.status}\n{ran.out}{ran.err}\nand it has to tell {told}")
     for words in [(), ("members",), ("members", "--add")]:
-        ran = at.run(sys.executable, tree / "examples/roles/change.py", *words)
-        report.case(f"change.py {words}: its usage", ran.status == 2 and ran.err.startswith("usage: "), ran.err)
+        ran = at.run(sys.executable, tree / "node/change.py", *words)
+        report.case(f"regtuma-change {words}: its usage", ran.status == 2 and ran.err.startswith("usage: "), ran.err)

@@ -9,7 +9,7 @@ from tree import PROVED, ROOT, UNPROVED
 
 # How long a command may take, in seconds.
 SECONDS = 120
-COMMANDS = ("ledger", "regtuma", "regtuma-certs", "regtuma-log", "regtuma-node")
+COMMANDS = ("ledger", "regtuma", "regtuma-certs", "regtuma-change", "regtuma-log", "regtuma-node")
 
 
 def fails_in_words(ran: Ran, status: int = 1) -> bool:

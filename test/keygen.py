@@ -3,8 +3,8 @@ import json
 import pathlib
 import re
 
-from members import ABOUT_THE_PROGRAM
 from report import Ran, Report, run
+from tree import ABOUT_THE_PROGRAM
 
 # How long a command may take, in seconds.
 SECONDS = 60

@@ -3,8 +3,8 @@ it refuses."""
 import json
 import pathlib
 
-from members import ABOUT_THE_PROGRAM
 from report import Ran, Report, run
+from tree import ABOUT_THE_PROGRAM
 
 # How long a command may take, in seconds.
 SECONDS = 60

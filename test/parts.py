@@ -8,11 +8,12 @@ from collections.abc import Callable
 
 import changes
 import explaining
+import growths as growing
 import installing
 import keygen
-import members
 import modules_files
 import networks
+import operating
 import questions
 import reasons as sentences
 from calling import find_pieces
@@ -24,8 +25,8 @@ from tree import ENVIRONMENT, ROOT, program
 SHORT, LONG = 30, 550
 # The folders whose scripts people run, and those of which they import modules.
 SCRIPTS = ["ledger", "docs/definitions", "docs/stands-on", "bench/hostile", "test/documents", "examples/chaincode/build.sh",
-           "examples/assets/*.py", "examples/page/*.py", "examples/page/test", "examples/roles/*.py", "examples/roles/plain",
-           "examples/roles/run", "node/bin/*", "node/certs.sh"]
+           "examples/assets/*.py", "examples/page/*.py", "examples/page/test", "examples/roles/plain", "node/bin/*", "node/certs.sh",
+           "node/change.py", "node/demo/run", "node/demo/demo.py", "node/demo/traffic.py", "bench/node"]
 # A C source of which clang copies a struct and fills one with zeros.
 STRUCTS = """
 #include "fabric.h"
@@ -148,16 +149,22 @@ def page(report: Report, at: Setting) -> None:
     at.run(report, "examples/page/test", ["examples/page/test"])
 
 
-def roles(report: Report, at: Setting) -> None:
-    """ROLES.md with a real etcd: the demo, and one organisation after another by hand."""
-    blocks = blocks_of(at.tree, "docs/ROLES.md")
-    demo = next(place for place, it in enumerate(blocks) if it.text == "examples/roles/run")
+def demo(report: Report, at: Setting) -> None:
+    """The demo of the nodes, with a real etcd."""
+    blocks = blocks_of(at.tree, "docs/OPERATIONS.md")
+    place = next(place for place, it in enumerate(blocks) if it.text == "node/demo/run")
     # On a busy machine the unproved program may need longer than the demo's own 300 seconds.
-    at.type(report, blocks[demo:demo + 2], instead={"examples/roles/run": "examples/roles/run --seconds 500"})
+    at.type(report, blocks[place:place + 2], instead={"node/demo/run": "node/demo/run --seconds 540"})
 
 
-def by_hand(report: Report, at: Setting) -> None:
-    members.by_hand(report, at.tree, at.room, at.typist, blocks_of(at.tree, "docs/ROLES.md"))
+def operations(report: Report, at: Setting) -> None:
+    operating.operate(report, at.tree, at.room / "machines", at.env, blocks_of(at.tree, "docs/OPERATIONS.md"), at.typist.typed)
+
+
+def node(report: Report, at: Setting) -> None:
+    """The node's own tests."""
+    tests = ["/usr/bin/python3", "-B", "-m", "unittest", "discover", "-s", "node/tests"]
+    at.run(report, "the node's tests", tests)
 
 
 def keys(report: Report, at: Setting) -> None:
@@ -170,11 +177,6 @@ def numbers(report: Report, at: Setting) -> None:
 
 def install(report: Report, at: Setting) -> None:
     installing.try_installing(report, at.tree, at.room, at.env)
-
-
-def node(report: Report, at: Setting) -> None:
-    """The node's own tests."""
-    at.run(report, "the node's tests", ["/usr/bin/python3", "-B", "-m", "unittest", "discover", "-s", "node/tests"])
 
 
 def network(report: Report, at: Setting) -> None:
@@ -201,6 +203,11 @@ def calling(report: Report, at: Setting) -> None:
     find_pieces(report, at.tree, blocks_of(at.tree, "docs/CALLING.md"))
 
 
+def growths(report: Report, at: Setting) -> None:
+    """Each growth of some calls is refused."""
+    growing.growths(report, at.room)
+
+
 # Those that take long come first.
-PARTS: list[Callable[[Report, Setting], None]] = [roles, page, query, chaincode, node, by_hand, tutorial, readme, formats, network, modules,
-                                                  change, reasons, numbers, keys, install, scripts, calling]
+PARTS: list[Callable[[Report, Setting], None]] = [demo, operations, page, query, chaincode, node, tutorial, readme, formats, network, modules,
+                                                  change, reasons, numbers, keys, install, growths, scripts, calling]

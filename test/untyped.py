@@ -4,14 +4,11 @@ from report import Report
 from tree import ROOT
 
 LONG = "too long"
-MACHINES = "needs three machines and certificates; the parts roles and by_hand do it on one"
 MEASURES = "measures, and no test depends on it"
 # The first line of a block, and why it is not typed.
 REASONS = {
     ("README.md", "rt ci"): f"{LONG}: it is the gate, behind which this test runs",
-    ("docs/ROLES.md", "ln -s"): "changes the machine; the part by_hand has the folder on the PATH",
-    ("docs/ROLES.md", "etcd --name maker"): MACHINES,
-    ("docs/ROLES.md", "export ETCDCTL_API=3"): MACHINES,
+    ("docs/OPERATIONS.md", "tar -C /"): "changes the machine; the part install unpacks the same tarball",
     ("bench/README.md", "bench/run"): MEASURES,
     ("bench/README.md", "bench/build.sh"): "makes what bench/run measures",
     ("bench/README.md", "bench/untuned/build.sh"): "makes what bench/run measures",
@@ -20,6 +17,7 @@ REASONS = {
     ("bench/README.md", "bench/state"): MEASURES,
     ("bench/README.md", "bench/threads"): MEASURES,
     ("bench/README.md", "bench/roles"): MEASURES,
+    ("bench/README.md", "bench/node"): MEASURES,
     ("bench/README.md", "bench/instructions"): f"{MEASURES}; it needs a build of ed25519_bench",
     ("bench/README.md", "bench/gate"): LONG,
     ("bench/README.md", "bench/plants"): LONG,

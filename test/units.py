@@ -1,0 +1,85 @@
+"""In the place of systemctl: starts and stops what the units of systemd below a folder say, as processes of their own.
+
+    units.py ROOT enable [--now] [--no-block] UNIT.. | start UNIT.. | stop UNIT.. | reload UNIT..
+
+The folder stands for a machine: names below /etc/regtuma, /var/lib and /usr/local are looked for in it. What a unit prints is in
+ROOT/UNIT.out, its process in ROOT/UNIT.pid.
+"""
+import os
+import pathlib
+import re
+import shlex
+import signal
+import subprocess
+import sys
+import time
+
+# How long a process may take to end, in seconds.
+SECONDS = 60
+
+
+def laid(text: str, root: pathlib.Path) -> str:
+    """A text with the names of files on the machine."""
+    return re.sub(r"/(?=(?:etc/regtuma|var/lib/regtuma|usr/local)\b)", f"{root}/", text)
+
+
+def settings_of(root: pathlib.Path, unit: str) -> dict[str, str]:
+    """The lines of a unit, each setting's last."""
+    text = (root / "etc/systemd/system" / unit).read_text().replace("\\\n", " ")
+    return dict(it.split("=", 1) for it in text.splitlines() if re.match(r"\w+=", it))
+
+
+def environment(root: pathlib.Path, settings: dict[str, str]) -> dict[str, str]:
+    file = settings.get("EnvironmentFile")
+    lines = pathlib.Path(laid(file, root)).read_text().splitlines() if file else []
+    return dict(it.split("=", 1) for it in lines if it and it[0] != "#")
+
+
+def start(root: pathlib.Path, unit: str) -> None:
+    if unit.endswith(".timer") or process_of(root, unit):
+        return
+    settings = settings_of(root, unit)
+    values = environment(root, settings)
+    command = re.sub(r"\$\{(\w+)\}", lambda it: values[it[1]], laid(settings["ExecStart"], root))
+    if name := settings.get("StateDirectory"):
+        (root / "var/lib" / name).mkdir(mode=0o700, parents=True, exist_ok=True)
+    with open(root / f"{unit}.out", "ab") as out:
+        begun = subprocess.Popen(shlex.split(command), stdin=subprocess.DEVNULL, stdout=out, stderr=out, start_new_session=True)
+    (root / f"{unit}.pid").write_text(str(begun.pid))
+
+
+def process_of(root: pathlib.Path, unit: str) -> int | None:
+    """The process of a unit, if it runs."""
+    file = root / f"{unit}.pid"
+    if not file.exists():
+        return None
+    try:
+        stat = pathlib.Path(f"/proc/{file.read_text()}/stat").read_text()
+        return None if stat.rpartition(")")[2].split()[0] == "Z" else int(file.read_text())
+    except OSError:
+        return None
+
+
+def stop(root: pathlib.Path, unit: str) -> None:
+    number, until = process_of(root, unit), time.monotonic() + SECONDS
+    if number:
+        os.kill(number, signal.SIGTERM)
+    while process_of(root, unit) and time.monotonic() < until:
+        time.sleep(0.05)
+
+
+def reload(root: pathlib.Path, unit: str) -> None:
+    if number := process_of(root, unit):
+        os.kill(number, signal.SIGHUP)
+
+
+def main(words: list[str]) -> int:
+    root, task = pathlib.Path(words[0]), words[1]
+    tasks = {"enable": start, "start": start, "stop": stop, "reload": reload}
+    for unit in (it for it in words[2:] if not it.startswith("--")):
+        tasks[task](root, unit if "." in unit else f"{unit}.service")
+    return 0
+
+
+if __name__ == "__main__":
+    sys.exit(main(sys.argv[1:]))
