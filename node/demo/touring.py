@@ -6,8 +6,9 @@ import threading
 import urllib.error
 import urllib.request
 
-from regtuma.client import Failed, NoAnswer, call_of
+# This comes first: it says where the node's modules lie.
 from world import CARRIER, MAKER, ORGS, PAGE, ROOT, SECOND, SHOP, World, Wrong, expect, wait_until
+from regtuma.client import Failed, NoAnswer, call_of
 
 VALID, FORGED, CONFLICT = 0, 1, 2
 JSON = {"Content-Type": "application/json"}
