@@ -23,7 +23,7 @@ mod system;
 
 pub use auditing::audit;
 pub use event::{Event, Reply};
-pub use laws::honest_chains_pass_the_audit;
+pub use laws::{honest_chains_pass_the_audit, runs_are_honest};
 pub use ledger_setting::Audit;
 pub use running::{Ran, run};
 pub use system::System;
