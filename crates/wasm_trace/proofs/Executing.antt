@@ -23,7 +23,7 @@ use Rattle.wasm_trace.specs.Reduction.{with_words, host_step, reduce, step}
 use Rattle.wasm_trace.specs.Context.{Layer, InLabel, InFrame, frames, plug}
 use Rattle.wasm_trace.specs.Calls.{AreWords, ask_step}
 use Rattle.wasm_trace.specs.View.{vals, stack_of, plain_of, before, layers, world, config, out_of, outward, Is, act_step, paid_step, Jumps, IsGoing, NoEnd}
-use Rattle.wasm_trace.specs.View.{SameFuel, Spends, Rests}
+use Rattle.wasm_trace.specs.View.{Spends, Rests}
 use Rattle.wasm_trace.proofs.Sim.{step_start}
 use Rattle.wasm_trace.proofs.Stepping.{reduce_plug, out_same, out_spent, out_stuck, paid_none, paid_now}
 use Rattle.wasm_trace.proofs.Calling.{with_args}
@@ -208,7 +208,7 @@ module _ {R : Type 0} where
   rests_going c c' r flow.Spent h = absurd h
   rests_going c c' r flow.Stuck h = tt
 
-  pub rests_fuel : (c c' : Configuration) (r : R) (way : Flow) → SameFuel c c' way → Rests c c' r r way
+  pub rests_fuel : (c c' : Configuration) (r : R) (way : Flow) → c'.fuel ≡ c.fuel → Rests c c' r r way
   rests_fuel c c' r flow.Continue h = tt
   rests_fuel c c' r (flow.Returned n) h = (h, refl)
   rests_fuel c c' r (flow.Trapped why) h = (h, refl)

@@ -10,3 +10,4 @@ pub mod Calling
 pub mod Executing
 pub mod Plain
 pub mod Stepped
+pub mod Naming

@@ -29,7 +29,7 @@ module _ {R : Type 0} where
   records_in (InLabel t c s i ∷ ks) x = records_in ks (wrap (InLabel t c s i) x)
   records_in (InFrame t l s i ∷ ks) x = records_in ks (wrap (InFrame t l s i) x)
 
-  fuel_of : (c : Configuration) (r : R) → (config c r).fuel ≡ c.fuel
+  pub fuel_of : (c : Configuration) (r : R) → (config c r).fuel ≡ c.fuel
   fuel_of c r = fuel_in (layers c.levels.items) _
 
   records_of : (c : Configuration) (r : R) → (config c r).world.records ≡ r

@@ -1,11 +1,12 @@
 -- A run that is stepped, as contracts see it.
-use Rattle.std.specs.Prelude.{◌≡◌, ◌⊎◌, ◌++◌, ℕ, List, Option, Some, None, option_map}
+use Rattle.std.specs.Prelude.{◌≡◌, ◌⊎◌, ℕ, List, Option, Some, None, option_map}
 use Rattle.wasm_ast.specs.declared.module.Module.{Module}
 use Rattle.wasm_meaning.specs.Values.{Program}
 use Rattle.interp.specs.declared.outcome.Outcome.{Outcome}
 use Rattle.wasm_trace.specs.declared.stepper.Stepper.{Stepper}
 use Rattle.wasm_trace.specs.Reduction.{Config, conf, To, reduce}
 use Rattle.wasm_trace.specs.Ending.{IsStart, IsEnd, IsStuck}
+use Rattle.wasm_trace.specs.Names.{Named, text_of}
 use Rattle.wasm_trace.specs.View.{config}
 
 pub record Standing : Type 0 where
@@ -26,13 +27,18 @@ standing s =
       given = s.given;
       at = config s.configuration (tt {0});
       ended = s.ended;
-      shown = option_map (λ m. m.prefix.now ++ m.rest.now) s.shown;
+      shown = option_map text_of s.shown;
     }
 
 -- the configuration with these records of the host
 abbrev pub with_records : {R : Type 0} → Config (Unit {0}) → R → Config R
 with_records x records =
     conf x.fuel x.locals (record { memory = x.world.memory; globals = x.world.globals; records = records }) x.seq
+
+-- what is shown after a step from x that left this fuel: the name of what it executed, where that cost fuel and did not end the run
+abbrev pub IsShownOf : Option Outcome → (x : Config (Unit {0})) → (left : ℕ) → Option (List ℕ) → Type 0
+IsShownOf None x left shown = Named x.seq x.fuel left shown
+IsShownOf (Some o) x left shown = shown ≡ None
 
 -- before the first reduction
 pub record Begins (m : Module) (fuel : ℕ) (s : Standing) : Type 0 where

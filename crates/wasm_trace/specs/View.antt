@@ -121,6 +121,10 @@ module _ {R : Type 0} where
   abbrev pub outward : Configuration → R → Step R → Step R
   outward m records r = out_of (layers m.levels.items) m.fuel (vals m.locals.items) (world m records) r
 
+-- the sequence of the configuration
+abbrev pub seq_of : Configuration → Seq
+seq_of m = (config m (tt {0})).seq
+
 -- how the whole ends where these values alone are left
 abbrev pub EndsIn : List Val → Flow → Type 0
 EndsIn s flow.Continue = ⊥
@@ -301,15 +305,13 @@ Spends a (flow.Trapped why) = ⊥
 Spends a flow.Spent = a ≡ act.Become turn.Spent
 Spends a flow.Stuck = Unit {0}
 
--- the end of a run costs nothing
-abbrev pub SameFuel : Configuration → Configuration → Flow → Type 0
-SameFuel c c' flow.Continue = Unit {0}
-SameFuel c c' (flow.Returned n) = c'.fuel ≡ c.fuel
-SameFuel c c' (flow.Trapped why) = c'.fuel ≡ c.fuel
-SameFuel c c' flow.Spent = Unit {0}
-SameFuel c c' flow.Stuck = Unit {0}
+-- a reduction costs nothing where this stands before this code
+abbrev pub IsFree : Front → (code : List Instr) → Type 0
+IsFree front.Nothing is = is ≡ []
+IsFree (front.Again b) is = ⊥
+IsFree _ is = Unit {0}
 
--- and leaves the records of the host as they were
+-- the end of a run costs nothing and leaves the records of the host as they were
 abbrev pub Rests : {R : Type 0} → Configuration → Configuration → (before after : R) → Flow → Type 0
 Rests c c' r r' flow.Continue = Unit {0}
 Rests c c' r r' (flow.Returned n) = (c'.fuel ≡ c.fuel) × (r' ≡ r)

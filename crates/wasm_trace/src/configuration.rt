@@ -1,9 +1,10 @@
 //! Configurations: what is left to do of a run, in nested labels and frames.
 
-ghost use Rattle.std.specs.Prelude.{◌≡◌, ◌≤◌, ◌++◌, ◌∷◌, [], ℕ, List, length, IfOk, OnOk};
+ghost use Rattle.std.specs.Prelude.{◌≡◌, ◌≤◌, ◌++◌, ◌∷◌, [], ℕ, List, None, option_map, length, IfOk, OnOk};
 ghost use Rattle.wasm_meaning.specs.Values.{value, zeros};
 ghost use Rattle.wasm_trace.specs.Context.{frames};
-ghost use Rattle.wasm_trace.specs.View.{layers, layer_of, stack_of, vals, val_of, Within, IsGoing, SameFuel, Spends, flow_of, EndsIn, Ended, Broken, Left, Trapping, Invoked, Acted, Became, Kept, BlockEntered, LoopEntered, arity_of};
+ghost use Rattle.wasm_trace.specs.Names.{next_name, text_of};
+ghost use Rattle.wasm_trace.specs.View.{seq_of, layers, layer_of, stack_of, vals, val_of, Within, IsFree, IsGoing, Spends, flow_of, EndsIn, Ended, Broken, Left, Trapping, Invoked, Acted, Became, Kept, BlockEntered, LoopEntered, arity_of};
 ghost use Rattle.wasm_trace.specs.declared.parts.Front.TheVariants as front;
 ghost use Rattle.wasm_ast.specs.View.{code_of};
 
@@ -41,15 +42,18 @@ pub(crate) struct Configuration<'m> {
 }
 
 impl<'m> Configuration<'m> {
-    /// The name of what costs fuel in the next reduction; of nothing, if nothing does.
-    pub(crate) fn next_name(&self) -> Mnemonic {
+    /// The name of what costs fuel in the next reduction. None, if nothing does.
+    pub(crate) fn next_name(&self) -> Option<Mnemonic>
+        ensures names { option_map text_of result ≡ next_name (seq_of self.now) }
+        ensures free { result ≡ None → IsFree self.now.front self.now.code.now }
+    {
         match self.front {
-            Front::Again(_) => Mnemonic::of_loop(),
             Front::Nothing => match self.code.first() {
-                None => Mnemonic::nothing(),
-                Some(instr) => Mnemonic::of(instr),
+                None => None,
+                Some(instr) => Some(Mnemonic::of(instr)),
             },
-            _ => Mnemonic::nothing(),
+            Front::Again(_) => Some(Mnemonic::of_loop()),
+            _ => None,
         }
     }
 
@@ -57,7 +61,7 @@ impl<'m> Configuration<'m> {
     pub(crate) fn end<H: Host>(&mut self) -> Result<Flow, AllocError>
         requires { self.old.front ≡ front.Nothing }
         ensures goes { IfOk result (λ r. Ended H.Records self.old self.new r) }
-        ensures fuel { IfOk result (λ r. SameFuel self.old self.new r) }
+        ensures fuel { self.new.fuel ≡ self.old.fuel }
         ensures kept { Within self.old self.new }
     {
         match self.levels.pop() {
@@ -94,6 +98,7 @@ impl<'m> Configuration<'m> {
     ) -> Result<(), AllocError>
         ensures goes { OnOk result
             (BlockEntered H.Records leaves (code_of body.now) self.old self.new) }
+        ensures fuel { self.new.fuel ≡ self.old.fuel }
         ensures kept { Within self.old self.new }
     {
         let before = mem::replace(&mut self.stack, Vec::new(self.alloc));
@@ -120,6 +125,7 @@ impl<'m> Configuration<'m> {
     pub(crate) fn branch<H: Host>(&mut self, k: u32) -> Result<Flow, AllocError>
         ensures goes { IfOk result (λ r. Broken H.Records k self.old self.new r) }
         ensures going { IfOk result IsGoing }
+        ensures fuel { self.new.fuel ≡ self.old.fuel }
         ensures kept { Within self.old self.new }
     {
         for _i in 0..k {
@@ -183,6 +189,7 @@ impl<'m> Configuration<'m> {
         ensures goes { IfOk result
             (λ r. Invoked H.Records function_type.now function.now self.old self.new r) }
         ensures going { IfOk result IsGoing }
+        ensures fuel { self.new.fuel ≡ self.old.fuel }
         ensures kept { Within self.old self.new }
     {
         let count = function_type.params.len();
@@ -211,7 +218,7 @@ impl<'m> Configuration<'m> {
     pub(crate) fn trap<H: Host>(&mut self, why: Trap) -> Flow
         requires { self.old.front ≡ front.Trap why }
         ensures goes { Trapping H.Records why self.old self.new result }
-        ensures fuel { SameFuel self.old self.new result }
+        ensures fuel { self.new.fuel ≡ self.old.fuel }
         ensures kept { Within self.old self.new }
     {
         if !self.stack.is_empty() {
@@ -271,6 +278,7 @@ impl<'m> Configuration<'m> {
     pub(crate) fn turn<H: Host>(&mut self, turn: Turn<'m>) -> Flow
         ensures goes { Became H.Records turn.entry self.old self.new result }
         ensures flow { result ≡ flow_of turn.entry }
+        ensures fuel { self.new.fuel ≡ self.old.fuel }
         ensures kept { Within self.old self.new }
     {
         match turn {

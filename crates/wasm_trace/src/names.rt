@@ -1,6 +1,8 @@
 //! The names of instructions in the text format (Core 1.0, section 6.5).
 
-ghost use Rattle.std.specs.Prelude.{◌≡◌};
+ghost use Rattle.std.specs.Prelude.{◌≡◌, codes};
+ghost use Rattle.wasm_ast.specs.declared.types.ValueType.TheVariants as value_type;
+ghost use Rattle.wasm_trace.specs.Names.{IsNameOf, load_name, store_name, convert_name, compare_name, unary_name, binary_name, typed, text_of};
 
 use std::fmt::{self, Display, Formatter, Write};
 use wasm_ast::{BinaryOp, CompareOp, ConvertOp, Instr, LoadOp, StoreOp, UnaryOp};
@@ -14,9 +16,9 @@ pub(crate) struct Mnemonic {
 }
 
 impl Display for Mnemonic {
-    ghost use Rattle.std.specs.Prelude.{Some, ◌++◌};
+    ghost use Rattle.std.specs.Prelude.{Some};
 
-    ghost output = { λ m. Some (m.prefix.now ++ m.rest.now) };
+    ghost output = { λ m. Some (text_of m) };
 
     fn fmt<W: Write>(&self, f: &mut Formatter<W>) -> fmt::Result {
         write!(f, "{}{}", self.prefix, self.rest)
@@ -25,17 +27,16 @@ impl Display for Mnemonic {
 
 impl Mnemonic {
     /// The name of a loop.
-    pub(crate) fn of_loop() -> Mnemonic {
+    pub(crate) fn of_loop() -> Mnemonic
+        ensures { text_of result ≡ codes "loop" }
+    {
         bare("loop")
     }
 
-    /// No name.
-    pub(crate) fn nothing() -> Mnemonic {
-        bare("")
-    }
-
     /// The name of an instruction.
-    pub(crate) fn of(instr: &Instr) -> Mnemonic {
+    pub(crate) fn of(instr: &Instr) -> Mnemonic
+        ensures { IsNameOf instr.now (text_of result) }
+    {
         match instr {
             Instr::Unreachable => bare("unreachable"),
             Instr::Nop => bare("nop"),
@@ -74,25 +75,33 @@ impl Mnemonic {
     }
 }
 
-fn bare(rest: &'static str) -> Mnemonic {
+fn bare(rest: &'static str) -> Mnemonic
+    ensures { text_of result ≡ rest.now }
+{
     Mnemonic { prefix: "", rest }
 }
 
-fn of_i32(rest: &'static str) -> Mnemonic {
+fn of_i32(rest: &'static str) -> Mnemonic
+    ensures { text_of result ≡ typed value_type.I32 rest.now }
+{
     Mnemonic {
         prefix: "i32.",
         rest,
     }
 }
 
-fn of_i64(rest: &'static str) -> Mnemonic {
+fn of_i64(rest: &'static str) -> Mnemonic
+    ensures { text_of result ≡ typed value_type.I64 rest.now }
+{
     Mnemonic {
         prefix: "i64.",
         rest,
     }
 }
 
-fn load_name(operator: LoadOp) -> &'static str {
+fn load_name(operator: LoadOp) -> &'static str
+    ensures { result.now ≡ load_name operator }
+{
     match operator {
         LoadOp::I32 => "i32.load",
         LoadOp::I64 => "i64.load",
@@ -109,7 +118,9 @@ fn load_name(operator: LoadOp) -> &'static str {
     }
 }
 
-fn store_name(operator: StoreOp) -> &'static str {
+fn store_name(operator: StoreOp) -> &'static str
+    ensures { result.now ≡ store_name operator }
+{
     match operator {
         StoreOp::I32 => "i32.store",
         StoreOp::I64 => "i64.store",
@@ -121,7 +132,9 @@ fn store_name(operator: StoreOp) -> &'static str {
     }
 }
 
-fn convert_name(operator: ConvertOp) -> &'static str {
+fn convert_name(operator: ConvertOp) -> &'static str
+    ensures { result.now ≡ convert_name operator }
+{
     match operator {
         ConvertOp::WrapI64 => "i32.wrap_i64",
         ConvertOp::ExtendI32S => "i64.extend_i32_s",
@@ -129,7 +142,9 @@ fn convert_name(operator: ConvertOp) -> &'static str {
     }
 }
 
-fn compare_name(operator: CompareOp) -> &'static str {
+fn compare_name(operator: CompareOp) -> &'static str
+    ensures { result.now ≡ compare_name operator }
+{
     match operator {
         CompareOp::Eq => "eq",
         CompareOp::Ne => "ne",
@@ -144,7 +159,9 @@ fn compare_name(operator: CompareOp) -> &'static str {
     }
 }
 
-fn unary_name(operator: UnaryOp) -> &'static str {
+fn unary_name(operator: UnaryOp) -> &'static str
+    ensures { result.now ≡ unary_name operator }
+{
     match operator {
         UnaryOp::Clz => "clz",
         UnaryOp::Ctz => "ctz",
@@ -155,7 +172,9 @@ fn unary_name(operator: UnaryOp) -> &'static str {
     }
 }
 
-fn binary_name(operator: BinaryOp) -> &'static str {
+fn binary_name(operator: BinaryOp) -> &'static str
+    ensures { result.now ≡ binary_name operator }
+{
     match operator {
         BinaryOp::Add => "add",
         BinaryOp::Sub => "sub",

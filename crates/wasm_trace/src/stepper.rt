@@ -1,6 +1,6 @@
 //! A run of `invoke`, one reduction at a time.
 
-ghost use Rattle.std.specs.Prelude.{◌≡◌, ◌≤◌, ◌<◌, ◌↔◌, None, IsSome};
+ghost use Rattle.std.specs.Prelude.{◌≡◌, ◌≢◌, ◌≤◌, ◌<◌, None};
 ghost use Rattle.wasm_trace.specs.View.{Linked, outcome_of};
 
 use crate::configuration::Configuration;
@@ -32,7 +32,7 @@ impl<'m> Stepper<'m> {
     ghost use Rattle.std.specs.Prelude.{◌++◌, IfOk, option_map, codes, string_bytes};
     ghost use Rattle.std.specs.Fmt.{decimal};
     ghost use Rattle.wasm_meaning.specs.Program.{program_of};
-    ghost use Rattle.wasm_trace.specs.Standing.{standing, Begins, Stepped};
+    ghost use Rattle.wasm_trace.specs.Standing.{standing, Begins, IsShownOf, Stepped};
 
     /// Before the first reduction, on a fresh instance, with this fuel.
     ///
@@ -61,8 +61,8 @@ impl<'m> Stepper<'m> {
             (H.records host.old) (standing self.new) (H.records host.new) o) }
         ensures ends { IfOk result (λ o. self.new.ended ≡ o) }
         ensures shows { IfOk result
-            (λ o. IsSome self.new.shown
-            ↔ ((o ≡ None) × (self.new.configuration.fuel < self.old.configuration.fuel))) }
+            (λ o. IsShownOf o (standing self.old).at (standing self.new).at.fuel
+            (standing self.new).shown) }
         ensures valid { self.new.valid.now ≡ self.old.valid.now }
         ensures given { self.new.given ≡ self.old.given }
         ensures stays { IfOk result (λ _. H.answers host.new ≡ H.answers host.old) }
@@ -102,14 +102,16 @@ impl<'m> Stepper<'m> {
 }
 
 /// What is shown of a step: the name, where the run goes on and the step cost fuel.
-fn shown(name: Mnemonic, ended: Option<Outcome>, before: u64, left: u64) -> Option<Mnemonic>
-    ensures { IsSome result ↔ ((ended ≡ None) × (left < before)) }
+fn shown(name: Option<Mnemonic>, ended: Option<Outcome>, before: u64, left: u64) -> Option<Mnemonic>
+    ensures ends { ended ≢ None → result ≡ None }
+    ensures names { ended ≡ None → left < before → result ≡ name }
+    ensures free { before ≤ left → result ≡ None }
 {
     match ended {
         Some(_) => None,
         None => {
             if left < before {
-                return Some(name);
+                return name;
             }
             None
         }

@@ -1,8 +1,8 @@
 //! One reduction.
 
-ghost use Rattle.std.specs.Prelude.{◌≡◌, IfOk};
+ghost use Rattle.std.specs.Prelude.{◌≡◌, [], IfOk};
 ghost use Rattle.wasm_meaning.specs.Program.{program_of};
-ghost use Rattle.wasm_trace.specs.View.{Linked, Stands, Does, Jumps, NoEnd, Reduced, Repeated, Rests, Within};
+ghost use Rattle.wasm_trace.specs.View.{Linked, Stands, Does, IsFree, Jumps, NoEnd, Reduced, Repeated, Rests, Within};
 ghost use Rattle.wasm_trace.specs.Plain.{Becomes};
 ghost use Rattle.wasm_trace.specs.declared.parts.Front.TheVariants as front;
 ghost use Rattle.wasm_trace.specs.declared.parts.Act.TheVariants as act;
@@ -32,6 +32,7 @@ impl<'m> Configuration<'m> {
             (H.records host.old) (H.records host.new) r) }
         ensures rests { IfOk result
             (λ r. Rests self.old self.new (H.records host.old) (H.records host.new) r) }
+        ensures free { IsFree self.old.front self.old.code.now → self.new.fuel ≡ self.old.fuel }
         ensures kept { Within self.old self.new }
         ensures stays { IfOk result (λ _. H.answers host.new ≡ H.answers host.old) }
         ensures keeps { IfOk result (λ _. H.context host.new ≡ H.context host.old) }
@@ -77,6 +78,7 @@ impl<'m> Configuration<'m> {
             (H.records host.old) (H.records host.new) r) }
         ensures rests { IfOk result
             (λ r. Rests self.old self.new (H.records host.old) (H.records host.new) r) }
+        ensures free { self.old.code.now ≡ [] → self.new.fuel ≡ self.old.fuel }
         ensures kept { Within self.old self.new }
         ensures stays { IfOk result (λ _. H.answers host.new ≡ H.answers host.old) }
         ensures keeps { IfOk result (λ _. H.context host.new ≡ H.context host.old) }

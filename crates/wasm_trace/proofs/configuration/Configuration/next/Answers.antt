@@ -31,7 +31,8 @@ returns-in_ok-act-in-Some-clause-goes g c =
 
 pub returns-in-None-clause-rests : goal.returns-in-None-clause-rests
 returns-in-None-clause-rests g c =
-    IfOk-weaker c.end.result _ _ (λ way h. rests_fuel c.args.self.now c.end.new.self (g.H.Host.records c.args.host.now) way h) c.end.ensures.fuel
+    IfOk-weaker c.end.result _ _ (λ way h. rests_fuel c.args.self.now c.end.new.self (g.H.Host.records c.args.host.now) way c.end.ensures.fuel)
+    c.end.ensures.goes
 
 pub returns-in_ok-act-in-Some-clause-rests : goal.returns-in_ok-act-in-Some-clause-rests
 returns-in_ok-act-in-Some-clause-rests g c =

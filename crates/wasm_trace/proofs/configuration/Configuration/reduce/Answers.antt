@@ -1,8 +1,9 @@
-use Rattle.std.proofs.Common.{ap, ◌∙◌}
+use Rattle.std.proofs.Common.{ap, ◌∙◌, subst}
 use Rattle.std.proofs.lemmas.Result.{IfOk-weaker}
 use Rattle.wasm_meaning.specs.Program.{program_of}
 use Rattle.wasm_trace.specs.declared.parts.Act.TheVariants as act
-use Rattle.wasm_trace.specs.View.{vals, stack_of, plain_of, layers, world, out_of}
+use Rattle.wasm_trace.specs.declared.parts.Front.{Front}
+use Rattle.wasm_trace.specs.View.{vals, stack_of, plain_of, layers, world, out_of, IsFree}
 use Rattle.wasm_trace.proofs.Executing.{reduce_front, is_from, acted, rests_by, rests_going, rests_fuel}
 use Rattle.wasm_trace.proofs.configuration.Configuration.reduce.Goals as goal
 
@@ -63,3 +64,10 @@ returns-in-Invoke-clause-rests g c =
 pub returns-in-Trap-clause-rests : goal.returns-in-Trap-clause-rests
 returns-in-Trap-clause-rests g c =
     rests_fuel c.args.self.now c.trap.new.self (g.H.Host.records c.args.host.now) c.trap.result c.trap.ensures.fuel
+
+pub returns-in-Nothing-clause-free : goal.returns-in-Nothing-clause-free
+returns-in-Nothing-clause-free g c = λ h.
+    c.next.ensures.free (subst (λ (fr : Front). IsFree fr c.args.self.now.code.now) c.in-Nothing.is h)
+
+pub returns-in-Again-clause-free : goal.returns-in-Again-clause-free
+returns-in-Again-clause-free g c = λ h. absurd (subst (λ (fr : Front). IsFree fr c.args.self.now.code.now) c.in-Again.is h)
