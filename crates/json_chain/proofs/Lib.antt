@@ -1,3 +1,4 @@
 pub mod Pairs
 pub mod Depths
 mod Written
+mod Stands

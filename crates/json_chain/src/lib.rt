@@ -6,7 +6,8 @@
 //! [`Object`].
 //!
 //! Which tags of a block are right is by who stands before it: by the last VALID amendment of the
-//! earlier blocks ([`membership_behind`]), or by the genesis (`specs/Standing.antt`).
+//! earlier blocks ([`membership_behind`]), or by the genesis (`specs/Standing.antt`). The judge goes
+//! by the same ([`who_is_shown_stands`]).
 #![tactic(auto)]
 
 mod amending;
@@ -14,6 +15,7 @@ mod block;
 mod ending;
 mod entries;
 mod genesis;
+mod laws;
 mod line;
 mod membership;
 mod object;
@@ -30,6 +32,7 @@ pub use block::block_of;
 pub use ending::Finding;
 pub use entries::{entry_of, written_of};
 pub use genesis::genesis_of;
+pub use laws::who_is_shown_stands;
 pub use line::{
     block_line, ending_line, entry_line, genesis_line, line_of, standing_line, write_line,
 };

@@ -1,0 +1,15 @@
+use Rattle.std.proofs.Common.{◌-◌}
+use Rattle.json_chain.proofs.Stands.{behind, named, shown, taken}
+use Rattle.json_chain.proofs.laws.who_is_shown_stands.Goals as goal
+
+pub returns-clause-behind : goal.returns-clause-behind
+returns-clause-behind c = behind
+
+pub returns-clause-before : goal.returns-clause-before
+returns-clause-before c = λ r chain h number. taken r chain h (number - 1)
+
+pub returns-clause-shown : goal.returns-clause-shown
+returns-clause-shown c = shown
+
+pub returns-clause-named : goal.returns-clause-named
+returns-clause-named c = named
