@@ -1,10 +1,10 @@
 -- Tasks that come to an answer and a text.
-use Rattle.std.proofs.Common.{◌≡◌, ℕ, List, ◌++◌, inl, inr, Result, Ok, Err, IfOk, IfErr, OnOk, ◌∙◌}
+use Rattle.std.proofs.Common.{◌≡◌, ℕ, List, ◌++◌, inl, inr, Result, Ok, Err, IfOk, IfErr, OnOk, OnErr, ◌∙◌}
 use Rattle.std.proofs.KnownBytes.{Appends-kept}
 use Rattle.std.specs.Io.KnownBytes.{Keeps}
-use Rattle.cli_lines.specs.Told.{Told, Answers, IsBrokenOff, IsMore, Prints}
+use Rattle.cli_lines.specs.Told.{Told, Answers, Begins, IsBrokenOff, IsMore, Prints, PrintsNothing, PrintsPart}
 use Rattle.cli_lines.specs.declared.failure.Failure.{Failure}
-use Rattle.cli_lines.proofs.Printing.{prints_then}
+use Rattle.cli_lines.proofs.Printing.{part_none, part_then, prints_then}
 use Rattle.cli_lines.proofs.Silence.{and_more}
 
 -- by the one text that it printed
@@ -33,3 +33,34 @@ prints_kept t u v text before more whole kept =
       whole = whole ∙ before.whole;
       bytes = Appends-kept t.bytes u.bytes v.bytes text before.bytes kept;
     }
+
+-- ---- tasks that are broken off
+
+pub begins_nothing : {A : Type 0} (Whole : List ℕ → Type 0) (t u : Told) (r : Result A Failure) → PrintsNothing t u → Begins Whole t u r
+begins_nothing Whole t u r none = λ broken. inl none
+
+pub begins_err : {A : Type 0} (Whole : List ℕ → Type 0) (t u : Told) (r : Result A Failure) → OnErr r (PrintsNothing t u) → Begins Whole t u r
+begins_err Whole t u (Ok a) none = λ broken. absurd broken
+begins_err Whole t u (Err e) none = λ broken. inl none
+
+-- by the text of which it printed a beginning
+pub begins_part : {A : Type 0} (Whole : List ℕ → Type 0) (t u : Told) (r : Result A Failure) (whole : List ℕ) → Whole whole → OnErr r (PrintsPart t u whole)
+    → Begins Whole t u r
+begins_part Whole t u (Ok a) whole is part = λ broken. absurd broken
+begins_part Whole t u (Err e) whole is part = λ broken. inr (whole, is, part)
+
+-- by what else is so of the text
+pub begins_by : {A : Type 0} (P Q : List ℕ → Type 0) (t u : Told) (r : Result A Failure) → ((text : List ℕ) → P text → Q text)
+    → Begins P t u r → Begins Q t u r
+begins_by P Q t u r step begins = λ broken. elim (begins broken) [
+  | inl none ↦ inl none
+  | inr part ↦ inr (part.0, step part.0 part.1, part.2)
+]
+
+-- by its last part, behind a text
+pub begins_behind : {A : Type 0} (P Q : List ℕ → Type 0) (t u v : Told) (r : Result A Failure) (front rest : List ℕ) → Prints t u front → Q (front ++ rest)
+    → ((text : List ℕ) → P text → Q (front ++ text)) → Begins P u v r → Begins Q t v r
+begins_behind P Q t u v r front rest prints is step begins = λ broken. elim (begins broken) [
+  | inl none ↦ inr (front ++ rest, is, part_then t u v front rest prints (part_none u v rest none))
+  | inr part ↦ inr (front ++ part.0, step part.0 part.1, part_then t u v front part.0 prints part.2)
+]

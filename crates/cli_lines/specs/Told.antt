@@ -1,5 +1,5 @@
 -- What the program tells by the lines that it prints.
-use Rattle.std.specs.Prelude.{◌≡◌, ◌<◌, ◌≤◌, ◌⊎◌, ℕ, List, Bool, true, false, Option, Result, Ok, Err, IfSome}
+use Rattle.std.specs.Prelude.{◌≡◌, ◌<◌, ◌≤◌, ◌⊎◌, ◌++◌, ℕ, List, Bool, true, false, Option, Result, Ok, Err, IfSome}
 use Rattle.std.specs.Io.KnownBytes.{Appends}
 use Rattle.cli_lines.specs.declared.failure.Failure.{Failure}
 use Rattle.cli_lines.specs.declared.failure.Failure.TheVariants as failure
@@ -58,6 +58,28 @@ BreaksOff (Err f) = IsBrokenOff f
 -- A task comes to its answer and to the text that was printed, unless it was broken off
 abbrev pub Answers : {A : Type 0} → (Result A Failure → List ℕ → Type 0) → (before after : Told) → Result A Failure → Type 0
 Answers Comes before after answer = BreaksOff answer ⊎ ((text : List ℕ) × Comes answer text × Prints before after text)
+
+-- no text was printed meanwhile, or one could not be
+abbrev pub PrintsNothing : (before after : Told) → Type 0
+PrintsNothing before after = (after ≡ before) ⊎ (IsMore before after × (after.failed ≡ true))
+
+-- a beginning of a text was printed, and then nothing, or what came then could not be
+pub record PrintsPart (before after : Told) (whole : List ℕ) : Type 0 where
+  pub text : List ℕ
+  pub rest : List ℕ
+  pub mid : Told
+  pub parts : whole ≡ text ++ rest
+  pub prints : Prints before mid text
+  pub end : PrintsNothing mid after
+
+-- a task that was broken off printed nothing, or a beginning of a text of which this is so
+abbrev pub Begins : {A : Type 0} → (List ℕ → Type 0) → (before after : Told) → Result A Failure → Type 0
+Begins Whole before after answer =
+    BreaksOff answer → PrintsNothing before after ⊎ ((whole : List ℕ) × Whole whole × PrintsPart before after whole)
+
+-- a text that a task can come to, with some answer
+abbrev pub IsTextOf : {A : Type 0} → (Result A Failure → List ℕ → Type 0) → List ℕ → Type 0
+IsTextOf {A} Comes text = (answer : Result A Failure) × Comes answer text
 
 -- what a file holds, where that is known
 abbrev pub IsHeld : Option (List ℕ) → List ℕ → Type 0

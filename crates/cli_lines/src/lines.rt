@@ -5,7 +5,7 @@ ghost use Rattle.std.specs.Io.KnownBytes.{Appends};
 ghost use Rattle.std.specs.List.{flat_map};
 ghost use Rattle.cli_lines.specs.Lines.{committed_text, hex_text, id_text, payload_text, range_text, read_text, simulation_line, version_text, write_text};
 ghost use Rattle.cli_lines.specs.Texts.{line};
-ghost use Rattle.cli_lines.specs.Told.{IsBrokenOff, Prints, Tells};
+ghost use Rattle.cli_lines.specs.Told.{IsBrokenOff, Prints, PrintsNothing, PrintsPart, Tells};
 
 use crate::failure::{Failure, SimulationText};
 use crate::printer::Printer;
@@ -23,6 +23,7 @@ pub fn print_line<W: Write>(text: &String, out: &mut Printer<'_, W>) -> Result<(
     ensures failed { OnErr result (out.new.failed ≡ true) }
     ensures line { OnOk result
         (Appends out.old.bytes out.new.bytes (line (string_bytes text.now))) }
+    ensures nothing { OnErr result (PrintsNothing out.old out.new) }
 {
     writeln!(out, "{text}")
 }
@@ -60,6 +61,7 @@ fn print_read<W: Write>(
     ensures tells { Tells out.old out.new result }
     ensures lost { IfErr result IsBrokenOff }
     ensures prints { OnOk result (Prints out.old out.new (read_text read.now)) }
+    ensures nothing { OnErr result (PrintsNothing out.old out.new) }
 {
     let key = hex_of(alloc, read.key.as_slice())?;
     match read.version {
@@ -79,6 +81,7 @@ fn print_range<W: Write>(
     ensures tells { Tells out.old out.new result }
     ensures lost { IfErr result IsBrokenOff }
     ensures prints { OnOk result (Prints out.old out.new (range_text range.now)) }
+    ensures nothing { OnErr result (PrintsNothing out.old out.new) }
 {
     let start = hex_of(alloc, range.start().as_slice())?;
     let end = hex_of(alloc, range.end().as_slice())?;
@@ -94,6 +97,7 @@ fn print_write<W: Write>(
     ensures tells { Tells out.old out.new result }
     ensures lost { IfErr result IsBrokenOff }
     ensures prints { OnOk result (Prints out.old out.new (write_text write.now)) }
+    ensures nothing { OnErr result (PrintsNothing out.old out.new) }
 {
     let key = hex_of(alloc, write.key.as_slice())?;
     match &write.value {
@@ -113,6 +117,7 @@ fn print_reads<W: Write>(
     ensures tells { Tells out.old out.new result }
     ensures lost { IfErr result IsBrokenOff }
     ensures prints { OnOk result (Prints out.old out.new (flat_map read_text reads.now)) }
+    ensures part { OnErr result (PrintsPart out.old out.new (flat_map read_text reads.now)) }
 {
     for read in reads {
         print_read(alloc, read, out)?;
@@ -128,6 +133,7 @@ fn print_ranges<W: Write>(
     ensures tells { Tells out.old out.new result }
     ensures lost { IfErr result IsBrokenOff }
     ensures prints { OnOk result (Prints out.old out.new (flat_map range_text ranges.now)) }
+    ensures part { OnErr result (PrintsPart out.old out.new (flat_map range_text ranges.now)) }
 {
     for range in ranges {
         print_range(alloc, range, out)?;
@@ -143,6 +149,7 @@ fn print_writes<W: Write>(
     ensures tells { Tells out.old out.new result }
     ensures lost { IfErr result IsBrokenOff }
     ensures prints { OnOk result (Prints out.old out.new (flat_map write_text writes.now)) }
+    ensures part { OnErr result (PrintsPart out.old out.new (flat_map write_text writes.now)) }
 {
     for write in writes {
         print_write(alloc, write, out)?;
@@ -159,6 +166,7 @@ pub fn print_payload<W: Write>(
     ensures tells { Tells out.old out.new result }
     ensures lost { IfErr result IsBrokenOff }
     ensures prints { OnOk result (Prints out.old out.new (payload_text payload.now)) }
+    ensures part { OnErr result (PrintsPart out.old out.new (payload_text payload.now)) }
 {
     let id = id_of(alloc, payload)?;
     let result = hex_of(alloc, payload.result().as_slice())?;
@@ -178,6 +186,7 @@ pub fn print_simulation<W: Write>(
     ensures lost { IfErr result IsBrokenOff }
     ensures prints { OnOk result (Prints out.old out.new (simulation_line refusal)) }
     ensures failed { OnErr result (out.new.failed ≡ true) }
+    ensures nothing { OnErr result (PrintsNothing out.old out.new) }
 {
     writeln!(out, "{}", SimulationText(refusal))
 }
@@ -192,6 +201,7 @@ pub fn print_committed<W: Write>(
     ensures lost { IfErr result IsBrokenOff }
     ensures prints { OnOk result (Prints out.old out.new (committed_text number flags.now)) }
     ensures failed { OnErr result (out.new.failed ≡ true) }
+    ensures part { OnErr result (PrintsPart out.old out.new (committed_text number flags.now)) }
 {
     write!(out, "committed {number} flags")?;
     for flag in flags {

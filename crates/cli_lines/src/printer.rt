@@ -2,7 +2,7 @@
 
 ghost use Rattle.std.specs.Prelude.{◌≡◌, ◌<◌, true, IfErr, IfSome, OnOk, OnErr};
 ghost use Rattle.std.specs.Io.KnownBytes.{Appends, Keeps};
-ghost use Rattle.cli_lines.specs.Told.{IsBrokenOff, Prints, Says, Tells, Told, nothing_told};
+ghost use Rattle.cli_lines.specs.Told.{IsBrokenOff, Prints, PrintsNothing, Says, Tells, Told, nothing_told};
 
 use crate::failure::Failure;
 use std::fmt::Display;
@@ -48,6 +48,7 @@ impl<'w, W: Write> Printer<'w, W> {
             (IfSome (D.output text) (Appends self.old.bytes self.new.bytes)) }
         ensures prints { OnOk result (IfSome (D.output text) (Prints self.old self.new)) }
         ensures failed { OnErr result (self.new.failed ≡ true) }
+        ensures nothing { OnErr result (PrintsNothing self.old self.new) }
         ensures lost { IfErr result IsBrokenOff }
     {
         let Some(printed) = self.printed.checked_add(1) else {
@@ -72,6 +73,7 @@ impl<'w, W: Write> Printer<'w, W> {
         ensures printed { self.new.printed ≡ self.old.printed }
         ensures bytes { Keeps self.old.bytes self.new.bytes }
         ensures failed { OnErr result (self.new.failed ≡ true) }
+        ensures nothing { OnErr result (PrintsNothing self.old self.new) }
         ensures lost { IfErr result IsBrokenOff }
     {
         match self.out.flush() {

@@ -2,7 +2,7 @@
 
 ghost use Rattle.std.specs.Prelude.{◌≡◌, ◌<◌, true, false, IfErr, IfOk, OnErr, OnOk};
 ghost use Rattle.cli_lines.specs.Lines.{audit_text, does_agree};
-ghost use Rattle.cli_lines.specs.Told.{IsBrokenOff, Prints, Tells};
+ghost use Rattle.cli_lines.specs.Told.{IsBrokenOff, Prints, PrintsNothing, Tells};
 
 use crate::failure::Failure;
 use crate::printer::Printer;
@@ -17,6 +17,7 @@ pub fn print_audit<W: Write>(audit: Audit, out: &mut Printer<'_, W>) -> Result<b
     ensures good { IfOk result (λ good. good ≡ does_agree audit) }
     ensures prints { OnOk result (Prints out.old out.new (audit_text audit)) }
     ensures failed { OnErr result (out.new.failed ≡ true) }
+    ensures nothing { OnErr result (PrintsNothing out.old out.new) }
 {
     match audit {
         Audit::Agrees { .. } => {

@@ -3,3 +3,4 @@ pub mod Printed
 pub mod Steps
 pub mod Several
 pub mod Whole
+pub mod Begun

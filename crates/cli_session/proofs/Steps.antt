@@ -7,9 +7,8 @@ use Rattle.fabric_core.specs.System.{Rules, World, AreSteps}
 use Rattle.fabric_core.specs.Inside.{State, rules_of, KeepsRules}
 use Rattle.fabric_core.specs.declared.event.Event.{Event}
 use Rattle.fabric_core.specs.declared.event.Reply.{Reply}
-use Rattle.cli_lines.specs.Told.{Told, IsMore, Prints, Tells, IsBrokenOff, IsSilent}
+use Rattle.cli_lines.specs.Told.{Told, Prints, IsBrokenOff}
 use Rattle.cli_lines.specs.declared.failure.Failure.{Failure}
-use Rattle.cli_lines.proofs.Silence.{tells_by}
 use Rattle.cli_session.specs.Stages.{Stage, StepsTo, Stay, IsStepOf, DoesPrint}
 use Rattle.cli_session.specs.Running.{StopsAt, events_of, replies_of}
 
@@ -27,17 +26,16 @@ step_printed (Ok x) {F} reply event said named old new before after steps names 
     let name : named r old.names new.names = subst (λ (q : Result Reply F). IfOk q (λ a. named a old.names new.names)) printed.1 names in
     ((event, r) ∷ [], said r, record { answer = r; step = step; names = name; is = refl; prints = refl }, printed.2)
 
--- the same, where the names are bound behind it
-pub step_and_names : {A E : Type 0} (told : Result A E) {F : Type 0} (reply : Result Reply F) (event : Event) (said : Reply → List ℕ)
-    (named : Reply → Bindings → Bindings → Type 0) (old mid new : Stage) (before after : Told) →
-    IfOk reply (λ r. StepsTo old.system event r mid.system) → mid.names ≡ old.names → new.system ≡ mid.system →
-    OnOk told (IfOk reply (λ r. named r mid.names new.names)) →
-    OnOk told ((r : Reply) × (reply ≡ Ok r) × Prints before after (said r)) →
+-- a step whose reply was printed, where names are bound behind it
+pub step_named : {A E : Type 0} (told : Result A E) (reply : Reply) (event : Event) (said : Reply → List ℕ)
+    (named : Reply → Bindings → Bindings → Type 0) (old mid new : Stage) (before after : Told) → StepsTo old.system event reply mid.system →
+    mid.names ≡ old.names → new.system ≡ mid.system → OnOk told (named reply mid.names new.names) → OnOk told (Prints before after (said reply)) →
     OnOk told (DoesPrint (IsStepOf event said named) old new before after)
-step_and_names told reply event said named old mid new before after steps same kept names printed =
-    step_printed told reply event said named old new before after
-    (subst (λ (s : State). IfOk reply (λ r. StepsTo old.system event r s)) (sym kept) steps)
-    (subst (λ (b : Bindings). OnOk told (IfOk reply (λ r. named r b new.names))) same names) printed
+step_named (Err e) reply event said named old mid new before after step same kept names prints = tt
+step_named (Ok x) reply event said named old mid new before after step same kept names prints =
+    let here : StepsTo old.system event reply new.system = subst (λ (s : State). StepsTo old.system event reply s) (sym kept) step in
+    let bound : named reply old.names new.names = subst (λ (b : Bindings). named reply b new.names) same names in
+    ((event, reply) ∷ [], said reply, record { answer = reply; step = here; names = bound; is = refl; prints = refl }, prints)
 
 pub names_stay : {A E F : Type 0} (told : Result A E) (reply : Result Reply F) (old new : Bindings) → new ≡ old → OnOk told (IfOk reply (λ r. Stay r old new))
 names_stay (Err e) reply old new same = tt
@@ -50,11 +48,6 @@ pub does_by : (P Q : Stage → List (Event × Reply) → List ℕ → Stage → 
     OnOk r (DoesPrint P old new before after) → OnOk r (DoesPrint Q old new before after)
 does_by P Q (Err e) old new before after f h = tt
 does_by P Q (Ok x) old new before after f h = (h.0, h.1, f h.0 h.1 h.2, h.3)
-
--- a last call that prints nothing and fails silently
-pub tells_last : {A : Type 0} (t u : Told) (r : Result A Failure) → IsMore t u → u.failed ≡ t.failed → IfErr r IsSilent → Tells t u r
-tells_last t u (Ok x) more whole silent = (more, whole)
-tells_last t u (Err e) more whole silent = tells_by t u e more silent
 
 pub any_ok : {A E : Type 0} (r : Result A E) (P : Type 0) → P → OnOk r P
 any_ok (Ok x) P h = h

@@ -17,7 +17,7 @@ use Rattle.fabric_core.specs.declared.event.Event.{Event}
 use Rattle.fabric_core.specs.declared.event.Event.TheVariants as event
 use Rattle.fabric_core.specs.declared.event.Reply.{Reply}
 use Rattle.cli_lines.specs.Texts.{line, refused}
-use Rattle.cli_lines.specs.Told.{Told, Prints, IsBrokenOff}
+use Rattle.cli_lines.specs.Told.{Told, Prints, PrintsNothing, IsBrokenOff}
 use Rattle.cli_lines.specs.declared.failure.Failure.{Failure}
 use Rattle.cli_lines.specs.declared.failure.Failure.TheVariants.{BadLine}
 use Rattle.cli_session.specs.Reading.{HasFirst, lines_in, longest_line}
@@ -111,3 +111,12 @@ pub record MeetsBadLine (held : Option (List ℕ)) (old : Stage) (before after :
   pub bad : IsBadLine next end.names
   pub prints : Prints before after text
   pub is : f ≡ BadLine (suc (length lines))
+
+-- some first lines of a file are done, and no other text was printed, or one could not be
+pub record DoesFirst (held : Option (List ℕ)) (old : Stage) (before after : Told) : Type 0 where
+  pub lines : List (List ℕ)
+  pub end : Stage
+  pub mid : Told
+  pub first : HasFirst held lines
+  pub does : DoesPrint (AreLines lines) old end before mid
+  pub nothing : PrintsNothing mid after

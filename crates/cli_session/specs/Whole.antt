@@ -21,7 +21,7 @@ use Rattle.cli_lines.specs.declared.failure.Failure.{Failure}
 use Rattle.cli_lines.specs.declared.failure.Failure.TheVariants as failure
 use Rattle.cli_session.specs.Reading.{HasFirst, lines_in}
 use Rattle.cli_session.specs.States.{state_text}
-use Rattle.cli_session.specs.Stages.{Stage}
+use Rattle.cli_session.specs.Stages.{Stage, first_chain}
 use Rattle.cli_session.specs.Running.{AreLines, IsBadLine, events_of, replies_of}
 
 -- behind the lines: the state after a chain, and what its audit says; nothing, where there is no peer
@@ -29,6 +29,10 @@ abbrev pub EndsWith : Exec → Option Chain → Bool → List ℕ → Type 0
 EndsWith exec None good text = (good ≡ true) × (text ≡ [])
 EndsWith exec (Some chain) good text =
     (verdict : Audit) × AuditSays exec chain verdict × (good ≡ does_agree verdict) × (text ≡ state_text chain ++ audit_text verdict)
+
+-- with some answer
+abbrev pub IsEnd : Exec → Option Chain → List ℕ → Type 0
+IsEnd exec chain text = (good : Bool) × EndsWith exec chain good text
 
 abbrev pub EndsPrinted : Exec → Option Chain → Bool → (before after : Told) → Type 0
 EndsPrinted exec chain good before after = (text : List ℕ) × EndsWith exec chain good text × Prints before after text
@@ -92,3 +96,23 @@ abbrev pub ComesTo : Genesis → Option (List ℕ) → (Option Chain → Type 0)
 ComesTo g events IsStored answer text =
     ((lacks_secret g ≡ false) × LinesComeTo g events IsStored answer text)
     ⊎ ((lacks_secret g ≡ true) × (answer ≡ Err failure.NoSecret) × (text ≡ []))
+
+-- What is printed of some first lines that are done from a stage on, and, where they are all, of the end
+pub record BeginsFrom (exec : Exec) (events : Option (List ℕ)) (start : Stage) (text : List ℕ) : Type 0 where
+  pub lines : List (List ℕ)
+  pub end : Stage
+  pub told : List (Event × Reply)
+  pub front : List ℕ
+  pub rest : List ℕ
+  pub first : HasFirst events lines
+  pub does : AreLines lines start told front end
+  pub behind : (rest ≡ []) ⊎ (IfSome events (λ bytes. lines ≡ lines_in bytes) × IsEnd exec (first_chain end.system) rest)
+  pub whole : text ≡ front ++ rest
+
+-- the same from the opening on
+abbrev pub LinesBegin : Genesis → Option (List ℕ) → List ℕ → Type 0
+LinesBegin g events text = (start : Stage) × IsOpening g start × BeginsFrom (exec_of g.book.value) events start text
+
+-- What `run` prints, where no seed is missing, of some first lines, and, where they are all, of the end
+abbrev pub RunBegins : Genesis → Option (List ℕ) → List ℕ → Type 0
+RunBegins g events text = (lacks_secret g ≡ false) × LinesBegin g events text

@@ -1,12 +1,12 @@
 //! What the program prints of a system and its blocks.
 
-ghost use Rattle.std.specs.Prelude.{◌≡◌, Ok, IfErr, OnOk, map};
+ghost use Rattle.std.specs.Prelude.{◌≡◌, true, Ok, IfErr, IfOk, OnErr, OnOk, map, string_bytes};
 ghost use Rattle.std.specs.List.{flat_map};
 ghost use Rattle.std.specs.Map.Iter.{deref_pair};
 ghost use Rattle.fabric_core.specs.declared.event.Reply.{Reply};
 ghost use Rattle.fabric_core.specs.declared.event.Reply.TheVariants.{Ordered};
-ghost use Rattle.cli_lines.specs.Told.{IsBrokenOff, Prints, Tells};
-ghost use Rattle.cli_session.specs.Replies.{batch_text, begin_text, endorsed_text, finish_text, made_text, reply_text};
+ghost use Rattle.cli_lines.specs.Told.{IsBrokenOff, Prints, PrintsNothing, PrintsPart, Tells};
+ghost use Rattle.cli_session.specs.Replies.{batch_text, begin_text, endorsed_text, made_text, reply_text};
 ghost use Rattle.cli_session.specs.States.{entry_text, state_text};
 
 use cli_lines::{Failure, Printer, hex_of, id_of, print_committed, print_simulation, version_of};
@@ -26,6 +26,7 @@ pub(crate) fn print_state<W: Write>(
     ensures tells { Tells out.old out.new result }
     ensures lost { IfErr result IsBrokenOff }
     ensures prints { OnOk result (Prints out.old out.new (state_text snapshot.now)) }
+    ensures part { OnErr result (PrintsPart out.old out.new (state_text snapshot.now)) }
 {
     let entries = snapshot.entries(alloc)?;
     print_entries(alloc, &entries, out)
@@ -41,6 +42,8 @@ fn print_entries<W: Write>(
     ensures lost { IfErr result IsBrokenOff }
     ensures prints { OnOk result
         (Prints out.old out.new (flat_map entry_text (map deref_pair entries.now))) }
+    ensures part { OnErr result
+        (PrintsPart out.old out.new (flat_map entry_text (map deref_pair entries.now))) }
 {
     for (key, entry) in entries {
         print_entry(alloc, key, &entry.0, entry.1, out)?;
@@ -60,6 +63,7 @@ fn print_entry<W: Write>(
     ensures lost { IfErr result IsBrokenOff }
     ensures prints { OnOk result
         (Prints out.old out.new (entry_text (key.now, (value.now, version)))) }
+    ensures nothing { OnErr result (PrintsNothing out.old out.new) }
 {
     let key = hex_of(alloc, key.as_slice())?;
     let version = version_of(alloc, version)?;
@@ -76,6 +80,7 @@ fn print_made<W: Write>(
     ensures tells { Tells out.old out.new result }
     ensures lost { IfErr result IsBrokenOff }
     ensures prints { OnOk result (Prints out.old out.new (made_text block count)) }
+    ensures failed { OnErr result (out.new.failed ≡ true) }
 {
     match block {
         Some(number) => writeln!(out, "block {number} txs {count}"),
@@ -88,6 +93,7 @@ fn print_batch<W: Write>(report: &BatchReport, out: &mut Printer<'_, W>) -> Resu
     ensures tells { Tells out.old out.new result }
     ensures lost { IfErr result IsBrokenOff }
     ensures prints { OnOk result (Prints out.old out.new (batch_text report.now)) }
+    ensures failed { OnErr result (out.new.failed ≡ true) }
 {
     print_made(report.block, report.count, out)?;
     for (index, cause) in report.aborted.as_slice() {
@@ -102,6 +108,7 @@ fn print_batches<W: Write>(reports: &[BatchReport], out: &mut Printer<'_, W>) ->
     ensures lost { IfErr result IsBrokenOff }
     ensures prints { OnOk result
         (Prints out.old out.new (reply_text (Ordered reports.now))) }
+    ensures failed { OnErr result (out.new.failed ≡ true) }
 {
     writeln!(out, "taken")?;
     for report in reports {
@@ -111,10 +118,11 @@ fn print_batches<W: Write>(reports: &[BatchReport], out: &mut Printer<'_, W>) ->
 }
 
 /// Prints a reply. Of one with the height of a begin or with a payload, nothing.
-fn print_reply<W: Write>(reply: &Reply, out: &mut Printer<'_, W>) -> Result<(), Failure>
+pub(crate) fn print_reply<W: Write>(reply: &Reply, out: &mut Printer<'_, W>) -> Result<(), Failure>
     ensures tells { Tells out.old out.new result }
     ensures lost { IfErr result IsBrokenOff }
     ensures prints { OnOk result (Prints out.old out.new (reply_text reply.now)) }
+    ensures failed { OnErr result (out.new.failed ≡ true) }
 {
     match reply {
         Reply::Queued => writeln!(out, "queued"),
@@ -140,6 +148,7 @@ fn print_begin<W: Write>(
     ensures tells { Tells out.old out.new result }
     ensures lost { IfErr result IsBrokenOff }
     ensures prints { OnOk result (Prints out.old out.new (begin_text peer seat reply.now)) }
+    ensures failed { OnErr result (out.new.failed ≡ true) }
 {
     match reply {
         Reply::Begun(height) => writeln!(out, "begun {peer}.{seat} at {height}"),
@@ -147,36 +156,16 @@ fn print_begin<W: Write>(
     }
 }
 
-/// Prints the name and the id of an endorsed payload.
-fn print_endorsed<W: Write>(
+/// The line of an endorsed payload: its name and its id.
+pub(crate) fn endorsed_line(
     alloc: Global,
     name: &str,
     payload: &Payload,
-    out: &mut Printer<'_, W>,
-) -> Result<(), Failure>
-    ensures tells { Tells out.old out.new result }
-    ensures lost { IfErr result IsBrokenOff }
-    ensures prints { OnOk result (Prints out.old out.new (endorsed_text name.now payload.now)) }
+) -> Result<String, AllocError>
+    ensures { IfOk result (λ text. string_bytes text ≡ endorsed_text name.now payload.now) }
 {
     let id = id_of(alloc, payload)?;
-    writeln!(out, "endorsed {name} {id}")
-}
-
-/// Prints a reply to a finish: the name and the id of what was endorsed, if it was.
-fn print_finish<W: Write>(
-    alloc: Global,
-    name: &str,
-    reply: &Reply,
-    out: &mut Printer<'_, W>,
-) -> Result<(), Failure>
-    ensures tells { Tells out.old out.new result }
-    ensures lost { IfErr result IsBrokenOff }
-    ensures prints { OnOk result (Prints out.old out.new (finish_text name.now reply.now)) }
-{
-    match reply {
-        Reply::Endorsed(payload, _) => print_endorsed(alloc, name, payload, out),
-        reply => print_reply(reply, out),
-    }
+    format!(in alloc; "endorsed {name} {id}\n")
 }
 
 /// Prints the reply to a step, which is looked at where it stands: a reply that is moved is dear to
@@ -189,6 +178,7 @@ pub(crate) fn print_step<W: Write>(
     ensures lost { IfErr result IsBrokenOff }
     ensures prints { OnOk result
         ((r : Reply) × (reply.now ≡ Ok r) × Prints out.old out.new (reply_text r)) }
+    ensures nothing { OnErr result (PrintsNothing out.old out.new) }
 {
     match reply {
         Ok(reply) => print_reply(reply, out),
@@ -207,27 +197,10 @@ pub(crate) fn print_begun<W: Write>(
     ensures lost { IfErr result IsBrokenOff }
     ensures prints { OnOk result
         ((r : Reply) × (reply.now ≡ Ok r) × Prints out.old out.new (begin_text peer seat r)) }
+    ensures nothing { OnErr result (PrintsNothing out.old out.new) }
 {
     match reply {
         Ok(reply) => print_begin(peer, seat, reply, out),
-        Err(_) => Err(Failure::Memory),
-    }
-}
-
-/// The same of a finish that is to have a name.
-pub(crate) fn print_finished<W: Write>(
-    alloc: Global,
-    name: &str,
-    reply: &Result<Reply, AllocError>,
-    out: &mut Printer<'_, W>,
-) -> Result<(), Failure>
-    ensures tells { Tells out.old out.new result }
-    ensures lost { IfErr result IsBrokenOff }
-    ensures prints { OnOk result
-        ((r : Reply) × (reply.now ≡ Ok r) × Prints out.old out.new (finish_text name.now r)) }
-{
-    match reply {
-        Ok(reply) => print_finish(alloc, name, reply, out),
         Err(_) => Err(Failure::Memory),
     }
 }

@@ -4,18 +4,19 @@ ghost use Rattle.std.specs.Prelude.{◌≡◌, ◌≢◌, ◌<◌, ◌⊎◌, fa
 ghost use Rattle.json_events.specs.Bound.{bound_as, envelope_named};
 ghost use Rattle.simulator.specs.Execution.{exec_of};
 ghost use Rattle.fabric_core.specs.declared.event.Event.TheVariants.{Begin, Finish};
+ghost use Rattle.fabric_core.specs.declared.event.Reply.TheVariants.{Endorsed};
 ghost use Rattle.wire.specs.FaultNumbers.{number_of};
 ghost use Rattle.wire.specs.declared.fault.WireFault.TheVariants.{Memory};
 ghost use Rattle.cli_lines.specs.Texts.{line, refused};
-ghost use Rattle.cli_lines.specs.Told.{Answers, IsBrokenOff, IsSilent, Prints, Tells, Told};
-ghost use Rattle.cli_session.specs.Replies.{begin_text, finish_text, reply_text};
-ghost use Rattle.cli_session.specs.Running.{Does, DoesAll, IsBadLine, IsBytes, IsLine, IsNamed, IsUnbound, MeetsBadLine, StopsAt};
+ghost use Rattle.cli_lines.specs.Told.{Answers, Begins, IsBrokenOff, Prints, PrintsNothing, Tells, Told};
+ghost use Rattle.cli_session.specs.Replies.{begin_text, endorsed_text, finish_text, reply_text};
+ghost use Rattle.cli_session.specs.Running.{Does, DoesAll, DoesFirst, IsBadLine, IsBytes, IsLine, IsNamed, IsUnbound, MeetsBadLine, StopsAt};
 ghost use Rattle.cli_session.specs.Stages.{DoesPrint, Gets, IsStepOf, Stay, StepsTo, first_chain, stage_at};
 ghost use Rattle.cli_session.specs.Stored.{HoldsAsked, HoldsPlaced};
-ghost use Rattle.cli_session.specs.Whole.{ComesTo, EndsPrinted, LinesComeTo};
+ghost use Rattle.cli_session.specs.Whole.{BeginsFrom, ComesTo, EndsPrinted, IsEnd, LinesBegin, LinesComeTo, RunBegins};
 
 use crate::explaining::{Refused, explain_line, next_explained, refused_by};
-use crate::lines::{print_begun, print_finished, print_state, print_step};
+use crate::lines::{endorsed_line, print_begun, print_reply, print_state, print_step};
 use crate::placing::place_of;
 use crate::reading::Next;
 use crate::storing::write_store;
@@ -23,7 +24,7 @@ use cli_lines::{
     Access, Failure, Files, Location, Printer, Target, explain_trouble, need_secrets, print_audit,
 };
 use endorsement_policy::Workers;
-use fab_types::Proposal;
+use fab_types::{Endorsement, Payload, Proposal};
 use fabric_core::{Event, Reply, System, audit};
 use json_events::{Action, BadLine, Bindings, read_event};
 use ledger_setting::Genesis;
@@ -81,6 +82,10 @@ pub fn run<T: Threads + Sync, F: Files, W: Write>(
     ensures answers { Answers (ComesTo genesis.now (F.bytes files.old names.now.events.now)
         (HoldsAsked F.is_known (F.bytes files.new) (option_map (λ s. s.now) names.now.store)))
         out.old out.new result }
+    // What a run that is broken off printed is a beginning of this: what some first lines come to,
+    // and, where they are all, the state and its audit.
+    ensures begins { Begins (RunBegins genesis.now (F.bytes files.old names.now.events.now))
+        out.old out.new result }
 {
     need_secrets(alloc, files, genesis, &genesis.peers)?;
     let Some(events) = files.open(names.events) else {
@@ -106,6 +111,7 @@ fn run_read<T: Threads + Sync, F: Files, B: BufRead, W: Write>(
     ensures comes { Answers (LinesComeTo genesis.now (B.remaining lines.old)
         (HoldsAsked F.is_known (F.bytes files.new) (option_map (λ s. s.now) names.now.store)))
         out.old out.new result }
+    ensures begins { Begins (LinesBegin genesis.now (B.remaining lines.old)) out.old out.new result }
 {
     match names.store {
         Some(store) => {
@@ -150,6 +156,7 @@ fn run_into<T: Threads + Sync, F: Files, B: BufRead, W: Write>(
     ensures comes { Answers (LinesComeTo genesis.now (B.remaining lines.old)
         (HoldsPlaced F.is_known (F.bytes files.new) (option_map (λ t. t.now) store.entry))) out.old
         out.new result }
+    ensures begins { Begins (LinesBegin genesis.now (B.remaining lines.old)) out.old out.new result }
 {
     ordering_laws();
     let system = System::new(alloc, genesis)?;
@@ -191,6 +198,9 @@ impl<T: Threads + Sync> Session<'_, T> {
             (stage_at self.new.system self.new.bindings) out.old mid ×
             EndsPrinted (exec_of genesis.now.book.value) (first_chain self.new.system) good mid
             out.new) }
+        ensures begins { Begins
+            (BeginsFrom (exec_of genesis.now.book.value) (B.remaining lines.old)
+            (stage_at self.old.system self.old.bindings)) out.old out.new result }
     {
         self.run_lines(files, lines, out)?;
         let is_good = self.print_end(genesis, out)?;
@@ -215,6 +225,9 @@ impl<T: Threads + Sync> Session<'_, T> {
         ensures does { OnOk result
             (DoesAll (B.remaining lines.old) (stage_at self.old.system self.old.bindings)
             (stage_at self.new.system self.new.bindings) out.old out.new) }
+        ensures first { OnErr result
+            (DoesFirst (B.remaining lines.old) (stage_at self.old.system self.old.bindings)
+            out.old out.new) }
     {
         for number in 1..usize::MAX {
             let place = Location::line(self.events, number as u64);
@@ -244,6 +257,7 @@ impl<T: Threads + Sync> Session<'_, T> {
             (DoesPrint (IsLine line.now)
             (stage_at self.old.system self.old.bindings)
             (stage_at self.new.system self.new.bindings) out.old out.new) }
+        ensures nothing { OnErr result (PrintsNothing out.old out.new) }
     {
         let told = self.take_line(line, number, out);
         let refused = self.refused.take();
@@ -273,6 +287,7 @@ impl<T: Threads + Sync> Session<'_, T> {
             (DoesPrint (IsLine line.now)
             (stage_at self.old.system self.old.bindings)
             (stage_at self.new.system self.new.bindings) out.old out.new) }
+        ensures nothing { OnErr result (PrintsNothing out.old out.new) }
     {
         let Ok(line) = std::str::from_utf8(line) else {
             return Err(Failure::BadLine(number));
@@ -298,6 +313,7 @@ impl<T: Threads + Sync> Session<'_, T> {
             (DoesPrint (Does action)
             (stage_at self.old.system self.old.bindings)
             (stage_at self.new.system self.new.bindings) out.old out.new) }
+        ensures nothing { OnErr result (PrintsNothing out.old out.new) }
     {
         match action {
             Action::Begin {
@@ -341,6 +357,7 @@ impl<T: Threads + Sync> Session<'_, T> {
             (DoesPrint (IsStepOf event reply_text Stay)
             (stage_at self.old.system self.old.bindings)
             (stage_at self.new.system self.new.bindings) out.old out.new) }
+        ensures nothing { OnErr result (PrintsNothing out.old out.new) }
     {
         let reply = self.reply_to(event);
         let told = print_step(&reply, out);
@@ -362,6 +379,7 @@ impl<T: Threads + Sync> Session<'_, T> {
             (DoesPrint (IsStepOf (Begin peer seat proposal) (begin_text peer seat) Stay)
             (stage_at self.old.system self.old.bindings)
             (stage_at self.new.system self.new.bindings) out.old out.new) }
+        ensures nothing { OnErr result (PrintsNothing out.old out.new) }
     {
         let reply = self.reply_to(Event::Begin {
             peer,
@@ -389,43 +407,58 @@ impl<T: Threads + Sync> Session<'_, T> {
             (Gets (string_bytes name)))
             (stage_at self.old.system self.old.bindings)
             (stage_at self.new.system self.new.bindings) out.old out.new) }
+        ensures nothing { OnErr result (PrintsNothing out.old out.new) }
     {
-        let reply = self.reply_to(Event::Finish { peer, seat });
-        match print_finished(self.alloc, name.as_str(), &reply, out) {
-            Ok(()) => self.bind_reply(name, reply),
-            Err(failure) => Err(failure),
+        match self.reply_to(Event::Finish { peer, seat }) {
+            Ok(reply) => self.take_reply(name, reply, out),
+            Err(_) => Err(Failure::Memory),
         }
     }
 
-    /// Gives what a reply endorses, if it does, its name.
-    fn bind_reply(&mut self, name: String, reply: Result<Reply, AllocError>) -> Result<(), Failure>
-        ensures silent { IfErr result IsSilent }
-        ensures lost { IfErr result IsBrokenOff }
-        ensures names { OnOk result
-            (IfOk reply (λ r. Gets (string_bytes name) r self.old.bindings self.new.bindings)) }
-        ensures system { self.new.system ≡ self.old.system }
-    {
-        match reply {
-            Ok(reply) => self.bind(name, reply),
-            Err(_) => Ok(()),
-        }
-    }
-
-    /// The same of a reply.
-    fn bind(&mut self, name: String, reply: Reply) -> Result<(), Failure>
-        ensures silent { IfErr result IsSilent }
+    /// Gives what a reply to a finish endorses, if it does, its name, and prints what it comes to.
+    fn take_reply<W: Write>(
+        &mut self,
+        name: String,
+        reply: Reply,
+        out: &mut Printer<'_, W>,
+    ) -> Result<(), Failure>
+        ensures tells { Tells out.old out.new result }
         ensures lost { IfErr result IsBrokenOff }
         ensures names { OnOk result
             (Gets (string_bytes name) reply self.old.bindings self.new.bindings) }
         ensures system { self.new.system ≡ self.old.system }
+        ensures prints { OnOk result
+            (Prints out.old out.new (finish_text (string_bytes name) reply)) }
+        ensures nothing { OnErr result (PrintsNothing out.old out.new) }
     {
         match reply {
-            Reply::Endorsed(payload, endorsement) => {
-                self.bindings.bind(name, payload, endorsement)?;
-                Ok(())
-            }
-            _ => Ok(()),
+            Reply::Endorsed(payload, endorsement) => self.bind(name, payload, endorsement, out),
+            reply => print_reply(&reply, out),
         }
+    }
+
+    /// Gives a payload and its endorsement a name. Prints the name and the payload's id, when
+    /// nothing but the output can fail any more.
+    fn bind<W: Write>(
+        &mut self,
+        name: String,
+        payload: Payload,
+        endorsement: Endorsement,
+        out: &mut Printer<'_, W>,
+    ) -> Result<(), Failure>
+        ensures tells { Tells out.old out.new result }
+        ensures lost { IfErr result IsBrokenOff }
+        ensures names { OnOk result
+            (Gets (string_bytes name) (Endorsed payload endorsement) self.old.bindings
+            self.new.bindings) }
+        ensures system { self.new.system ≡ self.old.system }
+        ensures prints { OnOk result
+            (Prints out.old out.new (endorsed_text (string_bytes name) payload)) }
+        ensures nothing { OnErr result (PrintsNothing out.old out.new) }
+    {
+        let line = endorsed_line(self.alloc, name.as_str(), &payload)?;
+        self.bindings.bind(name, payload, endorsement)?;
+        write!(out, "{line}")
     }
 
     /// Submits the envelope that names stand for, in the line of this number.
@@ -444,6 +477,7 @@ impl<T: Threads + Sync> Session<'_, T> {
             (DoesPrint (IsNamed (map string_bytes names.now))
             (stage_at self.old.system self.old.bindings)
             (stage_at self.new.system self.new.bindings) out.old out.new) }
+        ensures nothing { OnErr result (PrintsNothing out.old out.new) }
     {
         let found = self.bindings.resolve(names)?;
         match found {
@@ -464,6 +498,7 @@ impl<T: Threads + Sync> Session<'_, T> {
             (DoesPrint (IsBytes bytes.now)
             (stage_at self.old.system self.old.bindings)
             (stage_at self.new.system self.new.bindings) out.old out.new) }
+        ensures nothing { OnErr result (PrintsNothing out.old out.new) }
     {
         match decode_envelope(self.alloc, bytes) {
             Ok(envelope) => self.step(Event::Submit(envelope), out),
@@ -474,8 +509,8 @@ impl<T: Threads + Sync> Session<'_, T> {
         }
     }
 
-    /// Prints the state of the first peer and what the audit of its chain says, and answers whether
-    /// all transactions agree with their reruns.
+    /// Prints the state of the first peer and what the audit of its chain says, which is made before,
+    /// and answers whether all transactions agree with their reruns.
     fn print_end<W: Write>(
         &self,
         genesis: &Genesis,
@@ -487,12 +522,16 @@ impl<T: Threads + Sync> Session<'_, T> {
         ensures ends { IfOk result
             (λ good. EndsPrinted (exec_of genesis.now.book.value) (first_chain self.now.system) good
             out.old out.new) }
+        ensures begins { Begins
+            (IsEnd (exec_of genesis.now.book.value) (first_chain self.now.system)) out.old out.new
+            result }
     {
         let Some(snapshot) = self.system.snapshot(0) else {
             return Ok(true);
         };
+        let verdict = audit(self.alloc, genesis, snapshot)?;
         print_state(self.alloc, snapshot, out)?;
-        print_audit(audit(self.alloc, genesis, snapshot)?, out)
+        print_audit(verdict, out)
     }
 }
 
@@ -502,6 +541,7 @@ fn print_fault<W: Write>(fault: WireFault, out: &mut Printer<'_, W>) -> Result<(
     ensures lost { IfErr result IsBrokenOff }
     ensures prints { OnOk result
         ((fault ≢ Memory) × Prints out.old out.new (line (refused (number_of fault)))) }
+    ensures nothing { OnErr result (PrintsNothing out.old out.new) }
 {
     match fault {
         WireFault::Memory => Err(Failure::Memory),

@@ -1,5 +1,5 @@
 -- The blocks of a chain as JSON, and parts of them.
-use Rattle.std.proofs.Common.{◌≡◌, ℕ, zero, suc, ◌+◌, List, [], ◌∷◌, ◌++◌, Option, take, drop, refl, sym, ap, ◌∙◌, arith}
+use Rattle.std.proofs.Common.{◌≡◌, ℕ, zero, suc, ◌+◌, ◌-◌, List, [], ◌∷◌, ◌++◌, Option, None, take, drop, refl, sym, ap, ◌∙◌, arith}
 use Rattle.std.proofs.lemmas.List.{append-nil, take-append-drop}
 use Rattle.fab_types.specs.Committed.{Committed}
 use Rattle.fab_types.specs.declared.membership.Membership.{Membership}
@@ -8,6 +8,7 @@ use Rattle.endorsement_policy.specs.Membership.{standing_by}
 use Rattle.serde_json.specs.Data.{Data}
 use Rattle.json_chain.specs.Blocks.{block_json}
 use Rattle.json_chain.specs.Standing.{amended_by, blocks_json, membership_behind}
+use Rattle.cli_show.specs.Spans.{before, within}
 
 module _ (r : Listed) where
   pub taken : (was : Option Membership) (n : ℕ) (cs : List Committed) → take n (blocks_json r was cs) ≡ blocks_json r was (take n cs)
@@ -23,6 +24,14 @@ module _ (r : Listed) where
   dropped was zero (c ∷ cs) = refl
   dropped was (suc n) [] = refl
   dropped was (suc n) (c ∷ cs) = dropped (amended_by was c.block.envelopes c.flags) n cs
+
+-- the blocks from one number to another, behind those before them
+pub cut_json : (r : Listed) (from to : ℕ) (chain earlier shown : List Committed) → earlier ≡ before from to chain → shown ≡ within from to chain →
+    blocks_json r (membership_behind None earlier) shown ≡ within from to (blocks_json r None chain)
+cut_json r from to chain earlier shown front is =
+    ap (λ (cs : List Committed). blocks_json r (membership_behind None cs) shown) front
+    ∙ ap (λ (cs : List Committed). blocks_json r (membership_behind None (before from to chain)) cs) is
+    ∙ sym (ap (λ (ds : List Data). drop (from - 1) ds) (taken r None to chain) ∙ dropped r None (from - 1) (take to chain))
 
 cons_head : {A : Type 0} (x y : A) (xs ys : List A) → x ∷ xs ≡ y ∷ ys → x ≡ y
 cons_head x y xs ys e = cc

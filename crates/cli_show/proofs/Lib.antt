@@ -5,7 +5,9 @@ pub mod Calls
 pub mod Cuts
 pub mod Amending
 pub mod Behind
+pub mod First
 pub mod WriteLines
 pub mod Read
 mod MarkLines
+mod Stored
 mod Traces

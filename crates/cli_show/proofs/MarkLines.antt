@@ -1,5 +1,5 @@
 -- Lines of marks behind lines.
-use Rattle.std.proofs.Common.{◌≡◌, List, [], ◌∷◌, ◌++◌, Option, None, Result, Ok, Err, IfSome, IfErr, OnOk, map, inl, inr, refl, sym, subst, ap, ◌∙◌}
+use Rattle.std.proofs.Common.{◌≡◌, List, [], ◌∷◌, ◌++◌, Option, None, Result, Ok, Err, IfSome, IfErr, OnErr, OnOk, map, inl, inr, refl, sym, subst, ap, ◌∙◌}
 use Rattle.std.proofs.lemmas.List.{append-nil, map-append}
 use Rattle.std.proofs.lemmas.List.Concat.{flat_map-append}
 use Rattle.std.specs.List.{flat_map}
@@ -13,12 +13,14 @@ use Rattle.ledger_setting.specs.declared.genesis.Genesis.{Genesis}
 use Rattle.store_replay.specs.Replay.{ReplaysFrom}
 use Rattle.store_replay.specs.declared.replaying.Replayed.{Replayed}
 use Rattle.cli_lines.specs.Texts.{line}
-use Rattle.cli_lines.specs.Told.{Answers, IsBrokenOff, Tells, Told}
+use Rattle.cli_lines.specs.Told.{Answers, Begins, IsBrokenOff, IsMore, IsTextOf, PrintsPart, Tells, Told}
 use Rattle.cli_lines.specs.declared.failure.Failure.{Failure}
 use Rattle.cli_show.specs.Answers.{UnlessFault, fault_of}
 use Rattle.cli_show.specs.Marks.{HasTexts, Marks, TellsMarks, chain_marks}
-use Rattle.cli_lines.proofs.Answering.{answers_by}
+use Rattle.cli_lines.proofs.Answering.{answers_by, begins_part}
+use Rattle.cli_lines.proofs.Printing.{part_first, part_same}
 use Rattle.cli_show.proofs.Behind.{appends_more, appends_none}
+use Rattle.cli_show.proofs.First.{fault_begins, texts_then}
 use Rattle.cli_show.proofs.Replays.{unless_fault}
 
 pub no_texts : (b : Option Bytes) → HasTexts [] b b
@@ -49,6 +51,20 @@ pub block_behind : (chain longer : Chain) (c : Committed) (a b d : Option Bytes)
 block_behind chain longer c a b d is h k =
     subst (λ (ts : List Bytes). HasTexts ts a d) (sym (chain_longer chain longer c is)) (more_texts (chain_marks chain) (block_marks c.block) a b d h k)
 
+-- the marks of the first blocks were printed, and a beginning of the next one's
+pub block_part : (chain longer rest : Chain) (c : Committed) (t u v : Told) → longer ≡ chain ++ c ∷ rest → IsMore t u → u.failed ≡ t.failed →
+    HasTexts (chain_marks chain) t.bytes u.bytes → PrintsPart u v (flat_map line (block_marks c.block)) → PrintsPart t v (flat_map line (chain_marks longer))
+block_part chain longer rest c t u v is more whole texts part =
+    let block = λ (x : Committed). x.block in
+    let marks = block_marks c.block in
+    let others = chain_marks rest in
+    let same : chain_marks longer ≡ chain_marks chain ++ (marks ++ others) =
+    ap (λ (cs : Chain). chain_marks cs) is ∙ ap (λ (bs : List Block). flat_map block_marks bs) (map-append block chain (c ∷ rest))
+    ∙ flat_map-append block_marks (map block chain) (map block (c ∷ rest)) in
+    subst (λ (ts : List Bytes). PrintsPart t v (flat_map line ts)) (sym same) (texts_then (chain_marks chain) (marks ++ others) t u v more whole texts
+    (part_same u v (flat_map line marks ++ flat_map line others) (flat_map line (marks ++ others)) (sym (flat_map-append line marks others))
+    (part_first u v (flat_map line marks) (flat_map line others) part)))
+
 marks_told : (chain : Chain) (t u : Told) (r : Result (Unit {0}) Failure) → Tells t u r → OnOk r (HasTexts (chain_marks chain) t.bytes u.bytes) →
     IfErr r IsBrokenOff → Answers (TellsMarks chain) t u r
 marks_told chain t u (Ok x) tells marks lost = inr (_, (refl, refl), record { more = tells.0; whole = tells.1; bytes = marks })
@@ -61,3 +77,13 @@ pub store_told : (g : Genesis) (held : Option Bytes) (r : Replayed) (t u : Told)
 store_told g held r t u answer replay tells fault marks lost =
     answers_by (UnlessFault (fault_of r) (TellsMarks r.snapshot)) (Marks g held) t u answer (λ text h. (r, replay, h))
     (unless_fault (fault_of r) (TellsMarks r.snapshot) t u answer fault (λ none. marks_told r.snapshot t u answer tells marks (lost none)))
+
+-- what `marks` begins
+pub store_begun : (g : Genesis) (held : Option Bytes) (r : Replayed) (t u : Told) (answer : Result (Unit {0}) Failure) →
+    ReplaysFrom (table_of g.rules.value) held r → IfSome (fault_of r) (λ failure. (answer ≡ Err failure) × (u ≡ t)) →
+    OnErr answer (PrintsPart t u (flat_map line (chain_marks r.snapshot))) → Begins (IsTextOf (Marks g held)) t u answer
+store_begun g held r t u answer replay fault part =
+    let text : Bytes = flat_map line (chain_marks r.snapshot) in
+    fault_begins (fault_of r) (IsTextOf (Marks g held)) t u answer fault
+    (λ none. begins_part (IsTextOf (Marks g held)) t u answer text
+    (Ok tt, (r, replay, subst (λ (o : Option Failure). UnlessFault o (TellsMarks r.snapshot) (Ok tt) text) (sym none) (refl, refl))) part)

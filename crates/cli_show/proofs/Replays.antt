@@ -1,5 +1,5 @@
 -- What commands come to that replay a store.
-use Rattle.std.proofs.Common.{◌≡◌, ◌<◌, ◌++◌, ℕ, Bool, true, false, [], ◌∷◌, Option, Some, None, IfSome, Result, Ok, Err, IfErr, OnOk, length}
+use Rattle.std.proofs.Common.{◌≡◌, ◌<◌, ◌++◌, ℕ, Bool, true, false, [], ◌∷◌, Option, Some, None, IfSome, Result, Ok, Err, IfErr, OnErr, OnOk, length}
 use Rattle.std.proofs.Common.{inl, inr, refl, sym, ap, ◌∙◌, subst}
 use Rattle.wire.specs.Links.{AreLinked}
 use Rattle.endorsement_policy.specs.Endorsed.{Listed}
@@ -12,15 +12,16 @@ use Rattle.ledger_setting.specs.declared.genesis.Genesis.{Genesis}
 use Rattle.store_replay.specs.Replay.{ReplaysFrom}
 use Rattle.store_replay.specs.declared.replaying.Replayed.{Replayed}
 use Rattle.json_chain.specs.Endings.{ending_json}
-use Rattle.cli_lines.proofs.Answering.{answers_by}
-use Rattle.cli_lines.specs.Told.{Answers, IsBrokenOff, IsMore, IsSilent, Tells, Told}
+use Rattle.cli_lines.proofs.Answering.{answers_by, begins_by}
+use Rattle.cli_lines.specs.Told.{Answers, Begins, IsBrokenOff, IsMore, IsSilent, Tells, Told}
 use Rattle.cli_lines.specs.declared.failure.Failure.{Failure}
-use Rattle.cli_show.specs.Answers.{ShowsPart, States, UnlessFault, end_fault, fault_of, part_json}
+use Rattle.cli_show.specs.Answers.{ShowsPart, StateBegins, States, UnlessFault, end_fault, fault_of, part_json}
 use Rattle.cli_show.specs.Findings.{EndsBy, ShowsReplay, ends_with}
-use Rattle.cli_show.specs.Lines.{HasLines, chain_json}
+use Rattle.cli_show.specs.Lines.{AreFirstLines, HasLines, PrintsFirst, chain_json}
 use Rattle.cli_show.specs.declared.showing.Part.{Part}
 use Rattle.cli_show.proofs.Answering.{lines_printed, untold}
 use Rattle.cli_show.proofs.Behind.{more_lines}
+use Rattle.cli_show.proofs.First.{begins_first, fault_begins}
 use Rattle.cli_show.proofs.Linked.{replays_linked}
 
 -- a fault is told with nothing printed, and where there is none the task is done
@@ -49,6 +50,15 @@ state_told g part at held r t u answer replay tells fault lines lost =
     answers_by (UnlessFault (fault_of r) (ShowsPart l part at chain)) (States g part at held) t u answer (λ text h. (r, replay, h))
     (unless_fault (fault_of r) (ShowsPart l part at chain) t u answer fault
     (λ none. part_told l part at chain t u answer tells lines (lost none linked)))
+
+-- what `state` begins
+pub state_begun : (g : Genesis) (part : Part) (at : ℕ) (held : Option Bytes) (r : Replayed) (t u : Told) (answer : Result (Unit {0}) Failure) →
+    ReplaysFrom (table_of g.rules.value) held r → IfSome (fault_of r) (λ failure. (answer ≡ Err failure) × (u ≡ t)) →
+    OnErr answer (PrintsFirst (part_json g.rules.value part at r.snapshot) t u) → Begins (StateBegins g part at held) t u answer
+state_begun g part at held r t u answer replay fault first =
+    let lines = part_json g.rules.value part at r.snapshot in
+    fault_begins (fault_of r) (StateBegins g part at held) t u answer fault
+    (λ none. begins_by (AreFirstLines lines) (StateBegins g part at held) t u answer (λ text h. (r, replay, none, h)) (begins_first lines t u answer first))
 
 -- an end of a store says nothing of what was told
 pub end_silent : (e : End) → IfSome (end_fault e) IsSilent

@@ -1,7 +1,6 @@
 -- The steps of a run, printed as they are made.
-use Rattle.std.proofs.Common.{◌≡◌, ◌<◌, ◌≤◌, ◌+◌, ◌⊎◌, inl, inr, ℕ, suc, true, false, List, [], ◌∷◌, ◌++◌, length, take, min, Option, Some, None, Result}
-use Rattle.std.proofs.Common.{Ok, Err, IfErr, OnOk, refl, sym, ap, subst, ◌∙◌, append_assoc, append-nil, arith}
-use Rattle.std.specs.Prelude.{◌↔◌, IsSome, option_map}
+use Rattle.std.proofs.Common.{◌≡◌, ◌<◌, ◌≤◌, ◌+◌, inl, inr, ℕ, suc, List, [], ◌∷◌, ◌++◌, length, take, Option, Some, None, Result}
+use Rattle.std.proofs.Common.{Ok, Err, IfErr, OnOk, OnErr, refl, sym, ap, subst, ◌∙◌, append_assoc, append-nil, arith}
 use Rattle.std.specs.FinMap.{empty}
 use Rattle.std.specs.List.{cons_option}
 use Rattle.std.proofs.lemmas.Bool.{cases_lt}
@@ -21,17 +20,17 @@ use Rattle.ledger_model.specs.Views.{Plain}
 use Rattle.ledger_setting.specs.declared.genesis.Genesis.{Genesis}
 use Rattle.wasm_trace.specs.Reduction.{Config, To, reduce}
 use Rattle.wasm_typing.specs.ModuleRules.{IsValid}
-use Rattle.wasm_trace.specs.Context.{Layer, InLabel, InFrame, wrap, plug}
 use Rattle.wasm_trace.specs.Ending.{IsStart, IsEnd}
-use Rattle.wasm_trace.specs.Standing.{Standing, Begins, Goes, standing, with_records}
-use Rattle.wasm_trace.specs.View.{layers}
-use Rattle.wasm_trace.specs.declared.stepper.Stepper.{Stepper}
+use Rattle.wasm_trace.specs.Names.{Named}
+use Rattle.wasm_trace.specs.Standing.{Standing, Begins, Goes, IsShownOf, with_records}
 use Rattle.wasm_trace.proofs.Running.{Runs}
 use Rattle.wasm_trace.proofs.Whole.{goes_on}
-use Rattle.cli_lines.specs.Told.{Told, Answers, IsBrokenOff, Prints}
+use Rattle.cli_lines.specs.Told.{Told, Answers, IsBrokenOff, Prints, PrintsNothing, PrintsPart}
+use Rattle.cli_lines.specs.Told.{Begins as IsBegun}
 use Rattle.cli_lines.specs.declared.failure.Failure.{Failure}
-use Rattle.cli_lines.proofs.Printing.{prints_none, prints_same, prints_then}
-use Rattle.cli_show.specs.Tracing.{Reduction, Reduces, IsTrace, NextStep, Traces, named_text, step_text}
+use Rattle.cli_lines.proofs.Printing.{part_end, printed_on_err, prints_none, prints_same, prints_then}
+use Rattle.cli_lines.proofs.Answering.{begins_by, begins_part}
+use Rattle.cli_show.specs.Tracing.{Reduction, Reduces, IsTrace, IsTraceBegun, NextStep, TraceBegins, Traces, named_text, step_text}
 use Rattle.cli_show.specs.Tracing.{step_texts, step_line, numbered, steps_text, outcome_text}
 
 -- ---- lines
@@ -107,28 +106,9 @@ next_some o t most printed count is below one =
 
 -- ---- reductions
 
--- the fuel within labels and frames is that of the whole
-fuel_in : {R : Type 0} (ks : List Layer) (x : Config R) → (plug ks x).fuel ≡ x.fuel
-fuel_in [] x = refl
-fuel_in (InLabel t c s i ∷ ks) x = fuel_in ks (wrap (InLabel t c s i) x)
-fuel_in (InFrame t l s i ∷ ks) x = fuel_in ks (wrap (InFrame t l s i) x)
-
-pub fuel_of : (s : Stepper) → (standing s).at.fuel ≡ s.configuration.fuel
-fuel_of s = fuel_in (layers s.configuration.levels.items) _
-
--- a step is shown exactly where it cost fuel
-shown_paid : {A : Type 0} (f : A → Bytes) (o : Option A) (q : Option Outcome) (left before : ℕ) → q ≡ None →
-    (IsSome o ↔ ((q ≡ None) × (left < before))) → IsSome (option_map f o) ↔ (left < before)
-shown_paid f None q left before goes h = (λ (some : false ≡ true). cc, λ less. h.1 (goes, less))
-shown_paid f (Some x) q left before goes h = (λ some. (h.0 refl).1, λ less. refl)
-
-pub step_paid : (s s' : Stepper) (q : Option Outcome) → q ≡ None → (IsSome s'.shown ↔ ((q ≡ None) × (s'.configuration.fuel < s.configuration.fuel))) →
-    IsSome (standing s').shown ↔ ((standing s').at.fuel < (standing s).at.fuel)
-step_paid s s' q goes h =
-    let paid : IsSome (standing s').shown ↔ (s'.configuration.fuel < s.configuration.fuel) =
-    shown_paid (λ m. m.prefix.now ++ m.rest.now) s'.shown q s'.configuration.fuel s.configuration.fuel goes h in
-    subst (λ (n : ℕ). IsSome (standing s').shown ↔ ((standing s').at.fuel < n)) (sym (fuel_of s))
-    (subst (λ (n : ℕ). IsSome (standing s').shown ↔ (n < s.configuration.fuel)) (sym (fuel_of s')) paid)
+-- what is shown of a step that the run goes on from
+pub step_named : (s s' : Standing) (q : Option Outcome) → q ≡ None → IsShownOf q s.at s'.at.fuel s'.shown → Named s.at.seq s.at.fuel s'.at.fuel s'.shown
+step_named s s' q goes h = subst (λ (q : Option Outcome). IsShownOf q s.at s'.at.fuel s'.shown) goes h
 
 last_text : {R : Type 0} (o : Option Bytes) (s : Reduction R) → step_text s ≡ o → step_texts (s ∷ []) ≡ added o
 unfolding added
@@ -137,10 +117,10 @@ last_text (Some t) s e = ap (λ (q : Option Bytes). cons_option q []) e
 
 module _ {R : Type 0} (p : Program R) where
   reduces_more : (x y : Config R) (steps : List (Reduction R)) (s : Reduction R) → Reduces p x steps y → reduce p y ≡ To s.to →
-      (IsSome s.name ↔ (s.to.fuel < y.fuel)) → Reduces p x (steps ++ s ∷ []) s.to
-  reduces_more x y [] s is e paid =
-      (ap (reduce p) (sym is) ∙ e, subst (λ (z : Config R). IsSome s.name ↔ (s.to.fuel < z.fuel)) is paid, refl)
-  reduces_more x y (t ∷ steps) s r e paid = (r.0, r.1, reduces_more t.to y steps s r.2 e paid)
+      Named y.seq y.fuel s.to.fuel s.name → Reduces p x (steps ++ s ∷ []) s.to
+  reduces_more x y [] s is e named =
+      (ap (reduce p) (sym is) ∙ e, subst (λ (z : Config R). Named z.seq z.fuel s.to.fuel s.name) is named, refl)
+  reduces_more x y (t ∷ steps) s r e named = (r.0, r.1, reduces_more t.to y steps s r.2 e named)
 
 module _ {R : Type 0} (m : Module) (host : Answering R) (records : R) (fuel most : ℕ) where
   -- a run that has come to a configuration, and what was printed of it
@@ -172,9 +152,9 @@ module _ {R : Type 0} (m : Module) (host : Answering R) (records : R) (fuel most
       }
 
   traced_more : (x y : Config R) (name : Option Bytes) (printed count : ℕ) (text : Bytes) (t u v : Told) → Traced x printed t u →
-      reduce (program_of m host) x ≡ To y → (IsSome name ↔ (y.fuel < x.fuel)) → NextStep (named_text name y.fuel) most printed count text →
+      reduce (program_of m host) x ≡ To y → Named x.seq x.fuel y.fuel name → NextStep (named_text name y.fuel) most printed count text →
       Prints u v text → Traced y count t v
-  traced_more x y name printed count text t u v r e paid n prints =
+  traced_more x y name printed count text t u v r e named n prints =
       let p : Program R = program_of m host in
       let s : Reduction R = record { to = y; name = name } in
       let ts : List Bytes = step_texts r.steps in
@@ -187,7 +167,7 @@ module _ {R : Type 0} (m : Module) (host : Answering R) (records : R) (fuel most
         start = r.start;
         starts = r.starts;
         steps = r.steps ++ s ∷ [];
-        reduces = reduces_more p r.start x r.steps s r.reduces e paid;
+        reduces = reduces_more p r.start x r.steps s r.reduces e named;
         count = is.0;
         prints = prints_same t v _ _ (sym is.1) (prints_then t u v _ _ r.prints prints);
       }
@@ -201,12 +181,12 @@ module _ {R : Type 0} (m : Module) (host : Answering R) (records : R) (fuel most
   -- the run goes on by one step, which was printed, if it is to be
   pub traced_step : (s s' : Standing) (r r' : R) (printed count : ℕ) (text : Bytes) (t u v : Told) → IsValid m →
       Runs m host records fuel (with_records s.at r) → Traced (with_records s.at r) printed t u →
-      Goes (program_of m host) fuel (with_records s.at r) (with_records s'.at r') None → (IsSome s'.shown ↔ (s'.at.fuel < s.at.fuel)) →
+      Goes (program_of m host) fuel (with_records s.at r) (with_records s'.at r') None → Named s.at.seq s.at.fuel s'.at.fuel s'.shown →
       NextStep (named_text s'.shown s'.at.fuel) most printed count text → Prints u v text → Traced (with_records s'.at r') count t v
-  traced_step s s' r r' printed count text t u v valid runs traced goes paid n prints =
+  traced_step s s' r r' printed count text t u v valid runs traced goes named n prints =
       let x : Config R = with_records s.at r in
       let y : Config R = with_records s'.at r' in
-      traced_more x y s'.shown printed count text t u v traced (next_config x y valid runs goes) paid n prints
+      traced_more x y s'.shown printed count text t u v traced (next_config x y valid runs goes) named n prints
 
   pub traced_end : (x : Config R) (o : Outcome) (after : R) (printed : ℕ) (t u v : Told) → Traced x printed t u → IsEnd (program_of m host) x fuel o after →
       Prints u v (outcome_text o) → (text : Bytes) × IsTrace m host records fuel most text × Prints t v text
@@ -226,6 +206,30 @@ module _ {R : Type 0} (m : Module) (host : Answering R) (records : R) (fuel most
         },
         prints_then t u v _ _ r.prints prints,
       )
+
+  -- it goes no further, and nothing more is printed
+  pub traced_begun : {A : Type 0} (x : Config R) (printed : ℕ) (t u v : Told) (answer : Result A Failure) → Traced x printed t u →
+      OnErr answer (PrintsNothing u v) → IsBegun (IsTraceBegun m host records fuel most) t v answer
+  traced_begun x printed t u v answer r none =
+      let text : Bytes = steps_text most (step_texts r.steps) in
+      begins_part (IsTraceBegun m host records fuel most) t v answer text
+      (record { start = r.start; starts = r.starts; steps = r.steps; last = x; reduces = r.reduces; is = refl })
+      (printed_on_err answer (PrintsNothing u v) (PrintsPart t v text) (λ n. part_end t u v text r.prints n) none)
+
+-- what `trace` begins, by a host that was opened on a state without keys
+pub call_begun : (g : Genesis) (call : Call) (most : ℕ) (c : Chaincode) (state : Plain) (argument : Bytes) (records : Recorded) (t u : Told)
+    (r : Result (Unit {0}) Failure) → chaincode_at g.book.value.chaincodes call.chaincode ≡ Some c → state ≡ empty → argument ≡ call.argument →
+    records ≡ nothing_recorded → IsBegun (IsTraceBegun c.«module» (host_step state argument) records c.fuel most) t u r →
+    IsBegun (TraceBegins g call most) t u r
+call_begun g call most c state argument records t u r found none same nothing =
+    begins_by (IsTraceBegun c.«module» (host_step state argument) records c.fuel most) (TraceBegins g call most) t u r
+    (λ text h. (
+      c,
+      found,
+      subst (λ (s : Recorded). IsTraceBegun c.«module» (host_step empty call.argument) s c.fuel most text) nothing
+          (subst (λ (a : Bytes). IsTraceBegun c.«module» (host_step empty a) records c.fuel most text) same
+          (subst (λ (m : Plain). IsTraceBegun c.«module» (host_step m argument) records c.fuel most text) none h)),
+    ))
 
 -- what `trace` comes to, by a host that was opened on a state without keys
 pub call_traced : (g : Genesis) (call : Call) (most : ℕ) (c : Chaincode) (state : Plain) (argument : Bytes) (records : Recorded) (t u : Told)

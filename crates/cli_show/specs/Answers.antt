@@ -15,7 +15,7 @@ use Rattle.store_replay.specs.Replay.{ReplaysFrom}
 use Rattle.store_replay.specs.declared.replaying.Replayed.{Replayed}
 use Rattle.cli_lines.specs.declared.failure.Failure.{Failure}
 use Rattle.cli_lines.specs.declared.failure.Failure.TheVariants.{Flags, Commit, Store}
-use Rattle.cli_show.specs.Lines.{AreLines, entries_json, writes_json}
+use Rattle.cli_show.specs.Lines.{AreFirstLines, AreLines, entries_json, writes_json}
 use Rattle.cli_show.specs.declared.showing.Part.{Part}
 use Rattle.cli_show.specs.declared.showing.Part.TheVariants as part
 
@@ -64,3 +64,8 @@ ShowsPart r part at chain answer text = (answer ≡ Ok tt) × AreLines (part_jso
 abbrev pub States : Genesis → Part → ℕ → Option Bytes → Result (Unit {0}) Failure → Bytes → Type 0
 States g part at held answer text =
     (r : Replayed) × ReplaysFrom (table_of g.rules.value) held r × UnlessFault (fault_of r) (ShowsPart g.rules.value part at r.snapshot) answer text
+
+-- what `state` begins, of a store with which nothing is wrong: some first ones of its lines
+abbrev pub StateBegins : Genesis → Part → ℕ → Option Bytes → Bytes → Type 0
+StateBegins g part at held text =
+    (r : Replayed) × ReplaysFrom (table_of g.rules.value) held r × (fault_of r ≡ None) × AreFirstLines (part_json g.rules.value part at r.snapshot) text

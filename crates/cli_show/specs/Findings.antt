@@ -20,7 +20,7 @@ use Rattle.cli_lines.specs.Texts.{line, refused}
 use Rattle.cli_lines.specs.declared.failure.Failure.{Failure}
 use Rattle.cli_lines.specs.declared.failure.Failure.TheVariants.{Printed}
 use Rattle.cli_show.specs.Answers.{end_fault}
-use Rattle.cli_show.specs.Lines.{AreLines, HasLines, chain_json}
+use Rattle.cli_show.specs.Lines.{AreFirstLines, AreLines, HasLines, chain_json}
 use Rattle.cli_show.specs.Missing.{first_missing}
 
 -- the audit is made only of a chain with the table's flags whose store has no block that does not fit, and where each module that it
@@ -82,3 +82,8 @@ ShowsReplay g from to r answer text =
 -- `show`: of the replay of the store in a file
 abbrev pub Shows : Genesis → (from to : ℕ) → Option Bytes → Result (Unit {0}) Failure → Bytes → Type 0
 Shows g from to held answer text = (r : Replayed) × ReplaysFrom (table_of g.rules.value) held r × ShowsReplay g from to r answer text
+
+-- what `show` begins: some first ones of the chain's lines
+abbrev pub ShowBegins : Genesis → (from to : ℕ) → Option Bytes → Bytes → Type 0
+ShowBegins g from to held text =
+    (r : Replayed) × ReplaysFrom (table_of g.rules.value) held r × AreFirstLines (chain_json g from to r.snapshot) text

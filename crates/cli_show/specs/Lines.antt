@@ -1,5 +1,5 @@
 -- Lines of JSON, and what printing them does to the bytes that a writer holds.
-use Rattle.std.specs.Prelude.{◌≡◌, ℕ, List, ◌∷◌, Option, Some, None, map}
+use Rattle.std.specs.Prelude.{◌≡◌, ◌++◌, ℕ, List, ◌∷◌, Option, Some, None, map}
 use Rattle.std.specs.List.{flat_map}
 use Rattle.std.specs.Io.KnownBytes.{Appends}
 use Rattle.serde_json.specs.Data.{Data}
@@ -11,11 +11,20 @@ use Rattle.json_chain.specs.Genesis.{genesis_json}
 use Rattle.json_chain.specs.Standing.{blocks_json}
 pub use Rattle.json_chain.specs.Writes.{write_json, writes_json}
 use Rattle.cli_lines.specs.Texts.{line}
+use Rattle.cli_lines.specs.Told.{PrintsPart, Told}
 use Rattle.cli_show.specs.Spans.{within}
 
 -- a text of lines, each of which is read back as the value at its place
 abbrev pub AreLines : List Data → Bytes → Type 0
 AreLines ds text = (texts : List Bytes) × (map read texts ≡ map Some ds) × (text ≡ flat_map line texts)
+
+-- a text of some first ones of these lines
+abbrev pub AreFirstLines : List Data → Bytes → Type 0
+AreFirstLines ds text = (first : List Data) × (rest : List Data) × (ds ≡ first ++ rest) × AreLines first text
+
+-- some first ones of these lines were printed, and nothing else
+abbrev pub PrintsFirst : List Data → (before after : Told) → Type 0
+PrintsFirst ds before after = (text : Bytes) × AreFirstLines ds text × PrintsPart before after text
 
 -- Behind what was held, where that is known, there are lines now, each of which is read back as the value at its place.
 abbrev pub HasLines : List Data → (before after : Option Bytes) → Type 0

@@ -1,5 +1,5 @@
 -- What `trace` prints of a call: its reduction (WebAssembly Core 1.0, chapter 4).
-use Rattle.std.specs.Prelude.{◌≡◌, ◌<◌, ◌≤◌, ◌↔◌, ◌+◌, ◌++◌, ℕ, List, [], ◌∷◌, Option, Some, None, IsSome, Result, Ok, Err, option_map, codes, take}
+use Rattle.std.specs.Prelude.{◌≡◌, ◌<◌, ◌≤◌, ◌+◌, ◌++◌, ℕ, List, [], ◌∷◌, Option, Some, None, Result, Ok, Err, option_map, codes, take}
 use Rattle.std.specs.FinMap.{empty}
 use Rattle.std.specs.Fmt.{decimal, signed_decimal}
 use Rattle.std.specs.Int.{w32, cast_signed}
@@ -12,6 +12,7 @@ use Rattle.wasm_meaning.specs.Program.{program_of}
 use Rattle.interp.specs.declared.outcome.Outcome.{Outcome}
 use Rattle.interp.specs.declared.outcome.Outcome.TheVariants.{Returned, Trapped, Spent}
 use Rattle.wasm_trace.specs.Reduction.{Config, To, reduce}
+use Rattle.wasm_trace.specs.Names.{Named}
 use Rattle.wasm_trace.specs.Ending.{IsStart, IsEnd}
 use Rattle.host_api.specs.Recorded.{nothing_recorded}
 use Rattle.host_api.specs.HostStep.{host_step}
@@ -40,10 +41,10 @@ module _ {R : Type 0} where
   abbrev pub step_texts : List (Reduction R) → List Bytes
   step_texts steps = filter_map step_text steps
 
-  -- these reductions lead from one configuration to another, and have a name exactly where they cost fuel
+  -- these reductions lead from one configuration to another, each with the name of what it executed exactly where it cost fuel
   abbrev pub Reduces : Program R → Config R → List (Reduction R) → Config R → Type 0
   Reduces p x [] y = y ≡ x
-  Reduces p x (s ∷ steps) y = (reduce p x ≡ To s.to) × (IsSome s.name ↔ (s.to.fuel < x.fuel)) × Reduces p s.to steps y
+  Reduces p x (s ∷ steps) y = (reduce p x ≡ To s.to) × Named x.seq x.fuel s.to.fuel s.name × Reduces p s.to steps y
 
 abbrev pub step_line : (number : ℕ) → Bytes → Bytes
 step_line number text = decimal number ++ (codes " " ++ (text ++ codes "\n"))
@@ -86,6 +87,21 @@ Traces g call most (Ok done) text =
     (c : Chaincode) × (chaincode_at g.book.value.chaincodes call.chaincode ≡ Some c) × IsCallTrace c call.argument most text
 Traces g call most (Err f) text =
     (f ≡ Simulation UnknownChaincode) × (chaincode_at g.book.value.chaincodes call.chaincode ≡ None) × (text ≡ [])
+
+-- the first reductions of such an invocation, of which so many are printed
+pub record IsTraceBegun {R : Type 0} (m : Module) (host : Answering R) (records : R) (fuel most : ℕ) (text : Bytes) : Type 0 where
+  pub start : Config R
+  pub starts : IsStart m records fuel start
+  pub steps : List (Reduction R)
+  pub last : Config R
+  pub reduces : Reduces (program_of m host) start steps last
+  pub is : text ≡ steps_text most (step_texts steps)
+
+-- what `trace` begins
+abbrev pub TraceBegins : Genesis → Call → (most : ℕ) → Bytes → Type 0
+TraceBegins g call most text =
+    (c : Chaincode) × (chaincode_at g.book.value.chaincodes call.chaincode ≡ Some c)
+    × IsTraceBegun c.«module» (host_step empty call.argument) nothing_recorded c.fuel most text
 
 -- what is printed of the step that was made last, behind so many lines, and how many there are then
 abbrev pub NextStep : Option Bytes → (most printed count : ℕ) → Bytes → Type 0

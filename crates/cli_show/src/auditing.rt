@@ -1,7 +1,7 @@
 //! The command `audit`.
 
-ghost use Rattle.std.specs.Prelude.{IfErr, OnOk};
-ghost use Rattle.cli_lines.specs.Told.{Answers, IsBrokenOff, Prints, Tells};
+ghost use Rattle.std.specs.Prelude.{IfErr, OnErr, OnOk};
+ghost use Rattle.cli_lines.specs.Told.{Answers, Begins, IsBrokenOff, IsTextOf, Prints, PrintsNothing, Tells};
 ghost use Rattle.cli_show.specs.Findings.{Audits, AuditsReplay, finding_text};
 
 use crate::explaining::explain_findings;
@@ -32,6 +32,8 @@ pub fn audit<T: Threads + Sync, F: Files, W: Write>(
     ensures tells { Tells out.old out.new result }
     ensures answers { Answers (Audits genesis.now (F.bytes files.old store.now)) out.old out.new
         result }
+    ensures begins { Begins (IsTextOf (Audits genesis.now (F.bytes files.old store.now))) out.old
+        out.new result }
 {
     let replayed = replayed(workers, alloc, files, genesis, store)?;
     explain_findings(alloc, files, genesis, store, &replayed);
@@ -47,6 +49,8 @@ fn print_replayed<W: Write>(
 ) -> Result<(), Failure>
     ensures tells { Tells out.old out.new result }
     ensures answers { Answers (AuditsReplay genesis.now replayed.now) out.old out.new result }
+    ensures begins { Begins (IsTextOf (AuditsReplay genesis.now replayed.now)) out.old out.new
+        result }
 {
     let finding = finding_of(alloc, genesis, replayed)?;
     let blocks = replayed.blocks;
@@ -60,6 +64,7 @@ fn print_finding<W: Write>(finding: Finding, out: &mut Printer<'_, W>) -> Result
     ensures tells { Tells out.old out.new result }
     ensures lost { IfErr result IsBrokenOff }
     ensures prints { OnOk result (Prints out.old out.new (finding_text finding)) }
+    ensures nothing { OnErr result (PrintsNothing out.old out.new) }
 {
     match finding {
         Finding::FlagsDiffer(block) => writeln!(out, "flags differ {block}"),

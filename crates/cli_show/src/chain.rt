@@ -1,10 +1,10 @@
 //! The lines of a chain.
 
-ghost use Rattle.std.specs.Prelude.{◌≡◌, None, IfErr, OnOk};
+ghost use Rattle.std.specs.Prelude.{◌≡◌, None, IfErr, OnErr, OnOk};
 ghost use Rattle.cli_lines.specs.Told.{IsBrokenOff, Tells};
 ghost use Rattle.world_state.specs.Shared.{blocks_in};
 ghost use Rattle.json_chain.specs.Standing.{blocks_json, membership_behind};
-ghost use Rattle.cli_show.specs.Lines.{HasLines, chain_json};
+ghost use Rattle.cli_show.specs.Lines.{HasLines, PrintsFirst, chain_json};
 ghost use Rattle.cli_show.specs.Spans.{before, within};
 
 use crate::span::Span;
@@ -32,6 +32,8 @@ pub fn print_chain<W: Write>(
     ensures lines { OnOk result
         (HasLines (chain_json genesis.now span.from span.to snapshot.now) out.old.bytes
         out.new.bytes) }
+    ensures first { OnErr result
+        (PrintsFirst (chain_json genesis.now span.from span.to snapshot.now) out.old out.new) }
 {
     let line = genesis_line(alloc, genesis)?;
     print_line(&line, out)?;
@@ -70,6 +72,10 @@ fn print_blocks<W: Write>(
         (HasLines
         (blocks_json rules.now (membership_behind None (blocks_in earlier.now))
         (blocks_in blocks.now)) out.old.bytes out.new.bytes) }
+    ensures first { OnErr result
+        (PrintsFirst
+        (blocks_json rules.now (membership_behind None (blocks_in earlier.now))
+        (blocks_in blocks.now)) out.old out.new) }
 {
     let mut membership = membership_behind(earlier);
     for committed in blocks {

@@ -1,7 +1,7 @@
 //! The commands `check` and `digest`.
 
-ghost use Rattle.std.specs.Prelude.{IfOk, IfErr};
-ghost use Rattle.cli_lines.specs.Told.{Answers, Tells};
+ghost use Rattle.std.specs.Prelude.{IfOk, IfErr, OnErr};
+ghost use Rattle.cli_lines.specs.Told.{Answers, PrintsNothing, Tells};
 ghost use Rattle.wasm_file.specs.Modules.{IsDefinedBy, NoModule};
 ghost use Rattle.cli_show.specs.Modules.{Checks, Digests};
 
@@ -31,6 +31,7 @@ pub fn check<F: Files, W: Write>(
     ensures tells { Tells out.old out.new result }
     ensures answers { Answers (Checks profile (F.bytes files.old name.now)) out.old out.new
         result }
+    ensures nothing { OnErr result (PrintsNothing out.old out.new) }
 {
     let bytes = read_explained(alloc, files, name, MOST_READ)?;
     let functions = functions_explained(alloc, files, name, &bytes, profile)?;
@@ -52,6 +53,7 @@ pub fn digest<F: Files, W: Write>(
     ensures tells { Tells out.old out.new result }
     ensures answers { Answers (Digests profile (F.bytes files.old name.now)) out.old out.new
         result }
+    ensures nothing { OnErr result (PrintsNothing out.old out.new) }
 {
     let bytes = read_explained(alloc, files, name, MOST_READ)?;
     functions_explained(alloc, files, name, &bytes, profile)?;

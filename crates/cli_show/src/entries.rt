@@ -1,6 +1,6 @@
 //! The lines of a state.
 
-ghost use Rattle.std.specs.Prelude.{[], IfErr, OnOk, map, take};
+ghost use Rattle.std.specs.Prelude.{[], IfErr, OnErr, OnOk, map, take};
 ghost use Rattle.std.specs.FinMap.{entries};
 ghost use Rattle.std.specs.Map.Iter.{deref_pair};
 ghost use Rattle.cli_lines.specs.Told.{IsBrokenOff, Tells};
@@ -8,7 +8,7 @@ ghost use Rattle.wire.specs.Links.{AreLinked};
 ghost use Rattle.committer.specs.Fits.{blocks_of};
 ghost use Rattle.ledger_model.specs.Chain.{history};
 ghost use Rattle.ledger_model.specs.State.{state};
-ghost use Rattle.cli_show.specs.Lines.{HasLines, entries_json};
+ghost use Rattle.cli_show.specs.Lines.{HasLines, PrintsFirst, entries_json};
 
 use crate::earlier::first_blocks;
 use cli_lines::{Failure, Printer, print_line};
@@ -31,6 +31,9 @@ pub fn print_state<W: Write>(
     ensures lines { OnOk result
         (HasLines (entries_json (entries (state (history (take at snapshot.now)))))
         out.old.bytes out.new.bytes) }
+    ensures first { OnErr result
+        (PrintsFirst (entries_json (entries (state (history (take at snapshot.now))))) out.old
+        out.new) }
 {
     if at >= snapshot.height() {
         return print_state_of(alloc, snapshot, out);
@@ -49,6 +52,8 @@ fn print_state_of<W: Write>(
     ensures lines { OnOk result
         (HasLines (entries_json (entries (state (history snapshot.now)))) out.old.bytes
         out.new.bytes) }
+    ensures first { OnErr result
+        (PrintsFirst (entries_json (entries (state (history snapshot.now)))) out.old out.new) }
 {
     let entries = snapshot.entries(alloc)?;
     print_entries(alloc, &entries, out)
@@ -63,6 +68,8 @@ fn print_entries<W: Write>(
     ensures lost { IfErr result IsBrokenOff }
     ensures lines { OnOk result
         (HasLines (entries_json (map deref_pair entries.now)) out.old.bytes out.new.bytes) }
+    ensures first { OnErr result
+        (PrintsFirst (entries_json (map deref_pair entries.now)) out.old out.new) }
 {
     for (key, entry) in entries {
         let line = entry_line(alloc, key, &entry.0, entry.1)?;

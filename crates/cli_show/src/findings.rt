@@ -1,7 +1,7 @@
 //! What is found of a store.
 
-ghost use Rattle.std.specs.Prelude.{◌≡◌, ◌<◌, [], IfErr, IfOk};
-ghost use Rattle.cli_lines.specs.Told.{IsBrokenOff, Tells};
+ghost use Rattle.std.specs.Prelude.{◌≡◌, ◌<◌, [], IfErr, IfOk, OnErr};
+ghost use Rattle.cli_lines.specs.Told.{IsBrokenOff, PrintsNothing, Tells};
 ghost use Rattle.cli_show.specs.Findings.{EndsBy, Finds, ends_with, is_good};
 
 use crate::missing::first_missing;
@@ -26,6 +26,7 @@ pub fn print_ending<W: Write>(
     ensures printed { IfOk result (λ _. out.old.printed < out.new.printed) }
     ensures line { IfOk result
         (EndsBy genesis.now replayed.now out.old.bytes out.new.bytes) }
+    ensures nothing { OnErr result (PrintsNothing out.old out.new) }
 {
     let finding = finding_of(alloc, genesis, replayed)?;
     let line = ending_line(alloc, finding, replayed.snapshot.height(), replayed.end)?;

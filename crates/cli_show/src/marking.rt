@@ -1,7 +1,9 @@
 //! The command `marks`.
 
-ghost use Rattle.std.specs.Prelude.{◌≡◌, None, IfErr, IfSome, OnOk, map};
-ghost use Rattle.cli_lines.specs.Told.{Answers, IsBrokenOff, Tells};
+ghost use Rattle.std.specs.Prelude.{◌≡◌, None, IfErr, IfSome, OnErr, OnOk, map};
+ghost use Rattle.std.specs.List.{flat_map};
+ghost use Rattle.cli_lines.specs.Texts.{line};
+ghost use Rattle.cli_lines.specs.Told.{Answers, Begins, IsBrokenOff, IsTextOf, PrintsPart, Tells};
 ghost use Rattle.world_state.specs.Shared.{blocks_in};
 ghost use Rattle.log_orderer.specs.Marks.{block_marks, envelope_mark};
 ghost use Rattle.cli_show.specs.Answers.{fault_of};
@@ -37,6 +39,8 @@ pub fn marks<T: Threads + Sync, F: Files, W: Write>(
     ensures tells { Tells out.old out.new result }
     ensures answers { Answers (Marks genesis.now (F.bytes files.old store.now)) out.old out.new
         result }
+    ensures begins { Begins (IsTextOf (Marks genesis.now (F.bytes files.old store.now))) out.old
+        out.new result }
 {
     let replayed = replayed(workers, alloc, files, genesis, store)?;
     explain_fault(alloc, files, store, &replayed);
@@ -55,6 +59,8 @@ pub fn print_marks<W: Write>(
         (result ≡ Err failure) × (out.new ≡ out.old)) }
     ensures marks { OnOk result
         (HasTexts (chain_marks replayed.now.snapshot) out.old.bytes out.new.bytes) }
+    ensures part { OnErr result
+        (PrintsPart out.old out.new (flat_map line (chain_marks replayed.now.snapshot))) }
 {
     if let Some(failure) = fault_of(replayed) {
         return Err(failure);
@@ -72,6 +78,8 @@ fn print_blocks<W: Write>(
     ensures lost { IfErr result IsBrokenOff }
     ensures marks { OnOk result
         (HasTexts (chain_marks (blocks_in blocks.now)) out.old.bytes out.new.bytes) }
+    ensures part { OnErr result
+        (PrintsPart out.old out.new (flat_map line (chain_marks (blocks_in blocks.now)))) }
 {
     for committed in blocks {
         print_block(alloc, committed, out)?;
@@ -89,6 +97,8 @@ fn print_block<W: Write>(
     ensures lost { IfErr result IsBrokenOff }
     ensures marks { OnOk result
         (HasTexts (block_marks committed.now.block) out.old.bytes out.new.bytes) }
+    ensures part { OnErr result
+        (PrintsPart out.old out.new (flat_map line (block_marks committed.now.block))) }
 {
     print_envelopes(alloc, committed.block().envelopes.as_slice(), out)?;
     writeln!(out, "tick")
@@ -104,6 +114,8 @@ fn print_envelopes<W: Write>(
     ensures lost { IfErr result IsBrokenOff }
     ensures marks { OnOk result
         (HasTexts (map envelope_mark envelopes.now) out.old.bytes out.new.bytes) }
+    ensures part { OnErr result
+        (PrintsPart out.old out.new (flat_map line (map envelope_mark envelopes.now))) }
 {
     for envelope in envelopes {
         let text = hex::encode(alloc, &encode_envelope(alloc, envelope)?)?;

@@ -1,9 +1,9 @@
 //! The line of who stands.
 
-ghost use Rattle.std.specs.Prelude.{◌≡◌, [], ◌∷◌, IfErr, OnOk, take};
+ghost use Rattle.std.specs.Prelude.{◌≡◌, [], ◌∷◌, IfErr, OnErr, OnOk, take};
 ghost use Rattle.wire.specs.Links.{AreLinked};
 ghost use Rattle.committer.specs.Fits.{blocks_of};
-ghost use Rattle.cli_lines.specs.Told.{IsBrokenOff, Tells};
+ghost use Rattle.cli_lines.specs.Told.{IsBrokenOff, PrintsNothing, Tells};
 ghost use Rattle.json_chain.specs.Memberships.{standing_behind};
 ghost use Rattle.cli_show.specs.Answers.{members_json};
 ghost use Rattle.cli_show.specs.Lines.{HasLines};
@@ -30,6 +30,7 @@ pub fn print_members<W: Write>(
     ensures lost { AreLinked [] (blocks_of snapshot.now) → IfErr result IsBrokenOff }
     ensures line { OnOk result
         (HasLines (members_json rules.now at snapshot.now ∷ []) out.old.bytes out.new.bytes) }
+    ensures nothing { OnErr result (PrintsNothing out.old out.new) }
 {
     if at >= snapshot.height() {
         return print_members_of(alloc, rules, snapshot, out);
@@ -48,6 +49,7 @@ fn print_members_of<W: Write>(
     ensures lost { IfErr result IsBrokenOff }
     ensures line { OnOk result
         (HasLines (standing_behind rules.now snapshot.now ∷ []) out.old.bytes out.new.bytes) }
+    ensures nothing { OnErr result (PrintsNothing out.old out.new) }
 {
     let line = standing_line(alloc, rules, snapshot)?;
     print_line(&line, out)

@@ -1,12 +1,12 @@
 //! The commands `show` and `state`.
 
-ghost use Rattle.std.specs.Prelude.{◌≡◌, [], None, IfErr, IfSome, OnOk};
+ghost use Rattle.std.specs.Prelude.{◌≡◌, [], None, IfErr, IfSome, OnErr, OnOk};
 ghost use Rattle.wire.specs.Links.{AreLinked};
 ghost use Rattle.committer.specs.Fits.{blocks_of};
-ghost use Rattle.cli_lines.specs.Told.{Answers, IsBrokenOff, Tells};
-ghost use Rattle.cli_show.specs.Answers.{States, block_fault, end_fault, fault_of, part_json};
-ghost use Rattle.cli_show.specs.Findings.{Shows, ShowsReplay};
-ghost use Rattle.cli_show.specs.Lines.{HasLines};
+ghost use Rattle.cli_lines.specs.Told.{Answers, Begins, IsBrokenOff, Tells};
+ghost use Rattle.cli_show.specs.Answers.{StateBegins, States, block_fault, end_fault, fault_of, part_json};
+ghost use Rattle.cli_show.specs.Findings.{ShowBegins, Shows, ShowsReplay};
+ghost use Rattle.cli_show.specs.Lines.{AreFirstLines, HasLines, PrintsFirst, chain_json};
 
 use crate::chain::print_chain;
 use crate::entries::print_state;
@@ -67,6 +67,9 @@ pub fn show<T: Threads + Sync, F: Files, W: Write>(
     ensures answers { Answers
         (Shows genesis.now shown.now.span.from shown.now.span.to
         (F.bytes files.old shown.now.store.now)) out.old out.new result }
+    ensures begins { Begins
+        (ShowBegins genesis.now shown.now.span.from shown.now.span.to
+        (F.bytes files.old shown.now.store.now)) out.old out.new result }
 {
     let replayed = replayed(workers, alloc, files, genesis, shown.store)?;
     explain_findings(alloc, files, genesis, shown.store, &replayed);
@@ -83,6 +86,9 @@ fn print_shown<W: Write>(
 ) -> Result<(), Failure>
     ensures tells { Tells out.old out.new result }
     ensures answers { Answers (ShowsReplay genesis.now span.from span.to replayed.now) out.old
+        out.new result }
+    ensures begins { Begins
+        (AreFirstLines (chain_json genesis.now span.from span.to replayed.now.snapshot)) out.old
         out.new result }
 {
     print_chain(alloc, genesis, &replayed.snapshot, span, out)?;
@@ -107,6 +113,9 @@ pub fn state<T: Threads + Sync, F: Files, W: Write>(
     ensures answers { Answers
         (States genesis.now asked.now.part asked.now.at (F.bytes files.old asked.now.store.now))
         out.old out.new result }
+    ensures begins { Begins
+        (StateBegins genesis.now asked.now.part asked.now.at
+        (F.bytes files.old asked.now.store.now)) out.old out.new result }
 {
     let replayed = replayed(workers, alloc, files, genesis, asked.store)?;
     explain_fault(alloc, files, asked.store, &replayed);
@@ -131,6 +140,8 @@ pub fn print_asked<W: Write>(
     // The blocks of a store that is whole are linked.
     ensures lost { fault_of replayed.now ≡ None
         → AreLinked [] (blocks_of replayed.now.snapshot) → IfErr result IsBrokenOff }
+    ensures first { OnErr result
+        (PrintsFirst (part_json rules.now part.entry at replayed.now.snapshot) out.old out.new) }
 {
     if let Some(failure) = fault_of(replayed) {
         return Err(failure);

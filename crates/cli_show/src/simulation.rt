@@ -1,7 +1,7 @@
 //! The command `sim`.
 
 ghost use Rattle.std.specs.Prelude.{option_map};
-ghost use Rattle.cli_lines.specs.Told.{Answers, Tells};
+ghost use Rattle.cli_lines.specs.Told.{Answers, Begins, IsTextOf, Tells};
 ghost use Rattle.cli_show.specs.Answers.{UnlessFault, block_fault};
 ghost use Rattle.cli_show.specs.Simulations.{Simulates, SimulatesOn};
 
@@ -43,6 +43,10 @@ pub fn simulate<T: Threads + Sync, F: Files, W: Write>(
         (Simulates genesis.now simulated.now.proposal.now
         (option_map (λ name. F.bytes files.old name.now) simulated.now.store)) out.old out.new
         result }
+    ensures begins { Begins
+        (IsTextOf (Simulates genesis.now simulated.now.proposal.now
+        (option_map (λ name. F.bytes files.old name.now) simulated.now.store))) out.old out.new
+        result }
 {
     let proposal = simulated.proposal;
     match simulated.store {
@@ -70,6 +74,9 @@ fn print_call_after<W: Write>(
     ensures answers { Answers
         (UnlessFault (block_fault replayed.now.refused replayed.now.end)
         (SimulatesOn genesis.now proposal.now replayed.now.snapshot)) out.old out.new result }
+    ensures begins { Begins
+        (IsTextOf (UnlessFault (block_fault replayed.now.refused replayed.now.end)
+        (SimulatesOn genesis.now proposal.now replayed.now.snapshot))) out.old out.new result }
 {
     match chain_fault(replayed) {
         Some(failure) => Err(failure),
@@ -88,6 +95,8 @@ fn print_call<W: Write>(
     ensures tells { Tells out.old out.new result }
     ensures answers { Answers (SimulatesOn genesis.now proposal.now snapshot.now) out.old out.new
         result }
+    ensures begins { Begins (IsTextOf (SimulatesOn genesis.now proposal.now snapshot.now)) out.old
+        out.new result }
 {
     let payload = simulator::simulate(alloc, &*genesis.book, snapshot, proposal)?;
     print_payload(alloc, &payload, out)

@@ -1,9 +1,9 @@
 //! The command `trace`.
 
-ghost use Rattle.std.specs.Prelude.{◌≡◌, List, ℕ, IfErr, IfOk, OnOk};
+ghost use Rattle.std.specs.Prelude.{◌≡◌, List, ℕ, IfErr, IfOk, OnErr, OnOk};
 ghost use Rattle.wasm_trace.specs.Standing.{standing};
-ghost use Rattle.cli_lines.specs.Told.{Answers, IsBrokenOff, Prints, Tells};
-ghost use Rattle.cli_show.specs.Tracing.{IsTrace, NextStep, Traces, named_text, outcome_text};
+ghost use Rattle.cli_lines.specs.Told.{Answers, Begins, IsBrokenOff, Prints, PrintsNothing, Tells};
+ghost use Rattle.cli_show.specs.Tracing.{IsTrace, IsTraceBegun, NextStep, TraceBegins, Traces, named_text, outcome_text};
 
 use cli_lines::{Failure, Printer};
 use fab_types::Call;
@@ -28,6 +28,7 @@ pub fn trace<W: Write>(
 ) -> Result<(), Failure>
     ensures tells { Tells out.old out.new result }
     ensures answers { Answers (Traces genesis.now call.now most) out.old out.new result }
+    ensures begins { Begins (TraceBegins genesis.now call.now most) out.old out.new result }
 {
     let Some(chaincode) = genesis.book.get(&call.chaincode) else {
         return Err(Failure::Simulation(SimRefusal::UnknownChaincode));
@@ -50,6 +51,9 @@ fn trace_on<H: Host, W: Write>(
     ensures traces { OnOk result
         ((text : List ℕ) × IsTrace chaincode.now.«module» (H.answers host.old)
         (H.records host.old) chaincode.now.fuel most text × Prints out.old out.new text) }
+    ensures begins { Begins
+        (IsTraceBegun chaincode.now.«module» (H.answers host.old) (H.records host.old)
+        chaincode.now.fuel most) out.old out.new result }
 {
     // It says that the module is valid.
     let _module = chaincode.module.module();
@@ -77,6 +81,7 @@ fn print_step<W: Write>(
         (λ count. (text : List ℕ)
         × NextStep (named_text (standing stepper.now).shown (standing stepper.now).at.fuel) most
         printed count text × Prints out.old out.new text) }
+    ensures nothing { OnErr result (PrintsNothing out.old out.new) }
 {
     if most <= printed {
         return Ok(printed);
@@ -96,6 +101,7 @@ fn print_outcome<W: Write>(outcome: Outcome, out: &mut Printer<'_, W>) -> Result
     ensures tells { Tells out.old out.new result }
     ensures lost { IfErr result IsBrokenOff }
     ensures prints { OnOk result (Prints out.old out.new (outcome_text outcome)) }
+    ensures nothing { OnErr result (PrintsNothing out.old out.new) }
 {
     match outcome {
         Outcome::Returned { status, used } => {

@@ -1,8 +1,8 @@
 //! The command `version`.
 
-ghost use Rattle.std.specs.Prelude.{◌≡◌, [], ◌∷◌, IfOk, OnOk};
+ghost use Rattle.std.specs.Prelude.{◌≡◌, [], ◌∷◌, IfOk, OnErr, OnOk};
 ghost use Rattle.serde_json.specs.View.{view};
-ghost use Rattle.cli_lines.specs.Told.{Answers, Tells};
+ghost use Rattle.cli_lines.specs.Told.{Answers, PrintsNothing, Tells};
 ghost use Rattle.cli_show.specs.Lines.{HasLines};
 ghost use Rattle.cli_show.specs.Version.{Versions, version_json};
 
@@ -30,6 +30,7 @@ pub fn version<W: Write>(alloc: Global, out: &mut Printer<'_, W>) -> Result<(), 
     ensures answers { Answers Versions out.old out.new result }
     ensures line { OnOk result
         (HasLines (version_json PROGRAM LINES RULES STORE ∷ []) out.old.bytes out.new.bytes) }
+    ensures nothing { OnErr result (PrintsNothing out.old out.new) }
 {
     let line = line_of(alloc, &numbers(alloc)?)?;
     print_line(&line, out)

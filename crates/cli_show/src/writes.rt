@@ -1,10 +1,10 @@
 //! The lines of writes to a key.
 
-ghost use Rattle.std.specs.Prelude.{IfErr, OnOk, take};
+ghost use Rattle.std.specs.Prelude.{IfErr, OnErr, OnOk, take};
 ghost use Rattle.json_chain.specs.Writes.{placed_at};
-ghost use Rattle.cli_lines.specs.Told.{IsBrokenOff, Tells};
+ghost use Rattle.cli_lines.specs.Told.{IsBrokenOff, PrintsNothing, Tells};
 ghost use Rattle.ledger_model.specs.Chain.{history, transactions_from};
-ghost use Rattle.cli_show.specs.Lines.{HasLines, write_json, writes_json};
+ghost use Rattle.cli_show.specs.Lines.{HasLines, PrintsFirst, write_json, writes_json};
 
 use cli_lines::{Failure, Printer, print_line};
 use fab_types::{CommittedBlock, Key};
@@ -27,6 +27,8 @@ pub fn print_writes<W: Write>(
     ensures lines { OnOk result
         (HasLines (writes_json key.now (history (take at snapshot.now))) out.old.bytes
         out.new.bytes) }
+    ensures first { OnErr result
+        (PrintsFirst (writes_json key.now (history (take at snapshot.now))) out.old out.new) }
 {
     let blocks = snapshot.blocks();
     for index in 0..at.min(blocks.len()) {
@@ -50,6 +52,11 @@ fn print_writes_in<W: Write>(
         (writes_json key.now
         (transactions_from number 0 committed.now.block.envelopes committed.now.flags))
         out.old.bytes out.new.bytes) }
+    ensures first { OnErr result
+        (PrintsFirst
+        (writes_json key.now
+        (transactions_from number 0 committed.now.block.envelopes committed.now.flags)) out.old
+        out.new) }
 {
     let envelopes = committed.block().envelopes.as_slice();
     let flags = committed.flags();
@@ -79,6 +86,7 @@ fn print_write<W: Write>(
         (write_json key.now
         (placed_at placed.now.envelope.now placed.now.flag placed.now.block placed.now.place))
         out.old.bytes out.new.bytes) }
+    ensures nothing { OnErr result (PrintsNothing out.old out.new) }
 {
     match write_line(alloc, placed, key)? {
         Some(line) => print_line(&line, out),

@@ -1,7 +1,7 @@
 use Rattle.std.proofs.Common.{◌≡◌, ℕ, List, [], ◌∷◌, ◌++◌, map, refl, ap}
 use Rattle.std.specs.List.{flat_map}
 use Rattle.std.specs.Map.Iter.{deref_pair}
-use Rattle.cli_lines.proofs.Printing.{prints_all, prints_same}
+use Rattle.cli_lines.proofs.Printing.{on_err, part_left, part_same, prints_all, prints_same}
 use Rattle.cli_session.specs.States.{entry_text}
 use Rattle.cli_session.proofs.lines.print_entries.Goals as goal
 
@@ -14,3 +14,9 @@ returns-clause-prints g c =
     prints_same c.args.out.now c.loop-key.out _ _ (fused entry_text deref_pair c.args.entries.now)
     (prints_all (λ e. entry_text (deref_pair e)) [] c.args.entries.now c.loop-key.key-index c.args.out.now c.loop-key.out
     c.loop-key-test.false c.loop-key.invariant)
+
+pub returns-in_err-print_entry-clause-part : goal.returns-in_err-print_entry-clause-part
+returns-in_err-print_entry-clause-part g c =
+    on_err c.from_residual.result _ (part_same c.args.out.now c.print_entry.new.out _ _ (fused entry_text deref_pair c.args.entries.now)
+    (part_left (λ e. entry_text (deref_pair e)) [] c.args.entries.now c.loop-key.key-index c.args.out.now c.loop-key.out c.print_entry.new.out
+    c.loop-key.invariant c.in_err-print_entry.ensures.nothing))

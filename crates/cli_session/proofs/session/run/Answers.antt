@@ -1,12 +1,13 @@
-use Rattle.std.proofs.Common.{◌≡◌, ◌∙◌, ℕ, true, false, List, [], Option, Err, inr, option_map, ap, refl, subst}
+use Rattle.std.proofs.Common.{◌≡◌, ◌∙◌, ℕ, true, false, List, [], Option, Err, inl, inr, option_map, ap, refl, subst}
 use Rattle.std.specs.List.{list_any}
 use Rattle.std.proofs.lemmas.Result.{err_from_is_err_and}
-use Rattle.cli_lines.proofs.Printing.{prints_none}
+use Rattle.cli_lines.proofs.Answering.{begins_by}
+use Rattle.cli_lines.proofs.Printing.{nothing_same, prints_none}
 use Rattle.cli_lines.proofs.Silence.{no_less, tells_by}
 use Rattle.cli_lines.specs.Sealing.{lacks_seed}
-use Rattle.cli_lines.specs.Told.{Answers}
+use Rattle.cli_lines.specs.Told.{Answers, Begins}
 use Rattle.cli_session.specs.Stored.{HoldsAsked}
-use Rattle.cli_session.specs.Whole.{LinesComeTo}
+use Rattle.cli_session.specs.Whole.{LinesBegin, LinesComeTo, RunBegins}
 use Rattle.cli_session.proofs.Pieces.{fresh_reader}
 use Rattle.cli_session.proofs.Whole.{with_secrets}
 use Rattle.cli_session.proofs.session.run.Goals as goal
@@ -21,6 +22,7 @@ returns-in_err-need_secrets g c =
       tells = tells_by c.args.out.now c.args.out.now _ (no_less c.args.out.now) e.silent;
       differs = tt;
       answers = inr ([], inr (lack, ap Err e.only, refl), prints_none c.args.out.now);
+      begins = λ broken. inl (nothing_same c.args.out.now);
     })
 
 pub returns-clause-answers : goal.returns-clause-answers
@@ -36,3 +38,16 @@ returns-clause-answers g c =
     with_secrets genesis held stored c.args.out.now c.run_read.new.out c.run_read.result none
     (subst (λ (o : Option (List ℕ)). Answers (LinesComeTo genesis o stored) c.args.out.now c.run_read.new.out c.run_read.result)
     (fresh_reader _ _ _ held r.capacity r.empty same) c.run_read.ensures.comes)
+
+pub returns-clause-begins : goal.returns-clause-begins
+returns-clause-begins g c =
+    let r = c.in_ok-lines.ensures in
+    let genesis = c.args.genesis.now in
+    let lacks = lacks_seed genesis.rules.value genesis.signers.value in
+    let name = c.args.names.now.events.now in
+    let held = g.F.Files.bytes c.args.files.now name in
+    let same = ap (λ x. g.F.Reader.Read.remaining x) r.inner ∙ c.in-Some.ensures.read ∙ ap (λ f. g.F.Files.bytes f name) c.in_ok-need_secrets.ensures.unchanged in
+    let none = subst (λ (orgs : List (List ℕ)). list_any lacks orgs ≡ false) c.deref.ensures.value (c.in_ok-need_secrets.ensures.ok refl) in
+    begins_by (LinesBegin genesis held) (RunBegins genesis held) c.args.out.now c.run_read.new.out c.run_read.result (λ text is. (none, is))
+    (subst (λ (o : Option (List ℕ)). Begins (LinesBegin genesis o) c.args.out.now c.run_read.new.out c.run_read.result)
+    (fresh_reader _ _ _ held r.capacity r.empty same) c.run_read.ensures.begins)

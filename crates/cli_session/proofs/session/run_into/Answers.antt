@@ -1,7 +1,10 @@
 use Rattle.std.proofs.Common.{arith, refl}
 use Rattle.ledger_setting.specs.Limits.{limits_of}
 use Rattle.fabric_core.specs.System.{fresh_orderer}
+use Rattle.simulator.specs.Execution.{exec_of}
+use Rattle.cli_lines.proofs.Answering.{begins_by}
 use Rattle.cli_session.specs.Stages.{Stage, stage_at}
+use Rattle.cli_session.specs.Whole.{BeginsFrom, LinesBegin}
 use Rattle.cli_session.proofs.Whole.{comes_to}
 use Rattle.cli_session.proofs.session.run_into.Goals as goal
 
@@ -15,3 +18,11 @@ returns-clause-comes g c =
     comes_to genesis law began (g.B.Read.remaining c.args.lines.now) _ c.run_to_end.result start (stage_at end.system end.bindings) c.args.out.now
     c.run_to_end.new.out (record { system = c.in_ok-system.ensures; names = c.new-bindings.ensures }) c.run_to_end.ensures.does
     c.run_to_end.ensures.stops c.run_to_end.ensures.stored
+
+pub returns-clause-begins : goal.returns-clause-begins
+returns-clause-begins g c =
+    let genesis = c.args.genesis.now in
+    let held = g.B.Read.remaining c.args.lines.now in
+    let start : Stage = record { system = c.in_ok-system.system; names = c.new-bindings.result } in
+    begins_by (BeginsFrom (exec_of genesis.book.value) held start) (LinesBegin genesis held) c.args.out.now c.run_to_end.new.out c.run_to_end.result
+    (λ text from. (start, record { system = c.in_ok-system.ensures; names = c.new-bindings.ensures }, from)) c.run_to_end.ensures.begins

@@ -1,5 +1,6 @@
 use Rattle.std.proofs.Common.{Some, None, inl, option_map, sym, subst}
 use Rattle.std.proofs.lemmas.Result.{err_from_is_err_and}
+use Rattle.cli_lines.proofs.Printing.{nothing_same}
 use Rattle.cli_lines.proofs.Silence.{no_less, tells_by}
 use Rattle.cli_lines.specs.Told.{Answers}
 use Rattle.cli_session.specs.Stored.{HoldsAsked, HoldsPlaced}
@@ -14,6 +15,7 @@ returns-in_err-place-in-Some g c =
       tells = tells_by c.args.out.now c.args.out.now _ (no_less c.args.out.now) c.in_err-place-in-Some.ensures.silent;
       differs = tt;
       comes = inl c.in_err-place-in-Some.ensures.lost;
+      begins = λ broken. inl (nothing_same c.args.out.now);
     })
 
 pub returns-in_ok-place-in-Some-clause-comes : goal.returns-in_ok-place-in-Some-clause-comes

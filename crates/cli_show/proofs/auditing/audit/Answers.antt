@@ -1,6 +1,8 @@
 use Rattle.std.proofs.Common.{inl}
 use Rattle.std.proofs.lemmas.Result.{err_from_is_err_and}
-use Rattle.cli_lines.proofs.Answering.{answers_by}
+use Rattle.cli_lines.proofs.Answering.{answers_by, begins_by}
+use Rattle.cli_lines.proofs.Printing.{nothing_same}
+use Rattle.cli_lines.specs.Told.{IsTextOf}
 use Rattle.cli_lines.proofs.Silence.{no_less, tells_by}
 use Rattle.cli_show.specs.Findings.{Audits, AuditsReplay}
 use Rattle.cli_show.proofs.auditing.audit.Goals as goal
@@ -11,6 +13,7 @@ returns-in_err-replayed g c =
     rw (p.1, p.2) (record {
       tells = tells_by c.args.out.now c.args.out.now _ (no_less c.args.out.now) c.in_err-replayed.ensures.silent;
       answers = inl c.in_err-replayed.ensures.lost;
+      begins = λ broken. inl (nothing_same c.args.out.now);
     })
 
 pub returns-clause-answers : goal.returns-clause-answers
@@ -20,3 +23,11 @@ returns-clause-answers g c =
     let last = c.print_replayed in
     answers_by (AuditsReplay genesis r) (Audits genesis (g.F.Files.bytes c.args.files.now c.args.store.now)) c.args.out.now last.new.out last.result
     (λ text h. (r, c.in_ok-replayed.ensures.replayed, h)) last.ensures.answers
+
+pub returns-clause-begins : goal.returns-clause-begins
+returns-clause-begins g c =
+    let genesis = c.args.genesis.now in
+    let r = c.in_ok-replayed.replayed in
+    let last = c.print_replayed in
+    begins_by (IsTextOf (AuditsReplay genesis r)) (IsTextOf (Audits genesis (g.F.Files.bytes c.args.files.now c.args.store.now))) c.args.out.now
+    last.new.out last.result (λ text h. (h.0, (r, c.in_ok-replayed.ensures.replayed, h.1))) last.ensures.begins

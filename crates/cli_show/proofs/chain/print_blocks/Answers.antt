@@ -1,5 +1,5 @@
 use Rattle.std.proofs.Common.{◌≡◌, ◌+◌, List, [], ◌∷◌, None, Option, Some, option_map, take, drop, sym, ap, subst, ◌∙◌, arith, rules, string_bytes}
-use Rattle.std.proofs.lemmas.List.{drop_all, drop_more}
+use Rattle.std.proofs.lemmas.List.{drop_all, drop_more, take-append-drop}
 use Rattle.std.specs.declared.sync.Arc.{Arc}
 use Rattle.std.specs.declared.alloc.Global.{Global}
 use Rattle.fab_types.specs.Committed.{Committed}
@@ -11,10 +11,12 @@ use Rattle.serde_json.specs.Data.{Data}
 use Rattle.serde_json.specs.Read.{read}
 use Rattle.json_chain.specs.Blocks.{block_json}
 use Rattle.json_chain.specs.Standing.{amended_by, blocks_json, membership_behind}
+use Rattle.cli_lines.proofs.Printing.{nothing_same, on_err}
 use Rattle.cli_lines.proofs.Silence.{and_more}
 use Rattle.cli_show.specs.Lines.{HasLines}
 use Rattle.cli_show.proofs.Amending.{left_more, taken_all, taken_more}
 use Rattle.cli_show.proofs.Behind.{line_behind, no_lines}
+use Rattle.cli_show.proofs.First.{first_left}
 use Rattle.cli_show.proofs.chain.print_blocks.Goals as goal
 
 pub loop-committed-init : goal.loop-committed-init
@@ -73,3 +75,27 @@ returns-clause-lines g c =
     inv.left
     ∙ ap (λ (ys : List (Arc Committed Global)). blocks_json r was (blocks_in ys)) (drop_all k xs (omega (arith, c.loop-committed-test.false))) in
     subst (λ (ds : List Data). HasLines ds c.args.out.now.bytes c.loop-committed.out.bytes) (taken_all k all none) inv.lines
+
+pub returns-in_err-standing-clause-first : goal.returns-in_err-standing-clause-first
+returns-in_err-standing-clause-first g c =
+    let i = c.loop-committed.invariant in
+    let k = c.loop-committed.committed-index in
+    let all = blocks_json c.args.rules.now (membership_behind None (blocks_in c.args.earlier.now)) (blocks_in c.args.blocks.now) in
+    on_err c.from_residual.result _ (first_left all (take k all) (drop k all) c.args.out.now c.loop-committed.out c.loop-committed.out
+    (sym (take-append-drop k all)) i.more i.failed i.lines (nothing_same c.loop-committed.out))
+
+pub returns-in_err-line-clause-first : goal.returns-in_err-line-clause-first
+returns-in_err-line-clause-first g c =
+    let i = c.loop-committed.invariant in
+    let k = c.loop-committed.committed-index in
+    let all = blocks_json c.args.rules.now (membership_behind None (blocks_in c.args.earlier.now)) (blocks_in c.args.blocks.now) in
+    on_err c.from_residual-in_err-line.result _ (first_left all (take k all) (drop k all) c.args.out.now c.loop-committed.out c.loop-committed.out
+    (sym (take-append-drop k all)) i.more i.failed i.lines (nothing_same c.loop-committed.out))
+
+pub returns-in_err-print_line-clause-first : goal.returns-in_err-print_line-clause-first
+returns-in_err-print_line-clause-first g c =
+    let i = c.loop-committed.invariant in
+    let k = c.loop-committed.committed-index in
+    let all = blocks_json c.args.rules.now (membership_behind None (blocks_in c.args.earlier.now)) (blocks_in c.args.blocks.now) in
+    on_err c.from_residual-in_err-print_line.result _ (first_left all (take k all) (drop k all) c.args.out.now c.loop-committed.out c.print_line.new.out
+    (sym (take-append-drop k all)) i.more i.failed i.lines c.in_err-print_line.ensures.nothing)

@@ -2,6 +2,7 @@ use Rattle.std.proofs.Common.{◌≡◌, ℕ, ap, inl, arith, length, subst}
 use Rattle.std.proofs.lemmas.Result.{err_from_is_err_and}
 use Rattle.ledger_model.specs.Chain.{Bytes}
 use Rattle.wasm_file.specs.Modules.{IsDefinedBy, NoModule}
+use Rattle.cli_lines.proofs.Printing.{nothing_same, on_err}
 use Rattle.cli_lines.proofs.Silence.{no_less, tells_by}
 use Rattle.cli_show.specs.Modules.{valid_text}
 use Rattle.cli_show.proofs.Read.{module_refused, module_told}
@@ -13,7 +14,8 @@ said functions bytes = valid_text functions (length bytes)
 pub returns-in_err-bytes : goal.returns-in_err-bytes
 returns-in_err-bytes g c =
     let p = err_from_is_err_and c.from_residual.result c.from_residual.ensures.1 in
-    rw p.1 (record { tells = tells_by c.args.out.now c.args.out.now p.0 (no_less c.args.out.now) p.2.0; answers = inl p.2.1 })
+    let t = c.args.out.now in
+    rw p.1 (record { tells = tells_by t t p.0 (no_less t) p.2.0; answers = inl p.2.1; nothing = nothing_same t })
 
 pub returns-in_err-functions-clause-tells : goal.returns-in_err-functions-clause-tells
 returns-in_err-functions-clause-tells g c =
@@ -37,3 +39,6 @@ returns-clause-answers g c =
     module_told said c.args.profile (g.F.Files.bytes c.args.files.now c.args.name.now) read functions (valid_text functions size) c.args.out.now
     c.writeln.new.self c.writeln.result c.in_ok-bytes.ensures.bytes defined (ap (valid_text functions) counted) c.writeln.ensures.lost
     c.writeln.ensures.prints
+
+pub returns-in_err-functions-clause-nothing : goal.returns-in_err-functions-clause-nothing
+returns-in_err-functions-clause-nothing g c = on_err c.from_residual-in_err-functions.result _ (nothing_same c.args.out.now)

@@ -5,6 +5,7 @@ use Rattle.sha2.specs.Sha256.{sha256}
 use Rattle.ledger_model.specs.Chain.{Bytes}
 use Rattle.wasm_file.specs.Modules.{IsDefinedBy, NoModule}
 use Rattle.cli_lines.specs.Texts.{line}
+use Rattle.cli_lines.proofs.Printing.{nothing_same, on_err}
 use Rattle.cli_lines.proofs.Silence.{no_less, tells_by}
 use Rattle.cli_show.proofs.Answering.{line_printed}
 use Rattle.cli_show.proofs.Read.{module_refused, module_told}
@@ -16,12 +17,14 @@ said functions bytes = line (encode_lower (sha256 bytes))
 pub returns-in_err-bytes : goal.returns-in_err-bytes
 returns-in_err-bytes g c =
     let p = err_from_is_err_and c.from_residual.result c.from_residual.ensures.1 in
-    rw p.1 (record { tells = tells_by c.args.out.now c.args.out.now p.0 (no_less c.args.out.now) p.2.0; answers = inl p.2.1 })
+    let t = c.args.out.now in
+    rw p.1 (record { tells = tells_by t t p.0 (no_less t) p.2.0; answers = inl p.2.1; nothing = nothing_same t })
 
 pub returns-in_err-digest : goal.returns-in_err-digest
 returns-in_err-digest g c =
     let p = err_from_is_err_and c.from_residual-in_err-digest.result c.from_residual-in_err-digest.ensures.1 in
-    rw p.1 (record { tells = tells_by c.args.out.now c.args.out.now p.0 (no_less c.args.out.now) p.2.0; answers = inl p.2.1 })
+    let t = c.args.out.now in
+    rw p.1 (record { tells = tells_by t t p.0 (no_less t) p.2.0; answers = inl p.2.1; nothing = nothing_same t })
 
 pub returns-in_err-functions_explained-clause-tells : goal.returns-in_err-functions_explained-clause-tells
 returns-in_err-functions_explained-clause-tells g c =
@@ -47,3 +50,6 @@ returns-clause-answers g c =
     module_told said c.args.profile (g.F.Files.bytes c.args.files.now c.args.name.now) read functions (line text) c.args.out.now
     r.new.out r.result c.in_ok-bytes.ensures.bytes defined (ap (λ (t : Bytes). line t) spelled) r.ensures.lost
     (line_printed r.result c.args.out.now r.new.out (line text) r.ensures.tells r.ensures.line)
+
+pub returns-in_err-functions_explained-clause-nothing : goal.returns-in_err-functions_explained-clause-nothing
+returns-in_err-functions_explained-clause-nothing g c = on_err c.from_residual-in_err-functions_explained.result _ (nothing_same c.args.out.now)

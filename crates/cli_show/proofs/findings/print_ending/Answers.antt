@@ -1,4 +1,5 @@
 use Rattle.std.proofs.Common.{string_bytes}
+use Rattle.cli_lines.proofs.Printing.{nothing_same, on_err}
 use Rattle.cli_show.proofs.Behind.{one_line}
 use Rattle.cli_show.proofs.findings.print_ending.Goals as goal
 
@@ -11,3 +12,12 @@ returns-clause-line g c =
       c.is_good.ensures,
       one_line _ (string_bytes c.in_ok-line.line) c.args.out.now.bytes c.print_line.new.out.bytes reads c.in_ok-print_line.ensures.line,
     )
+
+pub returns-in_err-finding-clause-nothing : goal.returns-in_err-finding-clause-nothing
+returns-in_err-finding-clause-nothing g c = on_err c.from_residual.result _ (nothing_same c.args.out.now)
+
+pub returns-in_err-line-clause-nothing : goal.returns-in_err-line-clause-nothing
+returns-in_err-line-clause-nothing g c = on_err c.from_residual-in_err-line.result _ (nothing_same c.args.out.now)
+
+pub returns-in_err-print_line-clause-nothing : goal.returns-in_err-print_line-clause-nothing
+returns-in_err-print_line-clause-nothing g c = on_err c.from_residual-in_err-print_line.result _ c.in_err-print_line.ensures.nothing

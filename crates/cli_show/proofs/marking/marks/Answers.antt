@@ -1,7 +1,8 @@
 use Rattle.std.proofs.Common.{inl}
 use Rattle.std.proofs.lemmas.Result.{err_from_is_err_and}
+use Rattle.cli_lines.proofs.Printing.{nothing_same}
 use Rattle.cli_lines.proofs.Silence.{no_less, tells_by}
-use Rattle.cli_show.proofs.MarkLines.{store_told}
+use Rattle.cli_show.proofs.MarkLines.{store_begun, store_told}
 use Rattle.cli_show.proofs.marking.marks.Goals as goal
 
 pub returns-in_err-replayed : goal.returns-in_err-replayed
@@ -10,6 +11,7 @@ returns-in_err-replayed g c =
     rw (p.1, p.2) (record {
       tells = tells_by c.args.out.now c.args.out.now _ (no_less c.args.out.now) c.in_err-replayed.ensures.silent;
       answers = inl c.in_err-replayed.ensures.lost;
+      begins = λ broken. inl (nothing_same c.args.out.now);
     })
 
 pub returns-clause-answers : goal.returns-clause-answers
@@ -17,3 +19,9 @@ returns-clause-answers g c =
     let told = c.print_marks.ensures in
     store_told c.args.genesis.now (g.F.Files.bytes c.args.files.now c.args.store.now) c.in_ok-replayed.replayed c.args.out.now c.print_marks.new.out
     c.print_marks.result c.in_ok-replayed.ensures.replayed told.tells told.refused told.marks told.lost
+
+pub returns-clause-begins : goal.returns-clause-begins
+returns-clause-begins g c =
+    let told = c.print_marks.ensures in
+    store_begun c.args.genesis.now (g.F.Files.bytes c.args.files.now c.args.store.now) c.in_ok-replayed.replayed c.args.out.now c.print_marks.new.out
+    c.print_marks.result c.in_ok-replayed.ensures.replayed told.refused told.part

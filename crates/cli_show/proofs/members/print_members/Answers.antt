@@ -1,4 +1,5 @@
 use Rattle.std.proofs.lemmas.Result.{err_from_is_err_and}
+use Rattle.cli_lines.proofs.Printing.{nothing_same}
 use Rattle.cli_lines.proofs.Silence.{no_less, tells_by}
 use Rattle.cli_show.proofs.members.print_members.Goals as goal
 
@@ -9,4 +10,5 @@ returns-in_err-earlier g c =
       tells = tells_by c.args.out.now c.args.out.now _ (no_less c.args.out.now) c.in_err-earlier.ensures.silent;
       lost = c.in_err-earlier.ensures.lost;
       line = tt;
+      nothing = nothing_same c.args.out.now;
     })

@@ -1,5 +1,6 @@
 use Rattle.std.proofs.Common.{[], ◌∷◌, string_bytes}
 use Rattle.json_chain.specs.Memberships.{standing_behind}
+use Rattle.cli_lines.proofs.Printing.{nothing_same, on_err}
 use Rattle.cli_show.proofs.Behind.{on_ok, one_line}
 use Rattle.cli_show.specs.Lines.{HasLines}
 use Rattle.cli_show.proofs.members.print_members_of.Goals as goal
@@ -11,3 +12,6 @@ returns-clause-line g c =
     let after = c.print_line.new.out.bytes in
     on_ok c.print_line.result _ (HasLines (stands ∷ []) was after) (λ h. one_line stands (string_bytes c.in_ok-line.line) was after c.in_ok-line.ensures h)
     c.print_line.ensures.line
+
+pub returns-in_err-line-clause-nothing : goal.returns-in_err-line-clause-nothing
+returns-in_err-line-clause-nothing g c = on_err c.from_residual.result _ (nothing_same c.args.out.now)

@@ -1,4 +1,8 @@
-use Rattle.std.proofs.Common.{None, ◌∙◌, arith}
+use Rattle.std.proofs.Common.{[], None, sym, ◌∙◌, arith}
+use Rattle.std.proofs.lemmas.List.{append-nil}
+use Rattle.cli_lines.proofs.Printing.{on_err}
+use Rattle.cli_show.specs.Lines.{AreFirstLines, chain_json}
+use Rattle.cli_show.proofs.First.{begins_first, ends_whole, first_left}
 use Rattle.cli_lines.proofs.Silence.{and_more}
 use Rattle.cli_show.proofs.Replays.{end_told, show_told}
 use Rattle.cli_show.proofs.showing.print_shown.Goals as goal
@@ -17,3 +21,21 @@ returns-clause-answers g c =
     show_told c.args.genesis.now c.args.span.from c.args.span.to c.args.replayed.now c.args.out.now c.print_chain.new.out c.print_ending.new.out
     c.in_ok-is_good.is_good c.ends_with.result c.ends_with.ensures (and_more _ _ _ first.tells.0 next.tells.0) (next.tells.1 ∙ first.tells.1)
     first.lines next.line
+
+pub returns-in_err-print_chain-clause-begins : goal.returns-in_err-print_chain-clause-begins
+returns-in_err-print_chain-clause-begins g c =
+    begins_first (chain_json c.args.genesis.now c.args.span.from c.args.span.to c.args.replayed.now.snapshot) c.args.out.now c.print_chain.new.out
+    c.from_residual.result (on_err c.from_residual.result _ c.in_err-print_chain.ensures.first)
+
+pub returns-in_err-is_good-clause-begins : goal.returns-in_err-is_good-clause-begins
+returns-in_err-is_good-clause-begins g c =
+    let all = chain_json c.args.genesis.now c.args.span.from c.args.span.to c.args.replayed.now.snapshot in
+    let first = c.in_ok-print_chain.ensures in
+    begins_first all c.args.out.now c.print_ending.new.out c.from_residual-in_err-is_good.result
+    (on_err c.from_residual-in_err-is_good.result _ (first_left all all [] c.args.out.now c.print_chain.new.out c.print_ending.new.out
+    (sym (append-nil all)) first.tells.0 first.tells.1 first.lines c.in_err-is_good.ensures.nothing))
+
+pub returns-clause-begins : goal.returns-clause-begins
+returns-clause-begins g c =
+    ends_whole c.in_ok-is_good.is_good (AreFirstLines (chain_json c.args.genesis.now c.args.span.from c.args.span.to c.args.replayed.now.snapshot))
+    c.args.out.now c.print_ending.new.out c.ends_with.result c.ends_with.ensures

@@ -1,8 +1,10 @@
 use Rattle.std.proofs.Common.{inl}
 use Rattle.std.proofs.lemmas.Result.{err_from_is_err_and}
-use Rattle.cli_lines.proofs.Answering.{answers_by}
+use Rattle.cli_lines.proofs.Answering.{answers_by, begins_by}
+use Rattle.cli_lines.proofs.Printing.{nothing_same}
 use Rattle.cli_lines.proofs.Silence.{no_less, tells_by}
-use Rattle.cli_show.specs.Findings.{Shows, ShowsReplay}
+use Rattle.cli_show.specs.Findings.{ShowBegins, Shows, ShowsReplay}
+use Rattle.cli_show.specs.Lines.{AreFirstLines, chain_json}
 use Rattle.cli_show.proofs.showing.show.Goals as goal
 
 pub returns-in_err-replayed : goal.returns-in_err-replayed
@@ -11,6 +13,7 @@ returns-in_err-replayed g c =
     rw (p.1, p.2) (record {
       tells = tells_by c.args.out.now c.args.out.now _ (no_less c.args.out.now) c.in_err-replayed.ensures.silent;
       answers = inl c.in_err-replayed.ensures.lost;
+      begins = λ broken. inl (nothing_same c.args.out.now);
     })
 
 pub returns-clause-answers : goal.returns-clause-answers
@@ -22,3 +25,13 @@ returns-clause-answers g c =
     answers_by (ShowsReplay genesis shown.span.from shown.span.to r)
     (Shows genesis shown.span.from shown.span.to (g.F.Files.bytes c.args.files.now shown.store.now)) c.args.out.now last.new.out last.result
     (λ text h. (r, c.in_ok-replayed.ensures.replayed, h)) last.ensures.answers
+
+pub returns-clause-begins : goal.returns-clause-begins
+returns-clause-begins g c =
+    let genesis = c.args.genesis.now in
+    let span = c.args.shown.now.span in
+    let r = c.in_ok-replayed.replayed in
+    let last = c.print_shown in
+    begins_by (AreFirstLines (chain_json genesis span.from span.to r.snapshot))
+    (ShowBegins genesis span.from span.to (g.F.Files.bytes c.args.files.now c.args.shown.now.store.now)) c.args.out.now last.new.out last.result
+    (λ text h. (r, c.in_ok-replayed.ensures.replayed, h)) last.ensures.begins

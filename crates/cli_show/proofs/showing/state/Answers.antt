@@ -1,10 +1,11 @@
-use Rattle.std.proofs.Common.{OnOk, inl, subst}
+use Rattle.std.proofs.Common.{OnErr, OnOk, inl, subst}
 use Rattle.std.proofs.lemmas.Result.{err_from_is_err_and}
+use Rattle.cli_lines.proofs.Printing.{nothing_same}
 use Rattle.cli_lines.proofs.Silence.{no_less, tells_by}
 use Rattle.endorsement_policy.specs.Endorsed.{Listed}
 use Rattle.cli_show.specs.Answers.{part_json}
-use Rattle.cli_show.specs.Lines.{HasLines}
-use Rattle.cli_show.proofs.Replays.{state_told}
+use Rattle.cli_show.specs.Lines.{HasLines, PrintsFirst}
+use Rattle.cli_show.proofs.Replays.{state_begun, state_told}
 use Rattle.cli_show.proofs.showing.state.Goals as goal
 
 pub returns-in_err-replayed : goal.returns-in_err-replayed
@@ -13,6 +14,7 @@ returns-in_err-replayed g c =
     rw (p.1, p.2) (record {
       tells = tells_by c.args.out.now c.args.out.now _ (no_less c.args.out.now) c.in_err-replayed.ensures.silent;
       answers = inl c.in_err-replayed.ensures.lost;
+      begins = λ broken. inl (nothing_same c.args.out.now);
     })
 
 pub returns-clause-answers : goal.returns-clause-answers
@@ -24,3 +26,13 @@ returns-clause-answers g c =
     c.deref.ensures last.ensures.lines in
     state_told c.args.genesis.now asked.part asked.at (g.F.Files.bytes c.args.files.now asked.store.now) r c.args.out.now last.new.out last.result
     c.in_ok-replayed.ensures.replayed last.ensures.tells last.ensures.refused lines last.ensures.lost
+
+pub returns-clause-begins : goal.returns-clause-begins
+returns-clause-begins g c =
+    let asked = c.args.asked.now in
+    let r = c.in_ok-replayed.replayed in
+    let last = c.print_asked in
+    let first = subst (λ (l : Listed). OnErr last.result (PrintsFirst (part_json l asked.part asked.at r.snapshot) c.args.out.now last.new.out))
+    c.deref.ensures last.ensures.first in
+    state_begun c.args.genesis.now asked.part asked.at (g.F.Files.bytes c.args.files.now asked.store.now) r c.args.out.now last.new.out last.result
+    c.in_ok-replayed.ensures.replayed last.ensures.refused first

@@ -1,9 +1,14 @@
-use Rattle.std.proofs.Common.{Ok, Err, subst}
+use Rattle.std.proofs.Common.{inl, Ok, Err, refl, subst}
 use Rattle.std.proofs.lemmas.Result.{err_from_is_err_and}
 use Rattle.chaincode_book.specs.Books.{Book}
 use Rattle.simulator.specs.Answers.{payload_or_refusal}
 use Rattle.simulator.specs.Answers as simulator
 use Rattle.simulator.specs.Execution.{exec_of}
+use Rattle.cli_lines.specs.Lines.{payload_text}
+use Rattle.cli_lines.specs.Told.{IsTextOf}
+use Rattle.cli_lines.proofs.Answering.{begins_part}
+use Rattle.cli_lines.proofs.Printing.{nothing_same}
+use Rattle.cli_show.specs.Simulations.{SimulatesOn}
 use Rattle.cli_lines.proofs.Silence.{no_less, tells_by}
 use Rattle.cli_show.proofs.Calls.{call_refused, call_told}
 use Rattle.cli_show.proofs.simulation.print_call.Goals as goal
@@ -28,3 +33,15 @@ returns-clause-answers g c =
     let wanted = subst (λ (b : Book). simulator.Answers (payload_or_refusal (exec_of b) c.args.proposal.now c.args.snapshot.now) (Ok payload))
     c.deref.ensures c.in_ok-payload.ensures.answer in
     call_told c.args.genesis.now c.args.proposal.now c.args.snapshot.now payload c.args.out.now r.new.out r.result wanted r.ensures.lost r.ensures.prints
+
+pub returns-in_err-payload-clause-begins : goal.returns-in_err-payload-clause-begins
+returns-in_err-payload-clause-begins g c = λ broken. inl (nothing_same c.args.out.now)
+
+pub returns-clause-begins : goal.returns-clause-begins
+returns-clause-begins g c =
+    let r = c.print_payload in
+    let payload = c.in_ok-payload.payload in
+    let wanted = subst (λ (b : Book). simulator.Answers (payload_or_refusal (exec_of b) c.args.proposal.now c.args.snapshot.now) (Ok payload))
+    c.deref.ensures c.in_ok-payload.ensures.answer in
+    begins_part (IsTextOf (SimulatesOn c.args.genesis.now c.args.proposal.now c.args.snapshot.now)) c.args.out.now r.new.out r.result (payload_text payload)
+    (Ok tt, (payload, wanted, refl)) r.ensures.part

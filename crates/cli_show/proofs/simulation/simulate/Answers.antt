@@ -1,8 +1,9 @@
 use Rattle.std.proofs.Common.{Some, inl, subst}
 use Rattle.std.proofs.lemmas.Result.{err_from_is_err_and}
 use Rattle.ledger_model.specs.Chain.{Chain}
-use Rattle.cli_lines.proofs.Answering.{answers_by}
-use Rattle.cli_lines.specs.Told.{Answers}
+use Rattle.cli_lines.proofs.Answering.{answers_by, begins_by}
+use Rattle.cli_lines.specs.Told.{Answers, Begins, IsTextOf}
+use Rattle.cli_lines.proofs.Printing.{nothing_same}
 use Rattle.cli_lines.proofs.Silence.{no_less, tells_by}
 use Rattle.cli_show.specs.Answers.{UnlessFault, block_fault}
 use Rattle.cli_show.specs.Simulations.{Simulates, SimulatesOn}
@@ -14,6 +15,7 @@ returns-in_err-replayed-in-Some g c =
     rw (p.1, p.2) (record {
       tells = tells_by c.args.out.now c.args.out.now _ (no_less c.args.out.now) c.in_err-replayed-in-Some.ensures.silent;
       answers = inl c.in_err-replayed-in-Some.ensures.lost;
+      begins = λ broken. inl (nothing_same c.args.out.now);
     })
 
 pub returns-in-None-clause-answers : goal.returns-in-None-clause-answers
@@ -32,3 +34,20 @@ returns-in_ok-replayed-in-Some-clause-answers g c =
     rw c.in-Some.is (answers_by (UnlessFault (block_fault r.refused r.end) (SimulatesOn genesis p r.snapshot))
     (Simulates genesis p (Some (g.F.Files.bytes c.args.files.now c.in-Some.name.now))) c.args.out.now last.new.out last.result
     (λ text h. (r, c.in_ok-replayed-in-Some.ensures.replayed, h)) last.ensures.answers)
+
+pub returns-in-None-clause-begins : goal.returns-in-None-clause-begins
+returns-in-None-clause-begins g c =
+    let p = c.args.simulated.now.proposal.now in
+    let last = c.print_call in
+    rw c.in-None.is (subst (λ (chain : Chain). Begins (IsTextOf (SimulatesOn c.args.genesis.now p chain)) c.args.out.now last.new.out last.result)
+    c.empty-empty.ensures last.ensures.begins)
+
+pub returns-in_ok-replayed-in-Some-clause-begins : goal.returns-in_ok-replayed-in-Some-clause-begins
+returns-in_ok-replayed-in-Some-clause-begins g c =
+    let genesis = c.args.genesis.now in
+    let p = c.args.simulated.now.proposal.now in
+    let r = c.in_ok-replayed-in-Some.replayed in
+    let last = c.print_call_after in
+    rw c.in-Some.is (begins_by (IsTextOf (UnlessFault (block_fault r.refused r.end) (SimulatesOn genesis p r.snapshot)))
+    (IsTextOf (Simulates genesis p (Some (g.F.Files.bytes c.args.files.now c.in-Some.name.now)))) c.args.out.now last.new.out last.result
+    (λ text h. (h.0, (r, c.in_ok-replayed-in-Some.ensures.replayed, h.1))) last.ensures.begins)

@@ -1,6 +1,7 @@
 use Rattle.std.proofs.Common.{[], ◌∷◌, ap, ◌∙◌, Some, Result, Ok, Err, OnOk, IfErr, inl, inr, arith, refl, string_bytes}
 use Rattle.std.specs.Io.KnownBytes.{Appends}
 use Rattle.serde_json.specs.Data.{Data}
+use Rattle.cli_lines.proofs.Printing.{nothing_same, on_err}
 use Rattle.cli_lines.specs.Texts.{line}
 use Rattle.cli_lines.specs.Told.{Answers, IsBrokenOff, Tells, Told}
 use Rattle.cli_lines.specs.declared.failure.Failure.{Failure}
@@ -32,3 +33,9 @@ told t u (Err f) tells lines lost = inl lost
 pub returns-clause-answers : goal.returns-clause-answers
 returns-clause-answers g c =
     told c.args.out.now c.print_line.new.out c.print_line.result c.print_line.ensures.tells (returns-clause-line g c) c.print_line.ensures.lost
+
+pub returns-in_err-numbers-clause-nothing : goal.returns-in_err-numbers-clause-nothing
+returns-in_err-numbers-clause-nothing g c = on_err c.from_residual.result _ (nothing_same c.args.out.now)
+
+pub returns-in_err-line-clause-nothing : goal.returns-in_err-line-clause-nothing
+returns-in_err-line-clause-nothing g c = on_err c.from_residual-in_err-line.result _ (nothing_same c.args.out.now)

@@ -1,4 +1,4 @@
-use Rattle.std.proofs.Common.{rules, true, refl}
+use Rattle.std.proofs.Common.{inr, rules, true, refl}
 use Rattle.cli_lines.specs.Told.{Told}
 use Rattle.cli_lines.proofs.printer.Printer.flush.Goals as goal
 
@@ -6,3 +6,6 @@ pub returns-in-Err-clause-tells : goal.returns-in-Err-clause-tells
 returns-in-Err-clause-tells g c =
     let after : Told = record { printed = c.self.inside.printed; failed = true; bytes = g.W.Write.contents c.flush.new.self } in
     (record { prints = search rules; fails = search rules }, c.reason.ensures.says c.args.self.now after refl)
+
+pub returns-in-Err-clause-nothing : goal.returns-in-Err-clause-nothing
+returns-in-Err-clause-nothing g c = inr (record { prints = search rules; fails = search rules }, refl)

@@ -1,10 +1,12 @@
 use Rattle.std.proofs.Common.{ℕ, List, [], ◌∷◌, ◌++◌, inl, inr, refl, subst}
 use Rattle.std.proofs.lemmas.Result.{err_from_is_err_and}
+use Rattle.cli_lines.proofs.Printing.{nothing_same, on_err}
 use Rattle.cli_lines.proofs.Silence.{tells_by}
 use Rattle.cli_session.specs.Reading.{IsNext}
 use Rattle.cli_session.specs.Running.{IsBadLine, IsLine, StopsAt}
 use Rattle.cli_session.specs.Stages.{DoesPrint, stage_at}
 use Rattle.cli_session.specs.declared.reading.Next.{Next}
+use Rattle.cli_session.proofs.Begun.{does_first}
 use Rattle.cli_session.proofs.Pieces.{lines_all, lines_more, lines_none}
 use Rattle.cli_session.proofs.Several.{no_lines, line_more, meets, meets_or_lost, one_line_more}
 use Rattle.cli_session.proofs.session.Session.run_lines.Goals as goal
@@ -56,6 +58,11 @@ returns-in_err-line g c =
       tells = tells_by c.args.out.now c.loop-number.out _ c.loop-number.invariant.3.3.more c.in_err-line.ensures.silent;
       does = tt;
       stops = inl c.in_err-line.ensures.lost;
+      first =
+          let all = c.loop-number.invariant in
+          does_first (g.B.Read.remaining c.args.lines.now) (g.B.Read.remaining c.loop-number.lines) all.0
+          (stage_at c.args.self.now.system c.args.self.now.bindings) (stage_at c.loop-number.self.system c.loop-number.self.bindings)
+          c.args.out.now c.loop-number.out c.loop-number.out all.2 all.3 (nothing_same c.loop-number.out);
     })
 
 pub returns-in_err-take_explained-in-Line-clause-stops : goal.returns-in_err-take_explained-in-Line-clause-stops
@@ -77,3 +84,25 @@ returns-in_err-take_explained-in-Line-clause-stops g c =
     rw (p.1, p.2) (meets_or_lost (g.B.Read.remaining c.args.lines.now) old new all.0 l
     (stage_at c.args.self.now.system c.args.self.now.bindings) (stage_at c.loop-number.self.system bindings)
     c.args.out.now u v number f all.1 all.2 all.3 next stop)
+
+pub returns-in_err-take_explained-in-Line-clause-first : goal.returns-in_err-take_explained-in-Line-clause-first
+returns-in_err-take_explained-in-Line-clause-first g c =
+    let all = c.loop-number.invariant in
+    on_err c.from_residual-in_err-take_explained-in-Line.result _
+    (does_first (g.B.Read.remaining c.args.lines.now) (g.B.Read.remaining c.loop-number.lines) all.0
+    (stage_at c.args.self.now.system c.args.self.now.bindings) (stage_at c.loop-number.self.system c.loop-number.self.bindings)
+    c.args.out.now c.loop-number.out c.take_explained.new.out all.2 all.3 c.in_err-take_explained-in-Line.ensures.nothing)
+
+pub returns-in-TooLong-clause-first : goal.returns-in-TooLong-clause-first
+returns-in-TooLong-clause-first g c =
+    let all = c.loop-number.invariant in
+    does_first (g.B.Read.remaining c.args.lines.now) (g.B.Read.remaining c.loop-number.lines) all.0
+    (stage_at c.args.self.now.system c.args.self.now.bindings) (stage_at c.loop-number.self.system c.loop-number.self.bindings)
+    c.args.out.now c.loop-number.out c.loop-number.out all.2 all.3 (nothing_same c.loop-number.out)
+
+pub returns-clause-first : goal.returns-clause-first
+returns-clause-first g c =
+    let all = c.loop-number.invariant in
+    does_first (g.B.Read.remaining c.args.lines.now) (g.B.Read.remaining c.loop-number.lines) all.0
+    (stage_at c.args.self.now.system c.args.self.now.bindings) (stage_at c.loop-number.self.system c.loop-number.self.bindings)
+    c.args.out.now c.loop-number.out c.loop-number.out all.2 all.3 (nothing_same c.loop-number.out)

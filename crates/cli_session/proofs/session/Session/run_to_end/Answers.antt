@@ -1,6 +1,9 @@
-use Rattle.std.proofs.Common.{inl}
+use Rattle.std.proofs.Common.{inl, inr}
 use Rattle.std.proofs.lemmas.Result.{err_from_is_err_and}
+use Rattle.simulator.specs.Execution.{exec_of}
 use Rattle.cli_lines.proofs.Silence.{tells_by, and_more}
+use Rattle.cli_session.specs.Stages.{stage_at}
+use Rattle.cli_session.proofs.Begun.{all_begun, end_begun, first_begun}
 use Rattle.cli_session.proofs.session.Session.run_to_end.Goals as goal
 
 pub returns-in_err-write_store : goal.returns-in_err-write_store
@@ -13,6 +16,10 @@ returns-in_err-write_store g c =
       does = tt;
       stops = inl c.in_err-write_store.ensures.lost;
       stored = tt;
+      begins =
+          λ broken. inr (all_begun (exec_of c.args.genesis.now.book.value) (g.B.Read.remaining c.args.lines.now)
+          (stage_at c.args.self.now.system c.args.self.now.bindings) (stage_at c.run_lines.new.self.system c.run_lines.new.self.bindings)
+          c.in_ok-is_good.is_good c.args.out.now c.run_lines.new.out c.print_end.new.out c.in_ok-run_lines.ensures.does c.in_ok-is_good.ensures.ends);
     })
 
 pub returns-in_ok-write_store-clause-does : goal.returns-in_ok-write_store-clause-does
@@ -28,3 +35,15 @@ pub returns-in_err-run_lines-clause-stops : goal.returns-in_err-run_lines-clause
 returns-in_err-run_lines-clause-stops g c =
     let p = err_from_is_err_and c.from_residual.result c.from_residual.ensures.1 in
     rw (p.1, p.2) c.in_err-run_lines.ensures.stops
+
+pub returns-in_err-run_lines-clause-begins : goal.returns-in_err-run_lines-clause-begins
+returns-in_err-run_lines-clause-begins g c =
+    λ broken. inr (first_begun (exec_of c.args.genesis.now.book.value) (g.B.Read.remaining c.args.lines.now)
+    (stage_at c.args.self.now.system c.args.self.now.bindings) c.args.out.now c.run_lines.new.out c.in_err-run_lines.ensures.first)
+
+pub returns-in_err-is_good-clause-begins : goal.returns-in_err-is_good-clause-begins
+returns-in_err-is_good-clause-begins g c =
+    λ broken. inr (end_begun (exec_of c.args.genesis.now.book.value) (g.B.Read.remaining c.args.lines.now)
+    (stage_at c.args.self.now.system c.args.self.now.bindings) (stage_at c.run_lines.new.self.system c.run_lines.new.self.bindings)
+    c.args.out.now c.run_lines.new.out c.print_end.new.out c.in_ok-run_lines.ensures.does
+    (c.in_err-is_good.ensures.begins c.in_err-is_good.ensures.lost))

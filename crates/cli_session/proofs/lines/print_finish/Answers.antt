@@ -1,7 +1,0 @@
-use Rattle.cli_session.proofs.Printed.{finish_other, prints_as}
-use Rattle.cli_session.proofs.lines.print_finish.Goals as goal
-
-pub returns-in_default-clause-prints : goal.returns-in_default-clause-prints
-returns-in_default-clause-prints g c =
-    let p = c.print_reply in
-    prints_as p.result c.args.out.now p.new.out _ _ (finish_other c.args.name.now c.args.reply.now c.in_default.not-Endorsed) p.ensures.prints

@@ -1,0 +1,21 @@
+//! Laws of the chains that are shown.
+
+ghost use Rattle.std.specs.Prelude.{[], List, Option, ℕ};
+ghost use Rattle.block_store.specs.Progress.{Progress, Reads};
+ghost use Rattle.endorsement_policy.specs.Endorsed.{Listed};
+ghost use Rattle.ledger_model.specs.Chain.{Chain};
+ghost use Rattle.ledger_setting.specs.Rule.{table_of};
+ghost use Rattle.store_replay.specs.Lawful.{AreLawful};
+ghost use Rattle.store_replay.specs.Replay.{ReplaysFrom};
+ghost use Rattle.store_replay.specs.declared.replaying.Replayed.{Replayed};
+ghost use Rattle.json_chain.specs.Standing.{IsChainOf};
+
+/// What is shown of a store is shown by those whom the judge takes: its chain is one of which
+/// `json_chain::who_is_shown_stands` speaks, as it is replayed for `show` (`replayed`), and as
+/// `query` reads it (`read`).
+pub fn stores_hold_chains()
+    ensures replayed { (r : Listed) (known : Option (List ℕ)) (p : Replayed) →
+        ReplaysFrom (table_of r) known p → IsChainOf r p.snapshot }
+    ensures read { (r : Listed) (bytes : List ℕ) (chain : Chain) (last : Progress) →
+        Reads 1 bytes chain last → AreLawful (table_of r) [] chain → IsChainOf r chain }
+{}
