@@ -1,16 +1,15 @@
 //! The command `query`.
 
-ghost use Rattle.std.specs.Prelude.{◌≡◌, ◌++◌, IfOk, OnOk, codes, string_bytes};
+ghost use Rattle.std.specs.Prelude.{◌≡◌, ◌++◌, IfErr, IfOk, OnErr, OnOk, codes, string_bytes};
 ghost use Rattle.std.specs.Fmt.{decimal};
-ghost use Rattle.std.specs.Str.{IsUtf8};
-ghost use Rattle.cli_lines.specs.Told.{Tells};
-ghost use Rattle.log_store.specs.Reading.{IsReadBy, read_chain};
-ghost use Rattle.cli_query.specs.Printed.{IsSaid, Prints};
+ghost use Rattle.std.specs.Io.KnownBytes.{Keeps};
+ghost use Rattle.cli_lines.specs.Told.{Answers, Begins, BreaksOff, IsBrokenOff, PrintsNothing, Tells};
+ghost use Rattle.cli_roles.specs.Filters.{PrintsSo};
+ghost use Rattle.log_store.specs.Reading.{IsReadBy, bytes_read, store_bytes};
+ghost use Rattle.cli_query.specs.Printed.{IsPrinted, IsSaid, LinesBegin, Queries, QueriesBegin, QueriesLines, TakesLine};
 
-use cli_lines::{
-    Access, Failure, Files, Location, Printer, explain_bad_line, explain_trouble, print_line,
-};
-use cli_roles::{InputLines, end, explain_store};
+use cli_lines::{Access, Failure, Files, Location, Printer, explain_bad_line, explain_trouble};
+use cli_roles::{InputLines, end, explain_store, hand_on};
 use endorsement_policy::Workers;
 use json_events::BadLine;
 use json_questions::{answer_line, read_question};
@@ -38,6 +37,12 @@ pub fn query<T: Threads + Sync, F: Files, W: Write>(
     out: &mut Printer<'_, W>,
 ) -> Result<(), Failure>
     ensures tells { Tells out.old out.new result }
+    ensures answers { Answers
+        (Queries genesis.now (F.bytes files.old store.now) (F.input_bytes files.old)) out.old
+        out.new result }
+    ensures begins { Begins
+        (QueriesBegin genesis.now (F.bytes files.old store.now) (F.input_bytes files.old)) out.old
+        out.new result }
 {
     let Some(file) = files.open(store) else {
         explain_trouble(alloc, files, store, Access::Read);
@@ -73,6 +78,12 @@ fn query_after<T: Threads + Sync, F: Files, W: Write>(
     out: &mut Printer<'_, W>,
 ) -> Result<(), Failure>
     ensures tells { Tells out.old out.new result }
+    ensures answers { Answers
+        (Queries asked.now.genesis.now (F.Reader.remaining file) lines.old.left) out.old out.new
+        result }
+    ensures begins { Begins
+        (QueriesBegin asked.now.genesis.now (F.Reader.remaining file) lines.old.left) out.old
+        out.new result }
 {
     let mut reader = StoreReader::new(alloc, file)?;
     query_lines(alloc, files, asked, &mut reader, lines, out)
@@ -89,17 +100,25 @@ fn query_lines<T: Threads + Sync, F: Files, W: Write>(
 ) -> Result<(), Failure>
     requires { IsReadBy asked.now.genesis.now.rules.value reader.old }
     ensures tells { Tells out.old out.new result }
+    ensures answers { Answers
+        (QueriesLines asked.now.genesis.now
+        (store_bytes (F.Reader.remaining reader.old.file.device) reader.old)
+        (bytes_read reader.old) lines.old.left) out.old out.new result }
+    ensures begins { Begins
+        (LinesBegin asked.now.genesis.now
+        (store_bytes (F.Reader.remaining reader.old.file.device) reader.old)
+        (bytes_read reader.old) lines.old.left) out.old out.new result }
 {
     for number in 1..u64::MAX {
-        if !lines.read_explained(alloc, files)? {
+        let there = lines.read_explained(alloc, files)?;
+        if !there {
             return Ok(());
         }
         take_line(alloc, files, asked, reader, lines.line(), number, out)?;
-        if !lines.is_at_hand() {
-            out.flush()?;
-        }
+        hand_on(lines, out)?;
     }
-    Ok(())
+    // So many lines no input has.
+    Err(Failure::File)
 }
 
 /// Reads the store on, and answers the line of this number.
@@ -114,18 +133,45 @@ fn take_line<T: Threads + Sync, V: Watch, F: Files, S: Read + Drop, W: Write>(
 ) -> Result<(), Failure>
     requires { IsReadBy asked.now.genesis.now.rules.value reader.old }
     ensures read { OnOk result (IsReadBy asked.now.genesis.now.rules.value reader.new) }
-    ensures said { IsUtf8 line.now → OnOk result
-        (Prints asked.now.genesis.now (read_chain reader.new) line.now number out.old.bytes
-        out.new.bytes) }
+    ensures store { Keeps (store_bytes (S.remaining reader.old.file.device) reader.old)
+        (store_bytes (S.remaining reader.new.file.device) reader.new) }
     ensures tells { Tells out.old out.new result }
+    ensures does { TakesLine asked.now.genesis.now
+        (store_bytes (S.remaining reader.old.file.device) reader.old) number
+        (bytes_read reader.old) line.now (bytes_read reader.new) out.old out.new result }
+    ensures nothing { BreaksOff result → PrintsNothing out.old out.new }
 {
-    if let Err(refusal) = reader.catch_up(asked.tags, &asked.genesis.rules) {
-        explain_store(alloc, files, asked.store, Access::Read, &refusal);
-        return Err(end(refusal, out));
+    match reader.catch_up(asked.tags, &asked.genesis.rules) {
+        Ok(()) => {
+            let snapshot = reader.snapshot();
+            answer(alloc, files, asked.genesis, snapshot, line, number, out)
+        }
+        Err(refusal) => {
+            explain_store(alloc, files, asked.store, Access::Read, &refusal);
+            Err(end(refusal, out))
+        }
     }
-    let text = said_of(alloc, asked.genesis, reader.snapshot(), line, number)?;
+}
+
+/// Answers the line of this number by the chain of a snapshot.
+fn answer<F: Files, W: Write>(
+    alloc: Global,
+    files: &mut F,
+    genesis: &Genesis,
+    snapshot: &Snapshot,
+    line: &[u8],
+    number: u64,
+    out: &mut Printer<'_, W>,
+) -> Result<(), Failure>
+    ensures tells { Tells out.old out.new result }
+    ensures prints { OnOk result
+        (PrintsSo (IsPrinted genesis.now snapshot.now line.now number) out.old out.new) }
+    ensures lost { IfErr result IsBrokenOff }
+    ensures nothing { OnErr result (PrintsNothing out.old out.new) }
+{
+    let text = said_of(alloc, genesis, snapshot, line, number)?;
     explain_said(alloc, files, line, number, &text);
-    print_line(&text, out)
+    writeln!(out, "{text}")
 }
 
 /// Says why the line of this number is a bad one, if that is what is said of it: an answer is JSON.
@@ -144,7 +190,7 @@ fn said_of(
     line: &[u8],
     number: u64,
 ) -> Result<String, AllocError>
-    ensures { IsUtf8 line.now → IfOk result
+    ensures { IfOk result
         (λ s. IsSaid genesis.now snapshot.now line.now number (string_bytes s)) }
 {
     match std::str::from_utf8(line) {

@@ -1,13 +1,14 @@
 -- Lines that are done one after another.
-use Rattle.std.proofs.Common.{◌≡◌, inl, inr, ℕ, ◌+◌, List, [], ◌∷◌, ◌++◌, length, Option, true, false, Result, Ok, Err, OnOk, IfErr, refl, sym, ap, subst, ◌∙◌, append_assoc, arith}
+use Rattle.std.proofs.Common.{◌≡◌, ◌⊎◌, inl, inr, ℕ, ◌+◌, List, [], ◌∷◌, ◌++◌, length, Option, true, false, Result, Ok, Err, OnOk, OnErr, IfErr, refl, sym, ap, subst, ◌∙◌, append_assoc, arith}
 use Rattle.std.proofs.lemmas.List.{append-nil, length-append}
 use Rattle.cli_lines.specs.Texts.{line}
-use Rattle.cli_lines.specs.Told.{Told, Answers, IsBrokenOff, Prints}
+use Rattle.cli_lines.specs.Told.{Told, Answers, Begins, IsBrokenOff, Prints, PrintsNothing, PrintsPart}
 use Rattle.cli_lines.specs.declared.failure.Failure.{Failure}
-use Rattle.cli_lines.proofs.Printing.{prints_none, prints_then}
+use Rattle.cli_lines.proofs.Answering.{begins_nothing}
+use Rattle.cli_lines.proofs.Printing.{part_then, prints_none, prints_then}
 use Rattle.cli_roles.proofs.Lines.{lines_none, lines_more, all_lines, first_lines}
 use Rattle.cli_roles.specs.Input.{Input, IsNext, TakesLines}
-use Rattle.cli_roles.specs.Filters.{DoesOrEnds, AreDone, Filters, IsEndedBy, PrintsSo}
+use Rattle.cli_roles.specs.Filters.{AreDone, ComesTo, DoesOrEnds, EndAtLast, Filters, FiltersBegin, IsEndedBy, PrintsSo}
 
 -- ---- a task by its parts
 
@@ -20,7 +21,7 @@ done_by Does Ends t u (Err e) text prints lost does = inl lost
 -- ended, by the line that says why
 pub ended_by : (A : Type 0) (Does Ends : List ℕ → Type 0) (t u : Told) (e : Failure) (said : List ℕ) → IsEndedBy said t u e → Ends (line said)
     → Answers (DoesOrEnds {A = A} Does Ends) t u (Err e)
-ended_by A Does Ends t u e said (inl lost) ends = inl lost
+ended_by A Does Ends t u e said (inl lost) ends = inl lost.0
 ended_by A Does Ends t u e said (inr by) ends = inr (line said, (by.0, ends), by.1)
 
 -- what it comes to is more than that
@@ -43,7 +44,60 @@ pub so_behind : {A : Type 0} (P Q : List ℕ → Type 0) (t u v : Told) (r : Res
 so_behind P Q t u v (Ok a) none more so = (so.0, more so.0 so.1, prints_then t u v [] so.0 none so.2)
 so_behind P Q t u v (Err e) none more so = tt
 
+-- done, by the one text that it printed, of which this is so
+pub prints_so : {A : Type 0} (Is : List ℕ → Type 0) (t u : Told) (r : Result A Failure) (text : List ℕ) → OnOk r (Prints t u text) → Is text
+    → OnOk r (PrintsSo Is t u)
+prints_so Is t u (Ok a) text prints is = (text, is, prints)
+prints_so Is t u (Err e) text prints is = tt
+
+-- ---- a task that is broken off
+
+-- by the line that says why it ends, or before it
+pub begins_ended : (A : Type 0) (Whole : List ℕ → Type 0) (t u : Told) (e : Failure) (said : List ℕ) → IsEndedBy said t u e → Begins {A = A} Whole t u (Err e)
+begins_ended A Whole t u e said (inl lost) = begins_nothing {A = A} Whole t u (Err e) lost.1
+begins_ended A Whole t u e said (inr by) = λ broken. absurd (subst (λ (f : Failure). IsBrokenOff f) by.0 broken)
+
+-- before its one text
+pub begins_still : {A : Type 0} (Whole : List ℕ → Type 0) (t u : Told) (r : Result A Failure) → OnErr r (PrintsNothing t u) → Begins Whole t u r
+begins_still Whole t u (Ok a) none = λ broken. absurd broken
+begins_still Whole t u (Err e) none = λ broken. inl none
+
+-- a text, and nothing behind it
+pub part_ended : (t u v : Told) (text : List ℕ) → Prints t u text → PrintsNothing u v → PrintsPart t v text
+part_ended t u v text prints none = record { text = text; rest = []; mid = u; parts = sym (append-nil text); prints = prints; end = none }
+
+-- what it comes to is more than that
+pub comes_more : (Does Ends Done Ended : List ℕ → Type 0) → ((text : List ℕ) → Does text → Done text) → ((text : List ℕ) → Ends text → Ended text)
+    → (text : List ℕ) → ComesTo Does Ends text → ComesTo Done Ended text
+comes_more Does Ends Done Ended does ends text (inl is) = inl (does text is)
+comes_more Does Ends Done Ended does ends text (inr is) = inr (ends text is)
+
 -- ---- lines
+
+-- what is so of each line is more than that
+module _ {S : Type 0} (Does Done : ℕ → S → List ℕ → List ℕ → S → Type 0)
+    (more : (number : ℕ) (old : S) (l text : List ℕ) (new : S) → Does number old l text new → Done number old l text new) where
+  more_done : (ls : List (List ℕ)) (number : ℕ) (old new : S) (text : List ℕ) → AreDone Does number old ls text new → AreDone Done number old ls text new
+  more_done [] number old new text d = d
+  more_done (l ∷ ls) number old new text d =
+      (d.0, d.1, d.2, more number old l d.0 d.2 d.3, more_done ls (number + 1) d.2 new d.1 d.4, d.5)
+
+  pub filters_by : {A : Type 0} (Ends : ℕ → S → List ℕ → List ℕ → Type 0) (old : S) (input : Option (List ℕ)) (r : Result A Failure) (text : List ℕ)
+      → Filters Does Ends old input r text → Filters Done Ends old input r text
+  filters_by Ends old input (Ok a) text f = (f.0, (f.1.0, (f.1.1.0, more_done f.0 1 old f.1.1.0 text f.1.1.1)))
+  filters_by Ends old input (Err e) text f =
+      let d = f.1.1.1 in
+      (f.0, (f.1.0, (f.1.1.0, (d.0, d.1, d.2, d.3, d.4, d.5, more_done d.0 1 old d.4 d.2 d.6, d.7, d.8))))
+
+  more_begun : (Ends : ℕ → S → List ℕ → List ℕ → Type 0) (old : S) (lines : List (List ℕ)) (text : List ℕ)
+      → ((new : S) × AreDone Does 1 old lines text new) ⊎ EndAtLast Does Ends old lines text
+      → ((new : S) × AreDone Done 1 old lines text new) ⊎ EndAtLast Done Ends old lines text
+  more_begun Ends old lines text (inl d) = inl (d.0, more_done lines 1 old d.0 text d.1)
+  more_begun Ends old lines text (inr d) = inr (d.0, d.1, d.2, d.3, d.4, d.5, more_done d.0 1 old d.4 d.2 d.6, d.7, d.8)
+
+  pub filters_begin_by : (Ends : ℕ → S → List ℕ → List ℕ → Type 0) (old : S) (input : Option (List ℕ)) (text : List ℕ)
+      → FiltersBegin Does Ends old input text → FiltersBegin Done Ends old input text
+  filters_begin_by Ends old input text f = (f.0, f.1, more_begun Ends old f.0 text f.2)
 
 module _ {S : Type 0} (Does : ℕ → S → List ℕ → List ℕ → S → Type 0) where
   -- one line more
@@ -132,3 +186,53 @@ module _ {S : Type 0} (Does : ℕ → S → List ℕ → List ℕ → S → Type
           ),
           prints_then t u v h.text c.0 h.prints c.2,
         )
+
+    -- nothing is printed yet
+    pub none_begun : (old : S) (input : Option (List ℕ)) → FiltersBegin Does Ends old input []
+    none_begun old input = ([], first_lines input input [] (lines_none input), inl (old, (refl, refl)))
+
+    -- it was broken off behind lines that were done
+    pub begins_lines : {A : Type 0} (input left : Option (List ℕ)) (old : S) (number : ℕ) (new : S) (t u v : Told) (r : Result A Failure)
+        → HasDone input left old number new t u → PrintsNothing u v → Begins (FiltersBegin Does Ends old input) t v r
+    begins_lines input left old number new t u v r h none =
+        λ broken.
+        inr (h.text, (h.lines, first_lines input left h.lines h.taken, inl (new, h.done)), part_ended t u v h.text h.prints none)
+
+    -- lines that were done, and one of which a beginning was printed
+    begun_line : (input : Option (List ℕ)) (before after : Input) (old mid new : S) (number : ℕ) (t u v : Told) (whole : List ℕ)
+        → HasDone input before.left old number mid t u → IsNext true before after
+        → ComesTo (λ text. Does number mid after.last text new) (Ends number mid after.last) whole → PrintsPart u v whole
+        → (text : List ℕ) × FiltersBegin Does Ends old input text × PrintsPart t v text
+    begun_line input before after old mid new number t u v whole h is (inl does) part =
+        let l = after.last in
+        let at : number ≡ 1 + length h.lines = omega (arith, h.next) in
+        let done = done_more h.lines 1 old mid new l h.text whole h.done (subst (λ (n : ℕ). Does n mid l whole new) at does) in (
+          h.text ++ whole,
+          (
+            h.lines ++ l ∷ [],
+            first_lines input after.left (h.lines ++ l ∷ []) (lines_more h.lines input before after h.taken is),
+            inl (new, done),
+          ),
+          part_then t u v h.text whole h.prints part,
+        )
+    begun_line input before after old mid new number t u v whole h is (inr ends) part =
+        let l = after.last in
+        let end : Ends (length h.lines + 1) mid l whole = subst (λ (n : ℕ). Ends n mid l whole) h.next ends in (
+          h.text ++ whole,
+          (
+            h.lines ++ l ∷ [],
+            first_lines input after.left (h.lines ++ l ∷ []) (lines_more h.lines input before after h.taken is),
+            inr (h.lines, l, h.text, whole, mid, refl, h.done, end, refl),
+          ),
+          part_then t u v h.text whole h.prints part,
+        )
+
+    -- it was broken off in a line
+    pub begins_line : (A : Type 0) (input : Option (List ℕ)) (before after : Input) (old mid new : S) (number : ℕ) (t u v : Told) (e : Failure)
+        → HasDone input before.left old number mid t u → IsNext true before after
+        → Begins {A = A} (ComesTo (λ text. Does number mid after.last text new) (Ends number mid after.last)) u v (Err e)
+        → Begins {A = A} (FiltersBegin Does Ends old input) t v (Err e)
+    begins_line A input before after old mid new number t u v e h is begins = λ broken. elim (begins broken) [
+      | inl none ↦ begins_lines {A = A} input before.left old number mid t u v (Err e) h none broken
+      | inr part ↦ inr (begun_line input before after old mid new number t u v part.0 h is part.1 part.2)
+    ]

@@ -1,5 +1,5 @@
 -- What is printed of lines, one after another.
-use Rattle.std.proofs.Common.{◌≡◌, ◌+◌, ◌<◌, ◌≤◌, ℕ, List, [], ◌++◌, ◌⊎◌, inl, inr, Option, Some, None, Result, Ok, Err, IfErr, OnOk, get_or, length, take, refl, sym, ap, ◌∙◌, subst, arith}
+use Rattle.std.proofs.Common.{◌≡◌, ◌+◌, ◌<◌, ◌≤◌, ℕ, List, [], ◌++◌, ◌⊎◌, inl, inr, Option, Some, None, Result, Ok, Err, IfErr, OnErr, OnOk, get_or, length, take, refl, sym, ap, ◌∙◌, subst, arith}
 use Rattle.std.proofs.lemmas.List.{append-nil, take_all}
 use Rattle.std.proofs.lemmas.Option.{slice_get_cases, slice_get_past, slice_get_read, slice_get_within, slice_get-get_or, get_or_from_slice_get}
 use Rattle.std.proofs.lemmas.Slice.Zip.{length-zip, get_or-zip}
@@ -17,14 +17,15 @@ use Rattle.fab_types.specs.declared.block.Block.{Block}
 use Rattle.log_orderer.specs.declared.replica.LineReport.{LineReport}
 use Rattle.log_orderer.specs.declared.replica.LineReport.TheVariants.{Skipped, Ticked}
 use Rattle.log_orderer.specs.declared.skip.Skip.{Skip}
-use Rattle.cli_lines.specs.Told.{Told, Answers, IsBrokenOff, Prints}
+use Rattle.cli_lines.specs.Told.{Told, Answers, Begins, IsBrokenOff, Prints, PrintsNothing, PrintsPart}
 use Rattle.cli_lines.specs.declared.failure.Failure.{Failure}
-use Rattle.cli_lines.proofs.Printing.{prints_next, prints_none, prints_same, prints_then}
-use Rattle.cli_roles.specs.Filters.{DoesOrEnds, Filters, PrintsSo}
-use Rattle.cli_roles.specs.Orders.{EndsOrders, IsTaken, NamesAnother, Orders, OrdersLine, ReadsLine, TellsReport, fresh, left_out_text, left_text, read_text, skipped_text}
+use Rattle.cli_lines.proofs.Printing.{part_first, part_none, part_then, prints_next, prints_none, prints_same, prints_then}
+use Rattle.cli_roles.specs.Filters.{ComesTo, DoesOrEnds, FiltersBegin, PrintsSo}
+use Rattle.cli_roles.specs.Orders.{EndsOrders, IsTaken, NamesAnother, OrdersBegin, OrdersLine, ReadsLine, TellsReport, fresh, left_out_text, left_text, read_text, skipped_text}
 use Rattle.cli_roles.specs.Marks.{NamesAnotherIn}
 use Rattle.cli_roles.specs.Seen.{TellsText}
 use Rattle.cli_roles.specs.Parts.{behind_first, first_word}
+use Rattle.cli_roles.proofs.Filters.{part_ended}
 
 -- ---- what a batch leaves out
 
@@ -80,16 +81,25 @@ pub told_behind : (P : List ℕ → Type 0) (a : List ℕ) (t u v : Told) → Pr
     PrintsSo (λ text. (front : List ℕ) × P front × (text ≡ front ++ a)) t v
 told_behind P a t u v first next = (first.0 ++ a, (first.0, first.1, refl), prints_then t u v first.0 a first.2 next)
 
+-- what is printed of a text, and that its line is read
+reads_line : (listed : Listed) (old new : Ordering) (bytes decoded index said front : List ℕ) → decoded ≡ utf8_lossy bytes → index ≡ first_word decoded →
+    said ≡ behind_first decoded → IsTaken listed old index said front new → ReadsLine listed old bytes (front ++ read_text index new) new
+reads_line listed old new bytes decoded index said front lossy first rest taken =
+    let P : List ℕ → List ℕ → Type 0 =
+    λ i s. (shown : List ℕ) × IsTaken listed old i s shown new × (front ++ read_text index new ≡ shown ++ read_text i new) in
+    let here : P index said = (front, taken, refl) in
+    let worded : P (first_word decoded) (behind_first decoded) = subst (λ (s : List ℕ). P (first_word decoded) s) rest (subst (λ (i : List ℕ). P i said) first here) in
+    subst (λ (d : List ℕ). P (first_word d) (behind_first d)) lossy worded
+
 pub line_read : {A : Type 0} (r : Result A Failure) (listed : Listed) (old new : Ordering) (bytes decoded index said : List ℕ) (t u v : Told) →
     decoded ≡ utf8_lossy bytes → index ≡ first_word decoded → said ≡ behind_first decoded → PrintsSo (λ text. IsTaken listed old index said text new) t u →
     OnOk r (Prints u v (read_text index new)) → OnOk r (PrintsSo (λ text. ReadsLine listed old bytes text new) t v)
 line_read (Err e) listed old new bytes decoded index said t u v lossy first rest taken read = tt
-line_read (Ok a) listed old new bytes decoded index said t u v lossy first rest taken read =
-    let P : List ℕ → List ℕ → Type 0 =
-    λ i s. PrintsSo (λ text. (front : List ℕ) × IsTaken listed old i s front new × (text ≡ front ++ read_text i new)) t v in
-    let here : P index said = told_behind (λ text. IsTaken listed old index said text new) (read_text index new) t u v taken read in
-    let worded : P (first_word decoded) (behind_first decoded) = subst (λ (s : List ℕ). P (first_word decoded) s) rest (subst (λ (i : List ℕ). P i said) first here) in
-    subst (λ (d : List ℕ). P (first_word d) (behind_first d)) lossy worded
+line_read (Ok a) listed old new bytes decoded index said t u v lossy first rest taken read = (
+  taken.0 ++ read_text index new,
+  reads_line listed old new bytes decoded index said taken.0 lossy first rest taken.1,
+  prints_then t u v taken.0 (read_text index new) taken.2 read,
+)
 
 -- a timeout without a batch
 pub told_none : (listed : Listed) (chain : List Block) (index said : List ℕ) (report : LineReport) (t : Told) → report ≡ Ticked None →
@@ -103,6 +113,18 @@ pub told_skipped : (listed : Listed) (chain : List Block) (index said : List ℕ
 told_skipped listed chain index said report skip t u v is first next =
     subst (λ (r : LineReport). PrintsSo (TellsReport listed chain index said r) t v) (sym is)
     (told_behind (TellsText listed chain said) (skipped_text index skip) t u v first next)
+
+-- of it, but for its end
+pub told_begun : {A : Type 0} (r : Result A Failure) (listed : Listed) (chain : List Block) (index said : List ℕ) (report : LineReport) (skip : Skip) (t u v : Told) →
+    report ≡ Skipped skip → PrintsSo (TellsText listed chain said) t u → PrintsNothing u v → Begins (TellsReport listed chain index said report) t v r
+told_begun r listed chain index said report skip t u v is first none =
+    let more = skipped_text index skip in
+    let told : TellsReport listed chain index said (Skipped skip) (first.0 ++ more) = (first.0, first.1, refl) in
+    λ broken. inr (
+      first.0 ++ more,
+      subst (λ (r : LineReport). TellsReport listed chain index said r (first.0 ++ more)) (sym is) told,
+      part_then t u v first.0 more first.2 (part_none u v more none),
+    )
 
 -- whether a line names another genesis, by its text
 pub names_line : (digest bytes decoded said : List ℕ) → decoded ≡ utf8_lossy bytes → said ≡ behind_first decoded → NamesAnotherIn digest said → NamesAnother digest bytes
@@ -120,6 +142,28 @@ pub line_done : {A : Type 0} (r : Result A Failure) (listed : Listed) (digest : 
 line_done (Ok a) listed digest number old new bytes t u fits read lost = inr (read.0, (read.1, fits), read.2)
 line_done (Err e) listed digest number old new bytes t u fits read lost = inl lost
 
+-- a line whose text is taken, and of which a beginning is printed
+pub line_begun : {A : Type 0} (r : Result A Failure) (listed : Listed) (digest : List ℕ) (number : ℕ) (old new : Ordering) (bytes decoded index said : List ℕ)
+    (t u : Told) → decoded ≡ utf8_lossy bytes → index ≡ first_word decoded → said ≡ behind_first decoded → (number ≡ 1 → ¬ NamesAnother digest bytes) →
+    PrintsNothing t u ⊎ ((told : List ℕ) × IsTaken listed old index said told new × PrintsPart t u told) →
+    Begins (ComesTo (λ text. OrdersLine listed digest number old bytes text new) (EndsOrders digest number old bytes)) t u r
+line_begun r listed digest number old new bytes decoded index said t u lossy first rest fits (inl none) = λ broken. inl none
+line_begun r listed digest number old new bytes decoded index said t u lossy first rest fits (inr part) = λ broken. inr (
+  part.0 ++ read_text index new,
+  inl (reads_line listed old new bytes decoded index said part.0 lossy first rest part.1, fits),
+  part_first t u part.0 (read_text index new) part.2,
+)
+
+-- behind the whole of that text
+pub line_begun_behind : {A : Type 0} (r : Result A Failure) (listed : Listed) (digest : List ℕ) (number : ℕ) (old new : Ordering)
+    (bytes decoded index said : List ℕ) (t u v : Told) → decoded ≡ utf8_lossy bytes → index ≡ first_word decoded → said ≡ behind_first decoded →
+    (number ≡ 1 → ¬ NamesAnother digest bytes) → PrintsSo (λ text. IsTaken listed old index said text new) t u → OnErr r (PrintsNothing u v) →
+    Begins (ComesTo (λ text. OrdersLine listed digest number old bytes text new) (EndsOrders digest number old bytes)) t v r
+line_begun_behind (Ok a) listed digest number old new bytes decoded index said t u v lossy first rest fits taken none = λ broken. absurd broken
+line_begun_behind {A} (Err e) listed digest number old new bytes decoded index said t u v lossy first rest fits taken none =
+    line_begun {A = A} (Err e) listed digest number old new bytes decoded index said t v lossy first rest fits
+    (inr (taken.0, taken.1, part_ended t u v taken.0 taken.2 none))
+
 -- the same of a line by equal rules and equal bytes
 pub took_by : {A : Type 0} (r : Result A Failure) (mid listed : Listed) (digest : List ℕ) (number : ℕ) (old new : Ordering) (lent bytes : List ℕ) (t u : Told) →
     mid ≡ listed → lent ≡ bytes →
@@ -130,15 +174,24 @@ took_by r mid listed digest number old new lent bytes t u rules same answers =
     λ l bs. Answers (DoesOrEnds (λ text. OrdersLine l digest number old bs text new) (EndsOrders digest number old bs)) t u r in
     subst (λ (bs : List ℕ). P listed bs) same (subst (λ (l : Listed). P l lent) rules answers)
 
+pub begun_by : {A : Type 0} (r : Result A Failure) (mid listed : Listed) (digest : List ℕ) (number : ℕ) (old new : Ordering) (lent bytes : List ℕ) (t u : Told) →
+    mid ≡ listed → lent ≡ bytes →
+    Begins (ComesTo (λ text. OrdersLine mid digest number old lent text new) (EndsOrders digest number old lent)) t u r →
+    Begins (ComesTo (λ text. OrdersLine listed digest number old bytes text new) (EndsOrders digest number old bytes)) t u r
+begun_by r mid listed digest number old new lent bytes t u rules same begins =
+    let P : Listed → List ℕ → Type 0 =
+    λ l bs. Begins (ComesTo (λ text. OrdersLine l digest number old bs text new) (EndsOrders digest number old bs)) t u r in
+    subst (λ (bs : List ℕ). P listed bs) same (subst (λ (l : Listed). P l lent) rules begins)
+
 -- ---- the whole
 
-pub orders_by : {A : Type 0} (r : Result A Failure) (g : Genesis) (digest hex : List ℕ) (listed : Listed) (old : Ordering) (a b : Option (List ℕ)) (t u : Told) →
+pub orders_begin_by : {A : Type 0} (r : Result A Failure) (g : Genesis) (digest hex : List ℕ) (listed : Listed) (old : Ordering) (a b : Option (List ℕ)) (t u : Told) →
     hex ≡ encode_lower digest → listed ≡ g.rules.value → old ≡ fresh g → a ≡ b →
-    Answers (Filters (OrdersLine listed hex) (EndsOrders hex) old a) t u r → Answers (Orders g digest b) t u r
-orders_by r g digest hex listed old a b t u hexed rules none left answers =
-    let P : List ℕ → Listed → Ordering → Option (List ℕ) → Type 0 = λ h l o i. Answers (Filters (OrdersLine l h) (EndsOrders h) o i) t u r in
+    Begins (FiltersBegin (OrdersLine listed hex) (EndsOrders hex) old a) t u r → Begins (OrdersBegin g digest b) t u r
+orders_begin_by r g digest hex listed old a b t u hexed rules none left begins =
+    let P : List ℕ → Listed → Ordering → Option (List ℕ) → Type 0 = λ h l o i. Begins (FiltersBegin (OrdersLine l h) (EndsOrders h) o i) t u r in
     let h = encode_lower digest in
     subst (λ (i : Option (List ℕ)). P h g.rules.value (fresh g) i) left
     (subst (λ (o : Ordering). P h g.rules.value o a) none
     (subst (λ (l : Listed). P h l old a) rules
-    (subst (λ (x : List ℕ). P x listed old a) hexed answers)))
+    (subst (λ (x : List ℕ). P x listed old a) hexed begins)))

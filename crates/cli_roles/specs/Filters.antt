@@ -3,7 +3,7 @@ use Rattle.std.specs.Prelude.{◌≡◌, ◌⊎◌, ℕ, ◌+◌, List, [], ◌�
 use Rattle.cli_lines.specs.declared.failure.Failure.{Failure}
 use Rattle.cli_lines.specs.declared.failure.Failure.TheVariants as failure
 use Rattle.cli_lines.specs.Texts.{line}
-use Rattle.cli_lines.specs.Told.{Told, Prints, IsBrokenOff}
+use Rattle.cli_lines.specs.Told.{Told, Prints, PrintsNothing, IsBrokenOff}
 use Rattle.cli_roles.specs.Input.{AreAll, AreFirst}
 
 -- A task is done, or it ends the filter, and why is printed: by the text
@@ -31,9 +31,19 @@ Filters {A} {S} Does Ends old input answer text =
     (lines : List (List ℕ)) × DoesOrEnds (λ t. AreAll input lines × ((new : S) × AreDone Does 1 old lines t new))
     (λ t. AreFirst input lines × EndAtLast Does Ends old lines t) answer text
 
+-- What some first lines of its input come to: all of them are done, or the last ends it. A filter that is broken off printed a beginning of such a text
+abbrev pub FiltersBegin : {S : Type 0} → (ℕ → S → List ℕ → List ℕ → S → Type 0) → (ℕ → S → List ℕ → List ℕ → Type 0) → S → Option (List ℕ) → List ℕ
+    → Type 0
+FiltersBegin {S} Does Ends old input text =
+    (lines : List (List ℕ)) × AreFirst input lines × (((new : S) × AreDone Does 1 old lines text new) ⊎ EndAtLast Does Ends old lines text)
+
+-- a text that a task comes to: it is done, or it ends the filter
+abbrev pub ComesTo : (Does Ends : List ℕ → Type 0) → List ℕ → Type 0
+ComesTo Does Ends text = Does text ⊎ Ends text
+
 -- why a filter ends is printed as a line, unless that was broken off
 abbrev pub IsEndedBy : List ℕ → (before after : Told) → Failure → Type 0
-IsEndedBy said before after r = IsBrokenOff r ⊎ ((r ≡ failure.Printed) × Prints before after (line said))
+IsEndedBy said before after r = (IsBrokenOff r × PrintsNothing before after) ⊎ ((r ≡ failure.Printed) × Prints before after (line said))
 
 -- some text of which this is so was printed
 abbrev pub PrintsSo : (List ℕ → Type 0) → (before after : Told) → Type 0

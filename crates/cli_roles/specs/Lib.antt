@@ -2,7 +2,11 @@ pub mod Words
 pub mod Parts
 pub mod Input
 pub mod Filters
+pub mod Stores
 pub mod Marks
 pub mod Seen
 pub mod Seeds
 pub mod Orders
+pub mod Asking
+pub mod Committing
+pub mod Endorsing

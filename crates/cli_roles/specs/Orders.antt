@@ -22,7 +22,7 @@ use Rattle.log_orderer.specs.declared.skip.Skip.{Skip}
 use Rattle.ledger_setting.specs.Limits.{limits_of}
 use Rattle.ledger_setting.specs.declared.genesis.Genesis.{Genesis}
 use Rattle.cli_lines.specs.declared.failure.Failure.{Failure}
-use Rattle.cli_roles.specs.Filters.{Filters}
+use Rattle.cli_roles.specs.Filters.{Filters, FiltersBegin}
 use Rattle.cli_roles.specs.Marks.{NamesAnotherIn}
 use Rattle.cli_roles.specs.Parts.{behind_first, first_word}
 use Rattle.cli_roles.specs.Seen.{TellsText}
@@ -99,3 +99,7 @@ fresh g = record { reorder = g.reorder; limits = limits_of g; pending = []; chai
 abbrev pub Orders : {A : Type 0} → Genesis → (digest : List ℕ) → (held : Option (List ℕ)) → Result A Failure → List ℕ → Type 0
 Orders g digest held answer text =
     let hex = encode_lower digest in Filters (OrdersLine g.rules.value hex) (EndsOrders hex) (fresh g) held answer text
+
+-- and what it prints a beginning of, where it is broken off
+abbrev pub OrdersBegin : Genesis → (digest : List ℕ) → (held : Option (List ℕ)) → List ℕ → Type 0
+OrdersBegin g digest held text = let hex = encode_lower digest in FiltersBegin (OrdersLine g.rules.value hex) (EndsOrders hex) (fresh g) held text

@@ -1,15 +1,26 @@
 //! The command `commit`.
 
-ghost use Rattle.std.specs.Prelude.{◌≡◌, IfOk, OnOk, option_map};
-ghost use Rattle.cli_lines.specs.Told.{Tells};
-ghost use Rattle.cli_roles.specs.Seen.{has_hash, is_fork};
+ghost use Rattle.std.specs.Prelude.{◌≡◌, ◌+◌, ◌∷◌, [], ◌++◌, IfErr, IfOk, OnErr, OnOk, length, option_map};
+ghost use Rattle.fab_types.specs.BlockSpelling.{block_bytes};
+ghost use Rattle.fab_types.specs.BlockWithin.{IsBlock};
+ghost use Rattle.fab_types.specs.Committed.{Committed};
+ghost use Rattle.ledger_model.specs.Chain.{Chain};
 ghost use Rattle.log_store.specs.Storing.{IsStored, rules_of, stored_chain};
+ghost use Rattle.cli_lines.specs.Lines.{committed_text};
+ghost use Rattle.cli_lines.specs.Told.{Answers, Begins, IsBrokenOff, Prints, PrintsNothing, PrintsPart, Tells};
+ghost use Rattle.cli_roles.specs.Committing.{BeginsLine, BeginsText, Commits, CommitsBegin, CommitsLines, CommitsOpened, LinesBegin, OpenedBegins};
+ghost use Rattle.cli_roles.specs.Committing.{DoesHex, DoesReceive, TakesLine, TakesText, TellsFork};
+ghost use Rattle.cli_roles.specs.Committing.{EndsHex, EndsReceive, IsBlockHex, IsNoBlock, IsNoBlockHex};
+ghost use Rattle.cli_roles.specs.Committing.{block_digits, cut_text, fork_text, opened_text};
+ghost use Rattle.cli_roles.specs.Filters.{ComesTo, DoesOrEnds, PrintsSo};
+ghost use Rattle.cli_roles.specs.Seen.{has_hash, is_fork};
 
 use crate::explaining::{explain_block, explain_cut, explain_store};
-use crate::filter::end;
+use crate::filter::{end, hand_on};
 use crate::input::InputLines;
 use crate::log_genesis::LogGenesis;
 use crate::seen::{SignedSeen, is_signed, signed_seen_in};
+use crate::words::{behind, behind_word};
 use cli_lines::{
     Access, Failure, Files, Location, Printer, explain_number, explain_trouble, print_committed,
 };
@@ -45,6 +56,12 @@ pub fn commit<T: Threads + Sync, F: Files, W: Write>(
     out: &mut Printer<'_, W>,
 ) -> Result<(), Failure>
     ensures tells { Tells out.old out.new result }
+    ensures answers { Answers
+        (Commits log.now.genesis.rules.value log.now.digest (F.bytes files.old store.now)
+        (F.input_bytes files.old)) out.old out.new result }
+    ensures begins { Begins
+        (CommitsBegin log.now.genesis.rules.value log.now.digest (F.bytes files.old store.now)
+        (F.input_bytes files.old)) out.old out.new result }
 {
     let Some(file) = files.open_store(store) else {
         explain_trouble(alloc, files, store, Access::Write);
@@ -87,6 +104,12 @@ fn commit_to<
     out: &mut Printer<'_, W>,
 ) -> Result<(), Failure>
     ensures tells { Tells out.old out.new result }
+    ensures answers { Answers
+        (Commits peer.now.log.now.genesis.rules.value peer.now.log.now.digest (D.remaining file)
+        lines.old.left) out.old out.new result }
+    ensures begins { Begins
+        (CommitsBegin peer.now.log.now.genesis.rules.value peer.now.log.now.digest
+        (D.remaining file) lines.old.left) out.old out.new result }
 {
     let rules = peer.log.genesis.rules.clone()?;
     let opened = StoredChain::open(&TagChecks::new(peer.workers, &watch), alloc, rules, file);
@@ -121,6 +144,12 @@ fn commit_behind<
 ) -> Result<(), Failure>
     requires stored { IsStored chain.old }
     ensures tells { Tells out.old out.new result }
+    ensures answers { Answers
+        (CommitsOpened (rules_of chain.old) peer.now.log.now.digest (stored_chain chain.old) cut
+        lines.old.left) out.old out.new result }
+    ensures begins { Begins
+        (OpenedBegins (rules_of chain.old) peer.now.log.now.digest (stored_chain chain.old) cut
+        lines.old.left) out.old out.new result }
 {
     print_opened(chain.height(), cut, out)?;
     commit_lines(alloc, files, peer, chain, lines, out)
@@ -133,12 +162,26 @@ fn print_opened<W: Write>(
     out: &mut Printer<'_, W>,
 ) -> Result<(), Failure>
     ensures tells { Tells out.old out.new result }
+    ensures prints { OnOk result (Prints out.old out.new (opened_text cut height)) }
+    ensures part { OnErr result (PrintsPart out.old out.new (opened_text cut height)) }
+    ensures lost { IfErr result IsBrokenOff }
 {
-    if cut > 0 {
-        writeln!(out, "cut {cut}")?;
-    }
+    print_cut(cut, out)?;
     writeln!(out, "height {height}")?;
     out.flush()
+}
+
+/// Prints how many bytes were cut off a store, if any.
+fn print_cut<W: Write>(cut: usize, out: &mut Printer<'_, W>) -> Result<(), Failure>
+    ensures tells { Tells out.old out.new result }
+    ensures prints { OnOk result (Prints out.old out.new (cut_text cut)) }
+    ensures nothing { OnErr result (PrintsNothing out.old out.new) }
+    ensures lost { IfErr result IsBrokenOff }
+{
+    match cut {
+        0 => Ok(()),
+        cut => writeln!(out, "cut {cut}"),
+    }
 }
 
 /// Commits the block of each line that has one, and judges each that was seen.
@@ -158,17 +201,23 @@ fn commit_lines<
 ) -> Result<(), Failure>
     requires stored { IsStored chain.old }
     ensures tells { Tells out.old out.new result }
+    ensures answers { Answers
+        (CommitsLines (rules_of chain.old) peer.now.log.now.digest (stored_chain chain.old)
+        lines.old.left) out.old out.new result }
+    ensures begins { Begins
+        (LinesBegin (rules_of chain.old) peer.now.log.now.digest (stored_chain chain.old)
+        lines.old.left) out.old out.new result }
 {
     for number in 1..u64::MAX {
-        if !lines.read_explained(alloc, files)? {
+        let there = lines.read_explained(alloc, files)?;
+        if !there {
             return Ok(());
         }
         take_line(alloc, files, peer, chain, lines.line(), number, out)?;
-        if !lines.is_at_hand() {
-            out.flush()?;
-        }
+        hand_on(lines, out)?;
     }
-    Ok(())
+    // So many lines no input has.
+    Err(Failure::File)
 }
 
 /// Commits the block of a line, or judges one that was seen, if it has one.
@@ -183,11 +232,39 @@ fn take_line<T: Threads + Sync, F: Files, D: Read + Write + Seek + OpenFile + Dr
 ) -> Result<(), Failure>
     requires stored { IsStored chain.old }
     ensures stored { OnOk result (IsStored chain.new) }
+    ensures rules { rules_of chain.new ≡ rules_of chain.old }
     ensures tells { Tells out.old out.new result }
+    ensures does { TakesLine (rules_of chain.old) peer.now.log.now.digest number
+        (stored_chain chain.old) line.now (stored_chain chain.new) out.old out.new result }
+    ensures begins { BeginsLine (rules_of chain.old) peer.now.log.now.digest number
+        (stored_chain chain.old) line.now (stored_chain chain.new) out.old out.new result }
 {
-    let Ok(line) = std::str::from_utf8(line) else {
-        return Ok(());
-    };
+    match std::str::from_utf8(line) {
+        Ok(line) => take_text(alloc, files, peer, chain, line, number, out),
+        Err(_) => Ok(()),
+    }
+}
+
+/// The same of a line that is text.
+fn take_text<T: Threads + Sync, F: Files, D: Read + Write + Seek + OpenFile + Drop, W: Write>(
+    alloc: Global,
+    files: &mut F,
+    peer: &Peer<'_, T>,
+    chain: &mut StoredChain<D>,
+    line: &str,
+    number: u64,
+    out: &mut Printer<'_, W>,
+) -> Result<(), Failure>
+    requires stored { IsStored chain.old }
+    ensures stored { OnOk result (IsStored chain.new) }
+    ensures rules { rules_of chain.new ≡ rules_of chain.old }
+    ensures tells { Tells out.old out.new result }
+    ensures does { TakesText (rules_of chain.old) peer.now.log.now.digest (stored_chain chain.old)
+        line.now (block_digits line.now) (stored_chain chain.new) out.old out.new result }
+    ensures begins { BeginsText (rules_of chain.old) peer.now.log.now.digest
+        (stored_chain chain.old) line.now (block_digits line.now) (stored_chain chain.new) out.old
+        out.new result }
+{
     match block_digits(line) {
         Some(digits) => take_block(alloc, files, peer, chain, digits, number, out),
         None => print_fork(alloc, peer.log, chain, line, out),
@@ -206,7 +283,20 @@ fn take_block<T: Threads + Sync, F: Files, D: Read + Write + Seek + OpenFile + D
 ) -> Result<(), Failure>
     requires stored { IsStored chain.old }
     ensures stored { OnOk result (IsStored chain.new) }
+    ensures rules { rules_of chain.new ≡ rules_of chain.old }
     ensures tells { Tells out.old out.new result }
+    ensures does { Answers
+        (DoesOrEnds
+        (λ text. DoesHex (rules_of chain.old) (stored_chain chain.old) digits.now text
+        (stored_chain chain.new))
+        (EndsHex (rules_of chain.old) (stored_chain chain.old) digits.now)) out.old out.new
+        result }
+    ensures begins { Begins
+        (ComesTo
+        (λ text. DoesHex (rules_of chain.old) (stored_chain chain.old) digits.now text
+        (stored_chain chain.new))
+        (EndsHex (rules_of chain.old) (stored_chain chain.old) digits.now)) out.old out.new
+        result }
 {
     match block_of(alloc, digits)? {
         Ok(block) => receive(alloc, files, peer, chain, block, line, out),
@@ -219,30 +309,45 @@ fn take_block<T: Threads + Sync, F: Files, D: Read + Write + Seek + OpenFile + D
 }
 
 /// The hex of a block in a line. None where the line is another one.
-fn block_digits(line: &str) -> Option<&str> {
-    let Some(("block", rest)) = line.split_once(' ') else {
-        return None;
-    };
-    let (_, digits) = rest.split_once(' ')?;
-    Some(digits)
+fn block_digits(line: &str) -> Option<&str>
+    ensures { option_map (λ digits. digits.now) result ≡ block_digits line.now }
+{
+    behind_word(behind(line, "block")?)
 }
 
 /// The block that hex stands for, or the number of the reason why it stands for none: 300 where it
 /// is no hex, else 301 to 305.
-fn block_of(alloc: Global, digits: &str) -> Result<Result<Block, u16>, AllocError> {
-    let bytes = match hex::decode(alloc, digits) {
-        Ok(bytes) => bytes,
-        Err(FromHexError::OutOfMemory) => return Err(AllocError),
-        Err(_) => return Ok(Err(300)),
-    };
-    match decode_block(alloc, &bytes) {
-        Ok(block) => Ok(Ok(block)),
-        Err(WireFault::Memory) => Err(AllocError),
-        Err(fault) => Ok(Err(fault.number())),
+fn block_of(alloc: Global, digits: &str) -> Result<Result<Block, u16>, AllocError>
+    ensures block { IfOk result (λ found. IfOk found (IsBlockHex digits.now)) }
+    ensures none { IfOk result (λ found. IfErr found (IsNoBlockHex digits.now)) }
+{
+    match hex::decode(alloc, digits) {
+        Ok(bytes) => spelled_block(alloc, &bytes),
+        Err(fault) => match fault {
+            FromHexError::OutOfMemory => Err(AllocError),
+            _ => Ok(Err(300)),
+        },
     }
 }
 
-fn number_of(block: &Block) -> u32 {
+/// The block that bytes spell, or the number of the fault, 301 to 305.
+fn spelled_block(alloc: Global, bytes: &[u8]) -> Result<Result<Block, u16>, AllocError>
+    ensures block { IfOk result
+        (λ found. IfOk found (λ block. IsBlock block × (block_bytes block ≡ bytes.now))) }
+    ensures none { IfOk result (λ found. IfErr found (IsNoBlock bytes.now)) }
+{
+    match decode_block(alloc, bytes) {
+        Ok(block) => Ok(Ok(block)),
+        Err(fault) => match fault {
+            WireFault::Memory => Err(AllocError),
+            fault => Ok(Err(fault.number())),
+        },
+    }
+}
+
+fn number_of(block: &Block) -> u32
+    ensures { result ≡ block.now.header.number }
+{
     block.header.number.get()
 }
 
@@ -258,7 +363,20 @@ fn receive<T: Threads + Sync, F: Files, D: Read + Write + Seek + OpenFile + Drop
 ) -> Result<(), Failure>
     requires stored { IsStored chain.old }
     ensures stored { OnOk result (IsStored chain.new) }
+    ensures rules { rules_of chain.new ≡ rules_of chain.old }
     ensures tells { Tells out.old out.new result }
+    ensures does { Answers
+        (DoesOrEnds
+        (λ text. DoesReceive (rules_of chain.old) (stored_chain chain.old) block text
+        (stored_chain chain.new))
+        (EndsReceive (rules_of chain.old) (stored_chain chain.old) block)) out.old out.new
+        result }
+    ensures begins { Begins
+        (ComesTo
+        (λ text. DoesReceive (rules_of chain.old) (stored_chain chain.old) block text
+        (stored_chain chain.new))
+        (EndsReceive (rules_of chain.old) (stored_chain chain.old) block)) out.old out.new
+        result }
 {
     let number = number_of(&block);
     match chain.receive(peer.workers, block) {
@@ -278,6 +396,13 @@ fn print_newest<D: Read + Write + Seek + OpenFile + Drop, W: Write>(
 ) -> Result<(), Failure>
     requires stored { IsStored chain.now }
     ensures tells { Tells out.old out.new result }
+    ensures prints { (before : Chain) (last : Committed) →
+        stored_chain chain.now ≡ before ++ last ∷ [] →
+        OnOk result (Prints out.old out.new (committed_text (length before + 1) last.flags)) }
+    ensures part { (before : Chain) (last : Committed) →
+        stored_chain chain.now ≡ before ++ last ∷ [] → OnErr result
+        (PrintsPart out.old out.new (committed_text (length before + 1) last.flags)) }
+    ensures lost { IfErr result IsBrokenOff }
 {
     match chain.newest() {
         Some(newest) => print_committed(chain.height(), newest.flags(), out),
@@ -295,15 +420,41 @@ fn print_fork<D: Read + Write + Seek + OpenFile + Drop, W: Write>(
     out: &mut Printer<'_, W>,
 ) -> Result<(), Failure>
     ensures tells { Tells out.old out.new result }
+    ensures prints { OnOk result
+        (PrintsSo (TellsFork (rules_of chain.now) log.now.digest (stored_chain chain.now) line.now)
+        out.old out.new) }
+    ensures nothing { OnErr result (PrintsNothing out.old out.new) }
+    ensures lost { IfErr result IsBrokenOff }
 {
-    let Some(seen) = signed_seen_in(line) else {
-        return Ok(());
-    };
-    if is_fork(alloc, &log.digest, chain, &seen)? {
-        let org = String::from_utf8_lossy(alloc, seen.org.as_slice())?;
-        writeln!(out, "forked {org} {}", seen.number)?;
+    match signed_seen_in(line) {
+        Some(seen) => print_judged(alloc, log, chain, &seen, out),
+        None => Ok(()),
     }
-    Ok(())
+}
+
+/// The same of a block that an organisation says it has.
+fn print_judged<D: Read + Write + Seek + OpenFile + Drop, W: Write>(
+    alloc: Global,
+    log: &LogGenesis,
+    chain: &StoredChain<D>,
+    seen: &SignedSeen,
+    out: &mut Printer<'_, W>,
+) -> Result<(), Failure>
+    ensures tells { Tells out.old out.new result }
+    ensures prints { OnOk result
+        (Prints out.old out.new
+        (fork_text seen.now
+        (is_fork (rules_of chain.now) log.now.digest (stored_chain chain.now) seen.now))) }
+    ensures nothing { OnErr result (PrintsNothing out.old out.new) }
+    ensures lost { IfErr result IsBrokenOff }
+{
+    let fork = is_fork(alloc, &log.digest, chain, seen)?;
+    if !fork {
+        return Ok(());
+    }
+    let org = String::from_utf8_lossy(alloc, seen.org.as_slice())?;
+    let number = seen.number;
+    writeln!(out, "forked {org} {number}")
 }
 
 /// Whether a block that is said to be seen is told as a fork: the chain has another one of its

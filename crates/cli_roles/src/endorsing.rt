@@ -1,26 +1,37 @@
 //! The command `endorse`.
 
-ghost use Rattle.std.specs.Prelude.{◌≡◌, true, false, Ok, Err, IfOk, OnOk, option_map};
+ghost use Rattle.std.specs.Prelude.{◌≡◌, ◌||◌, false, not, [], Ok, IfErr, IfOk, IsErr, OnErr, OnOk, is_some, option_map};
+ghost use Rattle.std.specs.Io.KnownBytes.{Keeps};
+ghost use Rattle.std.specs.List.{find};
 ghost use Rattle.std.specs.Option.{option_map_or};
-ghost use Rattle.cli_lines.specs.Told.{Tells};
-ghost use Rattle.cli_lines.specs.declared.failure.Failure.TheVariants.{NoSecret};
-ghost use Rattle.cli_roles.specs.Seeds.{can_endorse};
-ghost use Rattle.endorsement_policy.specs.Endorsed.{key_of};
-ghost use Rattle.endorsement_policy.specs.Judge.{plain_after};
-ghost use Rattle.log_store.specs.Following.{IsFollowed, endorses_by, read_chain};
+ghost use Rattle.cli_lines.specs.Lines.{simulation_line};
+ghost use Rattle.cli_lines.specs.Told.{Answers, Begins, BreaksOff, IsBrokenOff, Prints, PrintsNothing, Tells};
+ghost use Rattle.cli_roles.specs.Asking.{IsAsked};
+ghost use Rattle.cli_roles.specs.Endorsing.{BehindBegins, Endorses, EndorsesBegin, EndorsesBehind, EndorsesLines, LinesBegin};
+ghost use Rattle.cli_roles.specs.Endorsing.{IsAnswered, IsOther, LineComesTo, NeedsKey, SpellsIn, TakesLine};
+ghost use Rattle.cli_roles.specs.Endorsing.{answer_text, endorsed_text, endorser, endorses_by as endorses_for, is_passed_over, said_text, seen_text};
+ghost use Rattle.cli_roles.specs.Filters.{PrintsSo};
+ghost use Rattle.cli_roles.specs.Seeds.{can_tag};
+ghost use Rattle.cli_roles.specs.Stores.{IsReadOn, IsStopped};
+ghost use Rattle.endorsement_policy.specs.Endorsed.{is_org, key_of};
+ghost use Rattle.endorser.specs.Endorsing.{endorsed_on};
+ghost use Rattle.json_events.specs.Refused.{NoneIs};
+ghost use Rattle.log_store.specs.Following.{IsFollowed, bytes_read, endorses_by, read_chain, store_bytes};
 ghost use Rattle.org_keys.specs.Signers.{is_at_hand, tag_for};
+ghost use Rattle.simulator.specs.declared.refusal.SimRefusal.TheVariants as simulation;
 
+use crate::asking::asked_number;
 use crate::explaining::{explain_proposal, explain_store, explain_stranger};
-use crate::filter::end;
+use crate::filter::{end, hand_on};
 use crate::input::InputLines;
 use crate::log_genesis::LogGenesis;
 use crate::seen::seen_bytes;
 use cli_lines::{
     Access, Failure, Files, Location, Printer, explain, explain_no_seed, explain_number,
-    explain_trouble, simulation_words,
+    explain_trouble, print_simulation, simulation_words,
 };
 use endorsement_policy::{Standing, Workers};
-use fab_types::{CommittedBlock, Endorsement, OrgName, Payload, Proposal, Spelled, Tag};
+use fab_types::{CommittedBlock, Endorsement, Header, OrgName, Payload, Proposal, Spelled, Tag};
 use json_events::{BadLine, read_proposal};
 use ledger_setting::Genesis;
 use log_store::StoreFollower;
@@ -63,6 +74,12 @@ pub fn endorse<T: Threads + Sync, F: Files, W: Write>(
     out: &mut Printer<'_, W>,
 ) -> Result<(), Failure>
     ensures tells { Tells out.old out.new result }
+    ensures answers { Answers
+        (Endorses (endorser log.now asked.now.org.now asked.now.agrees)
+        (F.bytes files.old asked.now.store.now) (F.input_bytes files.old)) out.old out.new result }
+    ensures begins { Begins
+        (EndorsesBegin (endorser log.now asked.now.org.now asked.now.agrees)
+        (F.bytes files.old asked.now.store.now) (F.input_bytes files.old)) out.old out.new result }
 {
     let Some(file) = files.open(asked.store) else {
         explain_trouble(alloc, files, asked.store, Access::Read);
@@ -102,6 +119,12 @@ fn endorse_after<T: Threads + Sync, V: Watch, F: Files, S: Read + Drop, R: Read 
     out: &mut Printer<'_, W>,
 ) -> Result<(), Failure>
     ensures tells { Tells out.old out.new result }
+    ensures answers { Answers
+        (Endorses (endorser member.now.log.now member.now.org.now member.now.agrees)
+        (S.remaining file) lines.old.left) out.old out.new result }
+    ensures begins { Begins
+        (EndorsesBegin (endorser member.now.log.now member.now.org.now member.now.agrees)
+        (S.remaining file) lines.old.left) out.old out.new result }
 {
     let mut follower = follower_of(alloc, &member.log.genesis, member.org.clone()?, file)?;
     endorse_behind(alloc, files, member, &mut follower, lines, out)
@@ -117,9 +140,17 @@ fn endorse_behind<T: Threads + Sync, V: Watch, F: Files, S: Read + Drop, R: Read
     out: &mut Printer<'_, W>,
 ) -> Result<(), Failure>
     requires followed { IsFollowed follower.old }
-    requires listed { (endorses_by follower.old).listed
-        ≡ member.now.log.now.genesis.rules.value }
+    requires by { endorses_by follower.old
+        ≡ endorses_for member.now.log.now.genesis member.now.org.now }
     ensures tells { Tells out.old out.new result }
+    ensures answers { bytes_read follower.old ≡ [] → Answers
+        (Endorses (endorser member.now.log.now member.now.org.now member.now.agrees)
+        (store_bytes (S.remaining follower.old.reader.file.device) follower.old) lines.old.left)
+        out.old out.new result }
+    ensures begins { bytes_read follower.old ≡ [] → Begins
+        (EndorsesBegin (endorser member.now.log.now member.now.org.now member.now.agrees)
+        (store_bytes (S.remaining follower.old.reader.file.device) follower.old) lines.old.left)
+        out.old out.new result }
 {
     catch_up(alloc, files, member, follower, out)?;
     endorse_known(alloc, files, member, follower, lines, out)
@@ -135,9 +166,19 @@ fn endorse_known<T: Threads + Sync, V: Watch, F: Files, S: Read + Drop, R: Read 
     out: &mut Printer<'_, W>,
 ) -> Result<(), Failure>
     requires followed { IsFollowed follower.old }
-    requires listed { (endorses_by follower.old).listed
-        ≡ member.now.log.now.genesis.rules.value }
+    requires by { endorses_by follower.old
+        ≡ endorses_for member.now.log.now.genesis member.now.org.now }
     ensures tells { Tells out.old out.new result }
+    ensures answers { Answers
+        (EndorsesBehind (endorser member.now.log.now member.now.org.now member.now.agrees)
+        (store_bytes (S.remaining follower.old.reader.file.device) follower.old)
+        (bytes_read follower.old) (read_chain follower.old) lines.old.left) out.old out.new
+        result }
+    ensures begins { Begins
+        (BehindBegins (endorser member.now.log.now member.now.org.now member.now.agrees)
+        (store_bytes (S.remaining follower.old.reader.file.device) follower.old)
+        (bytes_read follower.old) (read_chain follower.old) lines.old.left) out.old out.new
+        result }
 {
     let genesis = &member.log.genesis;
     need_keys(alloc, files, genesis, member.org, follower, out)?;
@@ -156,6 +197,17 @@ fn catch_up<T: Threads + Sync, V: Watch, F: Files, S: Read + Drop, W: Write>(
     ensures followed { OnOk result (IsFollowed follower.new) }
     ensures same { endorses_by follower.new ≡ endorses_by follower.old }
     ensures tells { Tells out.old out.new result }
+    ensures read { OnOk result
+        (IsReadOn (endorses_by follower.old).listed
+        (store_bytes (S.remaining follower.old.reader.file.device) follower.old)
+        (bytes_read follower.old) (bytes_read follower.new) (read_chain follower.new)) }
+    ensures silent { OnOk result (out.new ≡ out.old) }
+    ensures ends { IfErr result
+        (IsStopped (endorses_by follower.old).listed
+        (store_bytes (S.remaining follower.old.reader.file.device) follower.old)
+        (bytes_read follower.old) out.old out.new) }
+    ensures store { Keeps (store_bytes (S.remaining follower.old.reader.file.device) follower.old)
+        (store_bytes (S.remaining follower.new.reader.file.device) follower.new) }
 {
     match follower.catch_up(member.tags) {
         Ok(()) => Ok(()),
@@ -178,28 +230,55 @@ fn need_keys<F: Files, S: Read + Drop, W: Write>(
     out: &mut Printer<'_, W>,
 ) -> Result<(), Failure>
     requires listed { (endorses_by follower.now).listed ≡ genesis.now.rules.value }
-    ensures ok { result ≡ Ok tt
-        → can_endorse genesis.now.signers.value genesis.now.rules.value
-        (plain_after (read_chain follower.now)) org.now ≡ true }
-    ensures refused { result ≡ Err NoSecret
-        → can_endorse genesis.now.signers.value genesis.now.rules.value
-        (plain_after (read_chain follower.now)) org.now ≡ false }
+    ensures keys { Answers (NeedsKey genesis.now org.now (read_chain follower.now)) out.old out.new
+        result }
+    ensures silent { OnOk result (out.new ≡ out.old) }
+    ensures nothing { BreaksOff result → PrintsNothing out.old out.new }
     ensures tells { Tells out.old out.new result }
 {
-    let Ok(standing) = follower.standing() else {
-        return Err(Failure::Memory);
-    };
-    let (first, last) = (genesis.rules.organisation(org), standing.organisation(org));
-    if first.is_none() && last.is_none() {
+    let standing = follower.standing()?;
+    if can_endorse(genesis, &standing, org) {
+        return Ok(());
+    }
+    if is_stranger(genesis, &standing, org) {
         explain_stranger(alloc, files, org);
         writeln!(out, "refused 806")?;
         return Err(Failure::Printed);
     }
-    if can_tag(&genesis.signers, first) || can_tag(&genesis.signers, last) {
-        return Ok(());
-    }
     explain_no_seed(alloc, files, org);
     Err(Failure::NoSecret)
+}
+
+/// Whether a seed is at hand of a key that an organisation has, by the genesis or as it stands.
+fn can_endorse(genesis: &Genesis, standing: &Standing<'_>, org: &OrgName) -> bool
+    ensures { result
+        ≡ (can_tag genesis.now.signers.value genesis.now.rules.value.orgs org.now
+        || can_tag genesis.now.signers.value standing.now.orgs org.now) }
+{
+    let listed = can_tag(&genesis.signers, genesis.rules.organisation(org));
+    let stands = can_tag(&genesis.signers, standing.organisation(org));
+    listed || stands
+}
+
+/// Whether an organisation is neither one of the genesis nor one of those that stand.
+fn is_stranger(genesis: &Genesis, standing: &Standing<'_>, org: &OrgName) -> bool
+    ensures { result
+        ≡ not
+        (is_some (find (is_org org.now) genesis.now.rules.value.orgs)
+        || is_some (find (is_org org.now) standing.now.orgs)) }
+{
+    let listed = is_there(genesis.rules.organisation(org));
+    let stands = is_there(standing.organisation(org));
+    !(listed || stands)
+}
+
+fn is_there(organisation: Option<&Organisation>) -> bool
+    ensures { result ≡ is_some (option_map (λ o. o.now) organisation.entry) }
+{
+    match organisation {
+        Some(_) => true,
+        None => false,
+    }
 }
 
 /// Whether tags can be made that are right under an organisation's key, if there is one.
@@ -222,7 +301,10 @@ fn follower_of<S: Read + Drop>(
     file: S,
 ) -> Result<StoreFollower<S>, AllocError>
     ensures followed { IfOk result (λ f. IsFollowed f) }
-    ensures listed { IfOk result (λ f. (endorses_by f).listed ≡ genesis.now.rules.value) }
+    ensures by { IfOk result (λ f. endorses_by f ≡ endorses_for genesis.now org) }
+    ensures fresh { IfOk result (λ f. bytes_read f ≡ []) }
+    ensures store { IfOk result
+        (λ f. store_bytes (S.remaining f.reader.file.device) f ≡ S.remaining file) }
 {
     let rules = genesis.rules.clone()?;
     let signers = genesis.signers.clone()?;
@@ -239,18 +321,28 @@ fn endorse_lines<T: Threads + Sync, V: Watch, F: Files, S: Read + Drop, R: Read 
     out: &mut Printer<'_, W>,
 ) -> Result<(), Failure>
     requires followed { IsFollowed follower.old }
+    requires by { endorses_by follower.old
+        ≡ endorses_for member.now.log.now.genesis member.now.org.now }
     ensures tells { Tells out.old out.new result }
+    ensures answers { Answers
+        (EndorsesLines (endorser member.now.log.now member.now.org.now member.now.agrees)
+        (store_bytes (S.remaining follower.old.reader.file.device) follower.old)
+        (bytes_read follower.old) lines.old.left) out.old out.new result }
+    ensures begins { Begins
+        (LinesBegin (endorser member.now.log.now member.now.org.now member.now.agrees)
+        (store_bytes (S.remaining follower.old.reader.file.device) follower.old)
+        (bytes_read follower.old) lines.old.left) out.old out.new result }
 {
     for number in 1..u64::MAX {
-        if !lines.read_explained(alloc, files)? {
+        let there = lines.read_explained(alloc, files)?;
+        if !there {
             return Ok(());
         }
         take_line(alloc, files, member, follower, lines.line(), number, out)?;
-        if !lines.is_at_hand() {
-            out.flush()?;
-        }
+        hand_on(lines, out)?;
     }
-    Ok(())
+    // So many lines no input has.
+    Err(Failure::File)
 }
 
 /// Reads the store on, and answers the line of this number.
@@ -264,13 +356,75 @@ fn take_line<T: Threads + Sync, V: Watch, F: Files, S: Read + Drop, W: Write>(
     out: &mut Printer<'_, W>,
 ) -> Result<(), Failure>
     requires followed { IsFollowed follower.old }
+    requires by { endorses_by follower.old
+        ≡ endorses_for member.now.log.now.genesis member.now.org.now }
     ensures followed { OnOk result (IsFollowed follower.new) }
+    ensures same { endorses_by follower.new ≡ endorses_by follower.old }
     ensures tells { Tells out.old out.new result }
+    ensures store { Keeps (store_bytes (S.remaining follower.old.reader.file.device) follower.old)
+        (store_bytes (S.remaining follower.new.reader.file.device) follower.new) }
+    ensures does { TakesLine
+        (endorser member.now.log.now member.now.org.now member.now.agrees)
+        (store_bytes (S.remaining follower.old.reader.file.device) follower.old) number
+        (bytes_read follower.old) line.now (bytes_read follower.new) out.old out.new result }
+    ensures begins { Begins
+        (LineComesTo (endorser member.now.log.now member.now.org.now member.now.agrees)
+        (store_bytes (S.remaining follower.old.reader.file.device) follower.old) number
+        (bytes_read follower.old) line.now (bytes_read follower.new)) out.old out.new result }
 {
     catch_up(alloc, files, member, follower, out)?;
-    if let Some(block) = asked_block(follower, line) {
-        return print_seen(alloc, member, &follower.standing()?, block, out);
+    answer_line(alloc, files, member, follower, line, number, out)
+}
+
+/// Answers the line of this number.
+fn answer_line<T, V, F: Files, S: Read + Drop, W: Write>(
+    alloc: Global,
+    files: &mut F,
+    member: &Member<'_, T, V>,
+    follower: &StoreFollower<S>,
+    line: &[u8],
+    number: u64,
+    out: &mut Printer<'_, W>,
+) -> Result<(), Failure>
+    requires by { endorses_by follower.now
+        ≡ endorses_for member.now.log.now.genesis member.now.org.now }
+    ensures tells { Tells out.old out.new result }
+    ensures prints { OnOk result
+        (PrintsSo
+        (IsAnswered (endorser member.now.log.now member.now.org.now member.now.agrees) number
+        (read_chain follower.now) line.now) out.old out.new) }
+    ensures lost { IfErr result IsBrokenOff }
+    ensures nothing { OnErr result (PrintsNothing out.old out.new) }
+{
+    match asked_block(follower, line) {
+        Some(block) => {
+            let standing = follower.standing()?;
+            print_seen(alloc, member, &standing, block, out)
+        }
+        None => answer_other(alloc, files, member, follower, line, number, out),
     }
+}
+
+/// The same of one that asks for no block of the store.
+fn answer_other<T, V, F: Files, S: Read + Drop, W: Write>(
+    alloc: Global,
+    files: &mut F,
+    member: &Member<'_, T, V>,
+    follower: &StoreFollower<S>,
+    line: &[u8],
+    number: u64,
+    out: &mut Printer<'_, W>,
+) -> Result<(), Failure>
+    requires by { endorses_by follower.now
+        ≡ endorses_for member.now.log.now.genesis member.now.org.now }
+    ensures tells { Tells out.old out.new result }
+    ensures prints { OnOk result
+        (PrintsSo
+        (IsOther (endorser member.now.log.now member.now.org.now member.now.agrees) number
+        (read_chain follower.now) line.now) out.old out.new) }
+    ensures lost { IfErr result IsBrokenOff }
+    ensures nothing { OnErr result (PrintsNothing out.old out.new) }
+{
     match proposal_of(alloc, line) {
         Ok(proposal) => answer(alloc, files, member, follower, &proposal, number, out),
         Err(BadLine::Memory) => Err(Failure::Memory),
@@ -286,15 +440,13 @@ fn take_line<T: Threads + Sync, V: Watch, F: Files, S: Read + Drop, W: Write>(
 fn asked_block<'a, S: Read + Drop>(
     follower: &'a StoreFollower<S>,
     line: &[u8],
-) -> Option<&'a CommittedBlock> {
-    let line = std::str::from_utf8(line).ok()?;
-    let Some(("seen", digits)) = line.split_once(' ') else {
-        return None;
-    };
-    if !matches!(digits.as_bytes().first(), Some(b'1'..=b'9')) {
-        return None;
+) -> Option<&'a CommittedBlock>
+    ensures { IsAsked (read_chain follower.now) line.now (option_map (λ c. c.now) result) }
+{
+    match std::str::from_utf8(line) {
+        Ok(line) => follower.block(asked_number(line)?),
+        Err(_) => None,
     }
-    follower.block(digits.parse::<u32>().ok()?)
 }
 
 /// Prints which hash the header of an organisation's block has, and its signature of that, where it
@@ -307,13 +459,39 @@ fn print_seen<T, V, W: Write>(
     out: &mut Printer<'_, W>,
 ) -> Result<(), Failure>
     ensures tells { Tells out.old out.new result }
+    ensures prints { OnOk result
+        (Prints out.old out.new
+        (seen_text (endorser member.now.log.now member.now.org.now member.now.agrees)
+        standing.now.orgs block.now.block)) }
+    ensures lost { IfErr result IsBrokenOff }
+    ensures nothing { OnErr result (PrintsNothing out.old out.new) }
 {
     let (log, org, header) = (member.log, member.org, &block.block().header);
     let (number, hash) = (header.number.get(), header_hash(header));
     let signed = seen_bytes(alloc, &log.digest, number, &hash)?;
     let tag = tag_of(standing, &log.genesis.signers, org, &signed);
+    print_said(alloc, org, header, &hash, tag, out)
+}
+
+/// Prints that an organisation says that the header of its block has this hash, and what it put on
+/// that, where that is a signature.
+fn print_said<W: Write>(
+    alloc: Global,
+    org: &OrgName,
+    header: &Header,
+    hash: &[u8; 32],
+    tag: Tag,
+    out: &mut Printer<'_, W>,
+) -> Result<(), Failure>
+    ensures tells { Tells out.old out.new result }
+    ensures prints { OnOk result
+        (Prints out.old out.new (said_text org.now header.now.number hash.now tag)) }
+    ensures lost { IfErr result IsBrokenOff }
+    ensures nothing { OnErr result (PrintsNothing out.old out.new) }
+{
+    let number = header.number.get();
     let org = String::from_utf8_lossy(alloc, org.as_slice())?;
-    let hash = hex::encode(alloc, &hash)?;
+    let hash = hex::encode(alloc, hash)?;
     match tag {
         Tag::Hmac(_) => writeln!(out, "seen {org} {number} {hash}"),
         Tag::Ed25519(signature) => {
@@ -335,15 +513,18 @@ fn tag_of(standing: &Standing<'_>, signers: &Signers, org: &OrgName, bytes: &[u8
 }
 
 /// The proposal that a line spells.
-fn proposal_of(alloc: Global, line: &[u8]) -> Result<Proposal, BadLine> {
+fn proposal_of(alloc: Global, line: &[u8]) -> Result<Proposal, BadLine>
+    ensures ok { IfOk result (SpellsIn line.now) }
+    ensures refused { IfErr result (NoneIs (SpellsIn line.now)) }
+{
     match std::str::from_utf8(line) {
         Ok(line) => read_proposal(alloc, line),
         Err(_) => Err(BadLine::NoForm),
     }
 }
 
-/// Endorses the proposal of the line of this number, and prints the endorsement or the refusal. An amendment is not looked at
-/// where the organisation does not agree.
+/// Endorses the proposal of the line of this number, and prints the endorsement or the refusal. An
+/// amendment is not looked at where the organisation does not agree.
 fn answer<T, V, F: Files, S: Read + Drop, W: Write>(
     alloc: Global,
     files: &mut F,
@@ -354,20 +535,58 @@ fn answer<T, V, F: Files, S: Read + Drop, W: Write>(
     out: &mut Printer<'_, W>,
 ) -> Result<(), Failure>
     ensures tells { Tells out.old out.new result }
+    ensures prints { OnOk result
+        (Prints out.old out.new
+        (answer_text (is_passed_over member.now.agrees proposal.now)
+        (endorsed_on (endorses_by follower.now) proposal.now (read_chain follower.now)))) }
+    ensures lost { IfErr result IsBrokenOff }
+    ensures nothing { OnErr result (PrintsNothing out.old out.new) }
 {
-    if !member.agrees && matches!(proposal, Proposal::Amend(_)) {
+    if is_passed_over(member.agrees, proposal) {
         explain_number(alloc, files, &Location::input(number), 409);
         return writeln!(out, "refused 409");
     }
     match follower.endorse(proposal) {
         Ok((payload, endorsement)) => print_endorsed(alloc, &payload, &endorsement, out),
-        Err(SimRefusal::Memory) => Err(Failure::Memory),
-        Err(refusal) => {
-            let words = simulation_words(alloc, &refusal);
-            explain(alloc, files, &Location::input(number), words);
-            writeln!(out, "{refusal}")
-        }
+        Err(refusal) => print_refused(alloc, files, refusal, number, out),
     }
+}
+
+/// Whether a proposal is an amendment to which an organisation does not agree.
+fn is_passed_over(agrees: bool, proposal: &Proposal) -> bool
+    ensures { result ≡ is_passed_over agrees proposal.now }
+{
+    match proposal {
+        Proposal::Call(_) | Proposal::Upgrade(_) => false,
+        Proposal::Amend(_) => !agrees,
+    }
+}
+
+/// Prints why the simulation of the proposal of a line is refused, unless that is for want of
+/// memory.
+fn print_refused<F: Files, W: Write>(
+    alloc: Global,
+    files: &mut F,
+    refusal: SimRefusal,
+    line: u64,
+    out: &mut Printer<'_, W>,
+) -> Result<(), Failure>
+    ensures tells { Tells out.old out.new result }
+    ensures memory { refusal ≡ simulation.Memory → IsErr result }
+    ensures prints { OnOk result (Prints out.old out.new (simulation_line refusal)) }
+    ensures lost { IfErr result IsBrokenOff }
+    ensures nothing { OnErr result (PrintsNothing out.old out.new) }
+{
+    if let SimRefusal::Memory = refusal {
+        return Err(Failure::Memory);
+    }
+    explain(
+        alloc,
+        files,
+        &Location::input(line),
+        simulation_words(alloc, &refusal),
+    );
+    print_simulation(refusal, out)
 }
 
 /// Prints the bytes of a payload and of an endorsement, as they stand in an envelope.
@@ -378,6 +597,10 @@ fn print_endorsed<W: Write>(
     out: &mut Printer<'_, W>,
 ) -> Result<(), Failure>
     ensures tells { Tells out.old out.new result }
+    ensures prints { OnOk result
+        (Prints out.old out.new (endorsed_text (Ok (payload.now, endorsement.now)))) }
+    ensures lost { IfErr result IsBrokenOff }
+    ensures nothing { OnErr result (PrintsNothing out.old out.new) }
 {
     let mut bytes = Vec::new(alloc);
     endorsement.write(&mut bytes)?;

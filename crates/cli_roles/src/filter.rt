@@ -1,7 +1,9 @@
 //! What filters over lines have in common.
 
-ghost use Rattle.std.specs.Prelude.{ℕ, List, OnOk, IfErr};
-ghost use Rattle.cli_lines.specs.Told.{IsBrokenOff, IsMore, Prints, Says, Tells, Told};
+ghost use Rattle.std.specs.Prelude.{ℕ, List, OnErr, OnOk, IfErr};
+ghost use Rattle.cli_lines.specs.Told.{IsBrokenOff, IsMore, Prints, PrintsNothing, Says, Tells, Told};
+ghost use Rattle.cli_roles.specs.Filters.{IsEndedBy};
+ghost use Rattle.log_store.specs.Refusals.{store_text};
 
 use crate::input::InputLines;
 use cli_lines::{Failure, Printer};
@@ -12,6 +14,7 @@ use std::io::{Read, Write};
 pub fn end<W: Write>(refusal: StoreRefusal, out: &mut Printer<'_, W>) -> Failure
     ensures more { IsMore out.old out.new }
     ensures says { Says out.old out.new result }
+    ensures ends { IsEndedBy (store_text refusal) out.old out.new result }
 {
     match writeln!(out, "{refusal}") {
         Ok(()) => Failure::Printed,
@@ -27,6 +30,7 @@ pub fn hand_on<R: Read + Drop, W: Write>(
     ensures tells { Tells out.old out.new result }
     ensures kept { (before : Told) (text : List ℕ) → Prints before out.old text →
         OnOk result (Prints before out.new text) }
+    ensures nothing { OnErr result (PrintsNothing out.old out.new) }
     ensures lost { IfErr result IsBrokenOff }
 {
     if lines.is_at_hand() {

@@ -14,6 +14,7 @@
 //! `StoreFollower` of `log_store`.
 #![tactic(auto)]
 
+mod asking;
 mod committing;
 mod endorsing;
 mod explaining;
@@ -23,6 +24,7 @@ mod log_genesis;
 mod marks;
 mod ordering;
 mod seen;
+mod words;
 
 pub use committing::commit;
 pub use endorsing::{Endorsing, endorse};

@@ -1,11 +1,11 @@
 //! The command `order`.
 
-ghost use Rattle.std.specs.Prelude.{◌≡◌, [], ◌||◌, IfErr, IfOk, OnOk, codes, option_map, if◌then◌else◌};
+ghost use Rattle.std.specs.Prelude.{◌≡◌, [], ◌||◌, IfErr, IfOk, OnErr, OnOk, codes, option_map, if◌then◌else◌};
 ghost use Rattle.std.specs.List.{flat_map, zip};
-ghost use Rattle.cli_lines.specs.Told.{Answers, IsBrokenOff, IsMore, Prints, Says, Tells};
-ghost use Rattle.cli_roles.specs.Filters.{DoesOrEnds, Filters, IsEndedBy, PrintsSo};
+ghost use Rattle.cli_lines.specs.Told.{Answers, Begins, IsBrokenOff, IsMore, Prints, PrintsNothing, PrintsPart, Says, Tells};
+ghost use Rattle.cli_roles.specs.Filters.{ComesTo, DoesOrEnds, Filters, FiltersBegin, IsEndedBy, PrintsSo};
 ghost use Rattle.cli_roles.specs.Marks.{IsMarkBy, IsMarkOrNone};
-ghost use Rattle.cli_roles.specs.Orders.{EndsOrders, IsTaken, Orders, OrdersLine, TellsReport};
+ghost use Rattle.cli_roles.specs.Orders.{EndsOrders, IsTaken, Orders, OrdersBegin, OrdersLine, TellsReport};
 ghost use Rattle.cli_roles.specs.Orders.{batch_text, fresh, left_out_text, left_text, made_text, read_text};
 ghost use Rattle.cli_roles.specs.Seen.{IsUnsigned, TellsText, forked_text, sighting_of};
 
@@ -49,6 +49,9 @@ pub fn order<F: Files, W: Write>(
 ) -> Result<(), Failure>
     ensures answers { Answers
         (Orders log.now.genesis log.now.digest (F.input_bytes files.old)) out.old out.new result }
+    ensures begins { Begins
+        (OrdersBegin log.now.genesis log.now.digest (F.input_bytes files.old)) out.old out.new
+        result }
     ensures tells { Tells out.old out.new result }
 {
     let digest = hex::encode(alloc, &log.digest)?;
@@ -91,6 +94,9 @@ impl Ordering {
         ensures answers { Answers
             (Filters (OrdersLine self.old.rules.value digest.now) (EndsOrders digest.now)
             self.old.replica lines.old.left) out.old out.new result }
+        ensures begins { Begins
+            (FiltersBegin (OrdersLine self.old.rules.value digest.now) (EndsOrders digest.now)
+            self.old.replica lines.old.left) out.old out.new result }
         ensures tells { Tells out.old out.new result }
     {
         for number in 1..u64::MAX {
@@ -118,6 +124,10 @@ impl Ordering {
             (λ text. OrdersLine self.old.rules.value digest.now number self.old.replica line.now
             text self.new.replica)
             (EndsOrders digest.now number self.old.replica line.now)) out.old out.new result }
+        ensures begins { Begins (ComesTo
+            (λ text. OrdersLine self.old.rules.value digest.now number self.old.replica line.now
+            text self.new.replica)
+            (EndsOrders digest.now number self.old.replica line.now)) out.old out.new result }
         ensures rules { self.new.rules.value ≡ self.old.rules.value }
         ensures tells { Tells out.old out.new result }
     {
@@ -137,6 +147,7 @@ impl Ordering {
     fn print_read<W: Write>(&self, index: &str, out: &mut Printer<'_, W>) -> Result<(), Failure>
         ensures prints { OnOk result
             (Prints out.old out.new (read_text index.now self.now.replica)) }
+        ensures nothing { OnErr result (PrintsNothing out.old out.new) }
         ensures tells { Tells out.old out.new result }
         ensures lost { IfErr result IsBrokenOff }
     {
@@ -156,6 +167,9 @@ impl Ordering {
         ensures does { OnOk result (PrintsSo (λ told.
             IsTaken self.old.rules.value self.old.replica index.now text.now told
             self.new.replica) out.old out.new) }
+        ensures begins { Begins (λ told.
+            IsTaken self.old.rules.value self.old.replica index.now text.now told
+            self.new.replica) out.old out.new result }
         ensures mark { IfOk result (IsMarkOrNone text.now) }
         ensures rules { self.new.rules.value ≡ self.old.rules.value }
         ensures tells { Tells out.old out.new result }
@@ -178,6 +192,9 @@ impl Ordering {
         ensures prints { OnOk result (PrintsSo
             (TellsReport self.now.rules.value self.now.replica.chain index.now text.now report.now)
             out.old out.new) }
+        ensures begins { Begins
+            (TellsReport self.now.rules.value self.now.replica.chain index.now text.now report.now)
+            out.old out.new result }
         ensures mark { IfOk result (IsMarkBy report.now text.now) }
         ensures tells { Tells out.old out.new result }
         ensures lost { IfErr result IsBrokenOff }
@@ -207,6 +224,7 @@ impl Ordering {
     fn print_seen<W: Write>(&self, text: &str, out: &mut Printer<'_, W>) -> Result<(), Failure>
         ensures prints { OnOk result (PrintsSo
             (TellsText self.now.rules.value self.now.replica.chain text.now) out.old out.new) }
+        ensures nothing { OnErr result (PrintsNothing out.old out.new) }
         ensures tells { Tells out.old out.new result }
         ensures lost { IfErr result IsBrokenOff }
     {
@@ -225,6 +243,7 @@ impl Ordering {
         ensures prints { OnOk result (PrintsSo
             (IsUnsigned self.now.rules.value self.now.replica.chain (sighting_of seen.now))
             out.old out.new) }
+        ensures nothing { OnErr result (PrintsNothing out.old out.new) }
         ensures tells { Tells out.old out.new result }
         ensures lost { IfErr result IsBrokenOff }
     {
@@ -260,6 +279,7 @@ fn print_unless<W: Write>(
 ) -> Result<(), Failure>
     ensures prints { OnOk result
         (Prints out.old out.new (if untold then [] else forked_text org.now number)) }
+    ensures nothing { OnErr result (PrintsNothing out.old out.new) }
     ensures tells { Tells out.old out.new result }
     ensures lost { IfErr result IsBrokenOff }
 {
@@ -277,6 +297,7 @@ fn print_batches<W: Write>(
     out: &mut Printer<'_, W>,
 ) -> Result<(), Failure>
     ensures prints { OnOk result (Prints out.old out.new (flat_map batch_text batches.now)) }
+    ensures part { OnErr result (PrintsPart out.old out.new (flat_map batch_text batches.now)) }
     ensures tells { Tells out.old out.new result }
     ensures lost { IfErr result IsBrokenOff }
 {
@@ -293,6 +314,7 @@ fn print_batch<W: Write>(
     out: &mut Printer<'_, W>,
 ) -> Result<(), Failure>
     ensures prints { OnOk result (Prints out.old out.new (batch_text batch.now)) }
+    ensures part { OnErr result (PrintsPart out.old out.new (batch_text batch.now)) }
     ensures tells { Tells out.old out.new result }
     ensures lost { IfErr result IsBrokenOff }
 {
@@ -310,6 +332,8 @@ fn print_aborted<W: Write>(
 ) -> Result<(), Failure>
     ensures prints { OnOk result
         (Prints out.old out.new (flat_map left_out_text (zip ids.now causes.now))) }
+    ensures part { OnErr result
+        (PrintsPart out.old out.new (flat_map left_out_text (zip ids.now causes.now))) }
     ensures tells { Tells out.old out.new result }
     ensures lost { IfErr result IsBrokenOff }
 {
@@ -328,6 +352,7 @@ fn print_left_out<W: Write>(
 ) -> Result<(), Failure>
     ensures prints { OnOk result
         (Prints out.old out.new (left_text id.now (option_map (λ l. l.now) left.entry))) }
+    ensures nothing { OnErr result (PrintsNothing out.old out.new) }
     ensures tells { Tells out.old out.new result }
     ensures lost { IfErr result IsBrokenOff }
 {
@@ -348,6 +373,7 @@ fn print_made<W: Write>(
     out: &mut Printer<'_, W>,
 ) -> Result<(), Failure>
     ensures prints { OnOk result (Prints out.old out.new (made_text block.now)) }
+    ensures nothing { OnErr result (PrintsNothing out.old out.new) }
     ensures tells { Tells out.old out.new result }
     ensures lost { IfErr result IsBrokenOff }
 {

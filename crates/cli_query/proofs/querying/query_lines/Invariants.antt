@@ -1,11 +1,13 @@
-use Rattle.std.proofs.Common.{◌≡◌}
-use Rattle.cli_lines.specs.Told.{IsMore}
-use Rattle.log_store.specs.Reading.{IsReadBy}
+use Rattle.std.specs.Io.KnownBytes.{Keeps}
+use Rattle.log_store.specs.Reading.{IsReadBy, bytes_read, store_bytes}
+use Rattle.cli_roles.proofs.Filters.{HasDone}
+use Rattle.cli_query.specs.Printed.{DoesLine}
 use Rattle.cli_query.proofs.querying.query_lines.Given as goal
 
 abbrev pub invariant-loop-number : goal.invariant-loop-number
-invariant-loop-number g l = record {
-  read : IsReadBy l.asked.genesis.now.rules.value l.reader;
-  more : IsMore l.fn.out l.out;
-  failed : l.out.failed ≡ l.fn.out.failed;
-}
+invariant-loop-number g l =
+    let held = store_bytes (g.F.Reader.Read.remaining l.fn.reader.file.device) l.fn.reader in record {
+      read : IsReadBy l.asked.genesis.now.rules.value l.reader;
+      store : Keeps held (store_bytes (g.F.Reader.Read.remaining l.reader.file.device) l.reader);
+      done : HasDone (DoesLine l.asked.genesis.now held) l.fn.lines.left l.lines.left (bytes_read l.fn.reader) l.number (bytes_read l.reader) l.fn.out l.out;
+    }

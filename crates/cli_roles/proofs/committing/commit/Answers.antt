@@ -1,8 +1,39 @@
+use Rattle.std.proofs.Common.{◌∙◌, ℕ, List, Option, inl, subst}
 use Rattle.std.proofs.lemmas.Result.{err_from_is_err_and}
+use Rattle.cli_lines.specs.Told.{Answers, Begins}
+use Rattle.cli_lines.proofs.Printing.{nothing_same}
 use Rattle.cli_lines.proofs.Silence.{no_less, tells_by}
+use Rattle.cli_roles.specs.Committing.{Commits, CommitsBegin}
 use Rattle.cli_roles.proofs.committing.commit.Goals as goal
 
 pub returns-in_err-lines : goal.returns-in_err-lines
 returns-in_err-lines g c =
     let p = err_from_is_err_and c.from_residual.result c.from_residual.ensures.1 in
-    rw (p.1, p.2) (record { tells = tells_by c.args.out.now c.args.out.now _ (no_less c.args.out.now) c.in_err-lines.ensures.silent })
+    rw (p.1, p.2) (record {
+      tells = tells_by c.args.out.now c.args.out.now _ (no_less c.args.out.now) c.in_err-lines.ensures.silent;
+      answers = inl c.in_err-lines.ensures.lost;
+      begins = λ broken. inl (nothing_same c.args.out.now);
+    })
+
+pub returns-clause-answers : goal.returns-clause-answers
+returns-clause-answers g c =
+    let by = c.args.log.now.genesis.rules.value in
+    let digest = c.args.log.now.digest in
+    let t = c.args.out.now in
+    let u = c.commit_to.new.out in
+    let r = c.commit_to.result in
+    let left = c.in_ok-lines.ensures.whole ∙ c.input.ensures.read ∙ c.in-Some.ensures.input in
+    subst (λ (held : Option (List ℕ)). Answers (Commits by digest held (g.F.Files.input_bytes c.args.files.now)) t u r) c.in-Some.ensures.read
+    (subst (λ (input : Option (List ℕ)). Answers (Commits by digest (g.F.Store.Read.remaining c.in-Some.file) input) t u r) left c.commit_to.ensures.answers)
+
+pub returns-clause-begins : goal.returns-clause-begins
+returns-clause-begins g c =
+    let by = c.args.log.now.genesis.rules.value in
+    let digest = c.args.log.now.digest in
+    let t = c.args.out.now in
+    let u = c.commit_to.new.out in
+    let r = c.commit_to.result in
+    let left = c.in_ok-lines.ensures.whole ∙ c.input.ensures.read ∙ c.in-Some.ensures.input in
+    subst (λ (held : Option (List ℕ)). Begins (CommitsBegin by digest held (g.F.Files.input_bytes c.args.files.now)) t u r) c.in-Some.ensures.read
+    (subst (λ (input : Option (List ℕ)). Begins (CommitsBegin by digest (g.F.Store.Read.remaining c.in-Some.file) input) t u r) left
+    c.commit_to.ensures.begins)

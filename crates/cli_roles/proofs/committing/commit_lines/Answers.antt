@@ -1,8 +1,144 @@
+use Rattle.std.proofs.Common.{◌≡◌, ◌∙◌, ◌+◌, Bool, true, false, inl, Ok, Err, refl, rules, subst}
 use Rattle.std.proofs.lemmas.Result.{err_from_is_err_and}
+use Rattle.endorsement_policy.specs.Endorsed.{Listed}
+use Rattle.ledger_model.specs.Chain.{Bytes}
+use Rattle.log_store.specs.Storing.{rules_of, stored_chain}
+use Rattle.cli_lines.specs.declared.failure.Failure.TheVariants as failure
+use Rattle.cli_lines.proofs.Printing.{nothing_same}
 use Rattle.cli_lines.proofs.Silence.{tells_by}
+use Rattle.cli_roles.specs.Committing.{BeginsLine, DoesLine, EndsLine, TakesLine}
+use Rattle.cli_roles.specs.Input.{IsNext}
+use Rattle.cli_roles.proofs.Filters.{all_done, begins_line, begins_lines, done_kept, last_done, none_done, one_done}
 use Rattle.cli_roles.proofs.committing.commit_lines.Goals as goal
 
-pub returns-in_err-read_explained : goal.returns-in_err-read_explained
-returns-in_err-read_explained g c =
+pub loop-number-init : goal.loop-number-init
+loop-number-init g c =
+    record {
+      stored = c.requires.stored;
+      rules = refl;
+      done = none_done (DoesLine (rules_of c.args.chain.now) c.args.peer.now.log.now.digest) c.args.lines.now.left (stored_chain c.args.chain.now)
+          c.args.out.now;
+    }
+
+pub loop-number-preserved : goal.loop-number-preserved
+loop-number-preserved g c =
+    let inv = c.loop-number.invariant in
+    let by = rules_of c.args.chain.now in
+    let digest = c.args.peer.now.log.now.digest in
+    let n = c.loop-number.number in
+    let before = c.loop-number.lines in
+    let after = c.read_explained.new.self in
+    let first = stored_chain c.args.chain.now in
+    let mid = stored_chain c.loop-number.chain in
+    let new = stored_chain c.take_line.new.chain in
+    let t = c.loop-number.out in
+    let u = c.take_line.new.out in
+    let there : c.in_ok-there.there ≡ true = search rules in
+    let next = subst (λ (b : Bool). IsNext b before after) there c.in_ok-there.ensures.next in
+    let taken = subst (λ (r : Listed). TakesLine r digest n mid after.last new t u (Ok (tt {0}))) inv.rules
+    (subst (λ (l : Bytes). TakesLine (rules_of c.loop-number.chain) digest n mid l new t u (Ok (tt {0}))) c.line.ensures c.in_ok-take_line.ensures.does) in
+    let done = one_done (DoesLine by digest) (EndsLine by) c.args.lines.now.left before after first mid new n c.args.out.now t u (tt {0}) inv.done next taken in
+    record {
+      stored = c.in_ok-take_line.ensures.stored;
+      rules = c.in_ok-take_line.ensures.rules ∙ inv.rules;
+      done = done_kept (DoesLine by digest) c.args.lines.now.left after.left first _ new c.args.out.now u c.hand_on.new.out done
+          (λ text printed. c.in_ok-hand_on.ensures.kept c.args.out.now text printed);
+    }
+
+pub returns-then-not-there-clause-answers : goal.returns-then-not-there-clause-answers
+returns-then-not-there-clause-answers g c =
+    let inv = c.loop-number.invariant in
+    let by = rules_of c.args.chain.now in
+    let digest = c.args.peer.now.log.now.digest in
+    let before = c.loop-number.lines in
+    let after = c.read_explained.new.self in
+    let none : c.in_ok-there.there ≡ false = search rules in
+    let end = subst (λ (b : Bool). IsNext b before after) none c.in_ok-there.ensures.next in
+    all_done (DoesLine by digest) (EndsLine by) c.args.lines.now.left before after (stored_chain c.args.chain.now) (stored_chain c.loop-number.chain)
+    c.loop-number.number c.args.out.now c.loop-number.out (tt {0}) inv.done end
+
+pub returns-in_err-take_line-clause-answers : goal.returns-in_err-take_line-clause-answers
+returns-in_err-take_line-clause-answers g c =
+    let p = err_from_is_err_and c.from_residual-in_err-take_line.result c.from_residual-in_err-take_line.ensures.1 in
+    let inv = c.loop-number.invariant in
+    let by = rules_of c.args.chain.now in
+    let digest = c.args.peer.now.log.now.digest in
+    let n = c.loop-number.number in
+    let before = c.loop-number.lines in
+    let after = c.read_explained.new.self in
+    let mid = stored_chain c.loop-number.chain in
+    let new = stored_chain c.take_line.new.chain in
+    let t = c.loop-number.out in
+    let u = c.take_line.new.out in
+    let e = c.in_err-take_line.field-0.0 in
+    let there : c.in_ok-there.there ≡ true = search rules in
+    let next = subst (λ (b : Bool). IsNext b before after) there c.in_ok-there.ensures.next in
+    let taken = subst (λ (r : Listed). TakesLine {A = Unit {0}} r digest n mid after.last new t u (Err e)) inv.rules
+    (subst (λ (l : Bytes). TakesLine {A = Unit {0}} (rules_of c.loop-number.chain) digest n mid l new t u (Err e)) c.line.ensures
+    c.in_err-take_line.ensures.does) in
+    rw (p.1, p.2) (last_done (DoesLine by digest) (EndsLine by) (Unit {0}) c.args.lines.now.left before after (stored_chain c.args.chain.now) mid new n
+    c.args.out.now t u e inv.done next taken)
+
+pub returns-in_err-there : goal.returns-in_err-there
+returns-in_err-there g c =
     let p = err_from_is_err_and c.from_residual.result c.from_residual.ensures.1 in
-    rw (p.1, p.2) (record { tells = tells_by c.args.out.now c.loop-number.out _ c.loop-number.invariant.more c.in_err-read_explained.ensures.silent })
+    rw (p.1, p.2) (record {
+      tells = tells_by c.args.out.now c.loop-number.out _ c.loop-number.invariant.done.prints.more c.in_err-there.ensures.silent;
+      answers = inl c.in_err-there.ensures.lost;
+      begins = begins_lines (DoesLine (rules_of c.args.chain.now) c.args.peer.now.log.now.digest) (EndsLine (rules_of c.args.chain.now))
+          {A = Unit {0}} c.args.lines.now.left c.loop-number.lines.left (stored_chain c.args.chain.now) c.loop-number.number (stored_chain c.loop-number.chain)
+          c.args.out.now c.loop-number.out c.loop-number.out (Err c.in_err-there.field-0.0) c.loop-number.invariant.done
+          (nothing_same c.loop-number.out);
+    })
+
+pub returns-in_err-take_line-clause-begins : goal.returns-in_err-take_line-clause-begins
+returns-in_err-take_line-clause-begins g c =
+    let p = err_from_is_err_and c.from_residual-in_err-take_line.result c.from_residual-in_err-take_line.ensures.1 in
+    let inv = c.loop-number.invariant in
+    let by = rules_of c.args.chain.now in
+    let digest = c.args.peer.now.log.now.digest in
+    let n = c.loop-number.number in
+    let before = c.loop-number.lines in
+    let after = c.read_explained.new.self in
+    let mid = stored_chain c.loop-number.chain in
+    let new = stored_chain c.take_line.new.chain in
+    let t = c.loop-number.out in
+    let u = c.take_line.new.out in
+    let e = c.in_err-take_line.field-0.0 in
+    let there : c.in_ok-there.there ≡ true = search rules in
+    let next = subst (λ (b : Bool). IsNext b before after) there c.in_ok-there.ensures.next in
+    let begun = subst (λ (r : Listed). BeginsLine {A = Unit {0}} r digest n mid after.last new t u (Err e)) inv.rules
+    (subst (λ (l : Bytes). BeginsLine {A = Unit {0}} (rules_of c.loop-number.chain) digest n mid l new t u (Err e)) c.line.ensures
+    c.in_err-take_line.ensures.begins) in
+    rw (p.1, p.2) (begins_line (DoesLine by digest) (EndsLine by) (Unit {0}) c.args.lines.now.left before after (stored_chain c.args.chain.now) mid new n
+    c.args.out.now t u e inv.done next begun)
+
+pub returns-in_err-hand_on-clause-begins : goal.returns-in_err-hand_on-clause-begins
+returns-in_err-hand_on-clause-begins g c =
+    let inv = c.loop-number.invariant in
+    let by = rules_of c.args.chain.now in
+    let digest = c.args.peer.now.log.now.digest in
+    let n = c.loop-number.number in
+    let before = c.loop-number.lines in
+    let after = c.read_explained.new.self in
+    let input = c.args.lines.now.left in
+    let first = stored_chain c.args.chain.now in
+    let mid = stored_chain c.loop-number.chain in
+    let new = stored_chain c.take_line.new.chain in
+    let t = c.loop-number.out in
+    let u = c.take_line.new.out in
+    let there : c.in_ok-there.there ≡ true = search rules in
+    let next = subst (λ (b : Bool). IsNext b before after) there c.in_ok-there.ensures.next in
+    let taken = subst (λ (r : Listed). TakesLine r digest n mid after.last new t u (Ok (tt {0}))) inv.rules
+    (subst (λ (l : Bytes). TakesLine (rules_of c.loop-number.chain) digest n mid l new t u (Ok (tt {0}))) c.line.ensures c.in_ok-take_line.ensures.does) in
+    let done = one_done (DoesLine by digest) (EndsLine by) input before after first mid new n c.args.out.now t u (tt {0}) inv.done next taken in
+    begins_lines (DoesLine by digest) (EndsLine by) input after.left first (n + 1) new c.args.out.now u c.hand_on.new.out
+    c.from_residual-in_err-hand_on.result done c.in_err-hand_on.ensures.nothing
+
+pub returns-clause-begins : goal.returns-clause-begins
+returns-clause-begins g c =
+    let by = rules_of c.args.chain.now in
+    let t = c.loop-number.out in
+    begins_lines (DoesLine by c.args.peer.now.log.now.digest) (EndsLine by) {A = Unit {0}} c.args.lines.now.left c.loop-number.lines.left
+    (stored_chain c.args.chain.now) c.loop-number.number (stored_chain c.loop-number.chain) c.args.out.now t t (Err failure.File)
+    c.loop-number.invariant.done (nothing_same t)

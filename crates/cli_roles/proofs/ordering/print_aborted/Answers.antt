@@ -1,5 +1,9 @@
 use Rattle.std.proofs.Common.{[], get_or}
 use Rattle.std.specs.Prelude.{option_map}
+use Rattle.std.specs.List.{flat_map, zip}
+use Rattle.cli_lines.proofs.Printing.{on_err, part_left}
+use Rattle.cli_lines.specs.Told.{PrintsPart}
+use Rattle.cli_roles.specs.Orders.{left_out_text}
 use Rattle.cli_roles.proofs.Orders.{item_at, left_out_all, left_out_step, same_item}
 use Rattle.cli_roles.proofs.ordering.print_aborted.Goals as goal
 
@@ -15,3 +19,11 @@ loop-place-preserved g c =
 pub returns-clause-prints : goal.returns-clause-prints
 returns-clause-prints g c =
     left_out_all c.args.ids.now c.args.causes.now c.loop-place.place c.args.out.now c.loop-place.out c.loop-place-test.false c.loop-place.invariant
+
+pub returns-in_err-print_left_out-clause-part : goal.returns-in_err-print_left_out-clause-part
+returns-in_err-print_left_out-clause-part g c =
+    let left = zip c.args.ids.now c.args.causes.now in
+    let t = c.args.out.now in
+    let v = c.print_left_out.new.out in
+    on_err c.from_residual.result (PrintsPart t v (flat_map left_out_text left))
+    (part_left left_out_text [] left c.loop-place.place t c.loop-place.out v c.loop-place.invariant c.in_err-print_left_out.ensures.nothing)

@@ -1,6 +1,10 @@
-use Rattle.std.proofs.Common.{rules, ◌≡◌, None}
-use Rattle.log_orderer.specs.declared.replica.LineReport.TheVariants.{Ticked}
-use Rattle.cli_roles.proofs.Orders.{told_none, told_skipped}
+use Rattle.std.proofs.Common.{rules}
+use Rattle.std.specs.List.{flat_map}
+use Rattle.cli_lines.proofs.Answering.{begins_part}
+use Rattle.cli_lines.proofs.Printing.{on_err}
+use Rattle.cli_lines.specs.Told.{PrintsPart}
+use Rattle.cli_roles.specs.Orders.{TellsReport, batch_text}
+use Rattle.cli_roles.proofs.Orders.{told_begun, told_none, told_skipped}
 use Rattle.cli_roles.proofs.ordering.Ordering.print_report.Goals as goal
 
 pub returns-in_ok-writeln-in-Skipped-clause-prints : goal.returns-in_ok-writeln-in-Skipped-clause-prints
@@ -14,3 +18,32 @@ returns-in-Ticked-None-clause-prints g c =
     let self = c.args.self.now in
     told_none self.rules.value self.replica.chain c.args.index.now c.args.text.now c.args.report.now c.args.out.now
     (search rules)
+
+pub returns-in_err-writeln-in-Skipped-clause-begins : goal.returns-in_err-writeln-in-Skipped-clause-begins
+returns-in_err-writeln-in-Skipped-clause-begins g c =
+    let self = c.args.self.now in
+    told_begun c.from_residual-in_err-writeln-in-Skipped.result self.rules.value self.replica.chain c.args.index.now c.args.text.now c.args.report.now
+    c.in-Skipped.skip c.args.out.now c.print_seen.new.out c.writeln.new.self c.in-Skipped.is c.in_ok-print_seen-in-Skipped.ensures.prints
+    c.in_err-writeln-in-Skipped.ensures.nothing
+
+pub returns-in_err-print_batches-in-Accepted-clause-begins : goal.returns-in_err-print_batches-in-Accepted-clause-begins
+returns-in_err-print_batches-in-Accepted-clause-begins g c =
+    let self = c.args.self.now in
+    let Tells = TellsReport self.rules.value self.replica.chain c.args.index.now c.args.text.now c.args.report.now in
+    let text = flat_map batch_text c.as_slice.result.now in
+    let told : Tells text = search rules in
+    let r = c.from_residual.result in
+    let t = c.args.out.now in
+    let u = c.print_batches.new.out in
+    begins_part Tells t u r text told (on_err r (PrintsPart t u text) c.in_err-print_batches-in-Accepted.ensures.part)
+
+pub returns-in_err-print_batch-in-Ticked-Some-clause-begins : goal.returns-in_err-print_batch-in-Ticked-Some-clause-begins
+returns-in_err-print_batch-in-Ticked-Some-clause-begins g c =
+    let self = c.args.self.now in
+    let Tells = TellsReport self.rules.value self.replica.chain c.args.index.now c.args.text.now c.args.report.now in
+    let text = batch_text c.in-Ticked-Some.batch in
+    let told : Tells text = search rules in
+    let r = c.from_residual-in_err-print_batch-in-Ticked-Some.result in
+    let t = c.args.out.now in
+    let u = c.print_batch.new.out in
+    begins_part Tells t u r text told (on_err r (PrintsPart t u text) c.in_err-print_batch-in-Ticked-Some.ensures.part)

@@ -1,8 +1,8 @@
 use Rattle.std.proofs.Common.{◌≡◌, true, refl, ◌∙◌}
 use Rattle.std.specs.Prelude.{codes}
 use Rattle.cli_roles.specs.Orders.{EndsOrders, NamesAnother}
-use Rattle.cli_roles.proofs.Filters.{ended_by}
-use Rattle.cli_roles.proofs.Orders.{line_done, line_read, names_line, names_text}
+use Rattle.cli_roles.proofs.Filters.{begins_ended, ended_by}
+use Rattle.cli_roles.proofs.Orders.{line_begun, line_begun_behind, line_done, line_read, names_line, names_text}
 use Rattle.cli_roles.proofs.ordering.Ordering.take_line.Goals as goal
 use Rattle.cli_roles.proofs.ordering.Ordering.take_line.Goals.{else-number-eq1-via-then-number-eq1+else-names_another_genesis, else-number-eq1-via-else-number-eq1}
 
@@ -36,3 +36,47 @@ returns-clause-does g c =
     (line_read c.print_read.result self.rules.value self.replica new.replica bytes decoded c.parted.result.0.now said c.args.out.now c.take_text.new.out
     c.print_read.new.out lossy c.parted.ensures.0 c.parted.ensures.1 c.in_ok-is_mark.ensures.does c.print_read.ensures.prints)
     c.print_read.ensures.lost
+
+pub returns-then-names_another_genesis-clause-begins : goal.returns-then-names_another_genesis-clause-begins
+returns-then-names_another_genesis-clause-begins g c =
+    begins_ended (Unit {0}) _ c.args.out.now c.end_by_genesis.new.out c.end_by_genesis.result (codes "refused 807") c.end_by_genesis.ensures.ends
+
+pub returns-in_err-is_mark-clause-begins : goal.returns-in_err-is_mark-clause-begins
+returns-in_err-is_mark-clause-begins g c =
+    let digest = c.args.digest.now in
+    let bytes = c.args.line.now in
+    let decoded = c.deref.result.now in
+    let said = c.parted.result.1.now in
+    let lossy = c.deref.ensures ∙ c.in_ok-decoded.ensures.lossy in
+    let self = c.args.self.now in
+    let fits : c.args.number ≡ 1 → NamesAnother digest bytes → ⊥ = λ first names.
+    elim c.else-number-eq1.branch [
+      | else-number-eq1-via-then-number-eq1+else-names_another_genesis w ↦
+          let h : w.names_another_genesis.result ≡ true =
+          w.names_another_genesis.ensures.1 (names_text digest bytes decoded said lossy c.parted.ensures.1 names) in
+          let n = w.if-names_another_genesis.false in absurd cc
+      | else-number-eq1-via-else-number-eq1 w ↦ absurd (w.if-number-eq1.false first)
+    ] in
+    line_begun c.from_residual-in_err-is_mark.result self.rules.value digest c.args.number self.replica c.take_text.new.self.replica bytes decoded
+    c.parted.result.0.now said c.args.out.now c.take_text.new.out lossy c.parted.ensures.0 c.parted.ensures.1 fits
+    (c.in_err-is_mark.ensures.begins c.in_err-is_mark.ensures.lost)
+
+pub returns-clause-begins : goal.returns-clause-begins
+returns-clause-begins g c =
+    let digest = c.args.digest.now in
+    let bytes = c.args.line.now in
+    let decoded = c.deref.result.now in
+    let said = c.parted.result.1.now in
+    let lossy = c.deref.ensures ∙ c.in_ok-decoded.ensures.lossy in
+    let self = c.args.self.now in
+    let fits : c.args.number ≡ 1 → NamesAnother digest bytes → ⊥ = λ first names.
+    elim c.else-number-eq1.branch [
+      | else-number-eq1-via-then-number-eq1+else-names_another_genesis w ↦
+          let h : w.names_another_genesis.result ≡ true =
+          w.names_another_genesis.ensures.1 (names_text digest bytes decoded said lossy c.parted.ensures.1 names) in
+          let n = w.if-names_another_genesis.false in absurd cc
+      | else-number-eq1-via-else-number-eq1 w ↦ absurd (w.if-number-eq1.false first)
+    ] in
+    line_begun_behind c.print_read.result self.rules.value digest c.args.number self.replica c.take_text.new.self.replica bytes decoded
+    c.parted.result.0.now said c.args.out.now c.take_text.new.out c.print_read.new.out lossy c.parted.ensures.0 c.parted.ensures.1 fits
+    c.in_ok-is_mark.ensures.does c.print_read.ensures.nothing
