@@ -1,7 +1,7 @@
 -- What tasks come to by what is known of files.
 use Rattle.std.proofs.Common.{◌≡◌, ℕ, List, Bool, Option, ap, sym, ◌∙◌}
 use Rattle.cli_program.specs.Opening.{FilesHeld}
-use Rattle.cli_program.specs.Tasks.{KnownFiles, known_files}
+use Rattle.cli_program.specs.Tasks.{known_files}
 
 -- where the files hold behind a step what they held before it
 pub same_files : (writes : Bool) (a b after : FilesHeld) (i j : Option (List ℕ)) → b ≡ a → j ≡ i → known_files writes b after j ≡ known_files writes a after i

@@ -1,5 +1,6 @@
 pub mod Lines
 pub mod Telling
+pub mod Usage
 pub mod Verdicts
 pub mod Beginning
 pub mod Opened

@@ -1,23 +1,31 @@
 -- How the program ends.
-use Rattle.std.specs.Prelude.{◌≡◌, ℕ, List, [], Result, Ok, Err, IfSome}
+use Rattle.std.specs.Prelude.{◌≡◌, ℕ, List, [], Result, Ok, Err, unwrap_or}
 use Rattle.cli_lines.specs.Texts.{last_line}
-use Rattle.cli_lines.specs.Told.{Told, Prints}
+use Rattle.cli_lines.specs.Told.{Told, Prints, PrintsPart}
 use Rattle.cli_lines.specs.declared.failure.Failure.{Failure}
 use Rattle.cli_lines.specs.declared.failure.Failure.TheVariants as failure
-use Rattle.cli_words.specs.Commands.{IsCommandOf}
+use Rattle.cli_words.specs.UsageText.{usage_text}
+use Rattle.cli_words.specs.Words.{IsTaskOf}
 use Rattle.cli_words.specs.declared.task.Task.{Task}
 use Rattle.cli_words.specs.declared.task.WordsFault.{WordsFault}
 use Rattle.cli_words.specs.declared.task.WordsFault.TheVariants as words
 use Rattle.cli_program.specs.Tasks.{KnownFiles, Comes}
 
--- the line by which a failure is told is printed. Of the usage it is not said which text that is
-abbrev pub PrintsLast : Failure → (before after : Told) → Type 0
-PrintsLast f before after = IfSome (last_line f) (Prints before after)
+-- the last text of a failure: the usage, or the line by which it is told, if it is not told yet
+abbrev pub last_text : Failure → List ℕ
+last_text failure.Usage = usage_text
+last_text f = unwrap_or (last_line f) []
 
--- behind what a task printed stands the line of its failure, if it failed
+abbrev pub PrintsLast : Failure → (before after : Told) → Type 0
+PrintsLast f before after = Prints before after (last_text f)
+
+-- what stands behind that which a task printed: the last text of its failure, if it failed
+abbrev pub end_text : Result (Unit {0}) Failure → List ℕ
+end_text (Ok done) = []
+end_text (Err f) = last_text f
+
 abbrev pub PrintsEnd : Result (Unit {0}) Failure → (before after : Told) → Type 0
-PrintsEnd (Ok done) before after = Prints before after []
-PrintsEnd (Err f) before after = PrintsLast f before after
+PrintsEnd answer before after = Prints before after (end_text answer)
 
 -- 2 where the words name no task
 abbrev pub failure_status : Failure → ℕ
@@ -29,10 +37,10 @@ abbrev pub status_of : Result (Unit {0}) Failure → ℕ
 status_of (Ok done) = 0
 status_of (Err f) = failure_status f
 
--- words name a task, the first of them its command, which comes to an answer and to what is printed meanwhile; or they name none
+-- words name a task, which comes to an answer and to what is printed meanwhile; or they name none, and nothing is
 abbrev pub ComesOf : List (List ℕ) → Result Task WordsFault → KnownFiles → (before after : Told) → Result (Unit {0}) Failure → Type 0
-ComesOf ws (Ok task) k before after answer = IsCommandOf ws task × Comes task k before after answer
-ComesOf ws (Err words.Memory) k before after answer = answer ≡ Err failure.Memory
+ComesOf ws (Ok task) k before after answer = IsTaskOf ws task × Comes task k before after answer
+ComesOf ws (Err words.Memory) k before after answer = (answer ≡ Err failure.Memory) × (after ≡ before)
 ComesOf ws (Err words.Usage) k before after answer = (answer ≡ Err failure.Usage) × (after ≡ before)
 
 abbrev pub CarriesOut : List (List ℕ) → KnownFiles → (before after : Told) → Result (Unit {0}) Failure → Type 0
@@ -45,3 +53,10 @@ pub record Ends (ws : List (List ℕ)) (k : KnownFiles) (before after : Told) (s
   pub carries : CarriesOut ws k before mid answer
   pub end : PrintsEnd answer mid after
   pub status_is : status ≡ status_of answer
+
+-- The same where a text could not be printed or handed on: behind what the task printed stands a beginning of its end, and nothing else
+pub record EndsInPart (ws : List (List ℕ)) (k : KnownFiles) (before after : Told) : Type 0 where
+  pub answer : Result (Unit {0}) Failure
+  pub mid : Told
+  pub carries : CarriesOut ws k before mid answer
+  pub end : PrintsPart mid after (end_text answer)

@@ -1,7 +1,7 @@
 -- What the program's tasks come to.
 use Rattle.std.specs.Prelude.{◌≡◌, ◌⊎◌, ℕ, Bool, List, [], Option, None, Result, Err, option_map}
 use Rattle.ledger_setting.specs.declared.genesis.Genesis.{Genesis}
-use Rattle.cli_lines.specs.Told.{Told, Answers, Tells}
+use Rattle.cli_lines.specs.Told.{Told, Answers, Begins, IsTextOf}
 use Rattle.cli_lines.specs.declared.failure.Failure.{Failure}
 use Rattle.cli_words.specs.declared.task.Beginning.{Beginning}
 use Rattle.cli_words.specs.declared.task.StatePart.{StatePart}
@@ -11,18 +11,21 @@ use Rattle.cli_words.specs.declared.task.Task.TheVariants as task
 use Rattle.cli_words.specs.declared.task.Work.{Work}
 use Rattle.cli_words.specs.declared.task.Work.TheVariants as work
 use Rattle.cli_roles.specs.declared.log_genesis.LogGenesis.{LogGenesis}
-use Rattle.cli_roles.specs.Orders.{Orders}
+use Rattle.cli_roles.specs.Orders.{Orders, OrdersBegin}
+use Rattle.cli_roles.specs.Committing.{Commits, CommitsBegin}
+use Rattle.cli_roles.specs.Endorsing.{Endorses, EndorsesBegin, endorser}
+use Rattle.cli_query.specs.Printed.{Queries, QueriesBegin}
 use Rattle.cli_show.specs.Modules.{Checks, Digests}
 use Rattle.cli_show.specs.Simulations.{Simulates}
 use Rattle.cli_show.specs.declared.showing.Part.{Part}
 use Rattle.cli_show.specs.declared.showing.Part.TheVariants as part
-use Rattle.cli_show.specs.Findings.{Audits, Shows}
-use Rattle.cli_show.specs.Answers.{States}
-use Rattle.cli_show.specs.Tracing.{Traces}
+use Rattle.cli_show.specs.Findings.{Audits, ShowBegins, Shows}
+use Rattle.cli_show.specs.Answers.{StateBegins, States}
+use Rattle.cli_show.specs.Tracing.{TraceBegins, Traces}
 use Rattle.cli_show.specs.Marks.{Marks}
 use Rattle.cli_show.specs.Version.{Versions}
 use Rattle.cli_session.specs.Stored.{HoldsAsked}
-use Rattle.cli_session.specs.Whole.{ComesTo}
+use Rattle.cli_session.specs.Whole.{ComesTo, RunBegins}
 use Rattle.cli_program.specs.Keys.{Publishes}
 use Rattle.cli_program.specs.Opening.{FilesHeld, IsOpened, IsNotOpened, Opens, NotOpens}
 use Rattle.cli_program.specs.Seats.{RunsSeats}
@@ -51,27 +54,42 @@ IsPart (asked.Writes key) (part.Writes k) = k.now ≡ key
 IsPart (asked.Writes key) part.Members = ⊥
 IsPart asked.Members p = p ≡ part.Members
 
--- What is asked for of a genesis comes to an answer, and to what is printed meanwhile. Which texts `commit`, `endorse` and `query` print is not said
+-- A task comes to its answer and to the text that was printed; or it is broken off, behind a beginning of a text of which `Whole` is so
+abbrev pub Does : (Comes : Result (Unit {0}) Failure → List ℕ → Type 0) → (Whole : List ℕ → Type 0) → (before after : Told) → Result (Unit {0}) Failure
+    → Type 0
+Does Comes Whole before after answer = Answers Comes before after answer × Begins Whole before after answer
+
+-- the same of a task that knows its whole text before it prints
+abbrev pub DoesAll : (Comes : Result (Unit {0}) Failure → List ℕ → Type 0) → (before after : Told) → Result (Unit {0}) Failure → Type 0
+DoesAll Comes = Does Comes (IsTextOf Comes)
+
+-- what is asked for of a genesis is done
 abbrev pub Works : LogGenesis → Work → KnownFiles → (before after : Told) → Result (Unit {0}) Failure → Type 0
-Works log (work.Simulate p store) k before after answer =
-    Answers (Simulates log.genesis p (option_map (λ name. k.before name.now) store)) before after answer
+Works log (work.Simulate p store) k before after answer = DoesAll (Simulates log.genesis p (option_map (λ name. k.before name.now) store)) before after answer
 Works log (work.Run events store) k before after answer =
-    Answers (Runs log.genesis k events.now (option_map (λ name. name.now) store)) before after answer
-Works log (work.Threads chaincode rounds) k before after answer = Answers (RunsSeats log.genesis chaincode rounds) before after answer
-Works log (work.Audit store) k before after answer = Answers (Audits log.genesis (k.before store.now)) before after answer
-Works log (work.Show store from to) k before after answer = Answers (Shows log.genesis from to (k.before store.now)) before after answer
+    Does (Runs log.genesis k events.now (option_map (λ name. name.now) store)) (RunBegins log.genesis (k.before events.now)) before after answer
+Works log (work.Threads chaincode rounds) k before after answer = DoesAll (RunsSeats log.genesis chaincode rounds) before after answer
+Works log (work.Audit store) k before after answer = DoesAll (Audits log.genesis (k.before store.now)) before after answer
+Works log (work.Show store from to) k before after answer =
+    Does (Shows log.genesis from to (k.before store.now)) (ShowBegins log.genesis from to (k.before store.now)) before after answer
 Works log (work.State store at asked) k before after answer =
-    (p : Part) × IsPart asked p × Answers (States log.genesis p at (k.before store.now)) before after answer
-Works log (work.Trace call most) k before after answer = Answers (Traces log.genesis call most) before after answer
-Works log (work.Commit store) k before after answer = Tells before after answer
-Works log (work.Endorse org store agrees) k before after answer = Tells before after answer
-Works log (work.Query store) k before after answer = Tells before after answer
-Works log (work.Marks store) k before after answer = Answers (Marks log.genesis (k.before store.now)) before after answer
+    (p : Part) × IsPart asked p
+    × Does (States log.genesis p at (k.before store.now)) (StateBegins log.genesis p at (k.before store.now)) before after answer
+Works log (work.Trace call most) k before after answer = Does (Traces log.genesis call most) (TraceBegins log.genesis call most) before after answer
+Works log (work.Commit store) k before after answer =
+    Does (Commits log.genesis.rules.value log.digest (k.before store.now) k.input)
+    (CommitsBegin log.genesis.rules.value log.digest (k.before store.now) k.input) before after answer
+Works log (work.Endorse org store agrees) k before after answer =
+    Does (Endorses (endorser log org agrees) (k.before store.now) k.input) (EndorsesBegin (endorser log org agrees) (k.before store.now) k.input) before after
+    answer
+Works log (work.Query store) k before after answer =
+    Does (Queries log.genesis (k.before store.now) k.input) (QueriesBegin log.genesis (k.before store.now) k.input) before after answer
+Works log (work.Marks store) k before after answer = DoesAll (Marks log.genesis (k.before store.now)) before after answer
 
 -- the files of a genesis are read, and then this is done; or one of them is refused, and nothing is printed
-abbrev pub Begins : KnownFiles → Beginning → (LogGenesis → (before after : Told) → Result (Unit {0}) Failure → Type 0) → (before after : Told) →
+abbrev pub WithGenesis : KnownFiles → Beginning → (LogGenesis → (before after : Told) → Result (Unit {0}) Failure → Type 0) → (before after : Told) →
     Result (Unit {0}) Failure → Type 0
-Begins k b Does before after answer =
+WithGenesis k b Does before after answer =
     ((log : LogGenesis) × Opens k.before b log × Does log before after answer)
     ⊎ ((f : Failure) × NotOpens k.before b f × (answer ≡ Err f) × (after ≡ before))
 
@@ -81,11 +99,14 @@ OrdersBy k genesis answer text =
     ((log : LogGenesis) × IsOpened (k.before genesis) None None log × Orders log.genesis log.digest k.input answer text)
     ⊎ ((f : Failure) × IsNotOpened (k.before genesis) None None f × (answer ≡ Err f) × (text ≡ []))
 
--- a task comes to an answer, and to what is printed meanwhile
+abbrev pub OrdersByBegin : KnownFiles → (genesis : List ℕ) → List ℕ → Type 0
+OrdersByBegin k genesis text = (log : LogGenesis) × IsOpened (k.before genesis) None None log × OrdersBegin log.genesis log.digest k.input text
+
+-- a task is done
 abbrev pub Comes : Task → KnownFiles → (before after : Told) → Result (Unit {0}) Failure → Type 0
-Comes (task.Check m profile) k before after answer = Answers (Checks profile (k.before m.now)) before after answer
-Comes (task.Digest m profile) k before after answer = Answers (Digests profile (k.before m.now)) before after answer
-Comes (task.Order genesis) k before after answer = Answers (OrdersBy k genesis.now) before after answer
-Comes (task.Public keys) k before after answer = Answers (Publishes (k.before keys.now)) before after answer
-Comes task.Version k before after answer = Answers Versions before after answer
-Comes (task.Work b w) k before after answer = Begins k b (λ log. Works log w k) before after answer
+Comes (task.Check m profile) k before after answer = DoesAll (Checks profile (k.before m.now)) before after answer
+Comes (task.Digest m profile) k before after answer = DoesAll (Digests profile (k.before m.now)) before after answer
+Comes (task.Order genesis) k before after answer = Does (OrdersBy k genesis.now) (OrdersByBegin k genesis.now) before after answer
+Comes (task.Public keys) k before after answer = DoesAll (Publishes (k.before keys.now)) before after answer
+Comes task.Version k before after answer = DoesAll Versions before after answer
+Comes (task.Work b w) k before after answer = WithGenesis k b (λ log. Works log w k) before after answer

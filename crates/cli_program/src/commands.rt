@@ -1,9 +1,10 @@
 //! The program, but for the machine that it runs on.
 
 ghost use Rattle.std.specs.Prelude.{◌≡◌, ◌<◌, [], true, false, OnErr, OnOk, map, option_map, string_bytes};
-ghost use Rattle.cli_lines.specs.Told.{Answers, IsMore, IsTold, Prints, Says, Tells, Told};
-ghost use Rattle.cli_program.specs.Ends.{CarriesOut, Ends, PrintsLast, failure_status};
-ghost use Rattle.cli_program.specs.Tasks.{Begins, Comes, IsPart, Runs, Works, known_files};
+ghost use Rattle.cli_lines.specs.Told.{Answers, Begins, IsMore, IsTold, Prints, PrintsNothing, PrintsPart, Says, Tells, Told};
+ghost use Rattle.cli_program.specs.Ends.{CarriesOut, Ends, EndsInPart, PrintsLast, failure_status, last_text};
+ghost use Rattle.cli_session.specs.Whole.{RunBegins};
+ghost use Rattle.cli_program.specs.Tasks.{Comes, IsPart, Runs, WithGenesis, Works, known_files};
 
 use crate::opening::{opened, order_log};
 use crate::public::public;
@@ -52,11 +53,16 @@ pub fn program<R: Threads + Wait + Sync + Send + Copy + 'static, F: Files, W: Wr
     ensures status { result < 3 }
     ensures done { result ≡ 0 → out.new.failed ≡ out.old.failed }
     ensures told { 0 < result → IsTold out.old out.new }
+    ensures lost { out.old.failed ≡ false → out.new.failed ≡ true → result ≡ 1 }
     // What the words ask for is done, where each text could be printed and handed on.
     ensures answers { out.new.failed ≡ false
         → Ends (map string_bytes words.now)
         (known_files F.is_known (F.bytes files.old) (F.bytes files.new)
         (F.input_bytes files.old)) out.old out.new result }
+    // Where one could not be, a beginning of it was printed.
+    ensures begins { EndsInPart (map string_bytes words.now)
+        (known_files F.is_known (F.bytes files.old) (F.bytes files.new)
+        (F.input_bytes files.old)) out.old out.new }
 {
     match carry_out(Machine { rt, alloc }, words, files, out) {
         Ok(()) => done(out),
@@ -85,7 +91,9 @@ fn done<W: Write>(out: &mut Printer<'_, W>) -> u8
     ensures status { result < 2 }
     ensures done { result ≡ 0 → out.new.failed ≡ out.old.failed }
     ensures told { 0 < result → out.new.failed ≡ true }
+    ensures lost { out.old.failed ≡ false → out.new.failed ≡ true → result ≡ 1 }
     ensures ended { out.new.failed ≡ false → (result ≡ 0) × Prints out.old out.new [] }
+    ensures part { PrintsPart out.old out.new [] }
 {
     if hand_on(out) { 0 } else { 1 }
 }
@@ -96,16 +104,40 @@ fn refused<W: Write>(failure: Failure, out: &mut Printer<'_, W>) -> u8
     ensures status { (0 < result) × (result < 3) }
     ensures told { (before : Told) → IsMore before out.old → Says before out.old failure
         → IsTold before out.new }
+    ensures lost { (failure ≡ Failure.Usage → out.old.failed ≡ false)
+        → out.new.failed ≡ true → result ≡ 1 }
     ensures ended { out.new.failed ≡ false
         → (result ≡ failure_status failure) × PrintsLast failure out.old out.new }
+    ensures part { PrintsPart out.old out.new (last_text failure) }
 {
-    let is_told = tell(failure, out).is_ok();
+    let is_told = tell_and_hand_on(failure, out);
+    status_of(failure, is_told)
+}
+
+/// Prints why a task was not done, where that is not printed yet, and hands it on. Whether both
+/// could be done.
+fn tell_and_hand_on<W: Write>(failure: Failure, out: &mut Printer<'_, W>) -> bool
+    ensures told { (before : Told) → IsMore before out.old → Says before out.old failure
+        → IsTold before out.new }
+    ensures line { result ≡ true → PrintsLast failure out.old out.new }
+    ensures lost { result ≡ false → out.new.failed ≡ true }
+    ensures part { PrintsPart out.old out.new (last_text failure) }
+{
+    let told = tell(failure, out);
     let is_handed_on = hand_on(out);
-    if is_told && is_handed_on {
-        failure_status(failure)
-    } else {
-        1
+    match told {
+        Ok(()) => is_handed_on,
+        Err(_) => false,
     }
+}
+
+/// The status of a failure: 1, where it could not be told.
+fn status_of(failure: Failure, is_told: bool) -> u8
+    ensures told { is_told ≡ true → result ≡ failure_status failure }
+    ensures lost { is_told ≡ false → result ≡ 1 }
+    ensures range { (0 < result) × (result < 3) }
+{
+    if is_told { failure_status(failure) } else { 1 }
 }
 
 /// The status of a failure that was told: 2, where the words name no task.
@@ -124,6 +156,8 @@ fn hand_on<W: Write>(out: &mut Printer<'_, W>) -> bool
     ensures more { IsMore out.old out.new }
     ensures kept { result ≡ true → Prints out.old out.new [] }
     ensures lost { result ≡ false → out.new.failed ≡ true }
+    ensures nothing { result ≡ false → PrintsNothing out.old out.new }
+    ensures part { PrintsPart out.old out.new [] }
 {
     match out.flush() {
         Ok(()) => true,
@@ -136,6 +170,7 @@ fn tell<W: Write>(failure: Failure, out: &mut Printer<'_, W>) -> Result<(), Fail
     ensures told { (before : Told) → IsMore before out.old → Says before out.old failure
         → IsTold before out.new }
     ensures line { OnOk result (PrintsLast failure out.old out.new) }
+    ensures nothing { OnErr result (PrintsNothing out.old out.new) }
     ensures lost { OnErr result (out.new.failed ≡ true) }
     ensures more { IsMore out.old out.new }
 {
@@ -154,6 +189,7 @@ fn carry_out<R: Threads + Wait + Sync + Send + Copy + 'static, F: Files, W: Writ
     out: &mut Printer<'_, W>,
 ) -> Result<(), Failure>
     ensures tells { Tells out.old out.new result }
+    ensures usage { result ≡ Err Failure.Usage → out.new.failed ≡ out.old.failed }
     ensures carries { CarriesOut (map string_bytes words.now)
         (known_files F.is_known (F.bytes files.old) (F.bytes files.new)
         (F.input_bytes files.old)) out.old out.new result }
@@ -198,9 +234,9 @@ fn with_genesis<R: Threads + Wait + Sync + Send + Copy + 'static, F: Files, W: W
     out: &mut Printer<'_, W>,
 ) -> Result<(), Failure>
     ensures tells { Tells out.old out.new result }
-    ensures begins { let k = known_files F.is_known (F.bytes files.old) (F.bytes files.new)
+    ensures works { let k = known_files F.is_known (F.bytes files.old) (F.bytes files.new)
         (F.input_bytes files.old) in
-        Begins k begin.now (λ log. Works log work.now k) out.old out.new result }
+        WithGenesis k begin.now (λ log. Works log work.now k) out.old out.new result }
 {
     let log = opened(machine.alloc, files, begin)?;
     let subject = Subject {
@@ -291,6 +327,8 @@ fn run_events<T: Threads + Sync, F: Files, W: Write>(
         (known_files F.is_known (F.bytes files.old) (F.bytes files.new)
         (F.input_bytes files.old)) names.now.events.now
         (option_map (λ s. s.now) names.now.store)) out.old out.new result }
+    ensures begins { Begins (RunBegins genesis.now (F.bytes files.old names.now.events.now))
+        out.old out.new result }
 {
     answer_of(run(workers, alloc, files, genesis, names, out))
 }

@@ -4,8 +4,8 @@ ghost use Rattle.std.specs.Prelude.{◌≡◌, ◌≤◌, [], length, option_map
 ghost use Rattle.json_genesis.specs.Spelling.{Spells, SpellsHolding, SpellsModules};
 ghost use Rattle.cli_lines.specs.Opening.{AreNoModules, IsNoGenesis};
 ghost use Rattle.cli_lines.specs.Sealing.{HasSeeds, IsNoKeyFile};
-ghost use Rattle.cli_lines.specs.Told.{Answers, IsBrokenOff, IsSilent, Tells};
-ghost use Rattle.cli_program.specs.Tasks.{OrdersBy, known_files};
+ghost use Rattle.cli_lines.specs.Told.{Answers, Begins, IsBrokenOff, IsSilent, Tells};
+ghost use Rattle.cli_program.specs.Tasks.{OrdersBy, OrdersByBegin, known_files};
 ghost use Rattle.cli_program.specs.Opening.{NotOpens, Opens, Signs, SpellsNoneWith, SpellsWith};
 
 use chaincode_book::Held;
@@ -205,6 +205,9 @@ pub fn order_log<F: Files, W: Write>(
 ) -> Result<(), Failure>
     ensures tells { Tells out.old out.new result }
     ensures answers { Answers (OrdersBy
+        (known_files F.is_known (F.bytes files.old) (F.bytes files.new)
+        (F.input_bytes files.old)) name.now) out.old out.new result }
+    ensures begins { Begins (OrdersByBegin
         (known_files F.is_known (F.bytes files.old) (F.bytes files.new)
         (F.input_bytes files.old)) name.now) out.old out.new result }
 {

@@ -1,8 +1,8 @@
 //! The command `public`.
 
-ghost use Rattle.std.specs.Prelude.{IfErr, OnOk};
+ghost use Rattle.std.specs.Prelude.{IfErr, OnErr, OnOk};
 ghost use Rattle.std.specs.List.{flat_map};
-ghost use Rattle.cli_lines.specs.Told.{Answers, IsBrokenOff, Prints, Tells};
+ghost use Rattle.cli_lines.specs.Told.{Answers, Begins, IsBrokenOff, IsTextOf, Prints, PrintsPart, Tells};
 ghost use Rattle.cli_program.specs.Keys.{Publishes, public_text};
 
 use cli_lines::{Failure, Files, Printer, keys_in};
@@ -20,6 +20,8 @@ pub fn public<F: Files, W: Write>(
 ) -> Result<(), Failure>
     ensures tells { Tells out.old out.new result }
     ensures answers { Answers (Publishes (F.bytes files.old name.now)) out.old out.new result }
+    ensures begins { Begins (IsTextOf (Publishes (F.bytes files.old name.now))) out.old out.new
+        result }
 {
     let keys = keys_in(alloc, files, name)?;
     print_keys(alloc, &keys, out)
@@ -34,6 +36,7 @@ fn print_keys<W: Write>(
     ensures tells { Tells out.old out.new result }
     ensures lost { IfErr result IsBrokenOff }
     ensures prints { OnOk result (Prints out.old out.new (flat_map public_text keys.now)) }
+    ensures part { OnErr result (PrintsPart out.old out.new (flat_map public_text keys.now)) }
 {
     for key in keys {
         let public = hex::encode(alloc, key.public_key())?;

@@ -1,8 +1,8 @@
 //! The command `threads`.
 
-ghost use Rattle.std.specs.Prelude.{◌≡◌, ◌<◌, false, IfErr, IfOk, OnOk};
+ghost use Rattle.std.specs.Prelude.{◌≡◌, ◌<◌, false, IfErr, IfOk, OnErr, OnOk};
 ghost use Rattle.cli_lines.specs.Lines.{does_agree};
-ghost use Rattle.cli_lines.specs.Told.{Answers, IsBrokenOff, Prints, Tells};
+ghost use Rattle.cli_lines.specs.Told.{Answers, Begins, IsBrokenOff, IsTextOf, Prints, PrintsNothing, PrintsPart, Tells};
 ghost use Rattle.cli_program.specs.Seats.{RunsSeats, TellsReport, missing_text, report_text};
 
 use crate::verdict::answer_of;
@@ -31,6 +31,8 @@ pub fn threads<R: Threads + Wait + Sync + Send + Copy + 'static, F: Files, W: Wr
 ) -> Result<(), Failure>
     ensures tells { Tells out.old out.new result }
     ensures answers { Answers (RunsSeats genesis.now chaincode.now rounds) out.old out.new result }
+    ensures begins { Begins (IsTextOf (RunsSeats genesis.now chaincode.now rounds)) out.old out.new
+        result }
 {
     need_secrets(alloc, files, genesis, &genesis.peers[..1])?;
     match run_seats(rt, alloc, genesis, chaincode, rounds) {
@@ -45,6 +47,7 @@ pub fn threads<R: Threads + Wait + Sync + Send + Copy + 'static, F: Files, W: Wr
 fn print_report<W: Write>(report: Report, out: &mut Printer<'_, W>) -> Result<(), Failure>
     ensures tells { Tells out.old out.new result }
     ensures answers { Answers (TellsReport report) out.old out.new result }
+    ensures begins { Begins (IsTextOf (TellsReport report)) out.old out.new result }
 {
     answer_of(print_seats(report, out))
 }
@@ -56,6 +59,7 @@ fn print_seats<W: Write>(report: Report, out: &mut Printer<'_, W>) -> Result<boo
     ensures good { IfOk result (λ good. good ≡ does_agree report.audit) }
     ensures differs { IfOk result (λ good. good ≡ false → out.old.printed < out.new.printed) }
     ensures prints { OnOk result (Prints out.old out.new (report_text report)) }
+    ensures part { OnErr result (PrintsPart out.old out.new (report_text report)) }
 {
     writeln!(out, "endorsed {}", report.endorsed)?;
     writeln!(out, "refused {}", report.refused)?;
@@ -69,6 +73,7 @@ fn print_missing<W: Write>(missing: u64, out: &mut Printer<'_, W>) -> Result<(),
     ensures tells { Tells out.old out.new result }
     ensures lost { IfErr result IsBrokenOff }
     ensures prints { OnOk result (Prints out.old out.new (missing_text missing)) }
+    ensures nothing { OnErr result (PrintsNothing out.old out.new) }
 {
     if missing == 0 {
         return Ok(());

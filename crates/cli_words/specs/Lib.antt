@@ -1,1 +1,4 @@
 pub mod Commands
+pub mod Table
+pub mod UsageText
+pub mod Words

@@ -13,9 +13,10 @@ pub fn words_reason(alloc: Global, words: &[String]) -> Result<String, AllocErro
     let [command, words @ ..] = words else {
         return format!(in alloc; "a command is needed, in UTF-8: {Commands} (usage)");
     };
-    for form in &COMMANDS {
+    for row in &COMMANDS {
+        let form = Form::of(row);
         if form.name == command.as_str() {
-            return reason_of(alloc, form, words);
+            return reason_of(alloc, &form, words);
         }
     }
     unknown_command(alloc, command)
@@ -24,8 +25,8 @@ pub fn words_reason(alloc: Global, words: &[String]) -> Result<String, AllocErro
 /// Why a word is no command.
 fn unknown_command(alloc: Global, word: &str) -> Result<String, AllocError> {
     let mut names = Vec::new(alloc);
-    for form in &COMMANDS {
-        names.push(form.name)?;
+    for (name, _, _, _) in &COMMANDS {
+        names.push(*name)?;
     }
     match nearest(alloc, word, &names)? {
         Some(name) => format!(in alloc;
@@ -206,8 +207,8 @@ struct Commands;
 impl Display for Commands {
     fn fmt<W: Write>(&self, f: &mut Formatter<W>) -> fmt::Result {
         let mut lead = "";
-        for form in &COMMANDS {
-            write!(f, "{lead}{}", form.name)?;
+        for (name, _, _, _) in &COMMANDS {
+            write!(f, "{lead}{name}")?;
             lead = ", ";
         }
         Ok(())

@@ -3,7 +3,11 @@
 //! `./ledger` reads the rows too, for a program that is not built yet: their fields stand in this
 //! order, each text between quotes.
 
+ghost use Rattle.std.specs.Prelude.{◌≡◌};
+ghost use Rattle.cli_words.specs.Table.{row_of, row_of_tuple};
+
 /// A command.
+#[derive(Clone, Copy)]
 pub(crate) struct Form {
     pub(crate) name: &'static str,
     /// The names of its words, all of which have to be there.
@@ -14,9 +18,38 @@ pub(crate) struct Form {
     pub(crate) does: &'static str,
 }
 
+/// A row of the table: the fields of a `Form`. Definitions can name a table of tuples alone.
+pub(crate) type Row = (
+    &'static str,
+    &'static [&'static str],
+    &'static [(&'static str, &'static str)],
+    &'static str,
+);
+
+impl Form {
+    /// The command of a row.
+    pub(crate) fn of(row: &Row) -> Form
+        ensures { row_of result ≡ row_of_tuple row.now }
+    {
+        let (name, words, options, does) = *row;
+        Form {
+            name,
+            words,
+            options,
+            does,
+        }
+    }
+}
+
+macro_rules! row {
+    (name: $name:expr, words: $words:expr, options: $options:expr, does: $does:expr,) => {
+        ($name, $words, $options, $does)
+    };
+}
+
 /// All commands.
-pub(crate) const COMMANDS: [Form; 16] = [
-    Form {
+pub(crate) const COMMANDS: [Row; 16] = [
+    row! {
         name: "check",
         words: &["MODULE"],
         options: &[("profile", "N")],
@@ -24,7 +57,7 @@ pub(crate) const COMMANDS: [Form; 16] = [
 tells whether the file MODULE is a valid module of profile N: 1, the default, or 2, which
 has the sign-extension operators too",
     },
-    Form {
+    row! {
         name: "digest",
         words: &["MODULE"],
         options: &[("profile", "N")],
@@ -32,7 +65,7 @@ has the sign-extension operators too",
 prints the digest of the file MODULE, by which an upgrade names it, where check finds it
 valid",
     },
-    Form {
+    row! {
         name: "sim",
         words: &["GENESIS", "CHAINCODE", "ARG"],
         options: &[("nonce", "HEX"), ("store", "FILE"), ("modules", "FILE")],
@@ -42,7 +75,7 @@ state, or on that after the store FILE; the nonce is 16 bytes of hex, zeros by d
 here and below, modules of open definitions are looked for in the genesis and in the
 modules file of --modules",
     },
-    Form {
+    row! {
         name: "run",
         words: &["GENESIS", "EVENTS"],
         options: &[("store", "FILE"), ("modules", "FILE"), ("keys", "FILE")],
@@ -51,7 +84,7 @@ runs the events of the file EVENTS, one JSON object a line, on the system that t
 file GENESIS opens, and writes the chain of its first peer to the store FILE; peers
 of public keys endorse by the seeds of the key file",
     },
-    Form {
+    row! {
         name: "threads",
         words: &["GENESIS", "CHAINCODE", "ROUNDS"],
         options: &[("modules", "FILE"), ("keys", "FILE")],
@@ -59,14 +92,14 @@ of public keys endorse by the seeds of the key file",
 lets each seat of the first peer endorse ROUNDS calls (1 to 1000) of CHAINCODE on a thread
 of its own while their blocks are committed, and audits the chain",
     },
-    Form {
+    row! {
         name: "audit",
         words: &["GENESIS", "STORE"],
         options: &[("modules", "FILE")],
         does: "\
 commits the file STORE again, and runs its VALID transactions again",
     },
-    Form {
+    row! {
         name: "show",
         words: &["GENESIS", "STORE"],
         options: &[("from", "N"), ("to", "N"), ("modules", "FILE")],
@@ -74,7 +107,7 @@ commits the file STORE again, and runs its VALID transactions again",
 shows what the genesis sets, the blocks of the file STORE from one number to another (all
 by default), and what audit says of it, one JSON object a line",
     },
-    Form {
+    row! {
         name: "state",
         words: &["GENESIS", "STORE"],
         options: &[("at", "N"), ("key", "HEX"), ("members", "")],
@@ -82,7 +115,7 @@ by default), and what audit says of it, one JSON object a line",
 shows each key of the state after the block of number N (the last one by default), each
 write to the key HEX up to it, or who the members are there, one JSON object a line",
     },
-    Form {
+    row! {
         name: "trace",
         words: &["GENESIS", "CHAINCODE", "ARG"],
         options: &[("steps", "N")],
@@ -90,7 +123,7 @@ write to the key HEX up to it, or who the members are there, one JSON object a l
 shows the first N steps (1 to 1000, 1000 by default) of a call on the empty state, each
 with the fuel that it leaves, and how the call ends",
     },
-    Form {
+    row! {
         name: "order",
         words: &["GENESIS"],
         options: &[],
@@ -98,14 +131,14 @@ with the fuel that it leaves, and how the call ends",
 cuts blocks from a log: its lines come in, each an index and a mark (an envelope in hex, or
 tick), and the blocks go out",
     },
-    Form {
+    row! {
         name: "commit",
         words: &["GENESIS", "STORE"],
         options: &[],
         does: "\
 commits blocks, which come in line by line as order prints them, to the file STORE",
     },
-    Form {
+    row! {
         name: "endorse",
         words: &["GENESIS", "ORG", "STORE"],
         options: &[("modules", "FILE"), ("keys", "FILE"), ("agree", "")],
@@ -114,7 +147,7 @@ endorses proposals, which come in line by line as JSON objects, for the organisa
 on the state after the file STORE, which it reads as it grows; one of a public key signs
 by its seed in the key file; amendments are endorsed too where --agree is said",
     },
-    Form {
+    row! {
         name: "query",
         words: &["GENESIS", "STORE"],
         options: &[("modules", "FILE")],
@@ -122,7 +155,7 @@ by its seed in the key file; amendments are endorsed too where --agree is said",
 answers questions, which come in line by line as JSON objects, about the chain of the file
 STORE and the state after it, and reads on as the file grows",
     },
-    Form {
+    row! {
         name: "marks",
         words: &["GENESIS", "STORE"],
         options: &[],
@@ -130,14 +163,14 @@ STORE and the state after it, and reads on as the file grows",
 prints the marks by which order cuts the blocks of the file STORE from nothing: each
 envelope in hex, and tick behind each block",
     },
-    Form {
+    row! {
         name: "public",
         words: &["KEYS"],
         options: &[],
         does: "\
 prints the public key of each line of the key file KEYS, in hex",
     },
-    Form {
+    row! {
         name: "version",
         words: &[],
         options: &[],

@@ -1,7 +1,8 @@
 //! What the words ask for.
 
-ghost use Rattle.std.specs.Prelude.{◌≡◌, IfOk, codes, map, string_bytes};
-ghost use Rattle.cli_words.specs.Commands.{IsCommandOf, command_name, work_name};
+ghost use Rattle.std.specs.Prelude.{◌≡◌, None, codes, map, replicate, string_bytes, IfErr};
+ghost use Rattle.clap.specs.Walk.{first_of};
+ghost use Rattle.cli_words.specs.Words.{Has, IsCallBy, IsChaincodeBy, IsOrgBy, IsPartBy, IsProfileBy, IsTaskAs, IsTaskOf, IsWorkAs, IsWorkTask, MayHave, OrElse, Reads, SpellsArgument, SpellsBlock, SpellsCount, SpellsKey, SpellsNonce, SpellsProfile, is_given, rows_in, text_of};
 
 use crate::commands::commands;
 use clap::ArgMatches;
@@ -136,12 +137,22 @@ pub enum WordsFault {
 }
 
 impl From<AllocError> for WordsFault {
+    ghost use Rattle.cli_words.specs.declared.task.WordsFault.TheVariants.{Memory};
+
+    ghost from_gives = { λ _ fault. fault ≡ Memory };
+
     fn from(_error: AllocError) -> WordsFault {
         WordsFault::Memory
     }
 }
 
 impl From<FromHexError> for WordsFault {
+    ghost use Rattle.std.specs.Prelude.{◌≢◌};
+    ghost use Rattle.hex.specs.declared.error.FromHexError.TheVariants.{OutOfMemory};
+    ghost use Rattle.cli_words.specs.declared.task.WordsFault.TheVariants.{Usage};
+
+    ghost from_gives = { λ error fault. fault ≡ Usage → error ≢ OutOfMemory };
+
     fn from(error: FromHexError) -> WordsFault {
         match error {
             FromHexError::OutOfMemory => WordsFault::Memory,
@@ -151,6 +162,13 @@ impl From<FromHexError> for WordsFault {
 }
 
 impl From<clap::Error> for WordsFault {
+    ghost use Rattle.std.specs.Prelude.{◌≢◌};
+    ghost use Rattle.clap.specs.Values.{kind_of};
+    ghost use Rattle.clap.specs.declared.error.kind.ErrorKind.TheVariants.{OutOfMemory};
+    ghost use Rattle.cli_words.specs.declared.task.WordsFault.TheVariants.{Usage};
+
+    ghost from_gives = { λ error fault. fault ≡ Usage → kind_of error ≢ OutOfMemory };
+
     fn from(error: clap::Error) -> WordsFault {
         if error.kind() == ErrorKind::OutOfMemory {
             WordsFault::Memory
@@ -165,12 +183,13 @@ impl From<clap::Error> for WordsFault {
 /// Usage where they are no command, or a word is missing, left over, or no hex, count, name, key,
 /// number of a block or profile within its limits.
 pub fn parse<'a>(alloc: Global, words: &'a [String]) -> Result<Task<'a>, WordsFault>
-    ensures { IfOk result (IsCommandOf (map string_bytes words.now)) }
+    ensures { Reads (IsTaskOf (map string_bytes words.now)) result }
 {
     let Some(name) = words.first() else {
         return Err(WordsFault::Usage);
     };
-    let matches = commands(alloc)?.try_get_matches_from(words)?;
+    let ledger = commands(alloc)?;
+    let matches = ledger.try_get_matches_from(words)?;
     match matches.subcommand() {
         Some((_, command)) => task_of(alloc, name, command),
         None => Err(WordsFault::Usage),
@@ -179,7 +198,7 @@ pub fn parse<'a>(alloc: Global, words: &'a [String]) -> Result<Task<'a>, WordsFa
 
 /// What a command of this name asks for, by what was matched behind the name.
 fn task_of<'a>(alloc: Global, name: &str, command: &ArgMatches<'a>) -> Result<Task<'a>, WordsFault>
-    ensures { IfOk result (λ task. command_name task ≡ name.now) }
+    ensures { Reads (IsTaskAs name.now (rows_in command.now)) result }
 {
     match name {
         "check" => check(command),
@@ -192,7 +211,7 @@ fn task_of<'a>(alloc: Global, name: &str, command: &ArgMatches<'a>) -> Result<Ta
 }
 
 fn check<'a>(command: &ArgMatches<'a>) -> Result<Task<'a>, WordsFault>
-    ensures { IfOk result (λ task. command_name task ≡ codes "check") }
+    ensures { Reads (IsTaskAs (codes "check") (rows_in command.now)) result }
 {
     let module = text(command, "MODULE")?;
     let profile = profile_of(command)?;
@@ -200,7 +219,7 @@ fn check<'a>(command: &ArgMatches<'a>) -> Result<Task<'a>, WordsFault>
 }
 
 fn digest<'a>(command: &ArgMatches<'a>) -> Result<Task<'a>, WordsFault>
-    ensures { IfOk result (λ task. command_name task ≡ codes "digest") }
+    ensures { Reads (IsTaskAs (codes "digest") (rows_in command.now)) result }
 {
     let module = text(command, "MODULE")?;
     let profile = profile_of(command)?;
@@ -208,14 +227,14 @@ fn digest<'a>(command: &ArgMatches<'a>) -> Result<Task<'a>, WordsFault>
 }
 
 fn order<'a>(command: &ArgMatches<'a>) -> Result<Task<'a>, WordsFault>
-    ensures { IfOk result (λ task. command_name task ≡ codes "order") }
+    ensures { Reads (IsTaskAs (codes "order") (rows_in command.now)) result }
 {
     let genesis = text(command, "GENESIS")?;
     Ok(Task::Order { genesis })
 }
 
 fn public<'a>(command: &ArgMatches<'a>) -> Result<Task<'a>, WordsFault>
-    ensures { IfOk result (λ task. command_name task ≡ codes "public") }
+    ensures { Reads (IsTaskAs (codes "public") (rows_in command.now)) result }
 {
     let keys = text(command, "KEYS")?;
     Ok(Task::Public { keys })
@@ -228,12 +247,12 @@ fn of_genesis<'a>(
     name: &str,
     command: &ArgMatches<'a>,
 ) -> Result<Task<'a>, WordsFault>
-    ensures { IfOk result (λ task. command_name task ≡ name.now) }
+    ensures { Reads (IsWorkTask name.now (rows_in command.now)) result }
 {
     let begin = Beginning {
         genesis: text(command, "GENESIS")?,
-        modules: command.get_str("modules"),
-        keys: command.get_str("keys"),
+        modules: option(command, "modules"),
+        keys: option(command, "keys"),
     };
     let work = work_of(alloc, name, command)?;
     Ok(Task::Work { begin, work })
@@ -241,7 +260,7 @@ fn of_genesis<'a>(
 
 /// What a command of this name asks for.
 fn work_of<'a>(alloc: Global, name: &str, command: &ArgMatches<'a>) -> Result<Work<'a>, WordsFault>
-    ensures { IfOk result (λ work. work_name work ≡ name.now) }
+    ensures { Reads (IsWorkAs name.now (rows_in command.now)) result }
 {
     match name {
         "sim" => simulate(alloc, command),
@@ -251,31 +270,34 @@ fn work_of<'a>(alloc: Global, name: &str, command: &ArgMatches<'a>) -> Result<Wo
         "show" => show(command),
         "state" => state(alloc, command),
         "trace" => trace(alloc, command),
+        "commit" => commit(command),
+        "endorse" => endorse(command),
+        "query" => query(command),
         "marks" => marks(command),
-        _ => role_of(name, command),
+        _ => Err(WordsFault::Usage),
     }
 }
 
 fn simulate<'a>(alloc: Global, command: &ArgMatches<'a>) -> Result<Work<'a>, WordsFault>
-    ensures { IfOk result (λ work. work_name work ≡ codes "sim") }
+    ensures { Reads (IsWorkAs (codes "sim") (rows_in command.now)) result }
 {
     Ok(Work::Simulate {
-        proposal: Proposal::Call(call(alloc, command, command.get_str("nonce"))?),
-        store: command.get_str("store"),
+        proposal: Proposal::Call(call(alloc, command, option(command, "nonce"))?),
+        store: option(command, "store"),
     })
 }
 
 fn run<'a>(command: &ArgMatches<'a>) -> Result<Work<'a>, WordsFault>
-    ensures { IfOk result (λ work. work_name work ≡ codes "run") }
+    ensures { Reads (IsWorkAs (codes "run") (rows_in command.now)) result }
 {
     Ok(Work::Run {
         events: text(command, "EVENTS")?,
-        store: command.get_str("store"),
+        store: option(command, "store"),
     })
 }
 
 fn threads<'a>(command: &ArgMatches<'a>) -> Result<Work<'a>, WordsFault>
-    ensures { IfOk result (λ work. work_name work ≡ codes "threads") }
+    ensures { Reads (IsWorkAs (codes "threads") (rows_in command.now)) result }
 {
     Ok(Work::Threads {
         rounds: count(text(command, "ROUNDS")?)?,
@@ -284,7 +306,7 @@ fn threads<'a>(command: &ArgMatches<'a>) -> Result<Work<'a>, WordsFault>
 }
 
 fn audit<'a>(command: &ArgMatches<'a>) -> Result<Work<'a>, WordsFault>
-    ensures { IfOk result (λ work. work_name work ≡ codes "audit") }
+    ensures { Reads (IsWorkAs (codes "audit") (rows_in command.now)) result }
 {
     Ok(Work::Audit {
         store: text(command, "STORE")?,
@@ -292,69 +314,94 @@ fn audit<'a>(command: &ArgMatches<'a>) -> Result<Work<'a>, WordsFault>
 }
 
 fn show<'a>(command: &ArgMatches<'a>) -> Result<Work<'a>, WordsFault>
-    ensures { IfOk result (λ work. work_name work ≡ codes "show") }
+    ensures { Reads (IsWorkAs (codes "show") (rows_in command.now)) result }
 {
     Ok(Work::Show {
         store: text(command, "STORE")?,
-        from: command.get_str("from").map_or(Ok(1), block)?,
-        to: command.get_str("to").map_or(Ok(LAST_BLOCK), block)?,
+        from: block_under(command, "from", 1)?,
+        to: block_under(command, "to", LAST_BLOCK)?,
     })
 }
 
 fn state<'a>(alloc: Global, command: &ArgMatches<'a>) -> Result<Work<'a>, WordsFault>
-    ensures { IfOk result (λ work. work_name work ≡ codes "state") }
+    ensures { Reads (IsWorkAs (codes "state") (rows_in command.now)) result }
 {
     Ok(Work::State {
         store: text(command, "STORE")?,
-        at: command.get_str("at").map_or(Ok(LAST_BLOCK), block)?,
+        at: block_under(command, "at", LAST_BLOCK)?,
         part: state_part(alloc, command)?,
     })
 }
 
 fn trace<'a>(alloc: Global, command: &ArgMatches<'a>) -> Result<Work<'a>, WordsFault>
-    ensures { IfOk result (λ work. work_name work ≡ codes "trace") }
+    ensures { Reads (IsWorkAs (codes "trace") (rows_in command.now)) result }
 {
     Ok(Work::Trace {
-        most: command.get_str("steps").map_or(Ok(MOST_COUNT), count)?,
+        most: steps(command)?,
         call: call(alloc, command, None)?,
     })
 }
 
 fn marks<'a>(command: &ArgMatches<'a>) -> Result<Work<'a>, WordsFault>
-    ensures { IfOk result (λ work. work_name work ≡ codes "marks") }
+    ensures { Reads (IsWorkAs (codes "marks") (rows_in command.now)) result }
 {
     Ok(Work::Marks {
         store: text(command, "STORE")?,
     })
 }
 
-/// What a command of this name asks for that works on lines as they come.
-fn role_of<'a>(name: &str, command: &ArgMatches<'a>) -> Result<Work<'a>, WordsFault>
-    ensures { IfOk result (λ work. work_name work ≡ name.now) }
+fn commit<'a>(command: &ArgMatches<'a>) -> Result<Work<'a>, WordsFault>
+    ensures { Reads (IsWorkAs (codes "commit") (rows_in command.now)) result }
 {
-    match name {
-        "commit" => Ok(Work::Commit {
-            store: text(command, "STORE")?,
-        }),
-        "endorse" => Ok(Work::Endorse {
-            org: organisation(command)?,
-            store: text(command, "STORE")?,
-            agrees: command.get_flag("agree"),
-        }),
-        "query" => Ok(Work::Query {
-            store: text(command, "STORE")?,
-        }),
-        _ => Err(WordsFault::Usage),
-    }
+    Ok(Work::Commit {
+        store: text(command, "STORE")?,
+    })
+}
+
+fn endorse<'a>(command: &ArgMatches<'a>) -> Result<Work<'a>, WordsFault>
+    ensures { Reads (IsWorkAs (codes "endorse") (rows_in command.now)) result }
+{
+    Ok(Work::Endorse {
+        org: organisation(command)?,
+        store: text(command, "STORE")?,
+        agrees: flag(command, "agree"),
+    })
+}
+
+fn query<'a>(command: &ArgMatches<'a>) -> Result<Work<'a>, WordsFault>
+    ensures { Reads (IsWorkAs (codes "query") (rows_in command.now)) result }
+{
+    Ok(Work::Query {
+        store: text(command, "STORE")?,
+    })
 }
 
 /// The text of a word that has to be there.
-fn text<'a>(matches: &ArgMatches<'a>, name: &str) -> Result<&'a str, WordsFault> {
-    matches.get_str(name).ok_or(WordsFault::Usage)
+fn text<'a>(command: &ArgMatches<'a>, name: &str) -> Result<&'a str, WordsFault>
+    ensures reads { Reads (λ text. Has (rows_in command.now) name.now text.now) result }
+    ensures missing { IfErr result (λ _. first_of name.now (rows_in command.now) ≡ None) }
+{
+    option(command, name).ok_or(WordsFault::Usage)
+}
+
+/// The text of an option, or of a word, if it is there.
+fn option<'a>(command: &ArgMatches<'a>, name: &str) -> Option<&'a str>
+    ensures { MayHave (rows_in command.now) name.now result }
+{
+    command.get_str(name)
+}
+
+/// Whether an option without a value is there.
+fn flag(command: &ArgMatches<'_>, name: &str) -> bool
+    ensures { result ≡ is_given (rows_in command.now) name.now }
+{
+    command.get_one(name).unwrap_or(false)
 }
 
 /// The number that digits stand for, from 1 to 1000.
-pub(crate) fn count(digits: &str) -> Result<u32, WordsFault> {
+pub(crate) fn count(digits: &str) -> Result<u32, WordsFault>
+    ensures { Reads (SpellsCount digits.now) result }
+{
     match digits.parse::<u32>() {
         Ok(count) if (1..=MOST_COUNT).contains(&count) => Ok(count),
         _ => Err(WordsFault::Usage),
@@ -362,16 +409,41 @@ pub(crate) fn count(digits: &str) -> Result<u32, WordsFault> {
 }
 
 /// The number of a block that digits stand for, from 0 to 65,535.
-pub(crate) fn block(digits: &str) -> Result<u32, WordsFault> {
+pub(crate) fn block(digits: &str) -> Result<u32, WordsFault>
+    ensures { Reads (SpellsBlock digits.now) result }
+{
     match digits.parse::<u32>() {
         Ok(number) if number <= LAST_BLOCK => Ok(number),
         _ => Err(WordsFault::Usage),
     }
 }
 
+/// The number of a block under the name of an option, or else this other one.
+fn block_under(command: &ArgMatches<'_>, name: &str, other: u32) -> Result<u32, WordsFault>
+    ensures { Reads (OrElse SpellsBlock other (first_of name.now (rows_in command.now))) result }
+{
+    match option(command, name) {
+        Some(digits) => block(digits),
+        None => Ok(other),
+    }
+}
+
+/// How many steps `trace` shows at most: all that it may, where the words say no number.
+fn steps(command: &ArgMatches<'_>) -> Result<u32, WordsFault>
+    ensures { Reads (OrElse SpellsCount 1000 (first_of (codes "steps") (rows_in command.now)))
+        result }
+{
+    match option(command, "steps") {
+        Some(digits) => count(digits),
+        None => Ok(MOST_COUNT),
+    }
+}
+
 /// What of a state the words ask for: of a key and the members one at most.
-fn state_part(alloc: Global, command: &ArgMatches<'_>) -> Result<StatePart, WordsFault> {
-    match (command.get_str("key"), command.get_flag("members")) {
+fn state_part(alloc: Global, command: &ArgMatches<'_>) -> Result<StatePart, WordsFault>
+    ensures { Reads (IsPartBy (rows_in command.now)) result }
+{
+    match (option(command, "key"), flag(command, "members")) {
         (None, false) => Ok(StatePart::Entries),
         (Some(digits), false) => Ok(StatePart::Writes(key(alloc, digits)?)),
         (None, true) => Ok(StatePart::Members),
@@ -380,17 +452,26 @@ fn state_part(alloc: Global, command: &ArgMatches<'_>) -> Result<StatePart, Word
 }
 
 /// The key that hex stands for.
-pub(crate) fn key(alloc: Global, digits: &str) -> Result<Key, WordsFault> {
+pub(crate) fn key(alloc: Global, digits: &str) -> Result<Key, WordsFault>
+    ensures { Reads (SpellsKey digits.now) result }
+{
     Key::new(hex::decode(alloc, digits)?).ok_or(WordsFault::Usage)
 }
 
 /// The profile by whose number the words ask for a module. It is 1 where they name none.
-fn profile_of(command: &ArgMatches<'_>) -> Result<Profile, WordsFault> {
-    profile(command.get_str("profile").unwrap_or("1"))
+fn profile_of(command: &ArgMatches<'_>) -> Result<Profile, WordsFault>
+    ensures { Reads (IsProfileBy (rows_in command.now)) result }
+{
+    match option(command, "profile") {
+        Some(digits) => profile(digits),
+        None => Ok(Profile::Core1),
+    }
 }
 
 /// The profile of a number, `1` or `2`.
-pub(crate) fn profile(digits: &str) -> Result<Profile, WordsFault> {
+pub(crate) fn profile(digits: &str) -> Result<Profile, WordsFault>
+    ensures { Reads (SpellsProfile digits.now) result }
+{
     match digits {
         "1" => Ok(Profile::Core1),
         "2" => Ok(Profile::SignExtension),
@@ -399,19 +480,25 @@ pub(crate) fn profile(digits: &str) -> Result<Profile, WordsFault> {
 }
 
 /// The chaincode that the words name.
-fn chaincode(call: &ArgMatches<'_>) -> Result<Name, WordsFault> {
-    let name = text(call, "CHAINCODE")?;
+fn chaincode(command: &ArgMatches<'_>) -> Result<Name, WordsFault>
+    ensures { Reads (IsChaincodeBy (rows_in command.now)) result }
+{
+    let name = text(command, "CHAINCODE")?;
     Name::from_slice(name.as_bytes()).ok_or(WordsFault::Usage)
 }
 
 /// The organisation that the words name.
-fn organisation(command: &ArgMatches<'_>) -> Result<OrgName, WordsFault> {
+fn organisation(command: &ArgMatches<'_>) -> Result<OrgName, WordsFault>
+    ensures { Reads (IsOrgBy (rows_in command.now)) result }
+{
     let name = text(command, "ORG")?;
     OrgName::from_slice(name.as_bytes()).ok_or(WordsFault::Usage)
 }
 
 /// The bytes that hex stands for; none for `-`.
-pub(crate) fn argument(alloc: Global, digits: &str) -> Result<Value, WordsFault> {
+pub(crate) fn argument(alloc: Global, digits: &str) -> Result<Value, WordsFault>
+    ensures { Reads (SpellsArgument digits.now) result }
+{
     let bytes = match digits {
         "-" => Vec::new(alloc),
         digits => hex::decode(alloc, digits)?,
@@ -420,13 +507,28 @@ pub(crate) fn argument(alloc: Global, digits: &str) -> Result<Value, WordsFault>
 }
 
 /// The nonce that hex stands for.
-pub(crate) fn nonce_of(digits: &str) -> Result<[u8; 16], WordsFault> {
+pub(crate) fn nonce_of(digits: &str) -> Result<[u8; 16], WordsFault>
+    ensures { Reads (SpellsNonce digits.now) result }
+{
     Ok(<[u8; 16]>::from_hex(digits)?)
 }
 
+/// The nonce that hex stands for, if there is any, and else zeros.
+fn nonce_or_zeros(digits: Option<&str>) -> Result<[u8; 16], WordsFault>
+    ensures { Reads (OrElse SpellsNonce (replicate 16 0) (text_of digits.entry)) result }
+{
+    match digits {
+        Some(digits) => nonce_of(digits),
+        None => Ok([0; 16]),
+    }
+}
+
 /// The call that words stand for, with this nonce, or with zeros.
-fn call(alloc: Global, command: &ArgMatches<'_>, nonce: Option<&str>) -> Result<Call, WordsFault> {
-    let nonce = nonce.map_or(Ok([0; 16]), nonce_of)?;
+fn call(alloc: Global, command: &ArgMatches<'_>, nonce: Option<&str>) -> Result<Call, WordsFault>
+    ensures { Reads (IsCallBy (rows_in command.now) (text_of nonce.entry))
+        result }
+{
+    let nonce = nonce_or_zeros(nonce)?;
     let argument = argument(alloc, text(command, "ARG")?)?;
     let chaincode = chaincode(command)?;
     Ok(Call {

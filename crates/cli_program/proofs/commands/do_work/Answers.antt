@@ -9,4 +9,18 @@ returns-in-State-clause-works g c =
     let input = g.F.Files.input_bytes c.args.files.now in
     let k = known_files g.F.Files.is_known (g.F.Files.bytes c.args.files.now) (g.F.Files.bytes r.new.files) input in
     subst (λ (w : Work). Works c.args.subject.log.now w k c.args.out.now r.new.out r.result) (sym c.in-State.is)
-    (c.part_of.result, c.part_of.ensures, r.ensures.answers)
+    (c.part_of.result, c.part_of.ensures, (r.ensures.answers, r.ensures.begins))
+
+pub returns-in-Threads-clause-works : goal.returns-in-Threads-clause-works
+returns-in-Threads-clause-works g c =
+    let r = c.threads in
+    let input = g.F.Files.input_bytes c.args.files.now in
+    let k = known_files g.F.Files.is_known (g.F.Files.bytes c.args.files.now) (g.F.Files.bytes r.new.files) input in
+    subst (λ (w : Work). Works c.args.subject.log.now w k c.args.out.now r.new.out r.result) (sym c.in-Threads.is) (r.ensures.answers, r.ensures.begins)
+
+pub returns-in-Endorse-clause-works : goal.returns-in-Endorse-clause-works
+returns-in-Endorse-clause-works g c =
+    let r = c.endorse in
+    let input = g.F.Files.input_bytes c.args.files.now in
+    let k = known_files g.F.Files.is_known (g.F.Files.bytes c.args.files.now) (g.F.Files.bytes r.new.files) input in
+    subst (λ (w : Work). Works c.args.subject.log.now w k c.args.out.now r.new.out r.result) (sym c.in-Endorse.is) (r.ensures.answers, r.ensures.begins)

@@ -1,7 +1,12 @@
-use Rattle.cli_program.proofs.Telling.{still_told}
+use Rattle.cli_program.proofs.Usage.{ended_by, lost_by}
 use Rattle.cli_program.proofs.commands.refused.Goals as goal
 
-pub returns-else-is_told-clause-told : goal.returns-else-is_told-clause-told
-returns-else-is_told-clause-told g c =
-    λ before more says. still_told before c.tell.new.out c.hand_on-is_handed_on.new.out (c.tell.ensures.told before more says)
-    c.hand_on-is_handed_on.ensures.more
+pub returns-clause-lost : goal.returns-clause-lost
+returns-clause-lost g c =
+    let told = c.tell_and_hand_on-is_told in
+    lost_by c.args.failure c.args.out.now told.new.out told.result c.status_of.result c.status_of.ensures.told c.status_of.ensures.lost told.ensures.line
+
+pub returns-clause-ended : goal.returns-clause-ended
+returns-clause-ended g c =
+    let told = c.tell_and_hand_on-is_told in
+    ended_by c.args.failure c.args.out.now told.new.out told.result c.status_of.result c.status_of.ensures.told told.ensures.lost told.ensures.line

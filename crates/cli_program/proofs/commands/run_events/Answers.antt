@@ -1,11 +1,11 @@
 use Rattle.std.proofs.Common.{List, ℕ, Option, Result, refl, subst, sym}
 use Rattle.std.specs.Prelude.{option_map}
-use Rattle.cli_lines.specs.Told.{Answers, Tells}
+use Rattle.cli_lines.specs.Told.{Answers, Begins, Tells}
 use Rattle.cli_lines.specs.declared.failure.Failure.{Failure}
 use Rattle.cli_session.specs.Stored.{HoldsAsked}
-use Rattle.cli_session.specs.Whole.{ComesTo}
+use Rattle.cli_session.specs.Whole.{ComesTo, RunBegins}
 use Rattle.cli_program.specs.Tasks.{Runs, known_files}
-use Rattle.cli_program.proofs.Verdicts.{verdict_tells, verdict_told}
+use Rattle.cli_program.proofs.Verdicts.{verdict_begins, verdict_tells, verdict_told}
 use Rattle.cli_program.proofs.commands.run_events.Goals as goal
 
 pub returns-clause-tells : goal.returns-clause-tells
@@ -27,3 +27,10 @@ returns-clause-answers g c =
     let Q = Runs genesis (known_files known before after (g.F.Files.input_bytes c.args.files.now)) names.events.now store in
     subst (λ (a : Result (Unit {0}) Failure). Answers Q c.args.out.now r.new.out a) (sym c.answer_of.ensures)
     (verdict_told P Q c.args.out.now r.new.out r.result (λ text h. (r.result, refl, h)) r.ensures.answers)
+
+pub returns-clause-begins : goal.returns-clause-begins
+returns-clause-begins g c =
+    let r = c.run in
+    let Whole = RunBegins c.args.genesis.now (g.F.Files.bytes c.args.files.now c.args.names.now.events.now) in
+    subst (λ (a : Result (Unit {0}) Failure). Begins Whole c.args.out.now r.new.out a) (sym c.answer_of.ensures)
+    (verdict_begins Whole c.args.out.now r.new.out r.result r.ensures.begins)

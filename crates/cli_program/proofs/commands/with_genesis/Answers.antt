@@ -12,11 +12,11 @@ returns-in_err-log g c =
     let e = c.in_err-log.ensures in
     rw (p.1, p.2) (record {
       tells = tells_by t t _ (no_less t) e.silent;
-      begins = inr (c.in_err-log.field-0.0, e.refused, refl, refl);
+      works = inr (c.in_err-log.field-0.0, e.refused, refl, refl);
     })
 
-pub returns-clause-begins : goal.returns-clause-begins
-returns-clause-begins g c =
+pub returns-clause-works : goal.returns-clause-works
+returns-clause-works g c =
     let log = c.in_ok-log.log in
     let e = c.in_ok-log.ensures in
     let r = c.do_work in

@@ -1,4 +1,4 @@
-use Rattle.std.proofs.Common.{◌≡◌, List, ℕ, Option, Some, None, IfOk, IfErr, inl, inr, ap, subst, ◌∙◌}
+use Rattle.std.proofs.Common.{List, ℕ, IfOk, IfErr, inl, inr, ap, subst, ◌∙◌}
 use Rattle.std.specs.Prelude.{option_map}
 use Rattle.std.proofs.lemmas.Result.{err_from_is_err_and}
 use Rattle.sha2.specs.Sha256.{sha256}

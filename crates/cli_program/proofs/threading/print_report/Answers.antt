@@ -1,9 +1,8 @@
 use Rattle.std.proofs.Common.{Result, subst, sym}
-use Rattle.cli_lines.specs.Lines.{does_agree}
-use Rattle.cli_lines.specs.Told.{Answers, Tells}
+use Rattle.cli_lines.specs.Told.{Answers, Begins, IsTextOf, Tells}
 use Rattle.cli_lines.specs.declared.failure.Failure.{Failure}
-use Rattle.cli_program.specs.Seats.{TellsReport, report_text}
-use Rattle.cli_program.proofs.Verdicts.{verdict_tells, seats_told}
+use Rattle.cli_program.specs.Seats.{TellsReport}
+use Rattle.cli_program.proofs.Verdicts.{seats_begun, seats_told, verdict_tells}
 use Rattle.cli_program.proofs.threading.print_report.Goals as goal
 
 pub returns-clause-tells : goal.returns-clause-tells
@@ -18,3 +17,9 @@ returns-clause-answers g c =
     let e = r.ensures in
     subst (λ (a : Result (Unit {0}) Failure). Answers (TellsReport c.args.report) c.args.out.now r.new.out a) (sym c.answer_of.ensures)
     (seats_told c.args.report c.args.out.now r.new.out r.result e.good e.lost e.prints)
+
+pub returns-clause-begins : goal.returns-clause-begins
+returns-clause-begins g c =
+    let r = c.print_seats in
+    subst (λ (a : Result (Unit {0}) Failure). Begins (IsTextOf (TellsReport c.args.report)) c.args.out.now r.new.out a) (sym c.answer_of.ensures)
+    (seats_begun c.args.report c.args.out.now r.new.out r.result r.ensures.part)
