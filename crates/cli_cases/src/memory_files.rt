@@ -1,0 +1,154 @@
+//! Files in memory, of which every byte is known.
+
+ghost use Rattle.std.specs.Prelude.{◌≡◌, Some, IfOk, OnOk};
+ghost use Rattle.cli_cases.specs.Memory.{bytes_in};
+
+use crate::memory::MemoryFile;
+use cli_lines::{Access, FileFault, Files, Target};
+use std::alloc::{AllocError, Global};
+use std::collections::BTreeMap;
+use std::fs;
+use std::io::{self, Cursor, Empty, Read};
+use store_replay::Unwatched;
+
+/// Files in memory, by their names. Nobody else has them, and contracts see the bytes of each. No
+/// store is opened there, and the standard input is empty.
+#[derive(Drop)]
+pub(crate) struct MemoryFiles {
+    alloc: Global,
+    by_name: BTreeMap<String, Vec<u8>>,
+}
+
+impl MemoryFiles {
+    /// No files.
+    pub(crate) fn new(alloc: Global) -> MemoryFiles {
+        MemoryFiles {
+            alloc,
+            by_name: BTreeMap::new(alloc),
+        }
+    }
+
+    /// Copies each file of a machine that has one of these names.
+    pub(crate) fn copy_from(&mut self, machine: &HostRuntime, names: &[String]) -> io::Result<()> {
+        for name in names {
+            if let Ok(mut file) = fs::open(machine, name.as_str()) {
+                let mut bytes = Vec::new(self.alloc);
+                file.read_to_end(&mut bytes)?;
+                self.put(name.as_str(), bytes)?;
+            }
+        }
+        Ok(())
+    }
+
+    /// Gives a file of a name these bytes, in the place of one that has it.
+    fn put(&mut self, name: &str, bytes: Vec<u8>) -> Result<(), AllocError>
+        ensures { OnOk result (bytes_in self.new name.now ≡ Some bytes.items) }
+    {
+        let name = String::from_str(self.alloc, name)?;
+        self.by_name.insert(name, bytes)?;
+        Ok(())
+    }
+}
+
+/// A copy of bytes.
+fn copy_of(alloc: Global, bytes: &[u8]) -> Result<Vec<u8>, AllocError>
+    ensures { IfOk result (λ copy. copy.items ≡ bytes.now) }
+{
+    let mut copy = Vec::new(alloc);
+    copy.extend_from_slice(bytes)?;
+    Ok(copy)
+}
+
+impl Files for MemoryFiles {
+    ghost use Rattle.std.specs.Prelude.{true, [], Some};
+    ghost use Rattle.cli_cases.specs.Memory.{bytes_in};
+
+    ghost bytes = { bytes_in };
+
+    ghost input_bytes = { λ _. Some [] };
+
+    ghost is_known = { true };
+
+    type Reader = Cursor<Vec<u8>>;
+
+    type Writer = Vec<u8>;
+
+    type Store = MemoryFile;
+
+    type Input = Empty;
+
+    type Lock = ();
+
+    type Watch = Unwatched;
+
+    fn open(&mut self, name: &str) -> Option<Cursor<Vec<u8>>> {
+        let bytes = self.by_name.get(name)?;
+        let copy = copy_of(self.alloc, bytes.as_slice()).ok()?;
+        Some(Cursor::new(copy))
+    }
+
+    fn target(&mut self, alloc: Global, name: &str) -> Result<Target, FileFault> {
+        let path = String::from_str(alloc, name)?;
+        if self.by_name.contains_key(name) {
+            Ok(Target::File(path))
+        } else {
+            Ok(Target::NewFile(path))
+        }
+    }
+
+    fn is_same(&mut self, name: &str, other: &str) -> bool {
+        name == other
+    }
+
+    fn lock(&mut self, name: &str) -> Option<()> {
+        self.by_name.contains_key(name).then_some(())
+    }
+
+    fn lock_new(&mut self, name: &str) -> Option<()> {
+        if self.by_name.contains_key(name) {
+            return None;
+        }
+        self.put(name, Vec::new(self.alloc)).ok()
+    }
+
+    fn create(&mut self, _name: &str) -> Option<Vec<u8>> {
+        Some(Vec::new(self.alloc))
+    }
+
+    fn open_device(&mut self, _name: &str) -> Option<Vec<u8>> {
+        None
+    }
+
+    fn keep(&mut self, writer: Vec<u8>, _from: &str, to: &str) -> bool {
+        self.put(to, writer).is_ok()
+    }
+
+    fn remove(&mut self, name: &str) {
+        self.by_name.remove(name);
+    }
+
+    fn open_store(&mut self, _name: &str) -> Option<MemoryFile> {
+        None
+    }
+
+    fn input(&mut self) -> Empty {
+        io::empty()
+    }
+
+    fn watch(&mut self) -> Unwatched {
+        Unwatched
+    }
+
+    fn remark(&mut self, _line: &str) {}
+
+    fn explain(&mut self, _sentence: &str) {}
+
+    fn trouble(
+        &mut self,
+        alloc: Global,
+        _name: &str,
+        _access: Access,
+    ) -> Result<String, AllocError> {
+        String::from_str(alloc, "it is no file in memory")
+    }
+}
