@@ -165,8 +165,11 @@ class Operating:
         for machine in (self.carrier, self.shop):
             machine.run("systemctl", "start", "regtuma-node")
         self.well()
-        stores = {hashlib.sha256((it.root / "var/lib/regtuma/chain.store").read_bytes()).hexdigest() for it in self.machines}
-        self.report.case("the stores are as they were", len(stores) == 1, str(stores))
+
+        def stores() -> set[str]:
+            return {hashlib.sha256((it.root / "var/lib/regtuma/chain.store").read_bytes()).hexdigest() for it in self.machines}
+        # A node is well before it has read the log.
+        self.wait("the stores are as they were", lambda: len(stores()) == 1, lambda: str(stores()))
 
     def change_members(self) -> None:
         self.maker.type(self.report, *self.block("systemctl stop regtuma-node\nmake install"))
