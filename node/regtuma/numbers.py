@@ -33,7 +33,7 @@ NUMBERS = {
     803: "a number, name or key of the genesis or the modules file is out of its range",
     804: "a module of the genesis or the modules file is not valid",
     805: "a policy of the genesis file is refused",
-    806: "the genesis file has a name twice, or the organisation is no member: not yet, or no more",
+    806: "the genesis file has a name twice, or neither it nor the chain has the organisation",
     807: "the log is of another genesis file",
     808: "the key file has not the seed of the organisation's key",
     809: "the key file is none",
