@@ -63,7 +63,7 @@ pub usage_kept : (ws : List (List ℕ)) (task : Result Task WordsFault) (k : Kno
     ComesOf ws task k t u r → IsKept t u
 usage_kept ws (Ok task) k t u r is h = comes_kept task k t u r is h.1
 usage_kept ws (Err words.Memory) k t u r is h = ap (λ (v : Told). v.failed) h.1
-usage_kept ws (Err words.Usage) k t u r is h = ap (λ (v : Told). v.failed) h.1
+usage_kept ws (Err words.Usage) k t u r is h = ap (λ (v : Told). v.failed) h.2
 
 -- where a text failed behind that, its status is that of other failures
 pub lost_status : (f : Failure) (t v : Told) → PrintsLast f t v → (f ≡ failure.Usage → t.failed ≡ false) → v.failed ≡ true → failure_status f ≡ 1

@@ -41,7 +41,7 @@ status_of (Err f) = failure_status f
 abbrev pub ComesOf : List (List ℕ) → Result Task WordsFault → KnownFiles → (before after : Told) → Result (Unit {0}) Failure → Type 0
 ComesOf ws (Ok task) k before after answer = IsTaskOf ws task × Comes task k before after answer
 ComesOf ws (Err words.Memory) k before after answer = (answer ≡ Err failure.Memory) × (after ≡ before)
-ComesOf ws (Err words.Usage) k before after answer = (answer ≡ Err failure.Usage) × (after ≡ before)
+ComesOf ws (Err words.Usage) k before after answer = ((task : Task) → ¬ IsTaskOf ws task) × (answer ≡ Err failure.Usage) × (after ≡ before)
 
 abbrev pub CarriesOut : List (List ℕ) → KnownFiles → (before after : Told) → Result (Unit {0}) Failure → Type 0
 CarriesOut ws k before after answer = (task : Result Task WordsFault) × ComesOf ws task k before after answer

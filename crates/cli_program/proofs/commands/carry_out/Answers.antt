@@ -1,4 +1,4 @@
-use Rattle.std.proofs.Common.{Ok, Err, map, string_bytes, refl}
+use Rattle.std.proofs.Common.{rules, Ok, Err, map, string_bytes, refl}
 use Rattle.cli_words.specs.declared.task.WordsFault.TheVariants as words
 use Rattle.cli_program.specs.Tasks.{known_files}
 use Rattle.cli_program.proofs.Usage.{usage_kept}
@@ -16,7 +16,7 @@ returns-in-Ok-clause-usage g c =
     (c.in-Ok.ensures, r.ensures.comes)
 
 pub returns-in-Err-Usage-clause-carries : goal.returns-in-Err-Usage-clause-carries
-returns-in-Err-Usage-clause-carries g c = (Err words.Usage, (refl, refl))
+returns-in-Err-Usage-clause-carries g c = (Err words.Usage, (search rules, refl, refl))
 
 pub returns-in-Err-Memory-clause-carries : goal.returns-in-Err-Memory-clause-carries
 returns-in-Err-Memory-clause-carries g c = (Err words.Memory, (refl, refl))
