@@ -1,12 +1,12 @@
 //! The bodies of functions, each typed up to the first fault (Core 1.0, section 3.4.1).
 
 use crate::limits::MODULE_BYTES;
+use crate::opcodes::{ELSE, END};
 use crate::operands::Operands;
 use crate::place::{Numbered, Place};
 use crate::reader::Reader;
 use crate::section::Section;
 use crate::source::Source;
-use crate::steps::{ELSE, END};
 use crate::stop::Stop;
 use crate::typing::Typing;
 use wasm_ast::{Func, Module};

@@ -9,6 +9,7 @@ mod generic;
 mod items;
 mod limits;
 mod lookup;
+mod opcodes;
 mod operands;
 mod operators;
 mod place;

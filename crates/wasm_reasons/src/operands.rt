@@ -1,7 +1,7 @@
 //! The operands and the labels of a function's body, as they are typed (Core 1.0, appendix A.3).
 
+use crate::opcodes::IF;
 use crate::place::Numbered;
-use crate::steps::IF;
 use crate::stop::{Stop, invalid};
 use crate::types::{Carried, Type};
 use std::alloc::Global;

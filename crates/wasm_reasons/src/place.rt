@@ -6,7 +6,7 @@ use std::fmt::{self, Display, Formatter, Write};
 
 /// Where something stands in a module: in which section, in which of its items, at which of the
 /// item's instructions, at which byte. What does not apply is `None`.
-#[derive(Clone, Copy, Debug, PartialEq, Eq)]
+#[derive(Clone, Copy)]
 pub(crate) struct Place {
     pub(crate) section: Option<Section>,
     pub(crate) item: Option<usize>,
@@ -26,7 +26,7 @@ impl Place {
 }
 
 /// A place in an expression.
-#[derive(Clone, Copy, Debug, PartialEq, Eq)]
+#[derive(Clone, Copy)]
 pub(crate) enum Spot {
     /// An instruction.
     At(Numbered),
@@ -38,7 +38,7 @@ pub(crate) enum Spot {
 
 /// An instruction: how many stand before it in the expression, `end` and `else` left out, and its
 /// opcode.
-#[derive(Clone, Copy, Debug, PartialEq, Eq)]
+#[derive(Clone, Copy)]
 pub(crate) struct Numbered {
     pub(crate) number: u32,
     pub(crate) opcode: u8,

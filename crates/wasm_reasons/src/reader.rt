@@ -10,7 +10,7 @@ use wasm_bytes::{ByteFault, Cursor};
 use wasm_decode::FaultKind;
 
 /// What bytes belong to.
-#[derive(Clone, Copy, Debug, PartialEq, Eq)]
+#[derive(Clone, Copy)]
 pub(crate) enum Holder {
     Module,
     Section,

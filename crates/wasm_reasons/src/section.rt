@@ -4,7 +4,7 @@ use crate::limits::{MOST_ITEMS, MOST_PARTS};
 use std::fmt::{self, Display, Formatter, Write};
 
 /// A section, by its id.
-#[derive(Clone, Copy, Debug, PartialEq, Eq)]
+#[derive(Clone, Copy, PartialEq, Eq)]
 pub(crate) enum Section {
     Custom = 0,
     Type = 1,

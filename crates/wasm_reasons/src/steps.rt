@@ -1,6 +1,11 @@
 //! Expressions and their instructions (Core 1.0, section 5.4).
 
 use crate::limits::{MODULE_BYTES, MOST_INSTRUCTIONS, MOST_ITEMS, MOST_NESTING};
+use crate::opcodes::{
+    BLOCK, BR, BR_IF, BR_TABLE, CALL, CALL_INDIRECT, DROP, ELSE, END, GLOBAL_GET, GLOBAL_SET,
+    I32_CONST, I64_CONST, IF, LOCAL_GET, LOCAL_SET, LOCAL_TEE, LOOP, MEMORY_GROW, MEMORY_SIZE, NOP,
+    RETURN, SELECT, UNREACHABLE,
+};
 use crate::operators::operator_name;
 use crate::place::{Numbered, Spot};
 use crate::reader::Reader;
@@ -10,26 +15,15 @@ use wasm_decode::FaultKind;
 use wasm_operators::{load, operator, store};
 use wasm_profile::Profile;
 
-/// The opcodes that open, part and end blocks.
-pub(crate) const BLOCK: u8 = 0x02;
-
-pub(crate) const LOOP: u8 = 0x03;
-
-pub(crate) const IF: u8 = 0x04;
-
-pub(crate) const ELSE: u8 = 0x05;
-
-pub(crate) const END: u8 = 0x0b;
-
 /// An instruction as it stands in the bytes, or an `else` or an `end`.
-#[derive(Debug, Drop)]
+#[derive(Drop)]
 pub(crate) struct Step {
     pub(crate) opcode: u8,
     pub(crate) immediate: Immediate,
 }
 
 /// What stands behind an opcode.
-#[derive(Debug, Drop)]
+#[derive(Drop)]
 pub(crate) enum Immediate {
     /// Nothing that typing looks at.
     None,
@@ -67,13 +61,15 @@ impl<'a> Reader<'a> {
             return Ok(Immediate::Access(MemoryArgument { align, offset }));
         }
         match opcode {
-            0x00 | 0x01 | 0x0f | 0x1a | 0x1b | ELSE | END => Ok(Immediate::None),
+            UNREACHABLE | NOP | ELSE | END | RETURN | DROP | SELECT => Ok(Immediate::None),
             BLOCK | LOOP | IF => Ok(Immediate::Block(self.block_type()?)),
-            0x0c | 0x0d | 0x10 | 0x20..=0x24 => Ok(Immediate::Index(self.number("its index")?)),
-            0x0e => self.labels(),
-            0x11 => self.reserved_index(),
-            0x3f | 0x40 => self.reserved(),
-            0x41 | 0x42 => self.constant(opcode),
+            BR | BR_IF | CALL | LOCAL_GET | LOCAL_SET | LOCAL_TEE | GLOBAL_GET | GLOBAL_SET => Ok(
+                Immediate::Index(self.number("its index")?),
+            ),
+            BR_TABLE => self.labels(),
+            CALL_INDIRECT => self.reserved_index(),
+            MEMORY_SIZE | MEMORY_GROW => self.reserved(),
+            I32_CONST | I64_CONST => self.constant(opcode),
             _ => self.no_instruction(opcode),
         }
     }
@@ -109,7 +105,7 @@ impl<'a> Reader<'a> {
 
     // The word of a constant.
     fn constant(&mut self, opcode: u8) -> Result<Immediate, Stop> {
-        if opcode == 0x41 {
+        if opcode == I32_CONST {
             self.signed_32("its constant")?;
         } else {
             self.signed_64("its constant")?;

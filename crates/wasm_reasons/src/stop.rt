@@ -6,7 +6,7 @@ use wasm_file::ModuleRefusal;
 use wasm_typing::ValidateFault;
 
 /// Why a look at a module went no further.
-#[derive(Debug, Drop)]
+#[derive(Drop)]
 pub(crate) enum Stop {
     /// A growth of memory was refused.
     Memory,
@@ -15,7 +15,7 @@ pub(crate) enum Stop {
 }
 
 /// A fault: the refusal that it is, and what is wrong, in words that follow those for its place.
-#[derive(Debug, Drop)]
+#[derive(Drop)]
 pub(crate) struct Fault {
     pub(crate) refusal: ModuleRefusal,
     pub(crate) words: String,

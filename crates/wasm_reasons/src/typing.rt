@@ -1,9 +1,14 @@
 //! The typing of a function's body, instruction by instruction (Core 1.0, section 3.3).
 
 use crate::lookup::{function_count, no_part, no_such, type_of};
+use crate::opcodes::{
+    BLOCK, BR, BR_IF, CALL, CALL_INDIRECT, DROP, ELSE, END, GLOBAL_GET, GLOBAL_SET, I32_CONST,
+    I64_CONST, IF, LOCAL_GET, LOCAL_SET, LOCAL_TEE, LOOP, MEMORY_GROW, MEMORY_SIZE, RETURN, SELECT,
+    UNREACHABLE,
+};
 use crate::operands::Operands;
 use crate::place::{Numbered, Spot};
-use crate::steps::{BLOCK, ELSE, END, IF, Immediate, LOOP, Step};
+use crate::steps::{Immediate, Step};
 use crate::stop::{Stop, invalid};
 use crate::types::{Carried, Type};
 use std::alloc::Global;
@@ -147,31 +152,31 @@ impl<'m> Typing<'m> {
     // An instruction with nothing behind its opcode that typing looks at.
     fn without(&mut self, opcode: u8) -> Result<(), Stop> {
         match opcode {
-            0x00 => {
+            UNREACHABLE => {
                 self.operands.leave();
                 Ok(())
             }
-            0x0f => {
+            RETURN => {
                 self.operands
                     .pop_result(self.result, "the result of the function")?;
                 self.operands.leave();
                 Ok(())
             }
-            0x1a => {
+            DROP => {
                 let _ = self.operands.pop("its operand")?;
                 Ok(())
             }
-            0x1b => self.select(),
-            0x3f => {
+            SELECT => self.select(),
+            MEMORY_SIZE => {
                 self.needs_memory()?;
                 self.operands.push(Some(I32))
             }
-            0x40 => {
+            MEMORY_GROW => {
                 self.needs_memory()?;
                 self.one(I32, I32)
             }
-            0x41 => self.operands.push(Some(I32)),
-            0x42 => self.operands.push(Some(I64)),
+            I32_CONST => self.operands.push(Some(I32)),
+            I64_CONST => self.operands.push(Some(I64)),
             _ => Ok(()),
         }
     }
@@ -196,11 +201,11 @@ impl<'m> Typing<'m> {
     // An instruction with an index.
     fn indexed(&mut self, opcode: u8, index: u32) -> Result<(), Stop> {
         match opcode {
-            0x0c | 0x0d => self.branch(opcode, index),
-            0x10 => self.call(index),
-            0x11 => self.call_indirect(index),
-            0x20..=0x22 => self.local(opcode, index),
-            0x23 | 0x24 => self.global(opcode, index),
+            BR | BR_IF => self.branch(opcode, index),
+            CALL => self.call(index),
+            CALL_INDIRECT => self.call_indirect(index),
+            LOCAL_GET | LOCAL_SET | LOCAL_TEE => self.local(opcode, index),
+            GLOBAL_GET | GLOBAL_SET => self.global(opcode, index),
             _ => Ok(()),
         }
     }
@@ -210,7 +215,7 @@ impl<'m> Typing<'m> {
         let Some(carried) = self.operands.label(label) else {
             return no_such(self.alloc, "label", label, self.operands.labels());
         };
-        if opcode == 0x0d {
+        if opcode == BR_IF {
             self.operands.pop_as(I32, "its condition")?;
             self.operands
                 .pop_result(carried, "what it carries to its label")?;
@@ -292,10 +297,10 @@ impl<'m> Typing<'m> {
         let Some(value_type) = self.locals.get(local as usize).copied() else {
             return no_such(self.alloc, "local", local, self.locals.len());
         };
-        if opcode != 0x20 {
+        if opcode != LOCAL_GET {
             self.operands.pop_as(value_type, "its operand")?;
         }
-        if opcode != 0x21 {
+        if opcode != LOCAL_SET {
             self.operands.push(Some(value_type))?;
         }
         Ok(())
@@ -308,7 +313,7 @@ impl<'m> Typing<'m> {
             return no_such(self.alloc, "global", global, globals.len());
         };
         let global_type = found.global_type;
-        if opcode == 0x23 {
+        if opcode == GLOBAL_GET {
             return self.operands.push(Some(global_type.value_type));
         }
         if !global_type.is_variable {
