@@ -30,6 +30,15 @@ one_more {A} (suc i) (y ∷ xs) x within is =
     let next : suc i + 1 ≡ suc (i + 1) = omega arith in
     rw next (ap (λ (ys : List A). y ∷ ys) (one_more i xs x (omega arith) is))
 
+-- the text of the first so many items, and of the one at this place
+pub items_next : {A : Type 0} (f : A → List ℕ) (xs : List A) (i : ℕ) (d : A) → i < length xs →
+    flat_map f (take i xs) ++ f (get_or xs i d) ≡ flat_map f (take (i + 1) xs)
+items_next f [] i d within = absurd (omega arith)
+items_next f (y ∷ ys) zero d within = sym (append-nil (f y))
+items_next {A} f (y ∷ ys) (suc i) d within =
+    let next : suc i + 1 ≡ suc (i + 1) = omega arith in
+    rw next (append_assoc (f y) (flat_map f (take i ys)) (f (get_or ys i d)) ∙ ap (λ (s : List ℕ). f y ++ s) (items_next f ys i d (omega arith)))
+
 -- the text of the first so many items, behind a text, and of the next one
 text_next : {A : Type 0} (f : A → List ℕ) (front : List ℕ) (xs : List A) (i : ℕ) (x : A) → i < length xs → x ≡ get_or xs i x →
     (front ++ flat_map f (take i xs)) ++ f x ≡ front ++ flat_map f (take (i + 1) xs)
@@ -78,9 +87,6 @@ printed_on_err (Err e) P Q f h = f h
 
 pub nothing_same : (t : Told) → PrintsNothing t t
 nothing_same t = inl refl
-
-pub nothing_failed : (t u : Told) → IsMore t u → u.failed ≡ true → PrintsNothing t u
-nothing_failed t u more failed = inr (more, failed)
 
 pub part_none : (t u : Told) (whole : List ℕ) → PrintsNothing t u → PrintsPart t u whole
 part_none t u whole end = record { text = []; rest = whole; mid = t; parts = refl; prints = prints_none t; end = end }

@@ -59,9 +59,9 @@ BreaksOff (Err f) = IsBrokenOff f
 abbrev pub Answers : {A : Type 0} → (Result A Failure → List ℕ → Type 0) → (before after : Told) → Result A Failure → Type 0
 Answers Comes before after answer = BreaksOff answer ⊎ ((text : List ℕ) × Comes answer text × Prints before after text)
 
--- no text was printed meanwhile, or one could not be
+-- no text was printed meanwhile; one may have been tried that could not be
 abbrev pub PrintsNothing : (before after : Told) → Type 0
-PrintsNothing before after = (after ≡ before) ⊎ (IsMore before after × (after.failed ≡ true))
+PrintsNothing before after = (after ≡ before) ⊎ ((after.printed ≡ before.printed) × (after.failed ≡ true))
 
 -- a beginning of a text was printed, and then nothing, or what came then could not be
 pub record PrintsPart (before after : Told) (whole : List ℕ) : Type 0 where

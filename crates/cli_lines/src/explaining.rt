@@ -124,7 +124,7 @@ pub fn read_explained<F: Files>(
 ) -> Result<Vec<u8>, FileFault>
     ensures bytes { IfOk result
         (λ v. IfSome (F.bytes files.old name.now) (λ bytes. v.items ≡ take most bytes)) }
-    ensures kept { OnOk result (F.bytes files.new ≡ F.bytes files.old) }
+    ensures kept { F.bytes files.new ≡ F.bytes files.old }
     ensures input { OnOk result (F.input_bytes files.new ≡ F.input_bytes files.old) }
 {
     let read = read_at_most(alloc, files, name, most);
@@ -139,7 +139,7 @@ pub fn read_all_explained<F: Files>(
     name: &str,
 ) -> Result<Vec<u8>, FileFault>
     ensures bytes { IfOk result (λ v. IsHeld (F.bytes files.old name.now) v.items) }
-    ensures kept { OnOk result (F.bytes files.new ≡ F.bytes files.old) }
+    ensures kept { F.bytes files.new ≡ F.bytes files.old }
     ensures input { OnOk result (F.input_bytes files.new ≡ F.input_bytes files.old) }
 {
     let read = read_all(alloc, files, name);

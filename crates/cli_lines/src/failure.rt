@@ -79,9 +79,10 @@ impl Display for Failure {
     }
 }
 
-/// What the program prints of a simulation's refusal: a status as a signed number.
+/// What the program prints of a simulation's refusal, without the line's end: a status as a signed
+/// number.
 #[derive(Clone, Copy)]
-pub(crate) struct SimulationText(pub(crate) SimRefusal);
+pub struct SimulationText(pub SimRefusal);
 
 impl Display for SimulationText {
     ghost use Rattle.std.specs.Prelude.{Some};

@@ -165,7 +165,7 @@ pub fn read_at_most<F: Files>(
 ) -> Result<Vec<u8>, FileFault>
     ensures bytes { IfOk result
         (λ v. IfSome (F.bytes files.old name.now) (λ bytes. v.items ≡ take most bytes)) }
-    ensures kept { OnOk result (F.bytes files.new ≡ F.bytes files.old) }
+    ensures kept { F.bytes files.new ≡ F.bytes files.old }
     ensures input { OnOk result (F.input_bytes files.new ≡ F.input_bytes files.old) }
 {
     let Some(reader) = files.open(name) else {
@@ -179,7 +179,7 @@ pub fn read_at_most<F: Files>(
 /// All the bytes of a file.
 pub fn read_all<F: Files>(alloc: Global, files: &mut F, name: &str) -> Result<Vec<u8>, FileFault>
     ensures bytes { IfOk result (λ v. IsHeld (F.bytes files.old name.now) v.items) }
-    ensures kept { OnOk result (F.bytes files.new ≡ F.bytes files.old) }
+    ensures kept { F.bytes files.new ≡ F.bytes files.old }
     ensures input { OnOk result (F.input_bytes files.new ≡ F.input_bytes files.old) }
 {
     let Some(mut reader) = files.open(name) else {

@@ -38,7 +38,7 @@ pub fn keys_in<F: Files>(
     ensures spelled { IfOk result (λ keys. HasSeeds (F.bytes files.old name.now) keys.items) }
     ensures silent { IfErr result IsSilent }
     ensures refused { IfErr result (IsNoKeyFile (F.bytes files.old name.now)) }
-    ensures kept { OnOk result (F.bytes files.new ≡ F.bytes files.old) }
+    ensures kept { F.bytes files.new ≡ F.bytes files.old }
     ensures input { OnOk result (F.input_bytes files.new ≡ F.input_bytes files.old) }
 {
     let bytes = read_explained(alloc, files, name, MOST_READ)?;
@@ -57,7 +57,7 @@ pub fn signers_in<F: Files>(alloc: Global, files: &mut F, name: &str) -> Result<
     ensures spelled { IfOk result (λ seeds. HasSeeds (F.bytes files.old name.now) seeds) }
     ensures silent { IfErr result IsSilent }
     ensures refused { IfErr result (IsNoKeyFile (F.bytes files.old name.now)) }
-    ensures kept { OnOk result (F.bytes files.new ≡ F.bytes files.old) }
+    ensures kept { F.bytes files.new ≡ F.bytes files.old }
     ensures input { OnOk result (F.input_bytes files.new ≡ F.input_bytes files.old) }
 {
     Ok(Signers::new(keys_in(alloc, files, name)?))
@@ -75,7 +75,7 @@ pub fn lacks_seed(rules: &Rules, signers: &Signers, org: &OrgName) -> bool
 }
 
 /// Refused where one of these organisations lacks its seed (808), the first of which is said in
-/// words too, and for want of memory (9).
+/// words too.
 pub fn need_secrets<F: Files>(
     alloc: Global,
     files: &mut F,
@@ -88,6 +88,7 @@ pub fn need_secrets<F: Files>(
         → list_any (lacks_seed genesis.now.rules.value genesis.now.signers.value) orgs.now ≡ true }
     ensures only { IfErr result (λ f. f ≡ NoSecret) }
     ensures unchanged { OnOk result (files.new ≡ files.old) }
+    ensures kept { F.bytes files.new ≡ F.bytes files.old }
     ensures silent { IfErr result IsSilent }
 {
     match first_lacking(genesis, orgs) {
@@ -109,7 +110,9 @@ fn first_lacking<'a>(genesis: &Genesis, orgs: &'a [OrgName]) -> Option<&'a OrgNa
 }
 
 /// Says whose seed is missing, and where it is looked for (808).
-pub fn explain_no_seed<F: Files>(alloc: Global, files: &mut F, org: &OrgName) {
+pub fn explain_no_seed<F: Files>(alloc: Global, files: &mut F, org: &OrgName)
+    ensures kept { F.bytes files.new ≡ F.bytes files.old }
+{
     if let Ok(org) = String::from_utf8_lossy(alloc, org.as_slice()) {
         explain_numbered(alloc, files, &Location::file(&org), NO_SEED, 808);
     }

@@ -8,6 +8,7 @@
 //! whether one could not be. [`Failure`] says why a command was not done.
 #![tactic(auto)]
 
+mod committed;
 mod explaining;
 mod failure;
 mod files;
@@ -18,11 +19,12 @@ mod opening;
 mod printer;
 mod verdict;
 
+pub use committed::CommittedText;
 pub use explaining::{
     Location, explain, explain_bad_line, explain_failure, explain_number, explain_numbered,
     explain_read, explain_trouble, read_all_explained, read_explained,
 };
-pub use failure::Failure;
+pub use failure::{Failure, SimulationText};
 pub use files::{Access, FileFault, Files, Target, read_all, read_at_most};
 pub use keys::{explain_no_seed, keys_in, lacks_seed, need_secrets, signers_in};
 pub use lines::{

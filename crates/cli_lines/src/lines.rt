@@ -7,6 +7,7 @@ ghost use Rattle.cli_lines.specs.Lines.{committed_text, hex_text, id_text, paylo
 ghost use Rattle.cli_lines.specs.Texts.{line};
 ghost use Rattle.cli_lines.specs.Told.{IsBrokenOff, Prints, PrintsNothing, PrintsPart, Tells};
 
+use crate::committed::CommittedText;
 use crate::failure::{Failure, SimulationText};
 use crate::printer::Printer;
 use fab_types::{Flag, Payload, RangeItem, ReadItem, Version, WriteItem};
@@ -201,11 +202,7 @@ pub fn print_committed<W: Write>(
     ensures lost { IfErr result IsBrokenOff }
     ensures prints { OnOk result (Prints out.old out.new (committed_text number flags.now)) }
     ensures failed { OnErr result (out.new.failed ≡ true) }
-    ensures part { OnErr result (PrintsPart out.old out.new (committed_text number flags.now)) }
+    ensures nothing { OnErr result (PrintsNothing out.old out.new) }
 {
-    write!(out, "committed {number} flags")?;
-    for flag in flags {
-        write!(out, " {flag}")?;
-    }
-    writeln!(out)
+    write!(out, "{}", CommittedText { number, flags })
 }

@@ -8,4 +8,4 @@ returns-in-Err-clause-tells g c =
     (record { prints = search rules; fails = search rules }, c.reason.ensures.says c.args.self.now after refl)
 
 pub returns-in-Err-clause-nothing : goal.returns-in-Err-clause-nothing
-returns-in-Err-clause-nothing g c = inr (record { prints = search rules; fails = search rules }, refl)
+returns-in-Err-clause-nothing g c = inr (search rules, refl)
