@@ -1,25 +1,19 @@
 -- What was printed where a run was broken off.
-use Rattle.std.proofs.Common.{◌≡◌, ℕ, List, [], ◌++◌, ◌⊎◌, inl, inr, Option, Some, None, IfSome, Result, Ok, Err, OnErr, refl, sym, ◌∙◌, subst, Bool, true}
+use Rattle.std.proofs.Common.{◌≡◌, ℕ, List, [], ◌++◌, ◌⊎◌, inl, inr, Option, Some, None, IfSome, refl, sym, ◌∙◌, subst, Bool}
 use Rattle.std.proofs.lemmas.List.{append-nil}
 use Rattle.ledger_model.specs.Chain.{Chain}
 use Rattle.ledger_model.specs.Execution.{Exec}
 use Rattle.ledger_setting.specs.declared.verdict.Audit.{Audit}
 use Rattle.fabric_core.specs.Audit.{AuditSays}
 use Rattle.cli_lines.specs.Lines.{audit_text, does_agree}
-use Rattle.cli_lines.specs.Told.{Told, PrintsNothing, PrintsPart, Tells}
-use Rattle.cli_lines.specs.declared.failure.Failure.{Failure}
-use Rattle.cli_lines.proofs.Printing.{nothing_failed, part_none, part_then, part_whole}
+use Rattle.cli_lines.specs.Told.{Told, PrintsNothing, PrintsPart}
+use Rattle.cli_lines.proofs.Printing.{part_none, part_then, part_whole}
 use Rattle.cli_session.specs.Reading.{HasFirst, TakesLines, lines_in}
 use Rattle.cli_session.specs.States.{state_text}
 use Rattle.cli_session.specs.Stages.{Stage, DoesPrint, first_chain}
 use Rattle.cli_session.specs.Running.{AreLines, DoesAll, DoesFirst}
 use Rattle.cli_session.specs.Whole.{BeginsFrom, EndsPrinted, IsEnd}
 use Rattle.cli_session.proofs.Pieces.{has_first}
-
--- texts that fail only where one could not be printed
-pub nothing_by : {A : Type 0} (t u : Told) (r : Result A Failure) → Tells t u r → OnErr r (u.failed ≡ true) → OnErr r (PrintsNothing t u)
-nothing_by t u (Ok x) tells failed = tt
-nothing_by t u (Err e) tells failed = nothing_failed t u tells.0 failed
 
 -- the lines that were read are done, and no other text was printed
 pub does_first : (a b : Option (List ℕ)) (ls : List (List ℕ)) (old end : Stage) (t u v : Told) → TakesLines a b ls → DoesPrint (AreLines ls) old end t u →

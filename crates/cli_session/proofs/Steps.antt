@@ -1,5 +1,6 @@
 -- Steps that are printed, and those of several lines.
-use Rattle.std.proofs.Common.{◌≡◌, ℕ, List, [], ◌∷◌, ◌++◌, inl, inr, Result, Ok, Err, IfOk, IfErr, OnOk, refl, sym, ap, subst, ◌∙◌}
+use Rattle.std.proofs.Common.{◌≡◌, ℕ, List, [], ◌∷◌, ◌++◌, inl, inr, Result, Ok, Err, IfOk, IfErr, OnOk, String, Global, string_bytes, refl, sym, ap, subst, ◌∙◌}
+use Rattle.std.specs.Prelude.{IsOkAnd}
 use Rattle.std.proofs.lemmas.List.{map-append}
 use Rattle.simulator.specs.Execution.{exec_of}
 use Rattle.json_events.specs.declared.bindings.Bindings.{Bindings}
@@ -9,6 +10,7 @@ use Rattle.fabric_core.specs.declared.event.Event.{Event}
 use Rattle.fabric_core.specs.declared.event.Reply.{Reply}
 use Rattle.cli_lines.specs.Told.{Told, Prints, IsBrokenOff}
 use Rattle.cli_lines.specs.declared.failure.Failure.{Failure}
+use Rattle.cli_lines.proofs.Printing.{prints_same}
 use Rattle.cli_session.specs.Stages.{Stage, StepsTo, Stay, IsStepOf, DoesPrint}
 use Rattle.cli_session.specs.Running.{StopsAt, events_of, replies_of}
 
@@ -52,6 +54,18 @@ does_by P Q (Ok x) old new before after f h = (h.0, h.1, f h.0 h.1 h.2, h.3)
 pub any_ok : {A E : Type 0} (r : Result A E) (P : Type 0) → P → OnOk r P
 any_ok (Ok x) P h = h
 any_ok (Err e) P h = tt
+
+-- what is bound, where that could be done
+pub bound_ok : {A E F : Type 0} (r : Result A F) (bound : Result (Unit {0}) E) (P : Type 0) → OnOk r (bound ≡ Ok tt) → OnOk bound P → OnOk r P
+bound_ok {A} {E} (Ok x) bound P is h = subst (λ (q : Result (Unit {0}) E). OnOk q P) is h
+bound_ok (Err e) bound P is h = tt
+
+-- its line, where there is one
+pub line_printed : {A E F : Type 0} (r : Result A F) (line : Result (String Global) E) (t u : Told) (text : List ℕ) →
+    IfOk line (λ s. string_bytes s ≡ text) → OnOk r (IsOkAnd line (λ s. Prints t u (string_bytes s))) → OnOk r (Prints t u text)
+line_printed (Ok x) (Ok s) t u text is prints = prints_same t u (string_bytes s) text is prints
+line_printed (Ok x) (Err e) t u text is prints = absurd prints
+line_printed (Err e) line t u text is prints = tt
 
 -- ---- a line that stops the run
 

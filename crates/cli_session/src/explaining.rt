@@ -1,6 +1,6 @@
 //! Why a line of events is refused or a bad one, in words on the standard error.
 
-ghost use Rattle.std.specs.Prelude.{IfErr, IfOk};
+ghost use Rattle.std.specs.Prelude.{◌≡◌, IfErr, IfOk};
 ghost use Rattle.cli_lines.specs.Told.{IsBrokenOff, IsSilent};
 ghost use Rattle.cli_session.specs.Reading.{IsNext};
 
@@ -47,6 +47,7 @@ pub(crate) fn next_explained<F: Files, B: BufRead>(
     ensures silent { IfErr result IsSilent }
     ensures lost { IfErr result IsBrokenOff }
     ensures next { IfOk result (λ n. IsNext n (B.remaining lines.old) (B.remaining lines.new)) }
+    ensures kept { F.bytes files.new ≡ F.bytes files.old }
 {
     let next = next_line(alloc, lines);
     explain_next(alloc, files, place, &next);
@@ -59,7 +60,9 @@ fn explain_next<F: Files>(
     files: &mut F,
     place: &Location<'_>,
     next: &Result<Next, Failure>,
-) {
+)
+    ensures kept { F.bytes files.new ≡ F.bytes files.old }
+{
     match next {
         Err(Failure::File) => explain_trouble(alloc, files, place.file, Access::Read),
         Ok(Next::TooLong) => {
@@ -79,7 +82,9 @@ pub(crate) fn explain_line<F: Files>(
     bindings: &Bindings,
     refused: Option<Refused>,
     told: &Result<(), Failure>,
-) {
+)
+    ensures kept { F.bytes files.new ≡ F.bytes files.old }
+{
     if let Err(Failure::BadLine(_)) = told {
         explain_bad_line(alloc, files, place, bad_reason(alloc, line, bindings));
     } else if let Some(refused) = refused {

@@ -1,18 +1,17 @@
 //! What the program prints of a system and its blocks.
 
-ghost use Rattle.std.specs.Prelude.{◌≡◌, true, Ok, IfErr, IfOk, OnErr, OnOk, map, string_bytes};
+ghost use Rattle.std.specs.Prelude.{◌≡◌, Ok, IfErr, IfOk, IsOkAnd, OnErr, OnOk, map, string_bytes};
 ghost use Rattle.std.specs.List.{flat_map};
 ghost use Rattle.std.specs.Map.Iter.{deref_pair};
 ghost use Rattle.fabric_core.specs.declared.event.Reply.{Reply};
-ghost use Rattle.fabric_core.specs.declared.event.Reply.TheVariants.{Ordered};
 ghost use Rattle.cli_lines.specs.Told.{IsBrokenOff, Prints, PrintsNothing, PrintsPart, Tells};
-ghost use Rattle.cli_session.specs.Replies.{batch_text, begin_text, endorsed_text, made_text, reply_text};
+ghost use Rattle.cli_session.specs.Replies.{begin_text, endorsed_text, reply_text};
 ghost use Rattle.cli_session.specs.States.{entry_text, state_text};
 
-use cli_lines::{Failure, Printer, hex_of, id_of, print_committed, print_simulation, version_of};
+use crate::replies::ReplyText;
+use cli_lines::{Failure, Printer, hex_of, id_of, version_of};
 use fab_types::{Key, Payload, Value, Version};
 use fabric_core::Reply;
-use orderer::BatchReport;
 use std::alloc::{AllocError, Global};
 use std::io::Write;
 use world_state::Snapshot;
@@ -71,71 +70,14 @@ fn print_entry<W: Write>(
     writeln!(out, "state {key} {version} {value}")
 }
 
-/// Prints the block of a batch, where it made one, with its count of transactions.
-fn print_made<W: Write>(
-    block: Option<u32>,
-    count: usize,
-    out: &mut Printer<'_, W>,
-) -> Result<(), Failure>
-    ensures tells { Tells out.old out.new result }
-    ensures lost { IfErr result IsBrokenOff }
-    ensures prints { OnOk result (Prints out.old out.new (made_text block count)) }
-    ensures failed { OnErr result (out.new.failed ≡ true) }
-{
-    match block {
-        Some(number) => writeln!(out, "block {number} txs {count}"),
-        None => writeln!(out, "no block"),
-    }
-}
-
-/// Prints the block of a batch, where it made one, and what was aborted.
-fn print_batch<W: Write>(report: &BatchReport, out: &mut Printer<'_, W>) -> Result<(), Failure>
-    ensures tells { Tells out.old out.new result }
-    ensures lost { IfErr result IsBrokenOff }
-    ensures prints { OnOk result (Prints out.old out.new (batch_text report.now)) }
-    ensures failed { OnErr result (out.new.failed ≡ true) }
-{
-    print_made(report.block, report.count, out)?;
-    for (index, cause) in report.aborted.as_slice() {
-        writeln!(out, "aborted {index} {cause}")?;
-    }
-    Ok(())
-}
-
-/// Prints that an envelope was taken, and the batches that it ended.
-fn print_batches<W: Write>(reports: &[BatchReport], out: &mut Printer<'_, W>) -> Result<(), Failure>
-    ensures tells { Tells out.old out.new result }
-    ensures lost { IfErr result IsBrokenOff }
-    ensures prints { OnOk result
-        (Prints out.old out.new (reply_text (Ordered reports.now))) }
-    ensures failed { OnErr result (out.new.failed ≡ true) }
-{
-    writeln!(out, "taken")?;
-    for report in reports {
-        print_batch(report, out)?;
-    }
-    Ok(())
-}
-
 /// Prints a reply. Of one with the height of a begin or with a payload, nothing.
 pub(crate) fn print_reply<W: Write>(reply: &Reply, out: &mut Printer<'_, W>) -> Result<(), Failure>
     ensures tells { Tells out.old out.new result }
     ensures lost { IfErr result IsBrokenOff }
     ensures prints { OnOk result (Prints out.old out.new (reply_text reply.now)) }
-    ensures failed { OnErr result (out.new.failed ≡ true) }
+    ensures nothing { OnErr result (PrintsNothing out.old out.new) }
 {
-    match reply {
-        Reply::Queued => writeln!(out, "queued"),
-        Reply::Nothing => writeln!(out, "none"),
-        Reply::Ordered(reports) => print_batches(reports.as_slice(), out),
-        Reply::Cut(report) => print_batch(report, out),
-        Reply::Committed(number, flags) => print_committed(*number, flags.as_slice(), out),
-        Reply::Refused(refusal) => print_simulation(*refusal, out),
-        reply => match reply.number() {
-            Some(number) => writeln!(out, "refused {number}"),
-            None => Ok(()),
-        },
-    }
+    write!(out, "{}", ReplyText(reply))
 }
 
 /// Prints a reply to a begin at a seat: where, and on what height, if it was begun.
@@ -148,7 +90,7 @@ fn print_begin<W: Write>(
     ensures tells { Tells out.old out.new result }
     ensures lost { IfErr result IsBrokenOff }
     ensures prints { OnOk result (Prints out.old out.new (begin_text peer seat reply.now)) }
-    ensures failed { OnErr result (out.new.failed ≡ true) }
+    ensures nothing { OnErr result (PrintsNothing out.old out.new) }
 {
     match reply {
         Reply::Begun(height) => writeln!(out, "begun {peer}.{seat} at {height}"),
@@ -202,5 +144,24 @@ pub(crate) fn print_begun<W: Write>(
     match reply {
         Ok(reply) => print_begin(peer, seat, reply, out),
         Err(_) => Err(Failure::Memory),
+    }
+}
+
+/// Prints the line of a payload that was bound to its name, where both could be done.
+pub(crate) fn print_bound<W: Write>(
+    line: &Result<String, AllocError>,
+    bound: Result<(), AllocError>,
+    out: &mut Printer<'_, W>,
+) -> Result<(), Failure>
+    ensures tells { Tells out.old out.new result }
+    ensures lost { IfErr result IsBrokenOff }
+    ensures bound { OnOk result (bound ≡ Ok tt) }
+    ensures prints { OnOk result
+        (IsOkAnd line.now (λ text. Prints out.old out.new (string_bytes text))) }
+    ensures nothing { OnErr result (PrintsNothing out.old out.new) }
+{
+    match (line, bound) {
+        (Ok(line), Ok(())) => write!(out, "{line}"),
+        _ => Err(Failure::Memory),
     }
 }

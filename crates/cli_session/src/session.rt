@@ -16,7 +16,7 @@ ghost use Rattle.cli_session.specs.Stored.{HoldsAsked, HoldsPlaced};
 ghost use Rattle.cli_session.specs.Whole.{BeginsFrom, ComesTo, EndsPrinted, IsEnd, LinesBegin, LinesComeTo, RunBegins};
 
 use crate::explaining::{Refused, explain_line, next_explained, refused_by};
-use crate::lines::{endorsed_line, print_begun, print_reply, print_state, print_step};
+use crate::lines::{endorsed_line, print_begun, print_bound, print_reply, print_state, print_step};
 use crate::placing::place_of;
 use crate::reading::Next;
 use crate::storing::write_store;
@@ -82,10 +82,12 @@ pub fn run<T: Threads + Sync, F: Files, W: Write>(
     ensures answers { Answers (ComesTo genesis.now (F.bytes files.old names.now.events.now)
         (HoldsAsked F.is_known (F.bytes files.new) (option_map (λ s. s.now) names.now.store)))
         out.old out.new result }
-    // What a run that is broken off printed is a beginning of this: what some first lines come to,
-    // and, where they are all, the state and its audit.
+    // What a run that is broken off printed is a beginning of this, where no text failed: what some
+    // first lines come to, and, where they are all, the state and its audit.
     ensures begins { Begins (RunBegins genesis.now (F.bytes files.old names.now.events.now))
         out.old out.new result }
+    // Where no store is asked for, no file is written.
+    ensures kept { names.now.store ≡ None → F.bytes files.new ≡ F.bytes files.old }
 {
     need_secrets(alloc, files, genesis, &genesis.peers)?;
     let Some(events) = files.open(names.events) else {
@@ -112,6 +114,7 @@ fn run_read<T: Threads + Sync, F: Files, B: BufRead, W: Write>(
         (HoldsAsked F.is_known (F.bytes files.new) (option_map (λ s. s.now) names.now.store)))
         out.old out.new result }
     ensures begins { Begins (LinesBegin genesis.now (B.remaining lines.old)) out.old out.new result }
+    ensures kept { names.now.store ≡ None → F.bytes files.new ≡ F.bytes files.old }
 {
     match names.store {
         Some(store) => {
@@ -157,6 +160,7 @@ fn run_into<T: Threads + Sync, F: Files, B: BufRead, W: Write>(
         (HoldsPlaced F.is_known (F.bytes files.new) (option_map (λ t. t.now) store.entry))) out.old
         out.new result }
     ensures begins { Begins (LinesBegin genesis.now (B.remaining lines.old)) out.old out.new result }
+    ensures kept { store.entry ≡ None → F.bytes files.new ≡ F.bytes files.old }
 {
     ordering_laws();
     let system = System::new(alloc, genesis)?;
@@ -201,6 +205,7 @@ impl<T: Threads + Sync> Session<'_, T> {
         ensures begins { Begins
             (BeginsFrom (exec_of genesis.now.book.value) (B.remaining lines.old)
             (stage_at self.old.system self.old.bindings)) out.old out.new result }
+        ensures kept { store.entry ≡ None → F.bytes files.new ≡ F.bytes files.old }
     {
         self.run_lines(files, lines, out)?;
         let is_good = self.print_end(genesis, out)?;
@@ -228,6 +233,7 @@ impl<T: Threads + Sync> Session<'_, T> {
         ensures first { OnErr result
             (DoesFirst (B.remaining lines.old) (stage_at self.old.system self.old.bindings)
             out.old out.new) }
+        ensures kept { F.bytes files.new ≡ F.bytes files.old }
     {
         for number in 1..usize::MAX {
             let place = Location::line(self.events, number as u64);
@@ -258,6 +264,7 @@ impl<T: Threads + Sync> Session<'_, T> {
             (stage_at self.old.system self.old.bindings)
             (stage_at self.new.system self.new.bindings) out.old out.new) }
         ensures nothing { OnErr result (PrintsNothing out.old out.new) }
+        ensures kept { F.bytes files.new ≡ F.bytes files.old }
     {
         let told = self.take_line(line, number, out);
         let refused = self.refused.take();
@@ -438,7 +445,8 @@ impl<T: Threads + Sync> Session<'_, T> {
     }
 
     /// Gives a payload and its endorsement a name. Prints the name and the payload's id, when
-    /// nothing but the output can fail any more.
+    /// nothing but the output can fail any more. The payload is handed on before anything can end
+    /// this: an end at which it is dropped is dear to prove.
     fn bind<W: Write>(
         &mut self,
         name: String,
@@ -456,9 +464,9 @@ impl<T: Threads + Sync> Session<'_, T> {
             (Prints out.old out.new (endorsed_text (string_bytes name) payload)) }
         ensures nothing { OnErr result (PrintsNothing out.old out.new) }
     {
-        let line = endorsed_line(self.alloc, name.as_str(), &payload)?;
-        self.bindings.bind(name, payload, endorsement)?;
-        write!(out, "{line}")
+        let line = endorsed_line(self.alloc, name.as_str(), &payload);
+        let bound = self.bindings.bind(name, payload, endorsement);
+        print_bound(&line, bound, out)
     }
 
     /// Submits the envelope that names stand for, in the line of this number.

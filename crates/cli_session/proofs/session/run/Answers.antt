@@ -23,6 +23,7 @@ returns-in_err-need_secrets g c =
       differs = tt;
       answers = inr ([], inr (lack, ap Err e.only, refl), prints_none c.args.out.now);
       begins = λ broken. inl (nothing_same c.args.out.now);
+      kept = λ none. c.in_err-need_secrets.ensures.kept;
     })
 
 pub returns-clause-answers : goal.returns-clause-answers

@@ -1,4 +1,4 @@
-use Rattle.std.proofs.Common.{Some, None, inl, option_map, sym, subst}
+use Rattle.std.proofs.Common.{Some, None, inl, option_map, sym, subst, ◌∙◌}
 use Rattle.std.proofs.lemmas.Result.{err_from_is_err_and}
 use Rattle.cli_lines.proofs.Printing.{nothing_same}
 use Rattle.cli_lines.proofs.Silence.{no_less, tells_by}
@@ -16,6 +16,7 @@ returns-in_err-place-in-Some g c =
       differs = tt;
       comes = inl c.in_err-place-in-Some.ensures.lost;
       begins = λ broken. inl (nothing_same c.args.out.now);
+      kept = λ none. absurd (cc (sym c.in-Some.is ∙ none));
     })
 
 pub returns-in_ok-place-in-Some-clause-comes : goal.returns-in_ok-place-in-Some-clause-comes

@@ -1,4 +1,4 @@
-use Rattle.std.proofs.Common.{ℕ, List, [], ◌∷◌, ◌++◌, inl, inr, refl, subst}
+use Rattle.std.proofs.Common.{ℕ, List, [], ◌∷◌, ◌++◌, ◌∙◌, inl, inr, refl, subst}
 use Rattle.std.proofs.lemmas.Result.{err_from_is_err_and}
 use Rattle.cli_lines.proofs.Printing.{nothing_same, on_err}
 use Rattle.cli_lines.proofs.Silence.{tells_by}
@@ -13,7 +13,7 @@ use Rattle.cli_session.proofs.session.Session.run_lines.Goals as goal
 
 pub loop-number-init : goal.loop-number-init
 loop-number-init g c =
-    ([], refl, lines_none (g.B.Read.remaining c.args.lines.now), no_lines (stage_at c.args.self.now.system c.args.self.now.bindings) c.args.out.now)
+    ([], refl, lines_none (g.B.Read.remaining c.args.lines.now), no_lines (stage_at c.args.self.now.system c.args.self.now.bindings) c.args.out.now, refl)
 
 pub loop-number-preserved : goal.loop-number-preserved
 loop-number-preserved g c =
@@ -31,6 +31,7 @@ loop-number-preserved g c =
       one_line_more c.loop-number.number before.0 l before.1,
       lines_more (g.B.Read.remaining c.args.lines.now) old new before.0 l before.2 next,
       line_more before.0 l first mid last c.args.out.now c.loop-number.out c.take_explained.new.out before.3 does,
+      c.take_explained.ensures.kept ∙ c.next_explained.ensures.kept ∙ before.4,
     )
 
 pub returns-in-End-clause-does : goal.returns-in-End-clause-does
@@ -63,6 +64,7 @@ returns-in_err-line g c =
           does_first (g.B.Read.remaining c.args.lines.now) (g.B.Read.remaining c.loop-number.lines) all.0
           (stage_at c.args.self.now.system c.args.self.now.bindings) (stage_at c.loop-number.self.system c.loop-number.self.bindings)
           c.args.out.now c.loop-number.out c.loop-number.out all.2 all.3 (nothing_same c.loop-number.out);
+      kept = c.in_err-line.ensures.kept ∙ c.loop-number.invariant.4;
     })
 
 pub returns-in_err-take_explained-in-Line-clause-stops : goal.returns-in_err-take_explained-in-Line-clause-stops

@@ -16,6 +16,7 @@ returns-in_err-write_store g c =
       does = tt;
       stops = inl c.in_err-write_store.ensures.lost;
       stored = tt;
+      kept = λ none. absurd cc;
       begins =
           λ broken. inr (all_begun (exec_of c.args.genesis.now.book.value) (g.B.Read.remaining c.args.lines.now)
           (stage_at c.args.self.now.system c.args.self.now.bindings) (stage_at c.run_lines.new.self.system c.run_lines.new.self.bindings)

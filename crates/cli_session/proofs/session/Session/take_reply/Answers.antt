@@ -1,6 +1,5 @@
 use Rattle.std.proofs.Common.{string_bytes}
 use Rattle.cli_session.specs.Stages.{Gets}
-use Rattle.cli_session.proofs.Begun.{nothing_by}
 use Rattle.cli_session.proofs.Printed.{finish_other, gets_other, prints_as}
 use Rattle.cli_session.proofs.Steps.{any_ok}
 use Rattle.cli_session.proofs.session.Session.take_reply.Goals as goal
@@ -15,8 +14,3 @@ pub returns-in_default-clause-prints : goal.returns-in_default-clause-prints
 returns-in_default-clause-prints g c =
     let p = c.print_reply in
     prints_as p.result c.args.out.now p.new.out _ _ (finish_other (string_bytes c.args.name) c.args.reply c.in_default.not-Endorsed) p.ensures.prints
-
-pub returns-in_default-clause-nothing : goal.returns-in_default-clause-nothing
-returns-in_default-clause-nothing g c =
-    let p = c.print_reply in
-    nothing_by c.args.out.now p.new.out p.result p.ensures.tells p.ensures.failed
