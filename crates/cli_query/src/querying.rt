@@ -43,6 +43,7 @@ pub fn query<T: Threads + Sync, F: Files, W: Write>(
     ensures begins { Begins
         (QueriesBegin genesis.now (F.bytes files.old store.now) (F.input_bytes files.old)) out.old
         out.new result }
+    ensures kept { F.bytes files.new ≡ F.bytes files.old }
 {
     let Some(file) = files.open(store) else {
         explain_trouble(alloc, files, store, Access::Read);
@@ -84,6 +85,7 @@ fn query_after<T: Threads + Sync, F: Files, W: Write>(
     ensures begins { Begins
         (QueriesBegin asked.now.genesis.now (F.Reader.remaining file) lines.old.left) out.old
         out.new result }
+    ensures kept { F.bytes files.new ≡ F.bytes files.old }
 {
     let mut reader = StoreReader::new(alloc, file)?;
     query_lines(alloc, files, asked, &mut reader, lines, out)
@@ -108,6 +110,7 @@ fn query_lines<T: Threads + Sync, F: Files, W: Write>(
         (LinesBegin asked.now.genesis.now
         (store_bytes (F.Reader.remaining reader.old.file.device) reader.old)
         (bytes_read reader.old) lines.old.left) out.old out.new result }
+    ensures kept { F.bytes files.new ≡ F.bytes files.old }
 {
     for number in 1..u64::MAX {
         let there = lines.read_explained(alloc, files)?;
@@ -140,6 +143,7 @@ fn take_line<T: Threads + Sync, V: Watch, F: Files, S: Read + Drop, W: Write>(
         (store_bytes (S.remaining reader.old.file.device) reader.old) number
         (bytes_read reader.old) line.now (bytes_read reader.new) out.old out.new result }
     ensures nothing { BreaksOff result → PrintsNothing out.old out.new }
+    ensures kept { F.bytes files.new ≡ F.bytes files.old }
 {
     match reader.catch_up(asked.tags, &asked.genesis.rules) {
         Ok(()) => {
@@ -168,6 +172,7 @@ fn answer<F: Files, W: Write>(
         (PrintsSo (IsPrinted genesis.now snapshot.now line.now number) out.old out.new) }
     ensures lost { IfErr result IsBrokenOff }
     ensures nothing { OnErr result (PrintsNothing out.old out.new) }
+    ensures kept { F.bytes files.new ≡ F.bytes files.old }
 {
     let text = said_of(alloc, genesis, snapshot, line, number)?;
     explain_said(alloc, files, line, number, &text);
@@ -175,7 +180,9 @@ fn answer<F: Files, W: Write>(
 }
 
 /// Says why the line of this number is a bad one, if that is what is said of it: an answer is JSON.
-fn explain_said<F: Files>(alloc: Global, files: &mut F, line: &[u8], number: u64, said: &str) {
+fn explain_said<F: Files>(alloc: Global, files: &mut F, line: &[u8], number: u64, said: &str)
+    ensures kept { F.bytes files.new ≡ F.bytes files.old }
+{
     if !said.starts_with('{') {
         let reason = question_reason(alloc, line);
         explain_bad_line(alloc, files, &Location::input(number), reason);

@@ -1,11 +1,13 @@
 -- Lines that are done one after another.
-use Rattle.std.proofs.Common.{◌≡◌, ◌⊎◌, inl, inr, ℕ, ◌+◌, List, [], ◌∷◌, ◌++◌, length, Option, true, false, Result, Ok, Err, OnOk, OnErr, IfErr, refl, sym, ap, subst, ◌∙◌, append_assoc, arith}
+use Rattle.std.proofs.Common.{◌≡◌, ◌≤◌, ◌⊎◌, inl, inr, ℕ, ◌+◌, List, [], ◌∷◌, ◌++◌, length, Option, Bool, true, false, Result, Ok, Err, OnOk, OnErr, IfErr, refl, sym, ap, subst, ◌∙◌, append_assoc, arith}
 use Rattle.std.proofs.lemmas.List.{append-nil, length-append}
 use Rattle.cli_lines.specs.Texts.{line}
-use Rattle.cli_lines.specs.Told.{Told, Answers, Begins, IsBrokenOff, Prints, PrintsNothing, PrintsPart}
+use Rattle.cli_lines.specs.Told.{Told, Answers, Begins, IsBrokenOff, IsMore, Prints, PrintsNothing, PrintsPart, Says, Tells}
 use Rattle.cli_lines.specs.declared.failure.Failure.{Failure}
+use Rattle.cli_lines.specs.declared.failure.Failure.TheVariants as failure
 use Rattle.cli_lines.proofs.Answering.{begins_nothing}
 use Rattle.cli_lines.proofs.Printing.{part_then, prints_none, prints_then}
+use Rattle.cli_lines.proofs.Silence.{and_more}
 use Rattle.cli_roles.proofs.Lines.{lines_none, lines_more, all_lines, first_lines}
 use Rattle.cli_roles.specs.Input.{Input, IsNext, TakesLines}
 use Rattle.cli_roles.specs.Filters.{AreDone, ComesTo, DoesOrEnds, EndAtLast, Filters, FiltersBegin, IsEndedBy, PrintsSo}
@@ -31,6 +33,28 @@ pub comes_by : {A : Type 0} (Does Ends Done Ended : List ℕ → Type 0) → ((t
 comes_by Does Ends Done Ended does ends t u r (inl lost) = inl lost
 comes_by Does Ends Done Ended does ends t u (Ok a) (inr c) = inr (c.0, does c.0 c.1, c.2)
 comes_by Does Ends Done Ended does ends t u (Err e) (inr c) = inr (c.0, (c.1.0, ends c.0 c.1.1), c.2)
+
+-- what was told before is told
+says_then : (t u v : Told) (e : Failure) → t.printed ≤ u.printed → Says u v e → Says t v e
+says_then t u v failure.Usage more says = tt
+says_then t u v failure.Memory more says = tt
+says_then t u v failure.File more says = tt
+says_then t u v (failure.Module refusal) more says = tt
+says_then t u v (failure.Genesis refusal) more says = tt
+says_then t u v failure.KeyFile more says = tt
+says_then t u v failure.NoSecret more says = tt
+says_then t u v (failure.Simulation refusal) more says = tt
+says_then t u v failure.NoPlace more says = tt
+says_then t u v failure.NotEntered more says = tt
+says_then t u v (failure.Commit refusal) more says = tt
+says_then t u v (failure.Flags block) more says = tt
+says_then t u v (failure.Store end) more says = tt
+says_then t u v (failure.BadLine number) more says = tt
+says_then t u v failure.Printed more says = omega (arith, more, says)
+says_then t u v failure.Output more says = says
+
+tells_then : (t u v : Told) (e : Failure) → IsMore t u → IsMore u v × Says u v e → IsMore t v × Says t v e
+tells_then t u v e first next = (and_more t u v first next.0, says_then t u v e first.prints next.1)
 
 -- done, by some text that it printed
 pub done_so : {A : Type 0} (Does Ends : List ℕ → Type 0) (t u : Told) (r : Result A Failure) → OnOk r (PrintsSo Does t u) → IfErr r IsBrokenOff
@@ -73,6 +97,9 @@ comes_more Does Ends Done Ended does ends text (inl is) = inl (does text is)
 comes_more Does Ends Done Ended does ends text (inr is) = inr (ends text is)
 
 -- ---- lines
+
+next_by : (before after : Input) (there b : Bool) → IsNext there before after → there ≡ b → IsNext b before after
+next_by before after there b next is = subst (λ (k : Bool). IsNext k before after) is next
 
 -- what is so of each line is more than that
 module _ {S : Type 0} (Does Done : ℕ → S → List ℕ → List ℕ → S → Type 0)
@@ -138,33 +165,33 @@ module _ {S : Type 0} (Does : ℕ → S → List ℕ → List ℕ → S → Type
       record { lines = h.lines; text = h.text; taken = h.taken; next = h.next; done = h.done; prints = kept h.text h.prints }
 
   module _ (Ends : ℕ → S → List ℕ → List ℕ → Type 0) where
-    -- one line more was done
-    pub one_done : {A : Type 0} (input : Option (List ℕ)) (before after : Input) (old mid new : S) (number : ℕ) (t u v : Told) (a : A)
-        → HasDone input before.left old number mid t u → IsNext true before after
-        → Answers (DoesOrEnds (λ text. Does number mid after.last text new) (Ends number mid after.last)) u v (Ok a)
-        → HasDone input after.left old (number + 1) new t v
-    one_done input before after old mid new number t u v a h is (inl lost) = absurd lost
-    one_done input before after old mid new number t u v a h is (inr c) =
+    -- one line more was done: the next one, of which these bytes are lent
+    pub one_done : {A : Type 0} (input : Option (List ℕ)) (before after : Input) (there : Bool) (lent : List ℕ) (old mid new : S) (number : ℕ) (t u v : Told)
+        (a : A) → HasDone input before.left old number mid t u → IsNext there before after → there ≡ true → lent ≡ after.last
+        → Answers (DoesOrEnds (λ text. Does number mid lent text new) (Ends number mid lent)) u v (Ok a) → HasDone input after.left old (number + 1) new t v
+    one_done input before after there lent old mid new number t u v a h next is same (inl lost) = absurd lost
+    one_done input before after there lent old mid new number t u v a h next is same (inr c) =
         let l = after.last in
         let at : number ≡ 1 + length h.lines = omega (arith, h.next) in
-        let next : number + 1 ≡ length (h.lines ++ l ∷ []) + 1 = omega (arith, h.next, length-append h.lines (l ∷ [])) in
+        let count : number + 1 ≡ length (h.lines ++ l ∷ []) + 1 = omega (arith, h.next, length-append h.lines (l ∷ [])) in
+        let does = subst (λ (k : List ℕ). Does number mid k c.0 new) same c.1 in
         record {
           lines = h.lines ++ l ∷ [];
           text = h.text ++ c.0;
-          taken = lines_more h.lines input before after h.taken is;
-          next = next;
-          done = done_more h.lines 1 old mid new l h.text c.0 h.done (subst (λ (n : ℕ). Does n mid l c.0 new) at c.1);
+          taken = lines_more h.lines input before after h.taken (next_by before after there true next is);
+          next = count;
+          done = done_more h.lines 1 old mid new l h.text c.0 h.done (subst (λ (n : ℕ). Does n mid l c.0 new) at does);
           prints = prints_then t u v h.text c.0 h.prints c.2;
         }
 
     -- all lines were done
-    pub all_done : {A : Type 0} (input : Option (List ℕ)) (before after : Input) (old new : S) (number : ℕ) (t u : Told) (a : A)
-        → HasDone input before.left old number new t u → IsNext false before after → Answers (Filters Does Ends old input) t u (Ok a)
-    all_done input before after old new number t u a h none =
-        inr (h.text, (h.lines, (all_lines input before.left h.lines h.taken none, (new, h.done))), h.prints)
+    pub all_done : {A : Type 0} (input : Option (List ℕ)) (before after : Input) (there : Bool) (old new : S) (number : ℕ) (t u : Told) (a : A)
+        → HasDone input before.left old number new t u → IsNext there before after → there ≡ false → Answers (Filters Does Ends old input) t u (Ok a)
+    all_done input before after there old new number t u a h next is =
+        inr (h.text, (h.lines, (all_lines input before.left h.lines h.taken (next_by before after there false next is), (new, h.done))), h.prints)
 
     -- a line ended it
-    pub last_done : (A : Type 0) (input : Option (List ℕ)) (before after : Input) (old mid new : S) (number : ℕ) (t u v : Told) (e : Failure)
+    last_done : (A : Type 0) (input : Option (List ℕ)) (before after : Input) (old mid new : S) (number : ℕ) (t u v : Told) (e : Failure)
         → HasDone input before.left old number mid t u → IsNext true before after
         → Answers (DoesOrEnds {A = A} (λ text. Does number mid after.last text new) (Ends number mid after.last)) u v (Err e)
         → Answers (Filters {A = A} Does Ends old input) t v (Err e)
@@ -228,7 +255,7 @@ module _ {S : Type 0} (Does : ℕ → S → List ℕ → List ℕ → S → Type
         )
 
     -- it was broken off in a line
-    pub begins_line : (A : Type 0) (input : Option (List ℕ)) (before after : Input) (old mid new : S) (number : ℕ) (t u v : Told) (e : Failure)
+    begins_line : (A : Type 0) (input : Option (List ℕ)) (before after : Input) (old mid new : S) (number : ℕ) (t u v : Told) (e : Failure)
         → HasDone input before.left old number mid t u → IsNext true before after
         → Begins {A = A} (ComesTo (λ text. Does number mid after.last text new) (Ends number mid after.last)) u v (Err e)
         → Begins {A = A} (FiltersBegin Does Ends old input) t v (Err e)
@@ -236,3 +263,18 @@ module _ {S : Type 0} (Does : ℕ → S → List ℕ → List ℕ → S → Type
       | inl none ↦ begins_lines {A = A} input before.left old number mid t u v (Err e) h none broken
       | inr part ↦ inr (begun_line input before after old mid new number t u v part.0 h is part.1 part.2)
     ]
+
+    -- the next line ended it, or it was broken off there
+    pub line_ended : (A : Type 0) (input : Option (List ℕ)) (before after : Input) (there : Bool) (lent : List ℕ) (old mid new : S) (number : ℕ) (t u v : Told)
+        (e : Failure) → HasDone input before.left old number mid t u → IsNext there before after → there ≡ true → lent ≡ after.last → Tells {A = A} u v (Err e)
+        → Answers {A = A} (DoesOrEnds (λ text. Does number mid lent text new) (Ends number mid lent)) u v (Err e)
+        → Begins {A = A} (ComesTo (λ text. Does number mid lent text new) (Ends number mid lent)) u v (Err e)
+        → Tells {A = A} t v (Err e) × Answers {A = A} (Filters Does Ends old input) t v (Err e) × Begins {A = A} (FiltersBegin Does Ends old input) t v (Err e)
+    line_ended A input before after there lent old mid new number t u v e h next is same tells does begins =
+        let here = next_by before after there true next is in (
+          tells_then t u v e h.prints.more tells,
+          last_done A input before after old mid new number t u v e h here
+              (subst (λ (l : List ℕ). Answers {A = A} (DoesOrEnds (λ text. Does number mid l text new) (Ends number mid l)) u v (Err e)) same does),
+          begins_line A input before after old mid new number t u v e h here
+              (subst (λ (l : List ℕ). Begins {A = A} (ComesTo (λ text. Does number mid l text new) (Ends number mid l)) u v (Err e)) same begins),
+        )

@@ -164,24 +164,18 @@ line_begun_behind {A} (Err e) listed digest number old new bytes decoded index s
     line_begun {A = A} (Err e) listed digest number old new bytes decoded index said t v lossy first rest fits
     (inr (taken.0, taken.1, part_ended t u v taken.0 taken.2 none))
 
--- the same of a line by equal rules and equal bytes
-pub took_by : {A : Type 0} (r : Result A Failure) (mid listed : Listed) (digest : List ℕ) (number : ℕ) (old new : Ordering) (lent bytes : List ℕ) (t u : Told) →
-    mid ≡ listed → lent ≡ bytes →
-    Answers (DoesOrEnds (λ text. OrdersLine mid digest number old lent text new) (EndsOrders digest number old lent)) t u r →
+-- the same of a line by equal rules
+pub took_by : {A : Type 0} (r : Result A Failure) (mid listed : Listed) (digest : List ℕ) (number : ℕ) (old new : Ordering) (bytes : List ℕ) (t u : Told) →
+    mid ≡ listed → Answers (DoesOrEnds (λ text. OrdersLine mid digest number old bytes text new) (EndsOrders digest number old bytes)) t u r →
     Answers (DoesOrEnds (λ text. OrdersLine listed digest number old bytes text new) (EndsOrders digest number old bytes)) t u r
-took_by r mid listed digest number old new lent bytes t u rules same answers =
-    let P : Listed → List ℕ → Type 0 =
-    λ l bs. Answers (DoesOrEnds (λ text. OrdersLine l digest number old bs text new) (EndsOrders digest number old bs)) t u r in
-    subst (λ (bs : List ℕ). P listed bs) same (subst (λ (l : Listed). P l lent) rules answers)
+took_by r mid listed digest number old new bytes t u =
+    subst (λ (l : Listed). Answers (DoesOrEnds (λ text. OrdersLine l digest number old bytes text new) (EndsOrders digest number old bytes)) t u r)
 
-pub begun_by : {A : Type 0} (r : Result A Failure) (mid listed : Listed) (digest : List ℕ) (number : ℕ) (old new : Ordering) (lent bytes : List ℕ) (t u : Told) →
-    mid ≡ listed → lent ≡ bytes →
-    Begins (ComesTo (λ text. OrdersLine mid digest number old lent text new) (EndsOrders digest number old lent)) t u r →
+pub begun_by : {A : Type 0} (r : Result A Failure) (mid listed : Listed) (digest : List ℕ) (number : ℕ) (old new : Ordering) (bytes : List ℕ) (t u : Told) →
+    mid ≡ listed → Begins (ComesTo (λ text. OrdersLine mid digest number old bytes text new) (EndsOrders digest number old bytes)) t u r →
     Begins (ComesTo (λ text. OrdersLine listed digest number old bytes text new) (EndsOrders digest number old bytes)) t u r
-begun_by r mid listed digest number old new lent bytes t u rules same begins =
-    let P : Listed → List ℕ → Type 0 =
-    λ l bs. Begins (ComesTo (λ text. OrdersLine l digest number old bs text new) (EndsOrders digest number old bs)) t u r in
-    subst (λ (bs : List ℕ). P listed bs) same (subst (λ (l : Listed). P l lent) rules begins)
+begun_by r mid listed digest number old new bytes t u =
+    subst (λ (l : Listed). Begins (ComesTo (λ text. OrdersLine l digest number old bytes text new) (EndsOrders digest number old bytes)) t u r)
 
 -- ---- the whole
 

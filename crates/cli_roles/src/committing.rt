@@ -399,9 +399,7 @@ fn print_newest<D: Read + Write + Seek + OpenFile + Drop, W: Write>(
     ensures prints { (before : Chain) (last : Committed) →
         stored_chain chain.now ≡ before ++ last ∷ [] →
         OnOk result (Prints out.old out.new (committed_text (length before + 1) last.flags)) }
-    ensures part { (before : Chain) (last : Committed) →
-        stored_chain chain.now ≡ before ++ last ∷ [] → OnErr result
-        (PrintsPart out.old out.new (committed_text (length before + 1) last.flags)) }
+    ensures nothing { OnErr result (PrintsNothing out.old out.new) }
     ensures lost { IfErr result IsBrokenOff }
 {
     match chain.newest() {

@@ -80,6 +80,7 @@ pub fn endorse<T: Threads + Sync, F: Files, W: Write>(
     ensures begins { Begins
         (EndorsesBegin (endorser log.now asked.now.org.now asked.now.agrees)
         (F.bytes files.old asked.now.store.now) (F.input_bytes files.old)) out.old out.new result }
+    ensures kept { F.bytes files.new ≡ F.bytes files.old }
 {
     let Some(file) = files.open(asked.store) else {
         explain_trouble(alloc, files, asked.store, Access::Read);
@@ -125,6 +126,7 @@ fn endorse_after<T: Threads + Sync, V: Watch, F: Files, S: Read + Drop, R: Read 
     ensures begins { Begins
         (EndorsesBegin (endorser member.now.log.now member.now.org.now member.now.agrees)
         (S.remaining file) lines.old.left) out.old out.new result }
+    ensures kept { F.bytes files.new ≡ F.bytes files.old }
 {
     let mut follower = follower_of(alloc, &member.log.genesis, member.org.clone()?, file)?;
     endorse_behind(alloc, files, member, &mut follower, lines, out)
@@ -151,6 +153,7 @@ fn endorse_behind<T: Threads + Sync, V: Watch, F: Files, S: Read + Drop, R: Read
         (EndorsesBegin (endorser member.now.log.now member.now.org.now member.now.agrees)
         (store_bytes (S.remaining follower.old.reader.file.device) follower.old) lines.old.left)
         out.old out.new result }
+    ensures kept { F.bytes files.new ≡ F.bytes files.old }
 {
     catch_up(alloc, files, member, follower, out)?;
     endorse_known(alloc, files, member, follower, lines, out)
@@ -179,6 +182,7 @@ fn endorse_known<T: Threads + Sync, V: Watch, F: Files, S: Read + Drop, R: Read 
         (store_bytes (S.remaining follower.old.reader.file.device) follower.old)
         (bytes_read follower.old) (read_chain follower.old) lines.old.left) out.old out.new
         result }
+    ensures kept { F.bytes files.new ≡ F.bytes files.old }
 {
     let genesis = &member.log.genesis;
     need_keys(alloc, files, genesis, member.org, follower, out)?;
@@ -208,6 +212,7 @@ fn catch_up<T: Threads + Sync, V: Watch, F: Files, S: Read + Drop, W: Write>(
         (bytes_read follower.old) out.old out.new) }
     ensures store { Keeps (store_bytes (S.remaining follower.old.reader.file.device) follower.old)
         (store_bytes (S.remaining follower.new.reader.file.device) follower.new) }
+    ensures kept { F.bytes files.new ≡ F.bytes files.old }
 {
     match follower.catch_up(member.tags) {
         Ok(()) => Ok(()),
@@ -235,6 +240,7 @@ fn need_keys<F: Files, S: Read + Drop, W: Write>(
     ensures silent { OnOk result (out.new ≡ out.old) }
     ensures nothing { BreaksOff result → PrintsNothing out.old out.new }
     ensures tells { Tells out.old out.new result }
+    ensures kept { F.bytes files.new ≡ F.bytes files.old }
 {
     let standing = follower.standing()?;
     if can_endorse(genesis, &standing, org) {
@@ -332,6 +338,7 @@ fn endorse_lines<T: Threads + Sync, V: Watch, F: Files, S: Read + Drop, R: Read 
         (LinesBegin (endorser member.now.log.now member.now.org.now member.now.agrees)
         (store_bytes (S.remaining follower.old.reader.file.device) follower.old)
         (bytes_read follower.old) lines.old.left) out.old out.new result }
+    ensures kept { F.bytes files.new ≡ F.bytes files.old }
 {
     for number in 1..u64::MAX {
         let there = lines.read_explained(alloc, files)?;
@@ -371,6 +378,7 @@ fn take_line<T: Threads + Sync, V: Watch, F: Files, S: Read + Drop, W: Write>(
         (LineComesTo (endorser member.now.log.now member.now.org.now member.now.agrees)
         (store_bytes (S.remaining follower.old.reader.file.device) follower.old) number
         (bytes_read follower.old) line.now (bytes_read follower.new)) out.old out.new result }
+    ensures kept { F.bytes files.new ≡ F.bytes files.old }
 {
     catch_up(alloc, files, member, follower, out)?;
     answer_line(alloc, files, member, follower, line, number, out)
@@ -395,6 +403,7 @@ fn answer_line<T, V, F: Files, S: Read + Drop, W: Write>(
         (read_chain follower.now) line.now) out.old out.new) }
     ensures lost { IfErr result IsBrokenOff }
     ensures nothing { OnErr result (PrintsNothing out.old out.new) }
+    ensures kept { F.bytes files.new ≡ F.bytes files.old }
 {
     match asked_block(follower, line) {
         Some(block) => {
@@ -424,6 +433,7 @@ fn answer_other<T, V, F: Files, S: Read + Drop, W: Write>(
         (read_chain follower.now) line.now) out.old out.new) }
     ensures lost { IfErr result IsBrokenOff }
     ensures nothing { OnErr result (PrintsNothing out.old out.new) }
+    ensures kept { F.bytes files.new ≡ F.bytes files.old }
 {
     match proposal_of(alloc, line) {
         Ok(proposal) => answer(alloc, files, member, follower, &proposal, number, out),
@@ -541,6 +551,7 @@ fn answer<T, V, F: Files, S: Read + Drop, W: Write>(
         (endorsed_on (endorses_by follower.now) proposal.now (read_chain follower.now)))) }
     ensures lost { IfErr result IsBrokenOff }
     ensures nothing { OnErr result (PrintsNothing out.old out.new) }
+    ensures kept { F.bytes files.new ≡ F.bytes files.old }
 {
     if is_passed_over(member.agrees, proposal) {
         explain_number(alloc, files, &Location::input(number), 409);
@@ -576,6 +587,7 @@ fn print_refused<F: Files, W: Write>(
     ensures prints { OnOk result (Prints out.old out.new (simulation_line refusal)) }
     ensures lost { IfErr result IsBrokenOff }
     ensures nothing { OnErr result (PrintsNothing out.old out.new) }
+    ensures kept { F.bytes files.new ≡ F.bytes files.old }
 {
     if let SimRefusal::Memory = refusal {
         return Err(Failure::Memory);

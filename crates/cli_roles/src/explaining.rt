@@ -1,5 +1,7 @@
 //! Why a line is skipped or refused, or a store ends a filter, in words on the standard error.
 
+ghost use Rattle.std.specs.Prelude.{◌≡◌};
+
 use crate::seen::seen_in;
 use cli_lines::{
     Access, Files, Location, block_words, explain, explain_bad_line, explain_number,
@@ -33,7 +35,9 @@ pub(crate) fn explain_skip<F: Files>(
     line: u64,
     text: &str,
     skip: Skip,
-) {
+)
+    ensures kept { F.bytes files.new ≡ F.bytes files.old }
+{
     let place = Location::input(line);
     if skip != Skip::NoHex {
         explain_number(alloc, files, &place, skip.number());
@@ -43,7 +47,9 @@ pub(crate) fn explain_skip<F: Files>(
 }
 
 /// Says why a line is no proposal, and asks for no block that the store has.
-pub(crate) fn explain_proposal<F: Files>(alloc: Global, files: &mut F, line: u64, text: &[u8]) {
+pub(crate) fn explain_proposal<F: Files>(alloc: Global, files: &mut F, line: u64, text: &[u8])
+    ensures kept { F.bytes files.new ≡ F.bytes files.old }
+{
     let reason = if text.starts_with(b"seen ") {
         String::from_str(alloc, "the store has no block of this number")
     } else {
@@ -53,7 +59,9 @@ pub(crate) fn explain_proposal<F: Files>(alloc: Global, files: &mut F, line: u64
 }
 
 /// Says that an organisation is not known (806).
-pub(crate) fn explain_stranger<F: Files>(alloc: Global, files: &mut F, org: &OrgName) {
+pub(crate) fn explain_stranger<F: Files>(alloc: Global, files: &mut F, org: &OrgName)
+    ensures kept { F.bytes files.new ≡ F.bytes files.old }
+{
     if let Ok(org) = String::from_utf8_lossy(alloc, org.as_slice()) {
         explain_number(alloc, files, &Location::file(&org), 806);
     }
@@ -66,7 +74,9 @@ pub fn explain_store<F: Files>(
     name: &str,
     access: Access,
     refusal: &StoreRefusal,
-) {
+)
+    ensures kept { F.bytes files.new ≡ F.bytes files.old }
+{
     let place = Location::file(name);
     match (refusal, access) {
         (StoreRefusal::File, Access::Read) => explain_trouble(alloc, files, name, access),
@@ -84,7 +94,9 @@ pub(crate) fn explain_cut<F: Files>(
     name: &str,
     height: usize,
     cut: usize,
-) {
+)
+    ensures kept { F.bytes files.new ≡ F.bytes files.old }
+{
     if cut > 0 {
         let words = format!(in alloc;
             "it ended with a part of a record: {cut} bytes were cut off, {height} blocks are kept"
@@ -101,7 +113,9 @@ pub(crate) fn explain_block<F: Files>(
     line: u64,
     block: u32,
     refusal: &StoreRefusal,
-) {
+)
+    ensures kept { F.bytes files.new ≡ F.bytes files.old }
+{
     let words = match refusal {
         StoreRefusal::Received(ReceiveRefusal::Unfit(cause)) => {
             block_words(alloc, block as usize, *cause)

@@ -68,6 +68,7 @@ impl<R: Read + Drop> InputLines<R> {
         ensures next { IfOk result (λ there. IsNext there self.old self.new) }
         ensures silent { IfErr result IsSilent }
         ensures lost { IfErr result IsBrokenOff }
+        ensures kept { F.bytes files.new ≡ F.bytes files.old }
     {
         let next = self.read_next();
         if let Err(Failure::File) = &next {

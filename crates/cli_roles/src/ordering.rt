@@ -53,6 +53,7 @@ pub fn order<F: Files, W: Write>(
         (OrdersBegin log.now.genesis log.now.digest (F.input_bytes files.old)) out.old out.new
         result }
     ensures tells { Tells out.old out.new result }
+    ensures kept { F.bytes files.new ≡ F.bytes files.old }
 {
     let digest = hex::encode(alloc, &log.digest)?;
     let mut lines = InputLines::new(alloc, files.input())?;
@@ -98,6 +99,7 @@ impl Ordering {
             (FiltersBegin (OrdersLine self.old.rules.value digest.now) (EndsOrders digest.now)
             self.old.replica lines.old.left) out.old out.new result }
         ensures tells { Tells out.old out.new result }
+        ensures kept { F.bytes files.new ≡ F.bytes files.old }
     {
         for number in 1..u64::MAX {
             if !lines.read_explained(self.alloc, files)? {
@@ -130,6 +132,7 @@ impl Ordering {
             (EndsOrders digest.now number self.old.replica line.now)) out.old out.new result }
         ensures rules { self.new.rules.value ≡ self.old.rules.value }
         ensures tells { Tells out.old out.new result }
+        ensures kept { F.bytes files.new ≡ F.bytes files.old }
     {
         let decoded = String::from_utf8_lossy(self.alloc, line)?;
         let (index, text) = parted(&decoded);
@@ -174,6 +177,7 @@ impl Ordering {
         ensures rules { self.new.rules.value ≡ self.old.rules.value }
         ensures tells { Tells out.old out.new result }
         ensures lost { IfErr result IsBrokenOff }
+        ensures kept { F.bytes files.new ≡ F.bytes files.old }
     {
         let report = self.replica.read(text)?;
         self.print_report(files, &report, index, text, number, out)
@@ -198,6 +202,7 @@ impl Ordering {
         ensures mark { IfOk result (IsMarkBy report.now text.now) }
         ensures tells { Tells out.old out.new result }
         ensures lost { IfErr result IsBrokenOff }
+        ensures kept { F.bytes files.new ≡ F.bytes files.old }
     {
         match report {
             LineReport::Accepted { id: _, batches } => {
@@ -262,6 +267,7 @@ fn end_by_genesis<F: Files, W: Write>(
     ensures ends { IsEndedBy (codes "refused 807") out.old out.new result }
     ensures more { IsMore out.old out.new }
     ensures says { Says out.old out.new result }
+    ensures kept { F.bytes files.new ≡ F.bytes files.old }
 {
     explain_number(alloc, files, &Location::input(1), 807);
     match writeln!(out, "refused 807") {

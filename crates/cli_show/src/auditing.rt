@@ -1,6 +1,6 @@
 //! The command `audit`.
 
-ghost use Rattle.std.specs.Prelude.{IfErr, OnErr, OnOk};
+ghost use Rattle.std.specs.Prelude.{◌≡◌, IfErr, OnErr, OnOk};
 ghost use Rattle.cli_lines.specs.Told.{Answers, Begins, IsBrokenOff, IsTextOf, Prints, PrintsNothing, Tells};
 ghost use Rattle.cli_show.specs.Findings.{Audits, AuditsReplay, finding_text};
 
@@ -34,6 +34,7 @@ pub fn audit<T: Threads + Sync, F: Files, W: Write>(
         result }
     ensures begins { Begins (IsTextOf (Audits genesis.now (F.bytes files.old store.now))) out.old
         out.new result }
+    ensures kept { F.bytes files.new ≡ F.bytes files.old }
 {
     let replayed = replayed(workers, alloc, files, genesis, store)?;
     explain_findings(alloc, files, genesis, store, &replayed);

@@ -1,6 +1,6 @@
 //! The commands `check` and `digest`.
 
-ghost use Rattle.std.specs.Prelude.{IfOk, IfErr, OnErr};
+ghost use Rattle.std.specs.Prelude.{◌≡◌, IfOk, IfErr, OnErr};
 ghost use Rattle.cli_lines.specs.Told.{Answers, PrintsNothing, Tells};
 ghost use Rattle.wasm_file.specs.Modules.{IsDefinedBy, NoModule};
 ghost use Rattle.cli_show.specs.Modules.{Checks, Digests};
@@ -32,6 +32,7 @@ pub fn check<F: Files, W: Write>(
     ensures answers { Answers (Checks profile (F.bytes files.old name.now)) out.old out.new
         result }
     ensures nothing { OnErr result (PrintsNothing out.old out.new) }
+    ensures kept { F.bytes files.new ≡ F.bytes files.old }
 {
     let bytes = read_explained(alloc, files, name, MOST_READ)?;
     let functions = functions_explained(alloc, files, name, &bytes, profile)?;
@@ -54,6 +55,7 @@ pub fn digest<F: Files, W: Write>(
     ensures answers { Answers (Digests profile (F.bytes files.old name.now)) out.old out.new
         result }
     ensures nothing { OnErr result (PrintsNothing out.old out.new) }
+    ensures kept { F.bytes files.new ≡ F.bytes files.old }
 {
     let bytes = read_explained(alloc, files, name, MOST_READ)?;
     functions_explained(alloc, files, name, &bytes, profile)?;
@@ -72,6 +74,7 @@ fn functions_explained<F: Files>(
 ) -> Result<usize, ModuleRefusal>
     ensures valid { IfOk result (λ functions. IsDefinedBy profile bytes.now functions) }
     ensures refused { IfErr result (λ refusal. NoModule profile bytes.now refusal) }
+    ensures kept { F.bytes files.new ≡ F.bytes files.old }
 {
     let functions = defined_functions(alloc, bytes, profile);
     explain_module(alloc, files, name, bytes, profile, &functions);

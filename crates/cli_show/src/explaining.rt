@@ -1,5 +1,7 @@
 //! What is wrong with a store or a module, in words on the standard error.
 
+ghost use Rattle.std.specs.Prelude.{◌≡◌};
+
 use crate::missing::first_missing;
 use crate::showing::fault_of;
 use block_store::{End, RecordReader};
@@ -32,7 +34,9 @@ pub(crate) fn explain_module<F: Files>(
     bytes: &[u8],
     profile: Profile,
     functions: &Result<usize, ModuleRefusal>,
-) {
+)
+    ensures kept { F.bytes files.new ≡ F.bytes files.old }
+{
     match functions {
         Ok(_) | Err(ModuleRefusal::Memory) => {}
         Err(refusal) => {
@@ -43,12 +47,9 @@ pub(crate) fn explain_module<F: Files>(
 }
 
 /// Says why the state after a store is not told, if it is not.
-pub(crate) fn explain_fault<F: Files>(
-    alloc: Global,
-    files: &mut F,
-    name: &str,
-    replayed: &Replayed,
-) {
+pub(crate) fn explain_fault<F: Files>(alloc: Global, files: &mut F, name: &str, replayed: &Replayed)
+    ensures kept { F.bytes files.new ≡ F.bytes files.old }
+{
     match fault_of(replayed) {
         Some(Failure::Flags(block)) => explain_flags(alloc, files, name, block, "711"),
         Some(_) => explain_chain(alloc, files, name, replayed),
@@ -58,12 +59,9 @@ pub(crate) fn explain_fault<F: Files>(
 
 /// Says why the chain of a store is not whole, if it is not: why a block does not fit, or else how
 /// the store ends.
-pub(crate) fn explain_chain<F: Files>(
-    alloc: Global,
-    files: &mut F,
-    name: &str,
-    replayed: &Replayed,
-) {
+pub(crate) fn explain_chain<F: Files>(alloc: Global, files: &mut F, name: &str, replayed: &Replayed)
+    ensures kept { F.bytes files.new ≡ F.bytes files.old }
+{
     match replayed.refused {
         Some(_) => explain_unfit(alloc, files, name, replayed),
         None => explain_end(alloc, files, name, replayed.blocks, replayed.end),
@@ -77,7 +75,9 @@ pub(crate) fn explain_findings<F: Files>(
     genesis: &Genesis,
     name: &str,
     replayed: &Replayed,
-) {
+)
+    ensures kept { F.bytes files.new ≡ F.bytes files.old }
+{
     match (replayed.differs, replayed.refused) {
         (Some(block), _) => explain_flags(alloc, files, name, block, "flags differ"),
         (None, Some(_)) => explain_unfit(alloc, files, name, replayed),
@@ -88,7 +88,9 @@ pub(crate) fn explain_findings<F: Files>(
 
 /// Says which block has other flags than the table's, with what stands on the standard output for
 /// it.
-fn explain_flags<F: Files>(alloc: Global, files: &mut F, name: &str, block: usize, told: &str) {
+fn explain_flags<F: Files>(alloc: Global, files: &mut F, name: &str, block: usize, told: &str)
+    ensures kept { F.bytes files.new ≡ F.bytes files.old }
+{
     let words = match flags_words(alloc, block) {
         Ok(words) => format!(in alloc; "{words} ({told})"),
         Err(error) => Err(error),
@@ -97,7 +99,9 @@ fn explain_flags<F: Files>(alloc: Global, files: &mut F, name: &str, block: usiz
 }
 
 /// Says why a block does not fit, if one does not.
-fn explain_unfit<F: Files>(alloc: Global, files: &mut F, name: &str, replayed: &Replayed) {
+fn explain_unfit<F: Files>(alloc: Global, files: &mut F, name: &str, replayed: &Replayed)
+    ensures kept { F.bytes files.new ≡ F.bytes files.old }
+{
     if let Some(refusal) = replayed.refused {
         let block = replayed.snapshot.height().saturating_add(1);
         let words = block_words(alloc, block, refusal);
@@ -112,7 +116,9 @@ fn explain_missing<F: Files>(
     genesis: &Genesis,
     name: &str,
     replayed: &Replayed,
-) {
+)
+    ensures kept { F.bytes files.new ≡ F.bytes files.old }
+{
     if let Some(block) = first_missing(&genesis.book, replayed.snapshot.blocks()) {
         let words = format!(in alloc;
             "block {block} upgrades to a module that is not at hand; give it by --modules (406)"
@@ -122,7 +128,9 @@ fn explain_missing<F: Files>(
 }
 
 /// Says how a store ends that has so many whole blocks, unless it ends with a record.
-fn explain_end<F: Files>(alloc: Global, files: &mut F, name: &str, blocks: usize, end: End) {
+fn explain_end<F: Files>(alloc: Global, files: &mut F, name: &str, blocks: usize, end: End)
+    ensures kept { F.bytes files.new ≡ F.bytes files.old }
+{
     let words = match end {
         End::Clean => return,
         End::DeviceFailed => return explain_trouble(alloc, files, name, Access::Read),
@@ -138,7 +146,9 @@ fn torn_words<F: Files>(
     files: &mut F,
     name: &str,
     blocks: usize,
-) -> Result<String, AllocError> {
+) -> Result<String, AllocError>
+    ensures kept { F.bytes files.new ≡ F.bytes files.old }
+{
     let at = whole_bytes(alloc, files, name, u64::MAX);
     format!(in alloc;
         "a part of a record is behind byte {at}, where {blocks} whole blocks end; {CUT_OFF} (701)"
@@ -151,14 +161,18 @@ fn damaged_words<F: Files>(
     files: &mut F,
     name: &str,
     record: u32,
-) -> Result<String, AllocError> {
+) -> Result<String, AllocError>
+    ensures kept { F.bytes files.new ≡ F.bytes files.old }
+{
     let at = start_of_damage(alloc, files, name);
     format!(in alloc; "record {record}, at byte {at}, is damaged; {TAKE_AGAIN} (702)")
 }
 
 /// At which byte the damaged record of a store begins, as far as it can be read again: it is looked
 /// for byte by byte in the piece in which it shows.
-fn start_of_damage<F: Files>(alloc: Global, files: &mut F, name: &str) -> u64 {
+fn start_of_damage<F: Files>(alloc: Global, files: &mut F, name: &str) -> u64
+    ensures kept { F.bytes files.new ≡ F.bytes files.old }
+{
     let piece = whole_bytes(alloc, files, name, u64::MAX);
     whole_bytes(alloc, files, name, piece)
 }
@@ -166,7 +180,9 @@ fn start_of_damage<F: Files>(alloc: Global, files: &mut F, name: &str) -> u64 {
 /// How many bytes of a store its whole records take, as far as it can be read again. It is read in
 /// pieces up to this byte, and byte by byte from there on: where damage shows in a piece, what is
 /// before that piece.
-fn whole_bytes<F: Files>(alloc: Global, files: &mut F, name: &str, fine_from: u64) -> u64 {
+fn whole_bytes<F: Files>(alloc: Global, files: &mut F, name: &str, fine_from: u64) -> u64
+    ensures kept { F.bytes files.new ≡ F.bytes files.old }
+{
     match files.open(name) {
         Some(file) => bytes_of_records(alloc, file, fine_from),
         None => 0,

@@ -41,6 +41,7 @@ pub fn marks<T: Threads + Sync, F: Files, W: Write>(
         result }
     ensures begins { Begins (IsTextOf (Marks genesis.now (F.bytes files.old store.now))) out.old
         out.new result }
+    ensures kept { F.bytes files.new ≡ F.bytes files.old }
 {
     let replayed = replayed(workers, alloc, files, genesis, store)?;
     explain_fault(alloc, files, store, &replayed);

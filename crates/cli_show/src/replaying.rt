@@ -1,6 +1,6 @@
 //! The chain of a store.
 
-ghost use Rattle.std.specs.Prelude.{IfErr, IfOk};
+ghost use Rattle.std.specs.Prelude.{◌≡◌, IfErr, IfOk};
 ghost use Rattle.ledger_setting.specs.Rule.{table_of};
 ghost use Rattle.store_replay.specs.Replay.{ReplaysFrom};
 ghost use Rattle.cli_lines.specs.Told.{IsBrokenOff, IsSilent};
@@ -26,6 +26,7 @@ pub(crate) fn replayed<T: Threads + Sync, F: Files>(
     ensures lost { IfErr result IsBrokenOff }
     ensures replayed { IfOk result
         (ReplaysFrom (table_of genesis.now.rules.value) (F.bytes files.old name.now)) }
+    ensures kept { F.bytes files.new ≡ F.bytes files.old }
 {
     let Some(reader) = files.open(name) else {
         explain_trouble(alloc, files, name, Access::Read);

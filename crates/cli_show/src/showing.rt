@@ -70,6 +70,7 @@ pub fn show<T: Threads + Sync, F: Files, W: Write>(
     ensures begins { Begins
         (ShowBegins genesis.now shown.now.span.from shown.now.span.to
         (F.bytes files.old shown.now.store.now)) out.old out.new result }
+    ensures kept { F.bytes files.new ≡ F.bytes files.old }
 {
     let replayed = replayed(workers, alloc, files, genesis, shown.store)?;
     explain_findings(alloc, files, genesis, shown.store, &replayed);
@@ -116,6 +117,7 @@ pub fn state<T: Threads + Sync, F: Files, W: Write>(
     ensures begins { Begins
         (StateBegins genesis.now asked.now.part asked.now.at
         (F.bytes files.old asked.now.store.now)) out.old out.new result }
+    ensures kept { F.bytes files.new ≡ F.bytes files.old }
 {
     let replayed = replayed(workers, alloc, files, genesis, asked.store)?;
     explain_fault(alloc, files, asked.store, &replayed);

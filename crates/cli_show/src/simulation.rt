@@ -1,6 +1,6 @@
 //! The command `sim`.
 
-ghost use Rattle.std.specs.Prelude.{option_map};
+ghost use Rattle.std.specs.Prelude.{◌≡◌, option_map};
 ghost use Rattle.cli_lines.specs.Told.{Answers, Begins, IsTextOf, Tells};
 ghost use Rattle.cli_show.specs.Answers.{UnlessFault, block_fault};
 ghost use Rattle.cli_show.specs.Simulations.{Simulates, SimulatesOn};
@@ -47,6 +47,7 @@ pub fn simulate<T: Threads + Sync, F: Files, W: Write>(
         (IsTextOf (Simulates genesis.now simulated.now.proposal.now
         (option_map (λ name. F.bytes files.old name.now) simulated.now.store))) out.old out.new
         result }
+    ensures kept { F.bytes files.new ≡ F.bytes files.old }
 {
     let proposal = simulated.proposal;
     match simulated.store {

@@ -1,4 +1,4 @@
-use Rattle.std.proofs.Common.{◌≡◌, Bool, true, false, inl, ℕ, ◌+◌, Option, Result, Ok, Err, rules, subst}
+use Rattle.std.proofs.Common.{◌≡◌, ◌∙◌, Bool, true, inl, ℕ, ◌+◌, Option, Result, Ok, Err, refl}
 use Rattle.std.specs.Io.KnownBytes.{Keeps}
 use Rattle.std.proofs.KnownBytes.{Keeps-refl, Keeps-trans}
 use Rattle.std.proofs.lemmas.Result.{err_from_is_err_and}
@@ -11,7 +11,7 @@ use Rattle.cli_lines.specs.declared.failure.Failure.TheVariants as failure
 use Rattle.cli_lines.proofs.Printing.{nothing_same}
 use Rattle.cli_lines.proofs.Silence.{tells_by}
 use Rattle.cli_roles.specs.Input.{Input, IsNext}
-use Rattle.cli_roles.proofs.Filters.{HasDone, none_done, one_done, done_kept, all_done, comes_by, last_done, begins_lines}
+use Rattle.cli_roles.proofs.Filters.{HasDone, none_done, one_done, done_kept, all_done, comes_by, line_ended, begins_lines}
 use Rattle.cli_roles.proofs.Stores.{read_by, stops_by}
 use Rattle.cli_query.specs.Printed.{DoesLine, EndsLine, TakesLine}
 use Rattle.cli_query.proofs.querying.query_lines.Goals as goal
@@ -28,16 +28,15 @@ line_done : (g : Genesis) (held known input : Option Bytes) (before after : Inpu
     → HasDone (DoesLine g held) input before.left first n old t u → Keeps held known → IsNext there before after → there ≡ true → l ≡ after.last
     → TakesLine {A = Unit {0}} g known n old l new u v (Ok (tt {0})) → HasDone (DoesLine g held) input after.left first (n + 1) new t v
 line_done g held known input before after there first old new l n t u v done kept next is last takes =
-    let taken = taken_by {A = Unit {0}} g held known n old after.last new u v (Ok (tt {0})) kept
-    (subst (λ (k : Bytes). TakesLine {A = Unit {0}} g known n old k new u v (Ok (tt {0}))) last takes) in
-    one_done (DoesLine g held) (EndsLine g held) input before after first old new n t u v (tt {0}) done (subst (λ (b : Bool). IsNext b before after) is next)
-    taken
+    one_done (DoesLine g held) (EndsLine g held) input before after there l first old new n t u v (tt {0}) done next is last
+    (taken_by {A = Unit {0}} g held known n old l new u v (Ok (tt {0})) kept takes)
 
 pub loop-number-init : goal.loop-number-init
 loop-number-init g c =
     let old = c.args.reader.now in
     let held = store_bytes (g.F.Reader.Read.remaining old.file.device) old in
     record {
+      kept = refl;
       read = c.requires;
       store = Keeps-refl held;
       done = none_done (DoesLine c.args.asked.now.genesis.now held) c.args.lines.now.left (bytes_read old) c.args.out.now;
@@ -56,11 +55,11 @@ loop-number-preserved g c =
     let input = c.args.lines.now.left in
     let after = c.read_explained.new.self in
     let u = c.take_line.new.out in
-    let there : c.in_ok-there.there ≡ true = search rules in
     let done = line_done genesis held known input c.loop-number.lines after c.in_ok-there.there (bytes_read first) (bytes_read old) (bytes_read new)
-    c.line.result.now c.loop-number.number c.args.out.now c.loop-number.out u inv.done inv.store c.in_ok-there.ensures.next there c.line.ensures
+    c.line.result.now c.loop-number.number c.args.out.now c.loop-number.out u inv.done inv.store c.in_ok-there.ensures.next c.if-not-there.false c.line.ensures
     c.in_ok-take_line.ensures.does in
     record {
+      kept = c.take_line.ensures.kept ∙ c.read_explained.ensures.kept ∙ inv.kept;
       read = c.in_ok-take_line.ensures.read;
       store = Keeps-trans held known (store_bytes (left new.file.device) new) inv.store c.in_ok-take_line.ensures.store;
       done = done_kept (DoesLine genesis held) input after.left (bytes_read first) _ (bytes_read new) c.args.out.now u c.hand_on.new.out done
@@ -69,16 +68,12 @@ loop-number-preserved g c =
 
 pub returns-then-not-there-clause-answers : goal.returns-then-not-there-clause-answers
 returns-then-not-there-clause-answers g c =
-    let inv = c.loop-number.invariant in
     let genesis = c.args.asked.now.genesis.now in
     let first = c.args.reader.now in
     let held = store_bytes (g.F.Reader.Read.remaining first.file.device) first in
-    let before = c.loop-number.lines in
-    let after = c.read_explained.new.self in
-    let none : c.in_ok-there.there ≡ false = search rules in
-    let end = subst (λ (b : Bool). IsNext b before after) none c.in_ok-there.ensures.next in
-    all_done (DoesLine genesis held) (EndsLine genesis held) c.args.lines.now.left before after (bytes_read first) (bytes_read c.loop-number.reader)
-    c.loop-number.number c.args.out.now c.loop-number.out (tt {0}) inv.done end
+    all_done (DoesLine genesis held) (EndsLine genesis held) c.args.lines.now.left c.loop-number.lines c.read_explained.new.self c.in_ok-there.there
+    (bytes_read first) (bytes_read c.loop-number.reader) c.loop-number.number c.args.out.now c.loop-number.out (tt {0}) c.loop-number.invariant.done
+    c.in_ok-there.ensures.next c.if-not-there.true
 
 pub returns-in_err-there-clause-tells : goal.returns-in_err-there-clause-tells
 returns-in_err-there-clause-tells g c =
@@ -90,8 +85,8 @@ returns-in_err-there-clause-answers g c =
     let p = err_from_is_err_and c.from_residual.result c.from_residual.ensures.1 in
     rw (p.1, p.2) (inl c.in_err-there.ensures.lost)
 
-pub returns-in_err-take_line-clause-answers : goal.returns-in_err-take_line-clause-answers
-returns-in_err-take_line-clause-answers g c =
+pub returns-in_err-take_line : goal.returns-in_err-take_line
+returns-in_err-take_line g c =
     let p = err_from_is_err_and c.from_residual-in_err-take_line.result c.from_residual-in_err-take_line.ensures.1 in
     let inv = c.loop-number.invariant in
     let genesis = c.args.asked.now.genesis.now in
@@ -102,18 +97,22 @@ returns-in_err-take_line-clause-answers g c =
     let held = store_bytes (left first.file.device) first in
     let known = store_bytes (left old.file.device) old in
     let n = c.loop-number.number in
-    let before = c.loop-number.lines in
-    let after = c.read_explained.new.self in
+    let lent = c.line.result.now in
     let t = c.loop-number.out in
     let u = c.take_line.new.out in
     let cause = c.in_err-take_line.field-0.0 in
-    let there : c.in_ok-there.there ≡ true = search rules in
-    let next = subst (λ (b : Bool). IsNext b before after) there c.in_ok-there.ensures.next in
-    let taken = taken_by {A = Unit {0}} genesis held known n (bytes_read old) after.last (bytes_read new) t u (Err cause) inv.store
-    (subst (λ (l : Bytes). TakesLine {A = Unit {0}} genesis known n (bytes_read old) l (bytes_read new) t u (Err cause)) c.line.ensures
-    c.in_err-take_line.ensures.does) in
-    rw (p.1, p.2) (last_done (DoesLine genesis held) (EndsLine genesis held) (Unit {0}) c.args.lines.now.left before after (bytes_read first) (bytes_read old)
-    (bytes_read new) n c.args.out.now t u cause inv.done next taken)
+    let took = c.in_err-take_line.ensures in
+    let ended = line_ended (DoesLine genesis held) (EndsLine genesis held) (Unit {0}) c.args.lines.now.left c.loop-number.lines c.read_explained.new.self
+    c.in_ok-there.there lent (bytes_read first) (bytes_read old) (bytes_read new) n c.args.out.now t u cause inv.done c.in_ok-there.ensures.next
+    c.if-not-there.false c.line.ensures took.tells
+    (taken_by {A = Unit {0}} genesis held known n (bytes_read old) lent (bytes_read new) t u (Err cause) inv.store took.does)
+    (λ broken. inl (took.nothing broken)) in
+    rw (p.1, p.2) (record {
+      tells = ended.0;
+      answers = ended.1;
+      begins = ended.2;
+      kept = c.take_line.ensures.kept ∙ c.read_explained.ensures.kept ∙ inv.kept;
+    })
 
 -- ---- where it is broken off
 
@@ -126,18 +125,6 @@ returns-in_err-there-clause-begins g c =
     let u = c.loop-number.out in
     begins_lines (DoesLine genesis held) (EndsLine genesis held) c.args.lines.now.left c.loop-number.lines.left (bytes_read first) c.loop-number.number
     (bytes_read c.loop-number.reader) c.args.out.now u u c.from_residual.result inv.done (nothing_same u)
-
-pub returns-in_err-take_line-clause-begins : goal.returns-in_err-take_line-clause-begins
-returns-in_err-take_line-clause-begins g c =
-    let p = err_from_is_err_and c.from_residual-in_err-take_line.result c.from_residual-in_err-take_line.ensures.1 in
-    let inv = c.loop-number.invariant in
-    let genesis = c.args.asked.now.genesis.now in
-    let first = c.args.reader.now in
-    let held = store_bytes (g.F.Reader.Read.remaining first.file.device) first in
-    let cause = c.in_err-take_line.field-0.0 in
-    rw (p.1, p.2) (λ broken. begins_lines (DoesLine genesis held) (EndsLine genesis held) {A = Unit {0}} c.args.lines.now.left c.loop-number.lines.left
-    (bytes_read first) c.loop-number.number (bytes_read c.loop-number.reader) c.args.out.now c.loop-number.out c.take_line.new.out (Err cause) inv.done
-    (c.in_err-take_line.ensures.nothing broken) broken)
 
 pub returns-in_err-hand_on-clause-begins : goal.returns-in_err-hand_on-clause-begins
 returns-in_err-hand_on-clause-begins g c =
@@ -153,9 +140,8 @@ returns-in_err-hand_on-clause-begins g c =
     let after = c.read_explained.new.self in
     let n = c.loop-number.number in
     let u = c.take_line.new.out in
-    let there : c.in_ok-there.there ≡ true = search rules in
     let done = line_done genesis held known input c.loop-number.lines after c.in_ok-there.there (bytes_read first) (bytes_read old) (bytes_read new)
-    c.line.result.now n c.args.out.now c.loop-number.out u inv.done inv.store c.in_ok-there.ensures.next there c.line.ensures
+    c.line.result.now n c.args.out.now c.loop-number.out u inv.done inv.store c.in_ok-there.ensures.next c.if-not-there.false c.line.ensures
     c.in_ok-take_line.ensures.does in
     begins_lines (DoesLine genesis held) (EndsLine genesis held) input after.left (bytes_read first) (n + 1) (bytes_read new) c.args.out.now u
     c.hand_on.new.out c.from_residual-in_err-hand_on.result done c.in_err-hand_on.ensures.nothing

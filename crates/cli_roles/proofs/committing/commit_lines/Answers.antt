@@ -1,14 +1,12 @@
-use Rattle.std.proofs.Common.{◌≡◌, ◌∙◌, ◌+◌, Bool, true, false, inl, Ok, Err, refl, rules, subst}
+use Rattle.std.proofs.Common.{◌∙◌, ◌+◌, inl, Ok, Err, refl, subst}
 use Rattle.std.proofs.lemmas.Result.{err_from_is_err_and}
 use Rattle.endorsement_policy.specs.Endorsed.{Listed}
-use Rattle.ledger_model.specs.Chain.{Bytes}
 use Rattle.log_store.specs.Storing.{rules_of, stored_chain}
 use Rattle.cli_lines.specs.declared.failure.Failure.TheVariants as failure
 use Rattle.cli_lines.proofs.Printing.{nothing_same}
 use Rattle.cli_lines.proofs.Silence.{tells_by}
 use Rattle.cli_roles.specs.Committing.{BeginsLine, DoesLine, EndsLine, TakesLine}
-use Rattle.cli_roles.specs.Input.{IsNext}
-use Rattle.cli_roles.proofs.Filters.{all_done, begins_line, begins_lines, done_kept, last_done, none_done, one_done}
+use Rattle.cli_roles.proofs.Filters.{all_done, begins_lines, done_kept, line_ended, none_done, one_done}
 use Rattle.cli_roles.proofs.committing.commit_lines.Goals as goal
 
 pub loop-number-init : goal.loop-number-init
@@ -26,58 +24,50 @@ loop-number-preserved g c =
     let by = rules_of c.args.chain.now in
     let digest = c.args.peer.now.log.now.digest in
     let n = c.loop-number.number in
-    let before = c.loop-number.lines in
+    let input = c.args.lines.now.left in
     let after = c.read_explained.new.self in
+    let lent = c.line.result.now in
     let first = stored_chain c.args.chain.now in
     let mid = stored_chain c.loop-number.chain in
     let new = stored_chain c.take_line.new.chain in
     let t = c.loop-number.out in
     let u = c.take_line.new.out in
-    let there : c.in_ok-there.there ≡ true = search rules in
-    let next = subst (λ (b : Bool). IsNext b before after) there c.in_ok-there.ensures.next in
-    let taken = subst (λ (r : Listed). TakesLine r digest n mid after.last new t u (Ok (tt {0}))) inv.rules
-    (subst (λ (l : Bytes). TakesLine (rules_of c.loop-number.chain) digest n mid l new t u (Ok (tt {0}))) c.line.ensures c.in_ok-take_line.ensures.does) in
-    let done = one_done (DoesLine by digest) (EndsLine by) c.args.lines.now.left before after first mid new n c.args.out.now t u (tt {0}) inv.done next taken in
+    let taken = subst (λ (r : Listed). TakesLine r digest n mid lent new t u (Ok (tt {0}))) inv.rules c.in_ok-take_line.ensures.does in
+    let done = one_done (DoesLine by digest) (EndsLine by) input c.loop-number.lines after c.in_ok-there.there lent first mid new n c.args.out.now t u (tt {0})
+    inv.done c.in_ok-there.ensures.next c.if-not-there.false c.line.ensures taken in
     record {
       stored = c.in_ok-take_line.ensures.stored;
       rules = c.in_ok-take_line.ensures.rules ∙ inv.rules;
-      done = done_kept (DoesLine by digest) c.args.lines.now.left after.left first _ new c.args.out.now u c.hand_on.new.out done
+      done = done_kept (DoesLine by digest) input after.left first _ new c.args.out.now u c.hand_on.new.out done
           (λ text printed. c.in_ok-hand_on.ensures.kept c.args.out.now text printed);
     }
 
 pub returns-then-not-there-clause-answers : goal.returns-then-not-there-clause-answers
 returns-then-not-there-clause-answers g c =
-    let inv = c.loop-number.invariant in
     let by = rules_of c.args.chain.now in
-    let digest = c.args.peer.now.log.now.digest in
-    let before = c.loop-number.lines in
-    let after = c.read_explained.new.self in
-    let none : c.in_ok-there.there ≡ false = search rules in
-    let end = subst (λ (b : Bool). IsNext b before after) none c.in_ok-there.ensures.next in
-    all_done (DoesLine by digest) (EndsLine by) c.args.lines.now.left before after (stored_chain c.args.chain.now) (stored_chain c.loop-number.chain)
-    c.loop-number.number c.args.out.now c.loop-number.out (tt {0}) inv.done end
+    all_done (DoesLine by c.args.peer.now.log.now.digest) (EndsLine by) c.args.lines.now.left c.loop-number.lines c.read_explained.new.self
+    c.in_ok-there.there (stored_chain c.args.chain.now) (stored_chain c.loop-number.chain) c.loop-number.number c.args.out.now c.loop-number.out (tt {0})
+    c.loop-number.invariant.done c.in_ok-there.ensures.next c.if-not-there.true
 
-pub returns-in_err-take_line-clause-answers : goal.returns-in_err-take_line-clause-answers
-returns-in_err-take_line-clause-answers g c =
+pub returns-in_err-take_line : goal.returns-in_err-take_line
+returns-in_err-take_line g c =
     let p = err_from_is_err_and c.from_residual-in_err-take_line.result c.from_residual-in_err-take_line.ensures.1 in
     let inv = c.loop-number.invariant in
     let by = rules_of c.args.chain.now in
     let digest = c.args.peer.now.log.now.digest in
     let n = c.loop-number.number in
-    let before = c.loop-number.lines in
-    let after = c.read_explained.new.self in
+    let lent = c.line.result.now in
     let mid = stored_chain c.loop-number.chain in
     let new = stored_chain c.take_line.new.chain in
     let t = c.loop-number.out in
     let u = c.take_line.new.out in
     let e = c.in_err-take_line.field-0.0 in
-    let there : c.in_ok-there.there ≡ true = search rules in
-    let next = subst (λ (b : Bool). IsNext b before after) there c.in_ok-there.ensures.next in
-    let taken = subst (λ (r : Listed). TakesLine {A = Unit {0}} r digest n mid after.last new t u (Err e)) inv.rules
-    (subst (λ (l : Bytes). TakesLine {A = Unit {0}} (rules_of c.loop-number.chain) digest n mid l new t u (Err e)) c.line.ensures
-    c.in_err-take_line.ensures.does) in
-    rw (p.1, p.2) (last_done (DoesLine by digest) (EndsLine by) (Unit {0}) c.args.lines.now.left before after (stored_chain c.args.chain.now) mid new n
-    c.args.out.now t u e inv.done next taken)
+    let took = c.in_err-take_line.ensures in
+    let ended = line_ended (DoesLine by digest) (EndsLine by) (Unit {0}) c.args.lines.now.left c.loop-number.lines c.read_explained.new.self
+    c.in_ok-there.there lent (stored_chain c.args.chain.now) mid new n c.args.out.now t u e inv.done c.in_ok-there.ensures.next c.if-not-there.false
+    c.line.ensures took.tells (subst (λ (r : Listed). TakesLine {A = Unit {0}} r digest n mid lent new t u (Err e)) inv.rules took.does)
+    (subst (λ (r : Listed). BeginsLine {A = Unit {0}} r digest n mid lent new t u (Err e)) inv.rules took.begins) in
+    rw (p.1, p.2) (record { tells = ended.0; answers = ended.1; begins = ended.2 })
 
 pub returns-in_err-there : goal.returns-in_err-there
 returns-in_err-there g c =
@@ -91,47 +81,23 @@ returns-in_err-there g c =
           (nothing_same c.loop-number.out);
     })
 
-pub returns-in_err-take_line-clause-begins : goal.returns-in_err-take_line-clause-begins
-returns-in_err-take_line-clause-begins g c =
-    let p = err_from_is_err_and c.from_residual-in_err-take_line.result c.from_residual-in_err-take_line.ensures.1 in
-    let inv = c.loop-number.invariant in
-    let by = rules_of c.args.chain.now in
-    let digest = c.args.peer.now.log.now.digest in
-    let n = c.loop-number.number in
-    let before = c.loop-number.lines in
-    let after = c.read_explained.new.self in
-    let mid = stored_chain c.loop-number.chain in
-    let new = stored_chain c.take_line.new.chain in
-    let t = c.loop-number.out in
-    let u = c.take_line.new.out in
-    let e = c.in_err-take_line.field-0.0 in
-    let there : c.in_ok-there.there ≡ true = search rules in
-    let next = subst (λ (b : Bool). IsNext b before after) there c.in_ok-there.ensures.next in
-    let begun = subst (λ (r : Listed). BeginsLine {A = Unit {0}} r digest n mid after.last new t u (Err e)) inv.rules
-    (subst (λ (l : Bytes). BeginsLine {A = Unit {0}} (rules_of c.loop-number.chain) digest n mid l new t u (Err e)) c.line.ensures
-    c.in_err-take_line.ensures.begins) in
-    rw (p.1, p.2) (begins_line (DoesLine by digest) (EndsLine by) (Unit {0}) c.args.lines.now.left before after (stored_chain c.args.chain.now) mid new n
-    c.args.out.now t u e inv.done next begun)
-
 pub returns-in_err-hand_on-clause-begins : goal.returns-in_err-hand_on-clause-begins
 returns-in_err-hand_on-clause-begins g c =
     let inv = c.loop-number.invariant in
     let by = rules_of c.args.chain.now in
     let digest = c.args.peer.now.log.now.digest in
     let n = c.loop-number.number in
-    let before = c.loop-number.lines in
-    let after = c.read_explained.new.self in
     let input = c.args.lines.now.left in
+    let after = c.read_explained.new.self in
+    let lent = c.line.result.now in
     let first = stored_chain c.args.chain.now in
     let mid = stored_chain c.loop-number.chain in
     let new = stored_chain c.take_line.new.chain in
     let t = c.loop-number.out in
     let u = c.take_line.new.out in
-    let there : c.in_ok-there.there ≡ true = search rules in
-    let next = subst (λ (b : Bool). IsNext b before after) there c.in_ok-there.ensures.next in
-    let taken = subst (λ (r : Listed). TakesLine r digest n mid after.last new t u (Ok (tt {0}))) inv.rules
-    (subst (λ (l : Bytes). TakesLine (rules_of c.loop-number.chain) digest n mid l new t u (Ok (tt {0}))) c.line.ensures c.in_ok-take_line.ensures.does) in
-    let done = one_done (DoesLine by digest) (EndsLine by) input before after first mid new n c.args.out.now t u (tt {0}) inv.done next taken in
+    let taken = subst (λ (r : Listed). TakesLine r digest n mid lent new t u (Ok (tt {0}))) inv.rules c.in_ok-take_line.ensures.does in
+    let done = one_done (DoesLine by digest) (EndsLine by) input c.loop-number.lines after c.in_ok-there.there lent first mid new n c.args.out.now t u (tt {0})
+    inv.done c.in_ok-there.ensures.next c.if-not-there.false c.line.ensures taken in
     begins_lines (DoesLine by digest) (EndsLine by) input after.left first (n + 1) new c.args.out.now u c.hand_on.new.out
     c.from_residual-in_err-hand_on.result done c.in_err-hand_on.ensures.nothing
 

@@ -1,5 +1,4 @@
-use Rattle.ledger_model.specs.Chain.{Bytes}
-use Rattle.std.proofs.Common.{inl, ℕ, Ok, OnOk, ◌++◌, codes, refl, subst}
+use Rattle.std.proofs.Common.{ℕ, Ok, OnOk, ◌++◌, codes, refl, subst}
 use Rattle.std.specs.Fmt.{decimal}
 use Rattle.ledger_setting.specs.Judging.{next_by}
 use Rattle.ledger_setting.specs.Rule.{table_of}
@@ -11,8 +10,6 @@ use Rattle.log_store.specs.Storing.{rules_of, stored_chain}
 use Rattle.cli_lines.specs.Texts.{line}
 use Rattle.cli_lines.specs.Told.{Prints}
 use Rattle.cli_roles.specs.Committing.{DoesReceive, EndsReceive, received_text}
-use Rattle.cli_lines.proofs.Answering.{begins_part}
-use Rattle.cli_roles.specs.Filters.{ComesTo}
 use Rattle.cli_roles.proofs.Blocks.{not_received}
 use Rattle.cli_roles.proofs.Filters.{begins_ended, begins_still, done_by, ended_by}
 use Rattle.cli_roles.proofs.committing.receive.Goals as goal
@@ -56,15 +53,7 @@ returns-in-Err-clause-does g c =
 
 pub returns-in-Ok-Committed-clause-begins : goal.returns-in-Ok-Committed-clause-begins
 returns-in-Ok-Committed-clause-begins g c =
-    let rules = rules_of c.args.chain.now in
-    let old = stored_chain c.args.chain.now in
-    let new = stored_chain c.receive.new.self in
-    let block = c.args.block in
-    let rule = table_of rules in
-    let w = c.print_newest in
-    let receives = subst (λ (r : Received). Receives rule old block (Ok r) new) c.in-Ok-Committed.field-0-is c.in-Ok-Committed.ensures.received in
-    begins_part (ComesTo (λ (text : Bytes). DoesReceive rules old block text new) (EndsReceive rules old block)) c.args.out.now w.new.out w.result
-    (received_text rule old block received.Committed) (inl (received.Committed, receives, refl)) (w.ensures.part old (next_by rule old block) receives.1)
+    begins_still _ c.args.out.now c.print_newest.new.out c.print_newest.result c.print_newest.ensures.nothing
 
 pub returns-in-Ok-Known-clause-begins : goal.returns-in-Ok-Known-clause-begins
 returns-in-Ok-Known-clause-begins g c = begins_still _ c.args.out.now c.writeln.new.self c.writeln.result c.writeln.ensures.nothing

@@ -1,16 +1,13 @@
-use Rattle.std.proofs.Common.{◌≡◌, ◌∙◌, Bool, true, false, inl, Result, Ok, Err, refl, rules, subst}
+use Rattle.std.proofs.Common.{◌∙◌, Ok, Err, Result, inl, refl}
 use Rattle.std.proofs.KnownBytes.{Keeps-refl, Keeps-trans}
 use Rattle.std.proofs.lemmas.Result.{err_from_is_err_and}
-use Rattle.ledger_model.specs.Chain.{Bytes}
 use Rattle.log_store.specs.Following.{bytes_read, store_bytes}
-use Rattle.cli_lines.specs.Told.{Begins}
 use Rattle.cli_lines.specs.declared.failure.Failure.{Failure}
 use Rattle.cli_lines.specs.declared.failure.Failure.TheVariants as failure
 use Rattle.cli_lines.proofs.Printing.{nothing_same}
 use Rattle.cli_lines.proofs.Silence.{tells_by}
-use Rattle.cli_roles.specs.Endorsing.{DoesLine, EndsLine, LineComesTo, TakesLine, endorser}
-use Rattle.cli_roles.specs.Input.{IsNext}
-use Rattle.cli_roles.proofs.Filters.{none_done, one_done, done_kept, all_done, last_done, begins_line, begins_lines}
+use Rattle.cli_roles.specs.Endorsing.{DoesLine, EndsLine, endorser}
+use Rattle.cli_roles.proofs.Filters.{none_done, one_done, done_kept, all_done, begins_lines, line_ended}
 use Rattle.cli_roles.proofs.Endorsed.{begun_by, taken_by}
 use Rattle.cli_roles.proofs.endorsing.endorse_lines.Goals as goal
 
@@ -21,6 +18,7 @@ loop-number-init g c =
     let held = store_bytes (g.S.Read.remaining f.reader.file.device) f in
     record {
       followed = c.requires.followed;
+      kept = refl;
       same = refl;
       store = Keeps-refl held;
       done = none_done (DoesLine (endorser m.log.now m.org.now m.agrees) held) c.args.lines.now.left (bytes_read f) c.args.out.now;
@@ -38,37 +36,32 @@ loop-number-preserved g c =
     let held = store_bytes (left f.reader.file.device) f in
     let known = store_bytes (left old.reader.file.device) old in
     let n = c.loop-number.number in
-    let before = c.loop-number.lines in
+    let input = c.args.lines.now.left in
     let after = c.read_explained.new.self in
+    let lent = c.line.result.now in
     let t = c.loop-number.out in
     let u = c.take_line.new.out in
-    let there : c.in_ok-there.there ≡ true = search rules in
-    let next = subst (λ (b : Bool). IsNext b before after) there c.in_ok-there.ensures.next in
-    let taken = taken_by e held known n (bytes_read old) after.last (bytes_read new) t u (Ok (tt {0})) inv.store
-    (subst (λ (l : Bytes). TakesLine e known n (bytes_read old) l (bytes_read new) t u (Ok (tt {0}))) c.line.ensures c.in_ok-take_line.ensures.does) in
-    let done = one_done (DoesLine e held) (EndsLine e held) c.args.lines.now.left before after (bytes_read f) (bytes_read old) (bytes_read new) n
-    c.args.out.now t u (tt {0}) inv.done next taken in
+    let taken = taken_by e held known n (bytes_read old) lent (bytes_read new) t u (Ok (tt {0})) inv.store c.in_ok-take_line.ensures.does in
+    let done = one_done (DoesLine e held) (EndsLine e held) input c.loop-number.lines after c.in_ok-there.there lent (bytes_read f) (bytes_read old)
+    (bytes_read new) n c.args.out.now t u (tt {0}) inv.done c.in_ok-there.ensures.next c.if-not-there.false c.line.ensures taken in
     record {
       followed = c.in_ok-take_line.ensures.followed;
+      kept = c.take_line.ensures.kept ∙ c.read_explained.ensures.kept ∙ inv.kept;
       same = c.in_ok-take_line.ensures.same ∙ inv.same;
       store = Keeps-trans held known (store_bytes (left new.reader.file.device) new) inv.store c.in_ok-take_line.ensures.store;
-      done = done_kept (DoesLine e held) c.args.lines.now.left after.left (bytes_read f) _ (bytes_read new) c.args.out.now u c.hand_on.new.out done
+      done = done_kept (DoesLine e held) input after.left (bytes_read f) _ (bytes_read new) c.args.out.now u c.hand_on.new.out done
           (λ text printed. c.in_ok-hand_on.ensures.kept c.args.out.now text printed);
     }
 
 pub returns-then-not-there-clause-answers : goal.returns-then-not-there-clause-answers
 returns-then-not-there-clause-answers g c =
-    let inv = c.loop-number.invariant in
     let m = c.args.member.now in
     let e = endorser m.log.now m.org.now m.agrees in
     let f = c.args.follower.now in
     let held = store_bytes (g.S.Read.remaining f.reader.file.device) f in
-    let before = c.loop-number.lines in
-    let after = c.read_explained.new.self in
-    let none : c.in_ok-there.there ≡ false = search rules in
-    let end = subst (λ (b : Bool). IsNext b before after) none c.in_ok-there.ensures.next in
-    all_done (DoesLine e held) (EndsLine e held) c.args.lines.now.left before after (bytes_read f) (bytes_read c.loop-number.follower) c.loop-number.number
-    c.args.out.now c.loop-number.out (tt {0}) inv.done end
+    all_done (DoesLine e held) (EndsLine e held) c.args.lines.now.left c.loop-number.lines c.read_explained.new.self c.in_ok-there.there (bytes_read f)
+    (bytes_read c.loop-number.follower) c.loop-number.number c.args.out.now c.loop-number.out (tt {0}) c.loop-number.invariant.done
+    c.in_ok-there.ensures.next c.if-not-there.true
 
 pub returns-in_err-there-clause-tells : goal.returns-in_err-there-clause-tells
 returns-in_err-there-clause-tells g c =
@@ -90,8 +83,8 @@ returns-in_err-there-clause-begins g c =
     begins_lines (DoesLine e held) (EndsLine e held) c.args.lines.now.left c.loop-number.lines.left (bytes_read f) c.loop-number.number
     (bytes_read c.loop-number.follower) c.args.out.now t t c.from_residual.result c.loop-number.invariant.done (nothing_same t)
 
-pub returns-in_err-take_line-clause-answers : goal.returns-in_err-take_line-clause-answers
-returns-in_err-take_line-clause-answers g c =
+pub returns-in_err-take_line : goal.returns-in_err-take_line
+returns-in_err-take_line g c =
     let p = err_from_is_err_and c.from_residual-in_err-take_line.result c.from_residual-in_err-take_line.ensures.1 in
     let inv = c.loop-number.invariant in
     let m = c.args.member.now in
@@ -103,44 +96,22 @@ returns-in_err-take_line-clause-answers g c =
     let held = store_bytes (left f.reader.file.device) f in
     let known = store_bytes (left old.reader.file.device) old in
     let n = c.loop-number.number in
-    let before = c.loop-number.lines in
-    let after = c.read_explained.new.self in
+    let lent = c.line.result.now in
     let t = c.loop-number.out in
     let u = c.take_line.new.out in
     let cause = c.in_err-take_line.field-0.0 in
-    let there : c.in_ok-there.there ≡ true = search rules in
-    let next = subst (λ (b : Bool). IsNext b before after) there c.in_ok-there.ensures.next in
-    let taken = taken_by {A = Unit {0}} e held known n (bytes_read old) after.last (bytes_read new) t u (Err cause) inv.store
-    (subst (λ (l : Bytes). TakesLine {A = Unit {0}} e known n (bytes_read old) l (bytes_read new) t u (Err cause)) c.line.ensures
-    c.in_err-take_line.ensures.does) in
-    rw (p.1, p.2) (last_done (DoesLine e held) (EndsLine e held) (Unit {0}) c.args.lines.now.left before after (bytes_read f) (bytes_read old)
-    (bytes_read new) n c.args.out.now t u cause inv.done next taken)
-
-pub returns-in_err-take_line-clause-begins : goal.returns-in_err-take_line-clause-begins
-returns-in_err-take_line-clause-begins g c =
-    let p = err_from_is_err_and c.from_residual-in_err-take_line.result c.from_residual-in_err-take_line.ensures.1 in
-    let inv = c.loop-number.invariant in
-    let m = c.args.member.now in
-    let e = endorser m.log.now m.org.now m.agrees in
-    let left = g.S.Read.remaining in
-    let f = c.args.follower.now in
-    let old = c.loop-number.follower in
-    let new = c.take_line.new.follower in
-    let held = store_bytes (left f.reader.file.device) f in
-    let known = store_bytes (left old.reader.file.device) old in
-    let n = c.loop-number.number in
-    let before = c.loop-number.lines in
-    let after = c.read_explained.new.self in
-    let t = c.loop-number.out in
-    let u = c.take_line.new.out in
-    let cause = c.in_err-take_line.field-0.0 in
-    let there : c.in_ok-there.there ≡ true = search rules in
-    let next = subst (λ (b : Bool). IsNext b before after) there c.in_ok-there.ensures.next in
-    let begun = begun_by {A = Unit {0}} e held known n (bytes_read old) after.last (bytes_read new) t u (Err cause) inv.store
-    (subst (λ (l : Bytes). Begins {A = Unit {0}} (LineComesTo e known n (bytes_read old) l (bytes_read new)) t u (Err cause)) c.line.ensures
-    c.in_err-take_line.ensures.begins) in
-    rw (p.1, p.2) (begins_line (DoesLine e held) (EndsLine e held) (Unit {0}) c.args.lines.now.left before after (bytes_read f) (bytes_read old)
-    (bytes_read new) n c.args.out.now t u cause inv.done next begun)
+    let took = c.in_err-take_line.ensures in
+    let ended = line_ended (DoesLine e held) (EndsLine e held) (Unit {0}) c.args.lines.now.left c.loop-number.lines c.read_explained.new.self
+    c.in_ok-there.there lent (bytes_read f) (bytes_read old) (bytes_read new) n c.args.out.now t u cause inv.done c.in_ok-there.ensures.next
+    c.if-not-there.false c.line.ensures took.tells
+    (taken_by {A = Unit {0}} e held known n (bytes_read old) lent (bytes_read new) t u (Err cause) inv.store took.does)
+    (begun_by {A = Unit {0}} e held known n (bytes_read old) lent (bytes_read new) t u (Err cause) inv.store took.begins) in
+    rw (p.1, p.2) (record {
+      tells = ended.0;
+      answers = ended.1;
+      begins = ended.2;
+      kept = c.take_line.ensures.kept ∙ c.read_explained.ensures.kept ∙ inv.kept;
+    })
 
 pub returns-in_err-hand_on-clause-begins : goal.returns-in_err-hand_on-clause-begins
 returns-in_err-hand_on-clause-begins g c =
@@ -155,16 +126,13 @@ returns-in_err-hand_on-clause-begins g c =
     let known = store_bytes (left old.reader.file.device) old in
     let n = c.loop-number.number in
     let input = c.args.lines.now.left in
-    let before = c.loop-number.lines in
     let after = c.read_explained.new.self in
+    let lent = c.line.result.now in
     let t = c.loop-number.out in
     let u = c.take_line.new.out in
-    let there : c.in_ok-there.there ≡ true = search rules in
-    let next = subst (λ (b : Bool). IsNext b before after) there c.in_ok-there.ensures.next in
-    let taken = taken_by e held known n (bytes_read old) after.last (bytes_read new) t u (Ok (tt {0})) inv.store
-    (subst (λ (l : Bytes). TakesLine e known n (bytes_read old) l (bytes_read new) t u (Ok (tt {0}))) c.line.ensures c.in_ok-take_line.ensures.does) in
-    let done = one_done (DoesLine e held) (EndsLine e held) input before after (bytes_read f) (bytes_read old) (bytes_read new) n c.args.out.now t u (tt {0})
-    inv.done next taken in
+    let taken = taken_by e held known n (bytes_read old) lent (bytes_read new) t u (Ok (tt {0})) inv.store c.in_ok-take_line.ensures.does in
+    let done = one_done (DoesLine e held) (EndsLine e held) input c.loop-number.lines after c.in_ok-there.there lent (bytes_read f) (bytes_read old)
+    (bytes_read new) n c.args.out.now t u (tt {0}) inv.done c.in_ok-there.ensures.next c.if-not-there.false c.line.ensures taken in
     begins_lines (DoesLine e held) (EndsLine e held) input after.left (bytes_read f) _ (bytes_read new) c.args.out.now u c.hand_on.new.out
     c.from_residual-in_err-hand_on.result done c.in_err-hand_on.ensures.nothing
 

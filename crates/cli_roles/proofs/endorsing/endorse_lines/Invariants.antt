@@ -9,6 +9,7 @@ abbrev pub invariant-loop-number : goal.invariant-loop-number
 invariant-loop-number g l =
     let held = store_bytes (g.S.Read.remaining l.fn.follower.reader.file.device) l.fn.follower in record {
       followed : IsFollowed l.follower;
+      kept : g.F.Files.bytes l.files ≡ g.F.Files.bytes l.fn.files;
       same : endorses_by l.follower ≡ endorses_by l.fn.follower;
       store : Keeps held (store_bytes (g.S.Read.remaining l.follower.reader.file.device) l.follower);
       done : HasDone (DoesLine (endorser l.member.log.now l.member.org.now l.member.agrees) held) l.fn.lines.left l.lines.left (bytes_read l.fn.follower)

@@ -12,6 +12,7 @@ returns-in_err-lines g c =
       answers = inl c.in_err-lines.ensures.lost;
       tells = tells_by c.args.out.now c.args.out.now _ (no_less c.args.out.now) c.in_err-lines.ensures.silent;
       begins = λ broken. inl (nothing_same c.args.out.now);
+      kept = c.input.ensures.kept;
     })
 
 pub returns-clause-begins : goal.returns-clause-begins

@@ -15,7 +15,12 @@ pub returns-in_err-bytes : goal.returns-in_err-bytes
 returns-in_err-bytes g c =
     let p = err_from_is_err_and c.from_residual.result c.from_residual.ensures.1 in
     let t = c.args.out.now in
-    rw p.1 (record { tells = tells_by t t p.0 (no_less t) p.2.0; answers = inl p.2.1; nothing = nothing_same t })
+    rw p.1 (record {
+      tells = tells_by t t p.0 (no_less t) p.2.0;
+      answers = inl p.2.1;
+      nothing = nothing_same t;
+      kept = c.in_err-bytes.ensures.kept;
+    })
 
 pub returns-in_err-functions-clause-tells : goal.returns-in_err-functions-clause-tells
 returns-in_err-functions-clause-tells g c =

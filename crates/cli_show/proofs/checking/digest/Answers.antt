@@ -1,4 +1,4 @@
-use Rattle.std.proofs.Common.{ℕ, ap, inl, subst, string_bytes}
+use Rattle.std.proofs.Common.{ℕ, ap, inl, subst, string_bytes, ◌∙◌}
 use Rattle.std.proofs.lemmas.Result.{err_from_is_err_and}
 use Rattle.hex.specs.Hex.{encode_lower}
 use Rattle.sha2.specs.Sha256.{sha256}
@@ -18,13 +18,23 @@ pub returns-in_err-bytes : goal.returns-in_err-bytes
 returns-in_err-bytes g c =
     let p = err_from_is_err_and c.from_residual.result c.from_residual.ensures.1 in
     let t = c.args.out.now in
-    rw p.1 (record { tells = tells_by t t p.0 (no_less t) p.2.0; answers = inl p.2.1; nothing = nothing_same t })
+    rw p.1 (record {
+      tells = tells_by t t p.0 (no_less t) p.2.0;
+      answers = inl p.2.1;
+      nothing = nothing_same t;
+      kept = c.in_err-bytes.ensures.kept;
+    })
 
 pub returns-in_err-digest : goal.returns-in_err-digest
 returns-in_err-digest g c =
     let p = err_from_is_err_and c.from_residual-in_err-digest.result c.from_residual-in_err-digest.ensures.1 in
     let t = c.args.out.now in
-    rw p.1 (record { tells = tells_by t t p.0 (no_less t) p.2.0; answers = inl p.2.1; nothing = nothing_same t })
+    rw p.1 (record {
+      tells = tells_by t t p.0 (no_less t) p.2.0;
+      answers = inl p.2.1;
+      nothing = nothing_same t;
+      kept = c.in_ok-functions_explained.ensures.kept ∙ c.in_ok-bytes.ensures.kept;
+    })
 
 pub returns-in_err-functions_explained-clause-tells : goal.returns-in_err-functions_explained-clause-tells
 returns-in_err-functions_explained-clause-tells g c =

@@ -14,6 +14,7 @@ returns-in_err-replayed g c =
       tells = tells_by c.args.out.now c.args.out.now _ (no_less c.args.out.now) c.in_err-replayed.ensures.silent;
       answers = inl c.in_err-replayed.ensures.lost;
       begins = λ broken. inl (nothing_same c.args.out.now);
+      kept = c.in_err-replayed.ensures.kept;
     })
 
 pub returns-clause-answers : goal.returns-clause-answers

@@ -16,6 +16,7 @@ returns-in_err-replayed-in-Some g c =
       tells = tells_by c.args.out.now c.args.out.now _ (no_less c.args.out.now) c.in_err-replayed-in-Some.ensures.silent;
       answers = inl c.in_err-replayed-in-Some.ensures.lost;
       begins = λ broken. inl (nothing_same c.args.out.now);
+      kept = c.in_err-replayed-in-Some.ensures.kept;
     })
 
 pub returns-in-None-clause-answers : goal.returns-in-None-clause-answers

@@ -9,5 +9,6 @@ invariant-loop-number g l = record {
   rules : l.self.rules.value ≡ l.fn.self.rules.value;
   more : IsMore l.fn.out l.out;
   failed : l.out.failed ≡ l.fn.out.failed;
+  kept : g.F.Files.bytes l.files ≡ g.F.Files.bytes l.fn.files;
   done : HasDone (OrdersLine l.fn.self.rules.value l.digest) l.fn.lines.left l.lines.left l.fn.self.replica l.number l.self.replica l.fn.out l.out;
 }

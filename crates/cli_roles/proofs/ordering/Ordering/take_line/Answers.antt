@@ -3,8 +3,22 @@ use Rattle.std.specs.Prelude.{codes}
 use Rattle.cli_roles.specs.Orders.{EndsOrders, NamesAnother}
 use Rattle.cli_roles.proofs.Filters.{begins_ended, ended_by}
 use Rattle.cli_roles.proofs.Orders.{line_begun, line_begun_behind, line_done, line_read, names_line, names_text}
+use Rattle.cli_roles.proofs.ordering.Ordering.take_line.Given.{Over}
 use Rattle.cli_roles.proofs.ordering.Ordering.take_line.Goals as goal
-use Rattle.cli_roles.proofs.ordering.Ordering.take_line.Goals.{else-number-eq1-via-then-number-eq1+else-names_another_genesis, else-number-eq1-via-else-number-eq1}
+use Rattle.cli_roles.proofs.ordering.Ordering.take_line.Goals.{After-take_text, else-number-eq1-via-else-number-eq1}
+use Rattle.cli_roles.proofs.ordering.Ordering.take_line.Goals.{else-number-eq1-via-then-number-eq1+else-names_another_genesis}
+
+-- a first line that is read names no other genesis
+fits_by : (g : Over) (c : After-take_text g) → c.args.number ≡ 1 → NamesAnother c.args.digest.now c.args.line.now → ⊥
+fits_by g c first names =
+    let named = names_text c.args.digest.now c.args.line.now c.deref.result.now c.parted.result.1.now (c.deref.ensures ∙ c.in_ok-decoded.ensures.lossy)
+    c.parted.ensures.1 names in
+    elim c.else-number-eq1.branch [
+      | else-number-eq1-via-then-number-eq1+else-names_another_genesis w ↦
+          let h : w.names_another_genesis.result ≡ true = w.names_another_genesis.ensures.1 named in
+          let n = w.if-names_another_genesis.false in absurd cc
+      | else-number-eq1-via-else-number-eq1 w ↦ absurd (w.if-number-eq1.false first)
+    ]
 
 pub returns-then-names_another_genesis-clause-does : goal.returns-then-names_another_genesis-clause-does
 returns-then-names_another_genesis-clause-does g c =
@@ -24,14 +38,7 @@ returns-clause-does g c =
     let lossy = c.deref.ensures ∙ c.in_ok-decoded.ensures.lossy in
     let self = c.args.self.now in
     let new = c.take_text.new.self in
-    let fits : c.args.number ≡ 1 → NamesAnother digest bytes → ⊥ = λ first names.
-    elim c.else-number-eq1.branch [
-      | else-number-eq1-via-then-number-eq1+else-names_another_genesis w ↦
-          let h : w.names_another_genesis.result ≡ true =
-          w.names_another_genesis.ensures.1 (names_text digest bytes decoded said lossy c.parted.ensures.1 names) in
-          let n = w.if-names_another_genesis.false in absurd cc
-      | else-number-eq1-via-else-number-eq1 w ↦ absurd (w.if-number-eq1.false first)
-    ] in
+    let fits = fits_by g (goal.at.returns-clause-does g c).After-take_text in
     line_done c.print_read.result self.rules.value digest c.args.number self.replica new.replica bytes c.args.out.now c.print_read.new.out fits
     (line_read c.print_read.result self.rules.value self.replica new.replica bytes decoded c.parted.result.0.now said c.args.out.now c.take_text.new.out
     c.print_read.new.out lossy c.parted.ensures.0 c.parted.ensures.1 c.in_ok-is_mark.ensures.does c.print_read.ensures.prints)
@@ -49,14 +56,7 @@ returns-in_err-is_mark-clause-begins g c =
     let said = c.parted.result.1.now in
     let lossy = c.deref.ensures ∙ c.in_ok-decoded.ensures.lossy in
     let self = c.args.self.now in
-    let fits : c.args.number ≡ 1 → NamesAnother digest bytes → ⊥ = λ first names.
-    elim c.else-number-eq1.branch [
-      | else-number-eq1-via-then-number-eq1+else-names_another_genesis w ↦
-          let h : w.names_another_genesis.result ≡ true =
-          w.names_another_genesis.ensures.1 (names_text digest bytes decoded said lossy c.parted.ensures.1 names) in
-          let n = w.if-names_another_genesis.false in absurd cc
-      | else-number-eq1-via-else-number-eq1 w ↦ absurd (w.if-number-eq1.false first)
-    ] in
+    let fits = fits_by g (goal.at.returns-in_err-is_mark-clause-begins g c).After-take_text in
     line_begun c.from_residual-in_err-is_mark.result self.rules.value digest c.args.number self.replica c.take_text.new.self.replica bytes decoded
     c.parted.result.0.now said c.args.out.now c.take_text.new.out lossy c.parted.ensures.0 c.parted.ensures.1 fits
     (c.in_err-is_mark.ensures.begins c.in_err-is_mark.ensures.lost)
@@ -69,14 +69,7 @@ returns-clause-begins g c =
     let said = c.parted.result.1.now in
     let lossy = c.deref.ensures ∙ c.in_ok-decoded.ensures.lossy in
     let self = c.args.self.now in
-    let fits : c.args.number ≡ 1 → NamesAnother digest bytes → ⊥ = λ first names.
-    elim c.else-number-eq1.branch [
-      | else-number-eq1-via-then-number-eq1+else-names_another_genesis w ↦
-          let h : w.names_another_genesis.result ≡ true =
-          w.names_another_genesis.ensures.1 (names_text digest bytes decoded said lossy c.parted.ensures.1 names) in
-          let n = w.if-names_another_genesis.false in absurd cc
-      | else-number-eq1-via-else-number-eq1 w ↦ absurd (w.if-number-eq1.false first)
-    ] in
+    let fits = fits_by g (goal.at.returns-clause-begins g c).After-take_text in
     line_begun_behind c.print_read.result self.rules.value digest c.args.number self.replica c.take_text.new.self.replica bytes decoded
     c.parted.result.0.now said c.args.out.now c.take_text.new.out c.print_read.new.out lossy c.parted.ensures.0 c.parted.ensures.1 fits
     c.in_ok-is_mark.ensures.does c.print_read.ensures.nothing
