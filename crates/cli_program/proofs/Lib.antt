@@ -4,3 +4,4 @@ pub mod Usage
 pub mod Verdicts
 pub mod Beginning
 pub mod Opened
+pub mod Leaving

@@ -1,7 +1,7 @@
 -- How the program ends.
 use Rattle.std.specs.Prelude.{◌≡◌, ℕ, List, [], Result, Ok, Err, unwrap_or}
 use Rattle.cli_lines.specs.Texts.{last_line}
-use Rattle.cli_lines.specs.Told.{Told, Prints, PrintsPart}
+use Rattle.cli_lines.specs.Told.{Told, Prints}
 use Rattle.cli_lines.specs.declared.failure.Failure.{Failure}
 use Rattle.cli_lines.specs.declared.failure.Failure.TheVariants as failure
 use Rattle.cli_words.specs.UsageText.{usage_text}
@@ -46,17 +46,11 @@ ComesOf ws (Err words.Usage) k before after answer = ((task : Task) → ¬ IsTas
 abbrev pub CarriesOut : List (List ℕ) → KnownFiles → (before after : Told) → Result (Unit {0}) Failure → Type 0
 CarriesOut ws k before after answer = (task : Result Task WordsFault) × ComesOf ws task k before after answer
 
--- What the words ask for is carried out, its end is printed, and the status is that of its answer
+-- What the words ask for is carried out, its end is printed, and the status is that of its answer. Each text was printed
 pub record Ends (ws : List (List ℕ)) (k : KnownFiles) (before after : Told) (status : ℕ) : Type 0 where
   pub answer : Result (Unit {0}) Failure
   pub mid : Told
   pub carries : CarriesOut ws k before mid answer
   pub end : PrintsEnd answer mid after
   pub status_is : status ≡ status_of answer
-
--- The same where a text could not be printed or handed on: behind what the task printed stands a beginning of its end, and nothing else
-pub record EndsInPart (ws : List (List ℕ)) (k : KnownFiles) (before after : Told) : Type 0 where
-  pub answer : Result (Unit {0}) Failure
-  pub mid : Told
-  pub carries : CarriesOut ws k before mid answer
-  pub end : PrintsPart mid after (end_text answer)
+  pub told : answer ≡ Err failure.Output → ⊥

@@ -4,3 +4,4 @@ pub mod Keys
 pub mod Seats
 pub mod Tasks
 pub mod Ends
+pub mod Leaving

@@ -1,8 +1,9 @@
 //! The program, but for the machine that it runs on.
 
-ghost use Rattle.std.specs.Prelude.{◌≡◌, ◌<◌, [], true, false, OnErr, OnOk, map, option_map, string_bytes};
-ghost use Rattle.cli_lines.specs.Told.{Answers, Begins, IsMore, IsTold, Prints, PrintsNothing, PrintsPart, Says, Tells, Told};
-ghost use Rattle.cli_program.specs.Ends.{CarriesOut, Ends, EndsInPart, PrintsLast, failure_status, last_text};
+ghost use Rattle.std.specs.Prelude.{◌≡◌, ◌<◌, [], true, false, None, OnErr, OnOk, map, option_map, string_bytes};
+ghost use Rattle.cli_lines.specs.Told.{Answers, Begins, IsMore, IsTold, Prints, Says, Tells, Told};
+ghost use Rattle.cli_program.specs.Ends.{CarriesOut, Ends, PrintsLast, failure_status};
+ghost use Rattle.cli_program.specs.Leaving.{KeepsFiles, Leaves, LeavesFiles};
 ghost use Rattle.cli_session.specs.Whole.{RunBegins};
 ghost use Rattle.cli_program.specs.Tasks.{Comes, IsPart, Runs, WithGenesis, Works, known_files};
 
@@ -54,15 +55,15 @@ pub fn program<R: Threads + Wait + Sync + Send + Copy + 'static, F: Files, W: Wr
     ensures done { result ≡ 0 → out.new.failed ≡ out.old.failed }
     ensures told { 0 < result → IsTold out.old out.new }
     ensures lost { out.old.failed ≡ false → out.new.failed ≡ true → result ≡ 1 }
+    ensures more { IsMore out.old out.new }
     // What the words ask for is done, where each text could be printed and handed on.
     ensures answers { out.new.failed ≡ false
         → Ends (map string_bytes words.now)
         (known_files F.is_known (F.bytes files.old) (F.bytes files.new)
         (F.input_bytes files.old)) out.old out.new result }
-    // Where one could not be, a beginning of it was printed.
-    ensures begins { EndsInPart (map string_bytes words.now)
-        (known_files F.is_known (F.bytes files.old) (F.bytes files.new)
-        (F.input_bytes files.old)) out.old out.new }
+    // Only a run with a store and a commit write files.
+    ensures files { KeepsFiles (map string_bytes words.now) (F.bytes files.old)
+        (F.bytes files.new) }
 {
     match carry_out(Machine { rt, alloc }, words, files, out) {
         Ok(()) => done(out),
@@ -93,7 +94,7 @@ fn done<W: Write>(out: &mut Printer<'_, W>) -> u8
     ensures told { 0 < result → out.new.failed ≡ true }
     ensures lost { out.old.failed ≡ false → out.new.failed ≡ true → result ≡ 1 }
     ensures ended { out.new.failed ≡ false → (result ≡ 0) × Prints out.old out.new [] }
-    ensures part { PrintsPart out.old out.new [] }
+    ensures more { IsMore out.old out.new }
 {
     if hand_on(out) { 0 } else { 1 }
 }
@@ -108,7 +109,7 @@ fn refused<W: Write>(failure: Failure, out: &mut Printer<'_, W>) -> u8
         → out.new.failed ≡ true → result ≡ 1 }
     ensures ended { out.new.failed ≡ false
         → (result ≡ failure_status failure) × PrintsLast failure out.old out.new }
-    ensures part { PrintsPart out.old out.new (last_text failure) }
+    ensures more { IsMore out.old out.new }
 {
     let is_told = tell_and_hand_on(failure, out);
     status_of(failure, is_told)
@@ -121,7 +122,7 @@ fn tell_and_hand_on<W: Write>(failure: Failure, out: &mut Printer<'_, W>) -> boo
         → IsTold before out.new }
     ensures line { result ≡ true → PrintsLast failure out.old out.new }
     ensures lost { result ≡ false → out.new.failed ≡ true }
-    ensures part { PrintsPart out.old out.new (last_text failure) }
+    ensures more { IsMore out.old out.new }
 {
     let told = tell(failure, out);
     let is_handed_on = hand_on(out);
@@ -156,8 +157,6 @@ fn hand_on<W: Write>(out: &mut Printer<'_, W>) -> bool
     ensures more { IsMore out.old out.new }
     ensures kept { result ≡ true → Prints out.old out.new [] }
     ensures lost { result ≡ false → out.new.failed ≡ true }
-    ensures nothing { result ≡ false → PrintsNothing out.old out.new }
-    ensures part { PrintsPart out.old out.new [] }
 {
     match out.flush() {
         Ok(()) => true,
@@ -170,7 +169,6 @@ fn tell<W: Write>(failure: Failure, out: &mut Printer<'_, W>) -> Result<(), Fail
     ensures told { (before : Told) → IsMore before out.old → Says before out.old failure
         → IsTold before out.new }
     ensures line { OnOk result (PrintsLast failure out.old out.new) }
-    ensures nothing { OnErr result (PrintsNothing out.old out.new) }
     ensures lost { OnErr result (out.new.failed ≡ true) }
     ensures more { IsMore out.old out.new }
 {
@@ -193,6 +191,8 @@ fn carry_out<R: Threads + Wait + Sync + Send + Copy + 'static, F: Files, W: Writ
     ensures carries { CarriesOut (map string_bytes words.now)
         (known_files F.is_known (F.bytes files.old) (F.bytes files.new)
         (F.input_bytes files.old)) out.old out.new result }
+    ensures files { KeepsFiles (map string_bytes words.now) (F.bytes files.old)
+        (F.bytes files.new) }
 {
     match parse(machine.alloc, words) {
         Ok(task) => do_task(machine, files, &task, out),
@@ -212,6 +212,7 @@ fn do_task<R: Threads + Wait + Sync + Send + Copy + 'static, F: Files, W: Write>
     ensures comes { Comes task.now
         (known_files F.is_known (F.bytes files.old) (F.bytes files.new)
         (F.input_bytes files.old)) out.old out.new result }
+    ensures files { LeavesFiles task.now (F.bytes files.old) (F.bytes files.new) }
 {
     let alloc = machine.alloc;
     match task {
@@ -237,6 +238,7 @@ fn with_genesis<R: Threads + Wait + Sync + Send + Copy + 'static, F: Files, W: W
     ensures works { let k = known_files F.is_known (F.bytes files.old) (F.bytes files.new)
         (F.input_bytes files.old) in
         WithGenesis k begin.now (λ log. Works log work.now k) out.old out.new result }
+    ensures files { Leaves work.now (F.bytes files.old) (F.bytes files.new) }
 {
     let log = opened(machine.alloc, files, begin)?;
     let subject = Subject {
@@ -258,6 +260,7 @@ fn do_work<R: Threads + Wait + Sync + Send + Copy + 'static, F: Files, W: Write>
     ensures works { Works subject.entry.log.now work.now
         (known_files F.is_known (F.bytes files.old) (F.bytes files.new)
         (F.input_bytes files.old)) out.old out.new result }
+    ensures files { Leaves work.now (F.bytes files.old) (F.bytes files.new) }
 {
     let Machine { rt, alloc } = machine;
     let Subject { name, log } = subject;
@@ -329,6 +332,7 @@ fn run_events<T: Threads + Sync, F: Files, W: Write>(
         (option_map (λ s. s.now) names.now.store)) out.old out.new result }
     ensures begins { Begins (RunBegins genesis.now (F.bytes files.old names.now.events.now))
         out.old out.new result }
+    ensures kept { names.now.store ≡ None → F.bytes files.new ≡ F.bytes files.old }
 {
     answer_of(run(workers, alloc, files, genesis, names, out))
 }

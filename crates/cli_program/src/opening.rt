@@ -34,7 +34,7 @@ pub fn opened<F: Files>(
     ensures silent { IfErr result IsSilent }
     ensures opens { IfOk result (Opens (F.bytes files.old) begin.now) }
     ensures refused { IfErr result (NotOpens (F.bytes files.old) begin.now) }
-    ensures kept { OnOk result (F.bytes files.new ≡ F.bytes files.old) }
+    ensures kept { F.bytes files.new ≡ F.bytes files.old }
     ensures input { OnOk result (F.input_bytes files.new ≡ F.input_bytes files.old) }
 {
     let bytes = read_all_explained(alloc, files, begin.genesis)?;
@@ -62,7 +62,7 @@ fn genesis_of<F: Files>(
     ensures refused { IfErr result
         (SpellsNoneWith bytes.now (option_map (λ name. F.bytes files.old name.now)
         begin.now.modules)) }
-    ensures kept { OnOk result (F.bytes files.new ≡ F.bytes files.old) }
+    ensures kept { F.bytes files.new ≡ F.bytes files.old }
     ensures input { OnOk result (F.input_bytes files.new ≡ F.input_bytes files.old) }
 {
     let Some(name) = begin.modules else {
@@ -91,6 +91,7 @@ fn genesis_explained<F: Files>(
     ensures spelled { IfOk result (Spells bytes.now) }
     ensures refused { IfErr result (IsNoGenesis bytes.now []) }
     ensures unchanged { OnOk result (files.new ≡ files.old) }
+    ensures kept { F.bytes files.new ≡ F.bytes files.old }
 {
     let genesis = genesis_in(alloc, bytes);
     explain_genesis(alloc, files, name, bytes, &genesis);
@@ -110,6 +111,7 @@ fn holding_explained<F: Files>(
     ensures spelled { IfOk result (SpellsHolding bytes.now held.items) }
     ensures refused { IfErr result (IsNoGenesis bytes.now held.items) }
     ensures unchanged { OnOk result (files.new ≡ files.old) }
+    ensures kept { F.bytes files.new ≡ F.bytes files.old }
 {
     let genesis = genesis_holding(alloc, bytes, held);
     explain_genesis(alloc, files, name, bytes, &genesis);
@@ -139,7 +141,8 @@ fn explain_genesis<F: Files>(
     bytes: &[u8],
     genesis: &Result<Genesis, Failure>,
 )
-    ensures { OnOk genesis.now (files.new ≡ files.old) }
+    ensures unchanged { OnOk genesis.now (files.new ≡ files.old) }
+    ensures kept { F.bytes files.new ≡ F.bytes files.old }
 {
     if let Err(Failure::Genesis(refusal)) = genesis {
         let reason = genesis_reason(alloc, bytes, refusal);
@@ -154,7 +157,9 @@ fn explain_modules<F: Files>(
     name: &str,
     read: &Result<Vec<u8>, FileFault>,
     failure: &Failure,
-) {
+)
+    ensures kept { F.bytes files.new ≡ F.bytes files.old }
+{
     match (read, failure) {
         (Ok(bytes), Failure::Genesis(refusal)) => {
             let reason = modules_reason(alloc, bytes, refusal);
@@ -170,7 +175,7 @@ fn signers<F: Files>(alloc: Global, files: &mut F, name: &str) -> Result<Arc<Sig
     ensures spelled { IfOk result
         (λ signers. HasSeeds (F.bytes files.old name.now) signers.value) }
     ensures refused { IfErr result (IsNoKeyFile (F.bytes files.old name.now)) }
-    ensures kept { OnOk result (F.bytes files.new ≡ F.bytes files.old) }
+    ensures kept { F.bytes files.new ≡ F.bytes files.old }
     ensures input { OnOk result (F.input_bytes files.new ≡ F.input_bytes files.old) }
 {
     let signers = signers_in(alloc, files, name)?;
@@ -210,6 +215,7 @@ pub fn order_log<F: Files, W: Write>(
     ensures begins { Begins (OrdersByBegin
         (known_files F.is_known (F.bytes files.old) (F.bytes files.new)
         (F.input_bytes files.old)) name.now) out.old out.new result }
+    ensures kept { F.bytes files.new ≡ F.bytes files.old }
 {
     let begin = Beginning {
         genesis: name,

@@ -1,6 +1,6 @@
 //! The command `public`.
 
-ghost use Rattle.std.specs.Prelude.{IfErr, OnErr, OnOk};
+ghost use Rattle.std.specs.Prelude.{◌≡◌, IfErr, OnErr, OnOk};
 ghost use Rattle.std.specs.List.{flat_map};
 ghost use Rattle.cli_lines.specs.Told.{Answers, Begins, IsBrokenOff, IsTextOf, Prints, PrintsPart, Tells};
 ghost use Rattle.cli_program.specs.Keys.{Publishes, public_text};
@@ -22,6 +22,7 @@ pub fn public<F: Files, W: Write>(
     ensures answers { Answers (Publishes (F.bytes files.old name.now)) out.old out.new result }
     ensures begins { Begins (IsTextOf (Publishes (F.bytes files.old name.now))) out.old out.new
         result }
+    ensures kept { F.bytes files.new ≡ F.bytes files.old }
 {
     let keys = keys_in(alloc, files, name)?;
     print_keys(alloc, &keys, out)

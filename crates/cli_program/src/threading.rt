@@ -33,6 +33,7 @@ pub fn threads<R: Threads + Wait + Sync + Send + Copy + 'static, F: Files, W: Wr
     ensures answers { Answers (RunsSeats genesis.now chaincode.now rounds) out.old out.new result }
     ensures begins { Begins (IsTextOf (RunsSeats genesis.now chaincode.now rounds)) out.old out.new
         result }
+    ensures kept { F.bytes files.new ≡ F.bytes files.old }
 {
     need_secrets(alloc, files, genesis, &genesis.peers[..1])?;
     match run_seats(rt, alloc, genesis, chaincode, rounds) {

@@ -1,4 +1,4 @@
-use Rattle.std.proofs.Common.{rules, Ok, Err, map, string_bytes, refl}
+use Rattle.std.proofs.Common.{rules, Ok, Err, inl, inr, map, string_bytes, refl}
 use Rattle.cli_words.specs.declared.task.WordsFault.TheVariants as words
 use Rattle.cli_program.specs.Tasks.{known_files}
 use Rattle.cli_program.proofs.Usage.{usage_kept}
@@ -20,3 +20,12 @@ returns-in-Err-Usage-clause-carries g c = (Err words.Usage, (search rules, refl,
 
 pub returns-in-Err-Memory-clause-carries : goal.returns-in-Err-Memory-clause-carries
 returns-in-Err-Memory-clause-carries g c = (Err words.Memory, (refl, refl))
+
+pub returns-in-Ok-clause-files : goal.returns-in-Ok-clause-files
+returns-in-Ok-clause-files g c = inl (c.in-Ok.task, c.in-Ok.ensures, c.do_task.ensures.files)
+
+pub returns-in-Err-Usage-clause-files : goal.returns-in-Err-Usage-clause-files
+returns-in-Err-Usage-clause-files g c = inr refl
+
+pub returns-in-Err-Memory-clause-files : goal.returns-in-Err-Memory-clause-files
+returns-in-Err-Memory-clause-files g c = inr refl

@@ -1,13 +1,17 @@
-use Rattle.std.proofs.Common.{Ok, Err, ap, map, string_bytes, subst, ◌∙◌}
+use Rattle.std.proofs.Common.{Ok, Err, ap, map, string_bytes, subst, sym, ◌∙◌}
+use Rattle.cli_lines.proofs.Silence.{and_more}
 use Rattle.cli_program.specs.Ends.{CarriesOut}
+use Rattle.cli_program.specs.Leaving.{KeepsFiles}
+use Rattle.cli_program.specs.Opening.{FilesHeld}
 use Rattle.cli_program.specs.Tasks.{KnownFiles}
 use Rattle.cli_program.proofs.Beginning.{same_after}
+use Rattle.cli_program.proofs.Telling.{not_output}
 use Rattle.cli_program.proofs.commands.program.Goals as goal
 
 pub returns-in-Ok-clause-answers : goal.returns-in-Ok-clause-answers
 returns-in-Ok-clause-answers g c =
     λ whole. let end = c.done.ensures.ended whole in
-    record { answer = Ok tt; mid = c.carry_out.new.out; carries = c.in-Ok.ensures.carries; end = end.1; status_is = end.0 }
+    record { answer = Ok tt; mid = c.carry_out.new.out; carries = c.in-Ok.ensures.carries; end = end.1; status_is = end.0; told = λ is. cc is }
 
 pub returns-in-Err-clause-answers : goal.returns-in-Err-clause-answers
 returns-in-Err-clause-answers g c =
@@ -19,22 +23,22 @@ returns-in-Err-clause-answers g c =
     let mid = c.carry_out.new.out in
     let carries = subst (λ (k : KnownFiles). CarriesOut words k c.args.out.now mid (Err f)) same c.in-Err.ensures.carries in
     λ whole. let end = c.refused.ensures.ended whole in
-    record { answer = Err f; mid = mid; carries = carries; end = end.1; status_is = end.0 }
+    let told = not_output c.args.out.now mid c.refused.new.out f c.in-Err.ensures.tells.1 c.refused.ensures.more whole in
+    record { answer = Err f; mid = mid; carries = carries; end = end.1; status_is = end.0; told = λ is. told (cc is) }
 
-pub returns-in-Ok-clause-begins : goal.returns-in-Ok-clause-begins
-returns-in-Ok-clause-begins g c =
-    record { answer = Ok tt; mid = c.carry_out.new.out; carries = c.in-Ok.ensures.carries; end = c.done.ensures.part }
+pub returns-in-Ok-clause-more : goal.returns-in-Ok-clause-more
+returns-in-Ok-clause-more g c = and_more c.args.out.now c.carry_out.new.out c.done.new.out c.in-Ok.ensures.tells.0 c.done.ensures.more
 
-pub returns-in-Err-clause-begins : goal.returns-in-Err-clause-begins
-returns-in-Err-clause-begins g c =
+pub returns-in-Err-clause-more : goal.returns-in-Err-clause-more
+returns-in-Err-clause-more g c = and_more c.args.out.now c.carry_out.new.out c.refused.new.out c.in-Err.ensures.tells.0 c.refused.ensures.more
+
+pub returns-in-Err-clause-told : goal.returns-in-Err-clause-told
+returns-in-Err-clause-told g c = λ positive. c.refused.ensures.told c.args.out.now c.in-Err.ensures.tells.0 c.in-Err.ensures.tells.1
+
+pub returns-in-Err-clause-files : goal.returns-in-Err-clause-files
+returns-in-Err-clause-files g c =
     let files = g.F.Files.bytes in
-    let same = same_after g.F.Files.is_known (files c.args.files.now) (files c.carry_out.new.files) (files c.explain_refusal.new.files)
-    (g.F.Files.input_bytes c.args.files.now) c.explain_refusal.ensures in
-    let words = map string_bytes c.args.words.now in
-    let f = c.in-Err.failure in
-    let mid = c.carry_out.new.out in
-    let carries = subst (λ (k : KnownFiles). CarriesOut words k c.args.out.now mid (Err f)) same c.in-Err.ensures.carries in
-    record { answer = Err f; mid = mid; carries = carries; end = c.refused.ensures.part }
+    subst (λ (h : FilesHeld). KeepsFiles (map string_bytes c.args.words.now) (files c.args.files.now) h) (sym c.explain_refusal.ensures) c.in-Err.ensures.files
 
 pub returns-in-Ok-clause-lost : goal.returns-in-Ok-clause-lost
 returns-in-Ok-clause-lost g c = λ whole lost. c.done.ensures.lost (c.in-Ok.ensures.tells.1 ∙ whole) lost

@@ -1,7 +1,6 @@
-use Rattle.std.proofs.Common.{inl, inr}
-use Rattle.cli_program.specs.Ends.{last_text}
+use Rattle.cli_lines.proofs.Silence.{and_more}
 use Rattle.cli_program.proofs.Lines.{last_kept}
-use Rattle.cli_program.proofs.Telling.{ended_part, handed_or_not, still_told}
+use Rattle.cli_program.proofs.Telling.{still_told}
 use Rattle.cli_program.proofs.commands.tell_and_hand_on.Goals as goal
 
 pub returns-in-Ok-clause-told : goal.returns-in-Ok-clause-told
@@ -23,16 +22,10 @@ returns-in-Ok-clause-line g c =
 pub returns-in-Err-clause-lost : goal.returns-in-Err-clause-lost
 returns-in-Err-clause-lost g c = λ not. c.hand_on-is_handed_on.ensures.more.fails c.in-Err.ensures.lost
 
-pub returns-in-Ok-clause-part : goal.returns-in-Ok-clause-part
-returns-in-Ok-clause-part g c =
-    let u = c.tell-told.new.out in
-    let h = c.hand_on-is_handed_on in
-    ended_part c.args.out.now u h.new.out (last_text c.args.failure) (inl c.in-Ok.ensures.line)
-    (handed_or_not u h.new.out h.result h.ensures.kept h.ensures.nothing)
+pub returns-in-Ok-clause-more : goal.returns-in-Ok-clause-more
+returns-in-Ok-clause-more g c =
+    and_more c.args.out.now c.tell-told.new.out c.hand_on-is_handed_on.new.out c.tell-told.ensures.more c.hand_on-is_handed_on.ensures.more
 
-pub returns-in-Err-clause-part : goal.returns-in-Err-clause-part
-returns-in-Err-clause-part g c =
-    let u = c.tell-told.new.out in
-    let h = c.hand_on-is_handed_on in
-    ended_part c.args.out.now u h.new.out (last_text c.args.failure) (inr c.in-Err.ensures.nothing)
-    (handed_or_not u h.new.out h.result h.ensures.kept h.ensures.nothing)
+pub returns-in-Err-clause-more : goal.returns-in-Err-clause-more
+returns-in-Err-clause-more g c =
+    and_more c.args.out.now c.tell-told.new.out c.hand_on-is_handed_on.new.out c.tell-told.ensures.more c.hand_on-is_handed_on.ensures.more

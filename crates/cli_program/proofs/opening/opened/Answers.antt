@@ -10,7 +10,7 @@ use Rattle.cli_program.proofs.opening.opened.Goals as goal
 pub returns-in_err-bytes : goal.returns-in_err-bytes
 returns-in_err-bytes g c =
     let p = err_from_is_err_and c.from_residual.result c.from_residual.ensures.1 in
-    rw p.1 (record { silent = p.2.0; opens = tt; refused = inl p.2.1; kept = tt; input = tt })
+    rw p.1 (record { silent = p.2.0; opens = tt; refused = inl p.2.1; kept = c.in_err-bytes.ensures.kept; input = tt })
 
 pub returns-in_err-genesis : goal.returns-in_err-genesis
 returns-in_err-genesis g c =
@@ -22,7 +22,7 @@ returns-in_err-genesis g c =
     let f = c.in_err-genesis.field-0.0 in
     let none = read_before (files c.args.files.now) (files c.read_all_explained.new.files) c.args.begin.now c.deref.result.now bytes
     (λ xs modules. SpellsNoneWith xs modules f) read.kept c.deref.ensures.value e.refused in
-    rw (p.1, p.2) (record { silent = e.silent; opens = tt; refused = inr (inl (bytes, read.bytes, none)); kept = tt; input = tt })
+    rw (p.1, p.2) (record { silent = e.silent; opens = tt; refused = inr (inl (bytes, read.bytes, none)); kept = e.kept ∙ read.kept; input = tt })
 
 pub returns-clause-opens : goal.returns-clause-opens
 returns-clause-opens g c =

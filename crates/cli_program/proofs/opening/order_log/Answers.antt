@@ -17,6 +17,7 @@ returns-in_err-log g c =
       tells = tells_by t t _ (no_less t) e.silent;
       answers = inr ([], inr (c.in_err-log.field-0.0, e.refused, refl, refl), prints_none t);
       begins = λ broken. inl (nothing_same t);
+      kept = e.kept;
     })
 
 pub returns-clause-answers : goal.returns-clause-answers

@@ -24,6 +24,7 @@ returns-in_err-keys g c =
       tells = tells_by t t _ (no_less t) e.silent;
       answers = inr ([], (e.refused, refl), prints_none t);
       begins = λ broken. inl (nothing_same t);
+      kept = c.in_err-keys.ensures.kept;
     })
 
 pub returns-clause-answers : goal.returns-clause-answers

@@ -24,6 +24,7 @@ returns-in_err-need_secrets g c =
       tells = tells_by t t _ (no_less t) e.silent;
       answers = inr ([], inl (lacks, ap Err e.only, refl), prints_none t);
       begins = λ broken. inl (nothing_same t);
+      kept = c.in_err-need_secrets.ensures.kept;
     })
 
 pub returns-in-Ok-clause-answers : goal.returns-in-Ok-clause-answers
