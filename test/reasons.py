@@ -2,6 +2,7 @@
 import contextlib
 import fcntl
 import json
+import os
 import pathlib
 import re
 import shutil
@@ -93,6 +94,11 @@ def try_cases(report: Report, program: pathlib.Path, tree: pathlib.Path, data: p
         report.case(f"{line}: a sentence for each number", told == said, f"told {told}\nsaid {said}\n{err[:1000]}")
 
 
+def bytes_of(text: str) -> bytes:
+    """The bytes of a text of a row. A lone surrogate stands for a byte that is no UTF-8, as `\\udcff` for ff."""
+    return text.encode("utf-8", "surrogateescape")
+
+
 def rows_of(tree: pathlib.Path, name: str) -> list[dict]:
     """The rows of a file of wrong inputs."""
     return [json.loads(it) for it in (tree / "test" / f"{name}.jsonl").read_text(encoding="utf-8").splitlines()]
@@ -117,21 +123,21 @@ def try_genesis(report: Report, program: pathlib.Path, tree: pathlib.Path, data:
     """Each row of a file: what stands in the place of a text of the example's genesis file, the number, and the sentence."""
     genesis = (tree / "examples/assets/genesis.json").read_text(encoding="utf-8")
     for row in rows_of(tree, "wrong_genesis"):
-        (data / "wrong.json").write_text(genesis.replace(row["old"], row["new"], 1), encoding="utf-8")
+        (data / "wrong.json").write_bytes(bytes_of(genesis.replace(row["old"], row["new"], 1)))
         out, err = ran(program, ["order", "wrong.json"], data, b"")
         wanted = f"refused {row['number']}\n", f"ledger: wrong.json: {row['sentence']}\n"
-        report.case(f"{row['old']} as {row['new'][:80]}", (out, err) == wanted, f"{out}{err}\nwanted {wanted}")
+        report.case(f"{row['old']} as {row['new'][:80]!a}", (out, err) == wanted, f"{out}{err}\nwanted {wanted}")
 
 
 def try_lines(report: Report, program: pathlib.Path, tree: pathlib.Path, data: pathlib.Path) -> None:
     """Each row of a file: a line of events, proposals or questions, and the sentence."""
     for row in rows_of(tree, "wrong_lines"):
-        line = f"{row['line']}\n".encode()
+        line = bytes_of(f"{row['line']}\n")
         (data / "wrong.jsonl").write_bytes(line)
         words, place = LINES[row["kind"]]
         out, err = ran(program, words.split(), data, line)
         wanted = "bad line 1\n", f"ledger: {place}, line 1: {row['sentence']} (bad line)\n"
-        report.case(f"{row['kind']} {row['line'][:80]}", (out, err) == wanted, f"{out}{err}\nwanted {wanted}")
+        report.case(f"{row['kind']} {row['line'][:80]!a}", (out, err) == wanted, f"{out}{err}\nwanted {wanted}")
 
 
 def try_modules(report: Report, program: pathlib.Path, tree: pathlib.Path, data: pathlib.Path) -> None:
@@ -143,6 +149,14 @@ def try_modules(report: Report, program: pathlib.Path, tree: pathlib.Path, data:
         report.case(f"module {row['hex'][:80]}", err == wanted, f"{err}\nwanted {wanted}")
 
 
+def try_pipe(report: Report, program: pathlib.Path, data: pathlib.Path) -> None:
+    """A store that is a pipe is refused at once: nobody waits for its other end."""
+    os.mkfifo(data / "pipe.store")
+    wanted = "refused 703\n", "ledger: pipe.store: it is a device or a pipe, and cannot be used so (703)\n"
+    out, err = ran(program, ["commit", "put.json", "pipe.store"], data, b"")
+    report.case("commit to a pipe", (out, err) == wanted, f"{out}{err}\nwanted {wanted}")
+
+
 def try_reasons(report: Report, tree: pathlib.Path, room: pathlib.Path, program: pathlib.Path) -> None:
     data = room / "cases"
     shutil.copytree(tree / "crates/cli_cases/data", data)
@@ -150,4 +164,5 @@ def try_reasons(report: Report, tree: pathlib.Path, room: pathlib.Path, program:
     try_modules(report, program, tree, data)
     try_genesis(report, program, tree, data)
     try_lines(report, program, tree, data)
+    try_pipe(report, program, data)
     try_cases(report, program, tree, data)

@@ -34,10 +34,10 @@ struct Machine<'a, R> {
     alloc: Global,
 }
 
-/// What a task works on: a genesis, and the name of its file.
+/// What a task works on: a genesis, and the names of its file and of those beside it.
 #[derive(Clone, Copy)]
 struct Subject<'a> {
-    name: &'a str,
+    begin: &'a Beginning<'a>,
     log: &'a LogGenesis,
 }
 
@@ -241,11 +241,7 @@ fn with_genesis<R: Threads + Wait + Sync + Send + Copy + 'static, F: Files, W: W
     ensures files { Leaves work.now (F.bytes files.old) (F.bytes files.new) }
 {
     let log = opened(machine.alloc, files, begin)?;
-    let subject = Subject {
-        name: begin.genesis,
-        log: &log,
-    };
-    do_work(machine, files, subject, work, out)
+    do_work(machine, files, Subject { begin, log: &log }, work, out)
 }
 
 /// Does what is asked for of a genesis.
@@ -263,7 +259,7 @@ fn do_work<R: Threads + Wait + Sync + Send + Copy + 'static, F: Files, W: Write>
     ensures files { Leaves work.now (F.bytes files.old) (F.bytes files.new) }
 {
     let Machine { rt, alloc } = machine;
-    let Subject { name, log } = subject;
+    let Subject { begin, log } = subject;
     let genesis = &log.genesis;
     let workers = workers_of(rt);
     match work {
@@ -276,8 +272,10 @@ fn do_work<R: Threads + Wait + Sync + Send + Copy + 'static, F: Files, W: Write>
         }
         Work::Run { events, store } => {
             let names = RunFiles {
-                genesis: name,
+                genesis: begin.genesis,
                 events,
+                modules: begin.modules,
+                keys: begin.keys,
                 store: *store,
             };
             run_events(&workers, alloc, files, genesis, &names, out)

@@ -30,11 +30,15 @@ impl<'a> Disk<'a> {
         Ok(Target::NewFile(String::from_str(alloc, name)?))
     }
 
-    /// Takes an opened file for the program alone. None where another one has it, and where the name
-    /// leads to another file by now: whoever had this one has put that in its place.
+    /// Takes an opened file for the program alone. None where it is a device or a pipe, where another
+    /// one has it, and where the name leads to another file by now: whoever had this one has put
+    /// that in its place.
     fn locked(&self, name: &str, file: File) -> Option<File> {
-        file.try_lock().ok()?;
         let opened = file.metadata().ok()?;
+        if !opened.is_file() {
+            return None;
+        }
+        file.try_lock().ok()?;
         let named = fs::metadata(self.0, name).ok()?;
         is_one_file(&opened, &named).then_some(file)
     }
@@ -109,8 +113,9 @@ impl<'a> Files for Disk<'a> {
         File::options().write(true).open(self.0, name).ok()
     }
 
-    fn keep(&mut self, _writer: File, from: &str, to: &str) -> bool {
-        fs::rename(self.0, from, to).is_ok()
+    /// The file gets the name once it is on the disk.
+    fn keep(&mut self, writer: File, from: &str, to: &str) -> bool {
+        writer.sync_all().is_ok() && fs::rename(self.0, from, to).is_ok()
     }
 
     fn remove(&mut self, name: &str) {

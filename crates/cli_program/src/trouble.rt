@@ -27,8 +27,13 @@ pub(crate) fn trouble_of(
 
 /// Looks at a file: what is wrong with it, or the system's reason.
 fn look(machine: &HostRuntime, name: &str, access: Access) -> io::Result<&'static str> {
-    if fs::metadata(machine, name)?.is_dir() {
+    let found = fs::metadata(machine, name)?;
+    if found.is_dir() {
         return Ok("it is a folder");
+    }
+    // A pipe that is opened waits for who is at its other end.
+    if !found.is_file() {
+        return Ok("it is a device or a pipe, and cannot be used so");
     }
     let file = fs::open(machine, name)?;
     match access {

@@ -91,13 +91,24 @@ fn is_read<F: Files>(
     match target {
         Target::File(name) | Target::NewFile(name) => {
             let part = part_of(alloc, name)?;
-            Ok(is_either(files, names, name) || is_either(files, names, &part))
+            Ok(is_one_of(files, names, name) || is_one_of(files, names, &part))
         }
         Target::Device(_) => Ok(false),
     }
 }
 
 /// Whether a file is one that the run reads.
-fn is_either<F: Files>(files: &mut F, names: &RunFiles<'_>, name: &str) -> bool {
-    files.is_same(name, names.genesis) || files.is_same(name, names.events)
+fn is_one_of<F: Files>(files: &mut F, names: &RunFiles<'_>, name: &str) -> bool {
+    files.is_same(name, names.genesis)
+        || files.is_same(name, names.events)
+        || is_given(files, names.modules, name)
+        || is_given(files, names.keys, name)
+}
+
+/// Whether a file is one that was given by an option.
+fn is_given<F: Files>(files: &mut F, given: Option<&str>, name: &str) -> bool {
+    match given {
+        Some(given) => files.is_same(name, given),
+        None => false,
+    }
 }

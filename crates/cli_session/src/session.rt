@@ -54,6 +54,10 @@ pub struct RunFiles<'a> {
     pub genesis: &'a str,
     /// The file of events, which is read as the run goes.
     pub events: &'a str,
+    /// The modules file, which was read, if there is one.
+    pub modules: Option<&'a str>,
+    /// The key file, which was read, if there is one.
+    pub keys: Option<&'a str>,
     /// The store that gets the chain of the first peer, if there is one.
     pub store: Option<&'a str>,
 }

@@ -129,7 +129,8 @@ fn place_file<F: Files>(
 }
 
 /// What is wrong where a store that is written does not get its name.
-const NOT_RENAMED: &str = "it is written, and cannot get the store's name; see its folder's rights";
+const NOT_RENAMED: &str =
+    "it is written, and cannot get the store's name; see the disk and its folder's rights";
 
 /// What is wrong where the name of a new store is no longer free.
 const NAME_TAKEN: &str = "a file got this name during the run, and stays; take another name";
