@@ -41,8 +41,7 @@ impl<'a> Source<'a> {
 
     // A defined function, by its index among all and the name of its export.
     fn function(&self, defined: usize) -> Result<String, Stop> {
-        let imported = self.count_of(Section::Import)?;
-        let function = defined.saturating_add(imported as usize);
+        let function = defined.saturating_add(self.imported_functions()?);
         match readable(self.export_of(function))?.flatten() {
             None => Ok(format!(in self.alloc; "function {function}")?),
             Some(name) => {
@@ -50,6 +49,19 @@ impl<'a> Source<'a> {
                 Ok(format!(in self.alloc; "function {function} ({shown})")?)
             }
         }
+    }
+
+    // How many functions the module imports: an import may be another thing where a module is
+    // refused before its imports are checked.
+    fn imported_functions(&self) -> Result<usize, Stop> {
+        let (mut reader, count) = self.section_of(Section::Import)?;
+        let mut functions = 0usize;
+        for _ in 0..count {
+            if reader.import()?.kind == 0 {
+                functions = functions.saturating_add(1);
+            }
+        }
+        Ok(functions)
     }
 
     // The name of the first export of a function.
