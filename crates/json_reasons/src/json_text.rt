@@ -20,8 +20,8 @@ pub(crate) fn read_json(alloc: Global, bytes: &[u8], is_file: bool) -> Result<Re
     let text = match std::str::from_utf8(bytes) {
         Ok(text) => text,
         Err(fault) => {
-            let place = fault.valid_up_to();
-            return Ok(Read::None(format!(in alloc; "byte {place} is no UTF-8")?));
+            let words = placed(alloc, bytes, fault.valid_up_to(), is_file, NO_UTF8)?;
+            return Ok(Read::None(words));
         }
     };
     match Value::from_str(alloc, text) {
@@ -31,14 +31,28 @@ pub(crate) fn read_json(alloc: Global, bytes: &[u8], is_file: bool) -> Result<Re
     }
 }
 
+/// What is wrong with the first byte that spells no character.
+const NO_UTF8: &str = "this byte is no UTF-8";
+
 /// Where and why a text is no JSON.
 fn words(alloc: Global, text: &[u8], error: &Error, is_file: bool) -> Result<String, AllocError> {
     let (place, expected) = first_fault(alloc, text, offset_of(text, error))?;
+    placed(alloc, text, place, is_file, expected)
+}
+
+/// What is wrong at a place of a text, behind its line, where it is in a file, and its column.
+fn placed(
+    alloc: Global,
+    text: &[u8],
+    place: usize,
+    is_file: bool,
+    wrong: &str,
+) -> Result<String, AllocError> {
     let (line, column) = line_and_column(text, place);
     if is_file {
-        format!(in alloc; "line {line}, column {column}: {expected}")
+        format!(in alloc; "line {line}, column {column}: {wrong}")
     } else {
-        format!(in alloc; "column {column}: {expected}")
+        format!(in alloc; "column {column}: {wrong}")
     }
 }
 
