@@ -20,7 +20,7 @@ pub fn range_entries(
 ) -> Result<Vec<RangeEntry>, AllocError>
     ensures { IfOk result (λ v. v.items ≡ map version_entry (map deref_pair entries.now)) }
 {
-    let mut items = Vec::new(alloc);
+    let mut items = Vec::with_capacity(alloc, entries.len())?;
     for (key, entry) in entries {
         items.push(RangeEntry {
             key: (*key).clone()?,

@@ -143,13 +143,12 @@ impl<D: Seek + OpenFile + Drop> Counted<D> {
     }
 }
 
-/// Sets the length of a file to so many bytes less, and goes to its end.
+/// Goes to where a file ends that has so many bytes less, and makes it end there.
 fn shorten<D: Seek + OpenFile>(file: &mut D, count: usize) -> io::Result<()> {
     let length = file.seek(SeekFrom::End(0))?;
     let Some(left) = length.checked_sub(count as u64) else {
         return Err(io::Error::from(io::ErrorKind::UnexpectedEof));
     };
-    file.set_len(left)?;
     file.seek(SeekFrom::Start(left))?;
-    Ok(())
+    file.set_len(left)
 }
