@@ -52,7 +52,7 @@ curve x y z t = Sub (Sub (Mul y y) (Mul x x)) (Add (Mul z z) (Mul dd (Mul t t)))
 abbrev cross : Expr → Expr → Expr → Expr → Expr
 cross x y z t = Sub (Mul x y) (Mul z t)
 
--- d t1 t2 less z1 z2, or their added
+-- d t1 t2 less z1 z2, or their sum
 abbrev joint : Expr → Expr
 joint s = Sub (Mul dd (Mul t1 t2)) (Mul s (Mul z1 z2))
 
@@ -82,7 +82,7 @@ identity_3 e = ring e (left (Num root) (Num (p - 1))) (outcome (Num root) (Num (
 identity_4 : (e : List ℕ) → meaning e (left (Num (p - root)) (Num (p - 1))) ≡ meaning e (outcome (Num (p - root)) (Num (p - 1)))
 identity_4 e = ring e (left (Num (p - root)) (Num (p - 1))) (outcome (Num (p - root)) (Num (p - 1))) refl
 
--- the added of both linear forms
+-- the sum of both linear forms
 halves : (e : List ℕ) → meaning e (Add (Add (Mul (Num root) x2) y2) (Add (Mul (Num (p - root)) x2) y2)) ≡ meaning e (Mul (Num 2) y2)
 halves e = ring e (Add (Add (Mul (Num root) x2) y2) (Add (Mul (Num (p - root)) x2) y2)) (Mul (Num 2) y2) refl
 

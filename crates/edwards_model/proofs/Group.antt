@@ -1,21 +1,23 @@
 -- The points of the curve are a group, of which multiples are sums.
 use Rattle.std.proofs.Common.{◌≡◌, ◌≢◌, ℕ, zero, suc, ◌+◌, ◌-◌, ◌*◌, ◌/◌, ◌%◌, ◌^◌, ◌<◌, Bool, true, false, List, [], ◌∷◌, refl, sym, ap, ap₂, ◌∙◌}
 use Rattle.std.proofs.Common.{subst, arith, add-one}
-use Rattle.std.specs.Prelude.{◌&&◌, if◌then◌else◌}
+use Rattle.std.specs.Prelude.{if◌then◌else◌}
 use Rattle.std.specs.Cmp.Derive.{both_true}
 use Rattle.std.proofs.lemmas.Bool.{eqb-true, eq-eqb}
 use Rattle.std.proofs.lemmas.Bool.Decides.{nat_tests}
 use Rattle.std.proofs.Math.Nat.{pow-suc, pow-zero, mul_comm, div-add-mod}
 use Rattle.field25519.specs.Bytes.{is_odd}
 use Rattle.field25519.specs.Modulo.{p, plus, minus, times, power}
-use Rattle.edwards_model.specs.Curve.{d, order, Affine, IsPoint, quotient, joint, sum, neutral, base, multiple, same}
+use Rattle.edwards_model.specs.Curve.{d, order, Affine, IsPoint, quotient, joint, sum, neutral, opposite, base, multiple, same}
 use Rattle.edwards_model.specs.Extended.{added, doubled, same_point, Extended, extended, Represents}
 use Rattle.edwards_model.proofs.Ring.{and_left, and_right, Var, Num, Add, Sub, Mul, ring}
 use Rattle.field25519.proofs.Powers.{times_comm}
 use Rattle.edwards_model.proofs.Units.{times_one, power_inverse}
+use Rattle.edwards_model.proofs.Closing.{times_none}
+use Rattle.edwards_model.proofs.Complete.{minus_whole}
 use Rattle.edwards_model.proofs.Associating.{added_is_associative}
-use Rattle.edwards_model.proofs.Representing.{added_represents, on_curve}
-use Rattle.edwards_model.proofs.Rooting.{one_nonzero}
+use Rattle.edwards_model.proofs.Representing.{added_represents, on_curve, sum_has_denominators}
+use Rattle.edwards_model.proofs.Rooting.{one_nonzero, negated}
 use Rattle.edwards_model.proofs.Doubling.{doubled_represents, test_represents}
 
 pub of_represents : (q : Extended) (a : Affine) → Represents q a → IsPoint a
@@ -83,6 +85,38 @@ with_neutral a h =
     (by_one a.y _ _ h.y_residue
     (ring e (Add (Mul (Var 1) (Num 1)) (Mul (Var 0) (Num 0))) (Mul (Var 1) (Num 1)) refl ∙ times_one a.y 1 refl ∙ h.y_residue)
     (ring e (Sub (Num 1) (Mul (Num d) (Mul (Mul (Var 0) (Num 0)) (Mul (Var 1) (Num 1))))) (Mul (Num 1) (Num 1)) refl ∙ one_times))
+
+pub opposite_is_point : (a : Affine) → IsPoint a → IsPoint (opposite a)
+opposite_is_point a h =
+    let square = negated a.x in
+    record {
+      curve = record {
+        curve =
+            ap (minus (times a.y a.y)) square ∙ h.curve.curve
+            ∙ ap (λ xx. plus 1 (times d (times xx (times a.y a.y)))) (sym square);
+      };
+      x_residue = minus_whole 0 a.x;
+      y_residue = h.y_residue;
+    }
+
+-- numerator and denominator of y are both y^2 - x^2, by the curve
+pub with_opposite : (a : Affine) → IsPoint a → sum a (opposite a) ≡ neutral
+with_opposite a h =
+    let make : ℕ → ℕ → Affine = λ x y. record { x = x; y = y } in
+    let b = opposite a in
+    let inverse = power (plus 1 (joint a b)) (p - 2) in
+    let k = minus 1 (joint a b) in
+    let denominators = sum_has_denominators a b h (opposite_is_point a h) in
+    let e : List ℕ = a.x ∷ a.y ∷ inverse ∷ [] in
+    ap₂ make
+    (ring e (Mul (Add (Mul (Var 0) (Var 1)) (Mul (Sub (Num 0) (Var 0)) (Var 1))) (Var 2)) (Mul (Var 2) (Num 0)) refl
+    ∙ times_none inverse 0 refl)
+    (ap (λ n. quotient n k)
+    (ring e (Add (Mul (Var 1) (Var 1)) (Mul (Var 0) (Sub (Num 0) (Var 0)))) (Sub (Mul (Var 1) (Var 1)) (Mul (Var 0) (Var 0))) refl
+    ∙ h.curve.curve
+    ∙ ring e (Add (Num 1) (Mul (Num d) (Mul (Mul (Var 0) (Var 0)) (Mul (Var 1) (Var 1)))))
+    (Sub (Num 1) (Mul (Num d) (Mul (Mul (Var 0) (Sub (Num 0) (Var 0))) (Mul (Var 1) (Var 1))))) refl)
+    ∙ power_inverse k denominators.y)
 
 pub neutral_is : IsPoint neutral
 unfolding plus minus times

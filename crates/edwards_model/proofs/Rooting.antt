@@ -75,7 +75,7 @@ affine_represents x y hx hy c = record {
   y_residue = hy;
 }
 
-negated : (x : ℕ) → times (minus 0 x) (minus 0 x) ≡ times x x
+pub negated : (x : ℕ) → times (minus 0 x) (minus 0 x) ≡ times x x
 negated x = ring (x ∷ []) (Mul (Sub (Num 0) (Var 0)) (Sub (Num 0) (Var 0))) (Mul (Var 0) (Var 0)) refl
 
 pub signed_point : (x y : ℕ) (c : Bool) → x % p ≡ x → y % p ≡ y → IsRootOf y x → IsPoint (record { x = if c then x else minus 0 x; y = y })

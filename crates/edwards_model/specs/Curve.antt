@@ -42,6 +42,10 @@ sum a b = record {
 abbrev pub neutral : Affine
 neutral = record { x = 0; y = 1 }
 
+-- the point whose sum with a is the neutral one
+abbrev pub opposite : Affine → Affine
+opposite a = record { x = minus 0 a.x; y = a.y }
+
 -- B (5.1)
 abbrev pub base : Affine
 base = record {

@@ -27,7 +27,7 @@ root_from u v x =
 unfoldable pub root : ℕ → ℕ → Option ℕ
 root u v = root_from u v (candidate u v)
 
--- x is one of y^2 - 1 by d y^2 + 1, so that it stands on the curve with y
+-- x is a root of y^2 - 1 by d y^2 + 1, so that it stands on the curve with y
 abbrev pub IsRootOf : ℕ → ℕ → Type 0
 IsRootOf y x = times (plus (times d (times y y)) 1) (times x x) ≡ minus (times y y) 1
 

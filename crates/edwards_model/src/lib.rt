@@ -17,7 +17,7 @@ pub fn sums_have_denominators()
     ensures { (a b : Affine) → IsPoint a → IsPoint b → SumHasDenominators a b }
 {}
 
-/// The points are a commutative group.
+/// The points are a commutative group: (0, 1) is neutral, and (-x, y) is the opposite of (x, y).
 pub fn points_are_group()
     ensures { PointsAreGroup }
 {}
@@ -27,7 +27,7 @@ pub fn base_has_order()
     ensures { BaseHasOrder }
 {}
 
-/// A point is decoded from its encoding.
+/// A point is decoded from its encoding, and what is decoded is a point.
 pub fn points_are_encoded()
     ensures { PointsAreEncoded }
 {}

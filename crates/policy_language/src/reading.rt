@@ -30,9 +30,10 @@ const MOST_CHILDREN: u32 = 1024;
 /// endorsement.
 ///
 /// A text of more than 1,024 bytes is refused at offset 1,024 before it is read. On another fault
-/// than want of memory the text spells no policy within the limits: on `Syntax` none at all, and on
-/// the others each policy that it spells has the cause that the fault names. The text is read from
-/// the left up to the first fault; a threshold is judged once its children are read.
+/// than want of memory the text spells no policy within the limits: a shorter one on `Syntax` none
+/// at all, and on the others each policy that it spells has the cause that the fault names. The
+/// text is read from the left up to the first fault; a threshold is judged once its children are
+/// read.
 pub fn parse(alloc: Global, text: &str, orgs: &[OrgName]) -> Result<Policy, PolicyFault>
     ensures spelled { IfOk result (λ p. IsText orgs.now p text.now) }
     ensures only { (p : Policy) → IsText orgs.now p text.now → Finds result p }
@@ -88,7 +89,7 @@ fn policy(
     ensures { ParsesBy (λ p. p) result reader.new (λ m. policy_by orgs.now m levels reader.old) }
 {
     if reader.is_quoted() {
-        return leaf(alloc, reader, orgs);
+        return leaf(reader, orgs);
     }
     let operator = reader.opening()?;
     if levels == 0 {
@@ -124,13 +125,12 @@ fn children(
 }
 
 /// The name of a known organisation in quotes.
-fn leaf(alloc: Global, reader: &mut Reader<'_>, orgs: &[OrgName]) -> Result<Policy, PolicyFault>
+fn leaf(reader: &mut Reader<'_>, orgs: &[OrgName]) -> Result<Policy, PolicyFault>
     ensures { ParsesBy (λ p. p) result reader.new
         (λ m. leaf_at (is_known_by orgs.now m) reader.old) }
 {
     let fault = reader.syntax();
-    let name = reader.quoted()?.to_vec(alloc)?;
-    let Some(name) = OrgName::new(name) else {
+    let Some(name) = OrgName::from_slice(reader.quoted()?) else {
         return Err(fault);
     };
     if !is_among(orgs, &name) {

@@ -23,7 +23,7 @@ returns-in_default c =
     let orgs = c.args.orgs.now in
     let bytes = c.args.reader.now in
     let e = c.syntax-fault.result in
-    let name = c.in_ok-name.name.items in
+    let name = c.in_ok-quoted.field-0.now in
     let wrong : IsOrgName name → ⊥ = search rules in
     let some : quoted_at bytes ≡ Some (name, c.quoted.new.self) = search rules in
     fails_of e ((m : Leniency) → Keeps e m → leaf_at (is_known_by orgs m) bytes ≡ None)
