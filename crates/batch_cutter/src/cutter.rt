@@ -233,6 +233,7 @@ impl<M: Weigh + Drop> Cutter<M> {
         ensures pending { self.new.pending ≡ batch.items }
         ensures limits { self.new.limits ≡ self.old.limits }
     {
+        // For the proof: the sizes together are at most this one, which a word holds.
         let _ = &self.preferred;
         self.size = total(batch.as_slice());
         self.pending = batch;

@@ -1,7 +1,7 @@
 //! Why a line on the standard output refuses something, in words on the standard error.
 //!
-//! What is here answers nothing and prints nothing on the standard output. Where there is no memory
-//! for a sentence, it is left out.
+//! A sentence changes no answer, and is not printed on the standard output. Where there is no
+//! memory for it, it is left out.
 
 ghost use Rattle.std.specs.Prelude.{◌≡◌, IfOk, IfSome, OnOk, take};
 ghost use Rattle.cli_lines.specs.Told.{IsHeld};
@@ -147,7 +147,7 @@ pub fn read_all_explained<F: Files>(
     read
 }
 
-/// Says why a file was not read, if that is so.
+/// Says why a file was not read, if that is so, unless it is for want of memory.
 pub fn explain_read<F: Files>(
     alloc: Global,
     files: &mut F,

@@ -52,8 +52,8 @@ pub enum Failure {
     Output,
 }
 
-/// What the program prints of it, without the line's end. Nothing of a failure that was printed, or
-/// of one that can't be.
+/// What the program prints of it, without the line's end. Nothing of a usage, which has a text of
+/// its own, of a failure that was printed, or of one that cannot be.
 impl Display for Failure {
     ghost use Rattle.cli_lines.specs.Texts.{failure_text};
 

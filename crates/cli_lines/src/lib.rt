@@ -4,8 +4,9 @@
 //! [`Files`] is where files are read and written, [`genesis_in`] reads what a system begins with,
 //! [`modules_in`] the modules at hand beside its own, and [`signers_in`] the seeds at hand.
 //! What [`explain`] and its like say on the standard error stands beside a line that refuses.
-//! [`Printer`] is where lines are printed: contracts see of it how many texts were printed, and
-//! whether one could not be. [`Failure`] says why a command was not done.
+//! [`Printer`] is where lines are printed: contracts see of it how many texts were printed, whether
+//! one could not be, and what its writer holds, where that is known. [`Failure`] says why a command
+//! was not done.
 #![tactic(auto)]
 
 mod committed;

@@ -8,7 +8,7 @@ use std::alloc::{AllocError, Global};
 /// What is so where a block has other flags.
 const CHANGED: &str = "from it on the store was changed, or it is another ledger's";
 
-/// What a number stands for, and what to do about it. The words have no end.
+/// What a number stands for, and what to do about it. The words do not end with the number.
 pub fn meaning(number: u16) -> &'static str {
     match number {
         9 => "there is no memory for it; call again when there is some",

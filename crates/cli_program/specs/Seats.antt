@@ -42,7 +42,7 @@ SeatsCame g chaincode rounds answer text =
     ((r : Report) × TellsOfSeats (task_of g chaincode rounds) g.seats g.reorder (limits_of g) r × TellsReport r answer text)
     ⊎ ((e : SeatsRefusal) × IsSeatsRefused (task_of g chaincode rounds) g.seats e × (answer ≡ Err (seats_failure e)) × (text ≡ []))
 
--- `threads`: refused exactly where the first peer's secret is not at hand
+-- `threads`: refused (808) exactly where the first peer's seed is not at hand, else what its seats came to
 abbrev pub RunsSeats : Genesis → (chaincode : List ℕ) → (rounds : ℕ) → Result (Unit {0}) Failure → List ℕ → Type 0
 RunsSeats g chaincode rounds answer text =
     ((first_lacks_seed g ≡ true) × (answer ≡ Err failure.NoSecret) × (text ≡ []))

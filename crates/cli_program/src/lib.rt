@@ -3,8 +3,9 @@
 //! The commands, and what each does, stand in the table of `cli_words`.
 //!
 //! [`program`] takes the words of the command line, the files by [`Files`], and where lines are
-//! printed. It starts threads for `threads` alone, which is here, as `public` is; the others do
-//! their work in `cli_session`, `cli_show`, `cli_roles` and `cli_query`.
+//! printed. [`Disk`] is the files of a machine, and [`Terminal`] tells how far a replay is.
+//! `threads` and `public` are here; the other commands do their work in `cli_session`, `cli_show`,
+//! `cli_roles` and `cli_query`.
 #![tactic(auto)]
 
 mod commands;

@@ -8,11 +8,12 @@ use store_replay::Watch;
 /// A line is written once in so many seconds at most.
 const TURN: u64 = 1;
 
-/// Who is not told for so many seconds begins anew, but where it is behind so many blocks then.
+/// Behind a pause of so many seconds another replay begins, unless `STRETCH` blocks were checked in
+/// it.
 const PAUSE: u64 = 2;
 
-/// The blocks that are checked at once where there are that many: a replay goes on behind them,
-/// however long they take.
+/// Several workers check at least so many blocks at once, where so many are at hand, however long
+/// they take.
 const STRETCH: usize = 16;
 
 /// Tells on the standard error how far a replay is, where that is a terminal and the replay takes

@@ -19,7 +19,7 @@ use std::thread::Threads;
 /// its own, and prints how many were endorsed and refused, how many of the endorsed ones the
 /// orderer refused, if any, how many blocks came of them, and what the audit of the chain says.
 ///
-/// Refused first where the peer's secret is not at hand (808), and as `run_seats` is.
+/// Refused first where the peer's seed is not at hand (808), and as `run_seats` is.
 pub fn threads<R: Threads + Wait + Sync + Send + Copy + 'static, F: Files, W: Write>(
     rt: &R,
     alloc: Global,

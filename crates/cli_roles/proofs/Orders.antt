@@ -101,7 +101,7 @@ line_read (Ok a) listed old new bytes decoded index said t u v lossy first rest 
   prints_then t u v taken.0 (read_text index new) taken.2 read,
 )
 
--- a timeout without a batch
+-- a tick without a batch
 pub told_none : (listed : Listed) (chain : List Block) (index said : List ℕ) (report : LineReport) (t : Told) → report ≡ Ticked None →
     PrintsSo (TellsReport listed chain index said report) t t
 told_none listed chain index said report t is =

@@ -52,7 +52,7 @@ endorses_by g org = record { book = g.book.value; listed = g.rules.value; seal =
 
 -- ---- a line
 
--- behind the hash: the signature, if the organisation stands with a public key
+-- behind the hash: the signature, if the organisation stands with a public key whose seed is at hand
 abbrev pub signature_text : Tag → Bytes
 signature_text (tag.Hmac mac) = codes "\n"
 signature_text (tag.Ed25519 signature) = codes " " ++ (encode_lower signature ++ codes "\n")

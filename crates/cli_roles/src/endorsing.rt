@@ -55,7 +55,7 @@ pub struct Endorsing<'a> {
 /// Reads lines, each a proposal, simulates each on the state after a store, and endorses its
 /// payload for an organisation. One that is `seen` and a block's number is answered by the line in
 /// which the organisation says which hash the block's header has, and signs it where it stands with
-/// a public key.
+/// a public key whose seed is at hand.
 ///
 /// The store is read on before each line is answered. The answer is `endorsed` with the bytes of
 /// the payload and of the endorsement in hex, the refusal of the simulation, `seen` with the
@@ -460,7 +460,7 @@ fn asked_block<'a, S: Read + Drop>(
 }
 
 /// Prints which hash the header of an organisation's block has, and its signature of that, where it
-/// has a public key.
+/// stands with a public key whose seed is at hand.
 fn print_seen<T, V, W: Write>(
     alloc: Global,
     member: &Member<'_, T, V>,

@@ -12,9 +12,10 @@ use std::marker::Model;
 /// So many bytes are asked for at a time.
 const CAPACITY: usize = 65_536;
 
-/// The name of the input, and what is wrong where it fails.
+/// The name of the input.
 const INPUT: &str = "standard input";
 
+/// What is wrong where it fails.
 const NOT_READ: &str = "it cannot be read to its end";
 
 /// A reader of lines. Contracts see the line that was read last, and the bytes behind it, where they

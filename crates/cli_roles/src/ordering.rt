@@ -33,14 +33,14 @@ const LEFT_OPEN: &str =
 /// Reads the lines of a log, each an index and a text, and prints the blocks that the log makes.
 ///
 /// Behind each line comes `read`, its index, and how many envelopes wait; before it what came of
-/// the mark: `aborted` for each transaction that is left out of a batch, `block` with the bytes of
-/// a block, and `skipped` with the reason where the text asks for nothing that can be done. A mark
-/// by which an organisation says that it has seen a block is skipped too. Where it is listed with a
-/// public key, and there is a signature, the text itself comes before that: `commit` judges it.
-/// Where it is not, and there is none, `forked` comes if this log has another block. A first line
-/// that names another genesis by its file's digest ends it. One that says nothing that an orderer
-/// or its readers know is told on the standard error: so nobody takes a log for one that names its
-/// genesis.
+/// the text: `aborted` for each transaction that is left out of a batch, `block` with the bytes of
+/// a block, and `skipped` with the reason where the text asks for nothing that can be done. A text
+/// by which an organisation says that it has seen a block is skipped too. Where it has a signature,
+/// the text itself comes before that: `commit` judges it. Where it has none, and the genesis lists
+/// the organisation with no public key, `forked` comes if this log has another block of the number,
+/// or none. A first line that names another genesis by its file's digest ends it. One that says
+/// nothing that an orderer or its readers know is told on the standard error: so nobody takes a log
+/// for one that names its genesis.
 pub fn order<F: Files, W: Write>(
     alloc: Global,
     files: &mut F,
@@ -157,8 +157,8 @@ impl Ordering {
         writeln!(out, "read {index} {}", self.replica.waiting().len())
     }
 
-    /// Reads the mark of the line of this number, and answers whether it is one of an orderer: an
-    /// envelope or `tick`.
+    /// Reads the text of the line of this number, and answers whether it is a mark: an envelope or
+    /// `tick`.
     fn take_text<F: Files, W: Write>(
         &mut self,
         files: &mut F,
@@ -183,7 +183,7 @@ impl Ordering {
         self.print_report(files, &report, index, text, number, out)
     }
 
-    /// Prints what comes of a line by its report, and answers whether it is a mark of an orderer.
+    /// Prints what comes of a line by its report, and answers whether its text is a mark.
     fn print_report<F: Files, W: Write>(
         &self,
         files: &mut F,

@@ -17,7 +17,7 @@ const LONGEST_LINE: usize = 2_097_152;
 pub(crate) enum Next {
     /// A line, without its end.
     Line(Vec<u8>),
-    /// A line of more bytes than a line has. They are not read to its end.
+    /// A line of more bytes than a line may have. It is not read to its end.
     TooLong,
     /// The end of the file.
     End,
@@ -66,6 +66,7 @@ pub(crate) fn next_line<B: BufRead>(alloc: Global, lines: &mut B) -> Result<Next
             Piece::NoneLeft => return Ok(Next::Line(line)),
         }
     }
+    // So many pieces no line has.
     Err(Failure::File)
 }
 

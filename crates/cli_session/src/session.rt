@@ -67,7 +67,7 @@ pub struct RunFiles<'a> {
 /// a store if there is one. Answers whether all transactions agree with their reruns.
 ///
 /// The file is read as the run goes. A line that stands for nothing ends the run, and then no store
-/// is written. The run is refused before the file is opened where a peer's secret is not at hand
+/// is written. The run is refused before the file is opened where a peer's seed is not at hand
 /// (808). The store's name is looked at before the first line is read: refused (703) where its
 /// file is one that the run reads, and where another one has it. The run has the file for itself
 /// alone until it ends. However many workers check the envelopes of blocks, it prints the same.
@@ -247,6 +247,7 @@ impl<T: Threads + Sync> Session<'_, T> {
                 Next::End => return Ok(()),
             }
         }
+        // So many lines no file has.
         Err(Failure::File)
     }
 

@@ -22,7 +22,7 @@ AreLines ds text = (texts : List Bytes) × (map read texts ≡ map Some ds) × (
 abbrev pub AreFirstLines : List Data → Bytes → Type 0
 AreFirstLines ds text = (first : List Data) × (rest : List Data) × (ds ≡ first ++ rest) × AreLines first text
 
--- some first ones of these lines were printed, and nothing else
+-- a beginning of some first ones of these lines was printed, and nothing else
 abbrev pub PrintsFirst : List Data → (before after : Told) → Type 0
 PrintsFirst ds before after = (text : Bytes) × AreFirstLines ds text × PrintsPart before after text
 

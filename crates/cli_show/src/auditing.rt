@@ -17,10 +17,13 @@ use std::io::Write;
 use std::thread::Threads;
 use store_replay::Replayed;
 
-/// Prints how many blocks a store has, and what is found of them: the first with flags that are not
-/// the rule's, why one does not fit, the first that upgrades to a module that is not at hand, or
-/// what the audit of the chain says. Last comes how the store ends, unless it ends with a record.
-/// Tags are checked by workers: it is the same for every number of them.
+/// Prints how many blocks a store has, and what is found of them: the first with other flags than
+/// the table's, why one does not fit, the first that upgrades to a module that is not at hand, or
+/// what the audit of the chain says. Tags are checked by workers: it is the same for every number
+/// of them.
+///
+/// Refused where the store does not end with its last record (701 to 703). Else what is wrong with
+/// its blocks makes it a failure, which is printed.
 pub fn audit<T: Threads + Sync, F: Files, W: Write>(
     workers: &Workers<'_, T>,
     alloc: Global,

@@ -68,7 +68,8 @@ pub(crate) fn explain_chain<F: Files>(alloc: Global, files: &mut F, name: &str, 
     }
 }
 
-/// Says each thing that is wrong with a store, but for reruns that differ.
+/// Says what is found wrong with the blocks of a store, but for reruns that differ, and how it
+/// ends.
 pub(crate) fn explain_findings<F: Files>(
     alloc: Global,
     files: &mut F,

@@ -34,7 +34,7 @@ pub fn print_ending<W: Write>(
     Ok(is_good(finding, replayed.end))
 }
 
-/// The first thing that is wrong with the committed blocks, or what their audit says. The only
+/// The first thing that is wrong with the blocks of a store, or what their audit says. The only
 /// error is want of memory.
 pub(crate) fn finding_of(
     alloc: Global,

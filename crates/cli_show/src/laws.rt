@@ -10,9 +10,9 @@ ghost use Rattle.store_replay.specs.Replay.{ReplaysFrom};
 ghost use Rattle.store_replay.specs.declared.replaying.Replayed.{Replayed};
 ghost use Rattle.json_chain.specs.Standing.{IsChainOf};
 
-/// What is shown of a store is shown by those whom the judge takes: its chain is one of which
-/// `json_chain::who_is_shown_stands` speaks, as it is replayed for `show` (`replayed`), and as
-/// `query` reads it (`read`).
+/// Which tags of a store are shown as right is by who stands in the state before their block: its
+/// chain is one of which `json_chain::who_is_shown_stands` speaks, as it is replayed for `show`
+/// (`replayed`), and as `query` reads it (`read`).
 pub fn stores_hold_chains()
     ensures replayed { (r : Listed) (known : Option (List ℕ)) (p : Replayed) →
         ReplaysFrom (table_of r) known p → IsChainOf r p.snapshot }

@@ -54,7 +54,8 @@ pub struct Asked<'a> {
 }
 
 /// Prints what the genesis sets, the blocks of a store from one number to another, and what is
-/// found of the store, as lines of JSON.
+/// found of the store, as lines of JSON. What is wrong with the store makes it a failure, which is
+/// printed.
 pub fn show<T: Threads + Sync, F: Files, W: Write>(
     workers: &Workers<'_, T>,
     alloc: Global,

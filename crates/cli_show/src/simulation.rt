@@ -28,8 +28,9 @@ pub struct Simulated<'a> {
 
 /// Simulates a call, and prints its transaction.
 ///
-/// Refused where a block of the store does not fit, and where the store does not end with its last
-/// record. Flags that the store has are passed over.
+/// Refused where a block of the store does not fit (601 to 604), where the store does not end with
+/// its last record (701 to 703), and where the simulation is. Flags that the store has are passed
+/// over.
 pub fn simulate<T: Threads + Sync, F: Files, W: Write>(
     workers: &Workers<'_, T>,
     alloc: Global,

@@ -55,7 +55,7 @@ fn trace_on<H: Host, W: Write>(
         (IsTraceBegun chaincode.now.«module» (H.answers host.old) (H.records host.old)
         chaincode.now.fuel most) out.old out.new result }
 {
-    // It says that the module is valid.
+    // The contract of this call says that the module is valid.
     let _module = chaincode.module.module();
     let mut stepper = Stepper::new(alloc, &chaincode.module, chaincode.fuel)?;
     let mut printed = 0;

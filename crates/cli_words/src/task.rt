@@ -180,8 +180,9 @@ impl From<clap::Error> for WordsFault {
 
 /// The task that the words name, the command first.
 ///
-/// Usage where they are no command, or a word is missing, left over, or no hex, count, name, key,
-/// number of a block or profile within its limits.
+/// Usage where they are no command; where a word or an option's value is missing, left over, or no
+/// hex, count, name, key, number of a block or profile within its limits; and where an option is
+/// none of the command's, stands twice, or is `--key` beside `--members`.
 pub fn parse<'a>(alloc: Global, words: &'a [String]) -> Result<Task<'a>, WordsFault>
     ensures { Reads (IsTaskOf (map string_bytes words.now)) result }
 {

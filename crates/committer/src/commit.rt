@@ -96,8 +96,7 @@ pub fn judge_told(
 }
 
 /// The snapshot after one block more, with the flags of its transactions. `snapshot` stays as it
-/// is. `endorsed` says of each transaction, by its place, whether its chaincode is known and its
-/// policy satisfied.
+/// is. `endorsed` says of each transaction, by its place, whether its envelope is endorsed.
 ///
 /// It refuses as `check_fits` does, and for want of memory (9) behind that. The block of a refused
 /// call is dropped.

@@ -8,6 +8,7 @@ use edwards25519::chosen;
 use field25519::Number;
 use std::marker::Model;
 
+/// A number below the order.
 #[derive(Drop)]
 pub struct Scalar {
     n: Number,

@@ -8,7 +8,7 @@ use Rattle.ed25519.specs.Signing.{public_key, signature, challenge, verifies, Is
 abbrev pub SignedIsVerified : Type 0
 SignedIsVerified = (seed message : List ℕ) → verifies (public_key seed) message (signature seed message) ≡ true
 
--- two signatures of one message that begin with the same 32 bytes have the same number after them
+-- two signatures of one message under one key that begin with the same 32 bytes have the same number after them
 abbrev pub SignatureIsUnique : Type 0
 SignatureIsUnique =
     (public message r s1 s2 : List ℕ) → length r ≡ 32 → verifies public message (r ++ s1) ≡ true → verifies public message (r ++ s2) ≡ true → number
@@ -16,7 +16,7 @@ SignatureIsUnique =
 
 -- under a key of small order
 pub record SmallOrdersSign : Type 0 where
-  -- a signature verifies for each two messages or for neither, where their challenges are the same modulo 8
+  -- a signature verifies for both of two messages or for neither, where their challenges are the same modulo 8
   pub other_messages :
       (public signature message other : List ℕ) → IsOfSmallOrder public → challenge (take 32 signature) public message % 8 ≡ challenge (take 32
       signature) public other % 8 →

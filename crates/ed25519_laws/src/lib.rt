@@ -8,7 +8,8 @@ pub fn signed_is_verified()
     ensures { SignedIsVerified }
 {}
 
-/// Two signatures of one message that begin with the same 32 bytes have the same number after them.
+/// Two signatures of one message under one key that begin with the same 32 bytes have the same
+/// number after them.
 pub fn signature_is_unique()
     ensures { SignatureIsUnique }
 {}

@@ -83,6 +83,7 @@ impl Point {
     pub(crate) fn times_16(&self) -> Point
         ensures { result ≡ multiple 16 self.now }
     {
+        // For the proof alone, here and below: who reads a field knows the invariant.
         let _at = &self.at;
         self.doubled().doubled().doubled().doubled()
     }

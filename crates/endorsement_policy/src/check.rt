@@ -17,10 +17,11 @@ use world_state::Snapshot;
 /// Whether an envelope is endorsed in a state. The only error is want of memory.
 ///
 /// A call falls under the policy that its chaincode has there, and is to have read the key of its
-/// chaincode's definition, and to name no other key that is not shown. An upgrade falls under the
-/// policy of upgrades, and is to put a definition that can be used. An amendment falls under that
-/// policy too, and is to put the next membership. Whose tags are right, and which policy of
-/// upgrades stands, is by the membership in the state, else by the genesis.
+/// chaincode's definition, and of keys that are not shown to read no other and write none. An
+/// upgrade falls under the policy of upgrades, and is to put a definition that can be used, an open
+/// one with a policy of organisations that stand. An amendment falls under that policy of upgrades
+/// too, and is to put the next membership. Whose tags are right, and which policy of upgrades
+/// stands, is by the membership in the state, else by the genesis.
 pub fn is_endorsed(
     alloc: Global,
     rules: &Rules,

@@ -9,7 +9,7 @@ use std::fmt::{self, Display, Formatter, Write};
 /// Why a definition cannot be used.
 #[derive(Clone, Copy, Debug, Drop, PartialEq, Eq)]
 pub enum DefinitionFault {
-    /// No module of its digest is installed.
+    /// No module of its digest and profile is installed.
     NotInstalled = 406,
     /// Its text is no policy.
     BadPolicy = 407,

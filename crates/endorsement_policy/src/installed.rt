@@ -13,7 +13,7 @@ use std::marker::Model;
 use wasm_profile::Profile;
 use wire::{WireFault, decode_definition};
 
-/// What an installed module is known by.
+/// What a module is known by.
 #[derive(Clone, Copy, PartialEq, Eq, Debug)]
 pub struct ModuleId {
     /// The SHA-256 of the module's bytes.
@@ -65,7 +65,7 @@ pub struct Usable {
     pub place: ModulePlace,
     /// What a call may spend.
     pub fuel: Fuel,
-    /// Whose endorsements a transaction needs.
+    /// Whose endorsements a call needs.
     pub policy: Policy,
 }
 

@@ -26,8 +26,8 @@ pub trait Gate: Sync {
 }
 
 /// For each envelope whether it is endorsed, by 1 to 16 workers at once: the same as `check_plain`
-/// for every number of them. Worker `w` of `n` checks the envelopes at the places `w`, `w + n`, `w
-/// + 2n` and so on, in this order. The caller is one of the workers, and does the checks of one
+/// for every number of them. Worker `w` of `n` checks the envelopes at the places `w`, `w + n`,
+/// `w + 2n` and so on, in this order. The caller is one of the workers, and does the checks of one
 /// that cannot be started. The only error is want of memory.
 pub fn check_all<R: Threads + Sync, G: Gate>(
     rt: &R,

@@ -1,4 +1,4 @@
-//! What the members of a channel agree on.
+//! What the members of a ledger agree on.
 
 ghost use Rattle.std.specs.Prelude.{◌≡◌, ◌↔◌, true, IsSome, IfSome, option_map};
 ghost use Rattle.std.specs.List.{find};
@@ -13,7 +13,7 @@ use org_keys::Organisation;
 use policy_language::Policy;
 use std::marker::Model;
 
-/// A chaincode and the policy of its transactions.
+/// A chaincode and the policy of its calls.
 #[derive(Drop)]
 pub struct ChaincodePolicy {
     pub chaincode: Name,

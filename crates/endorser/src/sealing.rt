@@ -10,9 +10,9 @@ use org_keys::{OrgKey, Signers};
 use std::alloc::{AllocError, Global};
 use world_state::Snapshot;
 
-/// An organisation's endorsement of a payload: what the seeds at hand put on its bytes for who has
+/// An organisation's endorsement of a payload: the tag that the seeds at hand make of its bytes for
 /// the key that the organisation has in this snapshot's state, by the membership there, else by the
-/// genesis. The error is of memory.
+/// genesis. Without a key or its seed, the tag is made with the empty key and counts for nothing.
 pub fn seal(
     alloc: Global,
     rules: &Rules,

@@ -105,7 +105,7 @@ impl Clone for PolicyText {
     }
 }
 
-/// How a chaincode is executed, and whose endorsements its transactions need.
+/// How a chaincode is executed, and whose endorsements its calls need.
 #[derive(Debug, Drop)]
 pub struct Definition {
     /// By which profile the module is read.
@@ -117,7 +117,7 @@ pub struct Definition {
     pub digest: [u8; 32],
     /// What a call may spend.
     pub fuel: Fuel,
-    /// Whose endorsements a transaction needs.
+    /// Whose endorsements a call needs.
     pub policy: PolicyText,
 }
 

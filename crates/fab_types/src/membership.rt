@@ -89,7 +89,8 @@ impl Clone for Members {
 /// Who the organisations of a ledger are, and whose endorsements upgrades and amendments need.
 #[derive(Debug, Drop)]
 pub struct Membership {
-    /// The how manieth it is, from 1 on: of two that were made beside each other one counts.
+    /// Its number: one more than that of the membership before it, and 0 of the genesis file's. So
+    /// of two that were made beside each other one counts.
     pub serial: u32,
     pub members: Members,
     /// Whose endorsements an upgrade or the next membership needs.

@@ -201,6 +201,7 @@ impl System {
             Ok(Some(report)) => Ok(Reply::Cut(report)),
             Err(cause) => match cause {
                 OrderCause::NoNumber => Ok(Reply::NoBlockLeft(None)),
+                // Of memory: a timeout is never too large.
                 OrderCause::TooLarge | OrderCause::Memory => Err(AllocError),
             },
         }

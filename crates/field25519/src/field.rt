@@ -367,7 +367,7 @@ fn wider_product(x: u64, y: u64) -> u128
     u128::from(x) * u128::from(y)
 }
 
-/// The least number with the residue of these limbs, whose sum is below 2 p.
+/// The least limbs with the residue of these, which stand for a number below 2 p.
 fn reduced(a: u64, b: u64, c: u64, d: u64, e: u64) -> Least
     requires { (a < 2 ^ 51 + 2 ^ 10) × (b < 2 ^ 51) × (c < 2 ^ 51) × (d < 2 ^ 51) × (e < 2 ^ 51) }
     ensures { limbs result.a result.b result.c result.d result.e ≡ limbs a b c d e % p }

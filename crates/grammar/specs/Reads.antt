@@ -12,6 +12,6 @@ Any x = Unit {0}
 abbrev pub Reads : {A : Type 0} → (A → List ℕ → Type 0) → (List ℕ → Option (A × List ℕ)) → Type 0
 Reads Spells read = ReadsIf Any Spells read
 
--- Of two values that beginnings of one list of bytes spell, both are the same, and so are the bytes after them.
+-- Two values that beginnings of one list of bytes spell are the same, and so are the bytes after them.
 abbrev pub SpellsOnce : {A : Type 0} → (A → List ℕ → Type 0) → Type 0
 SpellsOnce {A} Spells = (a b : A) (front back rest more : List ℕ) → Spells a front → Spells b back → front ++ rest ≡ back ++ more → (a ≡ b) × (rest ≡ more)

@@ -32,7 +32,8 @@ use std::marker::Model;
 use wasm_instance::Memory;
 
 /// Answers chaincode from a view of the state, and records what it reads and writes. The items are
-/// kept as a payload has them: in key order, with the view's versions.
+/// kept as a payload has them: reads and writes in key order, ranges in that of the calls, with the
+/// view's versions.
 #[derive(Drop)]
 pub struct Recorder<'v, V: View> {
     alloc: Global,

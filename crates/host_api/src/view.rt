@@ -20,7 +20,7 @@ pub trait View {
         ensures { option_map (λ e. (e.0.now, e.1)) result ≡ get (state self.now) key.now };
 
     /// The first `n` entries in key order of the keys from `start` on and below `end`, where an
-    /// empty `end` is no bound.
+    /// empty `end` is no bound. Keys that begin with the byte 0 are in no range.
     fn range(
         &self,
         alloc: Global,

@@ -12,7 +12,8 @@ pub struct Parcel {
     pub envelope: Envelope,
 }
 
-/// What a seat knows. It exists in proofs alone.
+/// What a seat knows, as a `receiver`, a `sender` or `idle` (`specs/Mail.antt`). It exists in
+/// proofs alone.
 pub struct View {
     pub sends: bool,
     pub gets: bool,

@@ -36,12 +36,12 @@ pub enum Action {
     },
 }
 
-/// Why a line gives no action.
+/// Why a line, or a text in it, is not read.
 #[derive(Clone, Copy, Debug, PartialEq, Eq)]
 pub enum BadLine {
     /// A growth of memory was refused.
     Memory,
-    /// The line is none of the forms.
+    /// It is none of the forms.
     NoForm,
 }
 

@@ -87,7 +87,7 @@ pub fn take_word(fields: &mut Fields<'_>, name: &str, word: &str) -> bool
     }
 }
 
-/// Whether no field is left.
+/// Whether no field is left. Where one is, what is left after that is not said.
 pub fn is_end(fields: &mut Fields<'_>) -> bool
     ensures { result ≡ true ↔ members_view fields.old ≡ no_members }
 {

@@ -40,7 +40,7 @@ or_null json (Some x) = json x
 abbrev pub has_id : Bytes → Placed → Bool
 has_id id t = bytes_eq (id_of t.envelope.payload.proposal) id
 
--- a call without a nonce
+-- a call, with zeros as its nonce
 abbrev pub call_of : (chaincode argument : Bytes) → Proposal
 call_of chaincode argument = proposal.Call (record { chaincode = chaincode; argument = argument; nonce = replicate 16 0 })
 

@@ -10,7 +10,7 @@ use Rattle.ledger_model.specs.Judged.{BlockRule, table}
 use Rattle.ledger_model.specs.State.{state}
 use Rattle.ledger_model.specs.Views.{values_of}
 
--- the table, where whose policy is satisfied is judged in the state before the block
+-- the table, where envelopes are endorsed as is judged in the state before the block
 abbrev pub table_of : Listed → BlockRule
 table_of listed = table id_of (λ before. is_endorsed listed (values_of (state before)))
 

@@ -1,4 +1,4 @@
-//! Each law of the ledger's crates once.
+//! The laws of `ledger_model`, and that of `wire`.
 
 use ledger_model::{
     a_version_names_one_value, computed_flags_are_right, current_reruns_agree,

@@ -1,9 +1,9 @@
-//! Tests of the ledger's crates, a file for each crate. There is no code beside them.
+//! Tests of the ledger's crates, a file for each subject. There is no code beside them.
 //!
 //! What can be said as data (bytes, batches, their order, chains with their flags, chains that do
 //! not fit, calls of the host and of chaincode, with their answers) is a line of `ledger_cases` or
 //! `cli_cases`. What stands here is what no line can say: calls that no line makes, threads,
-//! devices that fail, and each law once. It stands above the crates that it tests, since a crate
+//! devices that fail, and some laws. It stands above the crates that it tests, since a crate
 //! with tests is proved a second time together with them.
 #![tactic(auto)]
 

@@ -16,8 +16,9 @@ const OLD: usize = 5;
 /// How many blocks there are: a hundred more.
 const ALL: u8 = 105;
 
-/// The transaction of a block: it puts the key of one byte that has the block's number and one
-/// more. From block 81 on the keys come again from 2 on, and those of even blocks are deleted.
+/// The transaction of a block: it puts the key of one byte that is the block's number and one more,
+/// or 1 for block 80. From block 81 on the keys come again from 2 on, and those of even blocks are
+/// deleted.
 fn nth(alloc: Global, number: u8) -> Result<Envelope, Fail> {
     let key = number % 80 + 1;
     if number > 80 && number % 2 == 0 {

@@ -5,18 +5,19 @@ ghost use Rattle.log_orderer.specs.Numbers.{skip_number};
 
 use std::fmt::{self, Display, Formatter, Write};
 
-/// Why a line is skipped. Want of memory is no such reason.
+/// Why a line is skipped. Want of memory is no such reason. 301 to 305 are the faults of `wire` of
+/// the same numbers.
 #[derive(Clone, Copy, Debug, Drop, PartialEq, Eq)]
 pub enum Skip {
     /// The line is neither `tick` nor hex.
     NoHex = 300,
     /// The bytes end inside the envelope.
     EndedEarly = 301,
-    /// The bytes would be an envelope whose length is not the one that stands before it.
+    /// An envelope of a block does not take exactly its length: no line is skipped for it.
     EnvelopeLength = 302,
-    /// Items are out of order or outside their range.
+    /// The bytes are not canonical.
     NotCanonical = 303,
-    /// A length, a count, a limit, a fuel or a part of a version is out of its range.
+    /// A length, a count or a number is out of its range.
     Limit = 304,
     /// Bytes are left over after the envelope.
     BytesLeft = 305,

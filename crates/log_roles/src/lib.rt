@@ -1,5 +1,5 @@
-//! What two filters over one log of blocks do on a machine of their own: the state of each, and its
-//! step.
+//! The committer of a log of blocks on a machine of its own, and who follows its store: the state
+//! of each, and its step.
 //!
 //! A [`Committer`] puts the blocks of a log at the end of a peer's chain; a block that the chain
 //! has already is compared with it. A [`ChainFollower`] keeps the chain of a store that grows, for

@@ -12,15 +12,17 @@ use store_replay::RecommitRefusal;
 /// Why a store, or a block for it, is refused.
 #[derive(Clone, Copy, Debug, Drop, PartialEq, Eq)]
 pub enum StoreRefusal {
-    /// A growth of memory was refused (9).
+    /// A growth of memory was refused as the store was read or written (9).
     Memory,
     /// A call of the file failed (703).
     File,
     /// The record of this number is damaged (702).
     Damaged(u32),
-    /// A stored block does not fit (601 to 604), or has other flags than the table's (711).
+    /// A stored block does not fit (601 to 604), has other flags than the table's (711), or is not
+    /// committed again for want of memory (9).
     Stored(RecommitRefusal),
-    /// A block of the log is of another log, or does not fit (601 to 604).
+    /// A block of the log is of another log, does not fit (601 to 604), or is not committed for
+    /// want of memory (9).
     Received(ReceiveRefusal),
 }
 

@@ -46,7 +46,7 @@ struct Transaction<'a> {
     payload: &'a Payload,
     /// Whether its id stands earlier in the chain or in its block.
     stood: bool,
-    /// Whether its chaincode is known and its policy satisfied.
+    /// Whether its envelope is endorsed.
     endorsed: bool,
 }
 
@@ -80,9 +80,9 @@ fn flag_of(
 }
 
 /// What a block that is put on a snapshot is judged to be: a flag for each transaction, and the ids.
-/// `endorsed` says of each whether its chaincode is known and its policy satisfied. A flag is the
-/// first of these that applies on the state to which all earlier VALID transactions were applied,
-/// those of this block included:
+/// `endorsed` says of each whether its envelope is endorsed. A flag is the first of these that
+/// applies on the state to which all earlier VALID transactions were applied, those of this block
+/// included:
 ///
 /// - `DuplicateTxid`: its id stands earlier in the chain or in this block, whatever flag is there.
 /// - `EndorsementPolicyFailure`: it is not endorsed.

@@ -18,7 +18,7 @@ use std::fmt::{self, Display, Formatter, Write};
 pub enum AbortCause {
     /// Another one of the batch read a newer version of a key that it read.
     Outdated = 441,
-    /// It was taken out where each one left read what another one left writes.
+    /// It was taken out where each one left writes a key that another one left sees.
     Conflict = 442,
 }
 

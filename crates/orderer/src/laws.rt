@@ -11,10 +11,11 @@ use batch_cutter::division_laws;
 use fab_types::Envelope;
 use fab_types::limits::LAST_BLOCK;
 
-/// What holds of each orderer. One without blocks has made what no marks ask for, and what it makes
-/// of one mark more is what all the marks ask for. Marks ask for one chain, one step gives one
-/// answer, and where a block would be needed past the last number each way of taking the mark goes
-/// past it. Where batches are put in a legal order, the blocks are of legal order.
+/// What holds of each orderer. One without blocks, where nothing waits, has made what no marks ask
+/// for, and what it makes of one mark more is what all the marks ask for. Marks ask for one chain,
+/// one step gives one answer, and where a block would be needed past the last number each way of
+/// taking the mark goes past it. Where batches are put in a legal order, the blocks are of legal
+/// order.
 pub fn ordering_laws()
     ensures opening { (now : Ordering) → 0 < now.limits.count → IsOpening now → IsOrdered [] now }
     ensures step { (marks : List (Mark Envelope)) (old new : Ordering) (mark : Mark Envelope)

@@ -1,6 +1,6 @@
--- The limits of the keys of tags.
+-- The limits of shared keys.
 use Rattle.std.specs.Prelude.{ℕ, ◌≤◌, List, length}
 
--- a key of tags has 1 to 128 bytes
+-- a shared key has 1 to 128 bytes
 abbrev pub IsTagKey : List ℕ → Type 0
 IsTagKey bytes = (1 ≤ length bytes) × (length bytes ≤ 128)

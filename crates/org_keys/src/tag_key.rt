@@ -1,4 +1,4 @@
-//! Keys of tags.
+//! Shared keys.
 
 ghost use Rattle.std.specs.Prelude.{◌≡◌, ◌↔◌, IsSome, IfSome};
 ghost use Rattle.org_keys.specs.TagKeys.{IsTagKey};
@@ -6,7 +6,7 @@ ghost use Rattle.org_keys.specs.TagKeys.{IsTagKey};
 use std::alloc::AllocError;
 use std::marker::Model;
 
-/// The secret key under which an organisation makes its tags: 1 to 128 bytes. It has no `Debug`, so
+/// The shared key under which an organisation makes HMACs: 1 to 128 bytes. It has no `Debug`, so
 /// that none is printed.
 #[derive(Drop)]
 pub struct TagKey {

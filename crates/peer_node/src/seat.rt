@@ -141,8 +141,8 @@ impl Seat {
         self.reader.told()
     }
 
-    /// Takes in what the peer's writer told. One of the two lists begins with the other, and the
-    /// seat has then seen the longer one.
+    /// Takes in what the peer's writer or a seat of it told. One of the two lists begins with the
+    /// other, and the seat has then seen the longer one.
     pub fn learn(&mut self, told: &Told)
         requires { cell_of_told told.now ≡ peer_of self.old }
         ensures longer { (IsPrefix (seen_chain self.old) (told_list told.now) ×

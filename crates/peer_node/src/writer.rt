@@ -45,7 +45,7 @@ pub struct PeerWriter {
 
 impl Peer {
     /// A peer of an organisation, without blocks, and so many seats, at least 1 and below 2^32.
-    /// Tags of one that the genesis does not list, or whose seed is not at hand, are made with the
+    /// Tags of one that is no member in the state, or whose seed is not at hand, are made with the
     /// empty key and count for nothing.
     ///
     /// Refused where a seat got no place in the cell (431), and for want of memory (9). The cell

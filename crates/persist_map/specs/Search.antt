@@ -8,11 +8,11 @@ use Rattle.std.specs.declared.cmp.Ordering.TheVariants.{Less, Equal, Greater}
 use Rattle.std.specs.declared.result.Result.{Result}
 use Rattle.std.specs.declared.result.Result.TheVariants.{Ok, Err}
 
--- as many steps as a number below 2 ^ d can be halved, and less than it before it is 0: at most d
+-- at most as many steps as the number has binary digits: d, where it is below 2 ^ d
 abbrev pub IsWithinDigits : ℕ → ℕ → Type 0
 IsWithinDigits n steps = (d : ℕ) → n < 2 ^ d → steps ≤ d
 
--- and no fewer than a number from 2 ^ d on can be halved before it is below 1
+-- at least as many but one: d, where it is 2 ^ d or more
 abbrev pub ReachesDigits : ℕ → ℕ → Type 0
 ReachesDigits n steps = (d : ℕ) → 2 ^ d ≤ n → d ≤ steps
 

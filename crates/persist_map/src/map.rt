@@ -63,8 +63,8 @@ impl<K: Ord, V> PMap<K, V> {
         self.pages.len()
     }
 
-    /// The value at a key, and the number of comparisons: of the binary digits that the number of
-    /// pages has, at least as many but one, and at most as many and 7 more. It takes no memory.
+    /// The value at a key, and the number of comparisons: at least one less than the number of
+    /// pages has binary digits, and at most 7 more. It takes no memory.
     pub fn get_counted(&self, key: &K) -> (Option<&V>, u32)
         ensures value { option_map (λ v. v.now) result.0 ≡ get K.cmp self.now.entries key.now }
         ensures at_least { (d : ℕ) → 2 ^ d ≤ self.now.pages → d ≤ result.1 }

@@ -60,6 +60,7 @@ pub fn find_in<K: Ord, V>(page: &[Arc<(K, V)>], key: &K) -> (Result<usize, usize
 pub struct Sought {
     pub page: usize,
     pub place: Result<usize, usize>,
+    /// The number of comparisons.
     pub asked: u32,
 }
 

@@ -1,6 +1,5 @@
-//! Early abort and reordering: which transactions of a batch cannot become valid, since another one
-//! read a newer version, and an order of the others in which none sees a key that an earlier one
-//! writes.
+//! Early abort and reordering: which transactions of a batch read an older version of a key than
+//! another one, and an order of the others in which none sees a key that an earlier one writes.
 #![tactic(auto)]
 
 mod counting;

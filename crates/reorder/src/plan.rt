@@ -60,8 +60,8 @@ impl Plan {
 /// aborted.
 ///
 /// The only error is that a growth of memory was refused. With n transactions that see and write k
-/// keys in all it takes time for k log k comparisons of keys, and memory and time for n squared
-/// edges.
+/// keys in all it takes time for k log k comparisons of keys and for each write that each of them
+/// sees, and memory and time for n squared edges.
 pub fn reorder(alloc: Global, batch: &[Envelope], gone: &[usize]) -> Result<Plan, AllocError>
     requires size { length batch.now < 2 ^ 32 }
     requires gone { AllByRecursion (λ i. i < length batch.now) gone.now }

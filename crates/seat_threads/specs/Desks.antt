@@ -14,10 +14,11 @@ use Rattle.seat_threads.specs.Work.{Home}
 abbrev pub envelopes_got : List Parcel → List Envelope
 envelopes_got got = map (λ parcel. parcel.envelope) got
 
--- unless memory was refused
+-- these envelopes were given to the orderer, unless memory was refused
 abbrev pub HasOrdered : List Envelope → Desk → Type 0
 HasOrdered given d = d.starved ≡ false → WasGiven given d.orderer d.missing
 
+-- and then a timeout
 abbrev pub HasCut : List Envelope → Desk → Type 0
 HasCut given d = d.starved ≡ false → WasCut given d.orderer d.missing
 

@@ -41,7 +41,7 @@ abbrev pub puts_of : ℕ → List (List Outcome) → List (ℕ × List Envelope)
 puts_of seat [] = []
 puts_of seat (outcomes ∷ others) = puts_of (seat + 1) others ++ (seat, envelopes_in outcomes) ∷ []
 
--- of one peer each round was counted, and the envelope of each one that was endorsed was put into the intake, in the order of the rounds
+-- the worker stays with its intake, seat and peer; each round was counted, and the envelope of each endorsed one was put, in the order of the rounds
 abbrev pub Works : ℕ → Worker → Worker → Type 0
 Works rounds old new =
     (intake_of_sender new.sender ≡ intake_of_sender old.sender) × (number new.sender ≡ number old.sender) × (peer_of new.seat ≡ peer_of old.seat)

@@ -46,8 +46,9 @@ impl Crew {
         Ok(Crew { threads, ended })
     }
 
-    /// Starts a thread for each worker, from the first seat on. Where one is refused, its worker is
-    /// dropped, no further ones are started, and the other workers without a thread are left.
+    /// Starts a thread for each worker, from the first seat on. Where memory or a thread is
+    /// refused, no further ones are started: a worker whose thread was refused is dropped, and the
+    /// others without one are left.
     pub fn start_all<R: Threads + Wait + Send + Copy + 'static>(
         &mut self,
         rt: &R,

@@ -8,7 +8,7 @@ use std::fmt::{self, Display, Formatter, Write};
 /// Why the work of seats has no report.
 #[derive(Clone, Copy, Debug, Drop, PartialEq, Eq)]
 pub enum SeatsRefusal {
-    /// A growth of memory was refused.
+    /// A growth of memory, or a thread, was refused.
     Memory = 9,
     /// A seat got no place in the cell.
     NoPlace = 431,

@@ -210,7 +210,7 @@ fn at_work<R: Threads + Wait + Sync + Send + Copy + 'static>(
     let (counts, mut seen) = crew.retire(rt, desk);
     desk.take_rest(rt);
     desk.tick(rt);
-    // What the seats saw and what was committed begin one list.
+    // For the proof alone: what the seats saw and what was committed begin one list.
     seen.learn(&desk.writer.told());
     started?;
     reported(alloc, genesis, desk, counts)

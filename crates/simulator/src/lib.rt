@@ -2,9 +2,9 @@
 //!
 //! `specs/Execution.antt` has the execution that a proposal is by a book of chaincodes and modules,
 //! on a plain state, and `specs/Answers.antt` the payload, the record or the refusal that follows
-//! from how it ended. A call is executed by the definition that the state has of its chaincode, else
-//! by the genesis. An execution depends on nothing but what it read. Who has fewer modules at hand
-//! comes to the same, or to 406.
+//! from how it ended. A call is executed by the definition that the state has of its chaincode,
+//! else by the genesis. An execution depends on nothing but what it read. Who has fewer modules at
+//! hand comes to the same, or to 406.
 #![tactic(auto)]
 
 mod executable;

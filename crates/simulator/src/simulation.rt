@@ -176,7 +176,7 @@ fn succeed(outcome: Outcome) -> Result<(), SimRefusal>
     }
 }
 
-/// The same of an upgrade.
+/// What the execution of an upgrade reads, answers and writes.
 #[tactic(auto, unfolding(crate::specs::Execution::exec_of))]
 fn execute_upgrade<V: View>(
     alloc: Global,

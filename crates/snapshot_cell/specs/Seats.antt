@@ -14,7 +14,7 @@ seen_list r = r.front.seen.log
 abbrev pub published_list : Writer → Chain
 published_list w = w.front.seen.log
 
--- the whole blocks that the writer told of
+-- the whole blocks that the writer or a seat told of
 abbrev pub told_list : Told → Chain
 told_list t = t.front.seen.log
 

@@ -62,7 +62,7 @@ pub struct History {
     pub ghost head_is: { head ≡ head_of head.book },
 }
 
-/// A beginning of the history that was reached, by its length. It has no more bytes than that.
+/// A beginning of the history that was reached. At run time it is its length alone.
 #[derive(Drop)]
 pub struct Front {
     count: u64,

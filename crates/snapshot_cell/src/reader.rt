@@ -67,8 +67,8 @@ impl Reader {
         }
     }
 
-    /// Takes in what the writer told. One of the two lists begins with the other, and the seat has
-    /// then seen the longer one. It takes no memory.
+    /// Takes in what the writer or a seat told. One of the two lists begins with the other, and the
+    /// seat has then seen the longer one. It takes no memory.
     pub fn learn(&mut self, told: &Told)
         requires { cell_of_told told.now ≡ cell_of_reader self.old }
         ensures longer { (IsPrefix (seen_list self.old) (told_list told.now) ×

@@ -96,8 +96,8 @@ impl<D: Write + Drop> CountedWrite for Counted<D> {
 }
 
 impl<D: Seek + OpenFile + Drop> Counted<D> {
-    /// Takes so many bytes away from the end of a file. An error is a failed call; then the file has
-    /// them still.
+    /// Takes so many bytes away from the end of a file. An error is a failed call; then the history
+    /// has them still, and the file may have them or not.
     pub fn cut_back(&mut self, count: usize) -> Result<(), DeviceError>
         ensures cut { OnOk result
             (self.new.history.moved ≡ cut_back count self.old.history.moved) }

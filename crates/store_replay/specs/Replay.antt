@@ -19,7 +19,7 @@ abbrev pub HasTheFlags : BlockRule → Chain → Committed → Bool → Type 0
 HasTheFlags rule chain c true = c.flags ≡ (next_by rule chain c.block).flags
 HasTheFlags rule chain c false = c.flags ≢ (next_by rule chain c.block).flags
 
--- the first number of two places that may be none
+-- the number of a block that has other flags, or else what is found behind it
 abbrev pub first_of : Bool → ℕ → Option ℕ → Option ℕ
 first_of true number later = later
 first_of false number later = Some number

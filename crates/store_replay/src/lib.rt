@@ -1,7 +1,7 @@
 //! A store's chain, committed again from the empty state on.
 //!
 //! [`replay_store`] reads a store to its end, or to damage, and commits its whole blocks one after
-//! another, as a peer would: headers are tested, envelopes are checked under the genesis' policies,
+//! another, as a peer would: headers are tested, envelopes are checked by the rules of the genesis,
 //! and flags are computed anew. It trusts neither the flags in the store nor whoever wrote it.
 //! [`recommit`] does so with blocks that were loaded, and takes them only if all of them fit and
 //! have the flags of the table; [`recommit_behind`] and [`recommit_next`] with more records, or one

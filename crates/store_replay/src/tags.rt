@@ -35,7 +35,7 @@ impl<'a, T, V> TagChecks<'a, T, V> {
 impl<T: Threads + Sync, V: Watch> TagChecks<'_, T, V> {
     /// For the first of these records, in turn, of each envelope of its block those of the
     /// organisations that stand behind the chain of which it carries a right tag. The records are
-    /// to be put behind the chain. It may be told of none: then the tags are checked as the first
+    /// to be put behind the chain. The answer may be empty: then the tags are checked as the first
     /// one's block is judged.
     pub(crate) fn right_tags(
         &self,
@@ -54,9 +54,9 @@ impl<T: Threads + Sync, V: Watch> TagChecks<'_, T, V> {
     }
 }
 
-/// What workers find of the first stretch of records. It is told of no record that does not fit, so
-/// that its block is refused before a tag of it is checked; and of none where memory is short, so
-/// that a record is refused for want of memory only where one thread would refuse it.
+/// What workers find of the first stretch of records. It ends before a record that does not fit, so
+/// that its block is refused before a tag of it is checked; and it is empty where memory is short,
+/// so that a record is refused for want of memory only where one thread would refuse it.
 fn right_in_stretch<T: Threads + Sync>(
     workers: &Workers<'_, T>,
     alloc: Global,

@@ -1,7 +1,7 @@
 //! The functions that a module defines, and what bounds them.
 //!
-//! A module in memory is one within the limits of the profile, widely meant: places in code that is
-//! made of it are numbers of 32 bits.
+//! The bounds are wider than the limits of the profile, and narrow enough that places in code that
+//! is made of a module are numbers of 32 bits.
 
 ghost use Rattle.std.specs.Prelude.{◌≡◌, ◌↔◌, ◌<◌, ◌^◌, IsTrue, [], length};
 ghost use Rattle.wasm_ast.specs.Sizes.{AreSmall};

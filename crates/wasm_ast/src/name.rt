@@ -1,4 +1,4 @@
-//! Names (Core 1.0, section 2.2.3).
+//! Names (Core 1.0, section 2.2.4).
 
 ghost use Rattle.std.specs.Prelude.{◌≡◌, List, ℕ, string_bytes};
 

@@ -1,4 +1,4 @@
-//! Traps (Core 1.0, section 4.2.1).
+//! Traps (Core 1.0, section 4.2.2).
 
 ghost use Rattle.std.specs.Prelude.{◌≡◌};
 ghost use Rattle.wasm_ast.specs.Traps.{trap_number};

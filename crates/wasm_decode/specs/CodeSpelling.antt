@@ -1,4 +1,4 @@
--- Which bytes spell which expression (Core 1.0, sections 5.4.1 and 5.4.7), within the limits of the profile.
+-- Which bytes spell which expression (Core 1.0, sections 5.4.1 and 5.4.6), within the limits of the profile.
 use Rattle.std.specs.Prelude.{◌≡◌, ℕ, suc, max, ◌≤◌, ◌⊎◌, List}
 use Rattle.wasm_profile.specs.declared.profile.Profile.{Profile}
 use Rattle.grammar.specs.Spelling.{◌⟫◌, IsByte}

@@ -30,7 +30,7 @@ PartEnds bytes end =
 abbrev pub IsEnd : List ℕ → ℕ → ℕ → Type 0
 IsEnd bytes end offset = (offset ≡ end) ⊎ PartEnds bytes offset
 
--- a byte of the header (5.5.16) differs
+-- a byte of the header (5.5.15) differs
 abbrev pub Differs : List ℕ → ℕ → Type 0
 Differs bytes offset = HasByte (λ b. slice_get header_bytes offset ≢ Some b) bytes offset
 

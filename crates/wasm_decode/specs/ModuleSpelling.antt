@@ -50,6 +50,6 @@ IsSections profile type_indices m =
     ⟫ IsPart 10 (IsList 1024 (IsFunctionCode profile)) m.functions
     ⟫ IsPart 11 (IsList 64 (IsDataSegment profile)) m.«data»
 
--- 5.5.16, with at most 262,144 bytes
+-- 5.5.15, with at most 262,144 bytes
 abbrev pub IsModule : Profile → Module → List ℕ → Type 0
 IsModule profile m bytes = (length bytes ≤ 262144) × (IsHeader ⟫ IsCustoms ⟫ IsSections profile (map (λ f. f.type_index) m.functions) m) bytes

@@ -9,8 +9,9 @@
 //! and the recursion is as deep as blocks may nest.
 //!
 //! Each opcode and type byte is a row of a table (`specs/Tables.antt`, `specs/Opcodes.antt` and
-//! `Operators` of `wasm_operators`), so that a further one is a row there and an arm of a `match` here. The
-//! profiles differ by the rows of the sign extensions, which profile 2 has and profile 1 has not.
+//! `Operators` of `wasm_operators`), so that a further one is a row there and an arm of a `match`
+//! here. The profiles differ by the rows of the sign extensions, which profile 2 has and profile 1
+//! has not.
 #![tactic(auto)]
 
 mod code;

@@ -1,4 +1,4 @@
-//! A module from its bytes (WebAssembly Core 1.0, section 5.5.16).
+//! A module from its bytes (WebAssembly Core 1.0, section 5.5.15).
 
 ghost use Rattle.std.specs.Prelude.{◌≡◌, ◌<◌, ◌≤◌, ◌-◌, ℕ, List, Option, Some, IfOk, IfErr, length, drop};
 ghost use Rattle.grammar.specs.Reading.{text_at};

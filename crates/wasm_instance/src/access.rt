@@ -1,7 +1,7 @@
 //! Loads, stores and growth of a memory as bytes (Core 1.0, section 4.4.4).
 //!
-//! Each access tests once that it lies within the memory. It has a place, an operand plus an
-//! offset, and so below 2^33.
+//! Each access tests once that it lies within the memory. Its place, an operand plus an offset, is
+//! below 2^33.
 
 ghost use Rattle.std.specs.Prelude.{◌≡◌, ◌+◌, ◌<◌, ◌≤◌, ◌^◌, length};
 ghost use Rattle.wasm_ast.specs.Access.{store_width};

@@ -138,7 +138,7 @@ impl Instance {
         self.globals[index as usize] = word;
     }
 
-    /// The index of the function that an entry of the table has (Core 1.0, section 4.4.7).
+    /// The index of the function that an entry of the table has (Core 1.0, section 4.4.5).
     ///
     /// # Errors
     ///

@@ -1,4 +1,4 @@
-//! The test of function types, by which an indirect call is done (Core 1.0, section 4.4.8).
+//! The test of function types, by which an indirect call is done (Core 1.0, section 4.4.5).
 
 ghost use Rattle.std.specs.Prelude.{◌≡◌, ◌↔◌, IsTrue};
 ghost use Rattle.wasm_meaning.specs.Meaning.{same_func_type};

@@ -3,8 +3,7 @@
 //!
 //! Nothing here runs. The definitions are in `specs/`, and the interpreter is proved against them.
 //! Each function below is a law: its body is empty, and its contract is the fact that is proved.
-//! Contracts above cite the same facts as the lemmas of `specs/Unfold.antt`, `NeverStuck.antt` and
-//! `Alike.antt`.
+//! Contracts above cite the same facts as the lemmas of `specs/Laws`.
 //!
 //! # The definitions, in reading order
 //!
@@ -20,7 +19,8 @@
 //!   fuel.
 //! - `Program.antt`: a module as a program, its fresh table, globals and memory (4.5.4), and
 //!   `invocation`: what its `invoke` does with a host, its records and fuel (4.5.5).
-//! - `Fuel.antt`, `Fine.antt`, `Following.antt`: the words in which the laws are said.
+//! - `Fuel.antt`, `Executed.antt`, `Fine.antt`, `Following.antt`: the words in which the laws are
+//!   said.
 //!
 //! # Costs
 //!
@@ -37,10 +37,10 @@
 //!
 //! # Memory
 //!
-//! A memory grows to its declared maximum, and to 16 pages at most. `memory.grow` answers the old
-//! size, or -1 where the new one would be above that, and nothing else makes it fail. An access is
-//! at the operand plus the offset, as an unbounded sum, and traps where some byte of it lies past
-//! the end.
+//! A memory grows to its declared greatest size, and to 16 pages at most. `memory.grow` answers the
+//! old size, or -1 where the new one would be above that, and nothing else makes it fail. An access
+//! is at the operand plus the offset, as an unbounded sum, and traps where some byte of it lies
+//! past the end.
 //!
 //! # Indirect calls
 //!

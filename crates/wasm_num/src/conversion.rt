@@ -1,4 +1,4 @@
-//! Conversions between the widths (Core 1.0, section 4.3.2).
+//! Conversions between the widths (Core 1.0, section 4.3.4).
 
 ghost use Rattle.std.specs.Prelude.{◌≡◌, ◌<◌};
 ghost use Rattle.wasm_ast.specs.Types.{words};

@@ -1,5 +1,5 @@
-//! The operators on integers of WebAssembly (Core 1.0, section 4.3.2, and the sign extensions of
-//! Core 2.0), on words of 32 and of 64 bits.
+//! The operators on integers of WebAssembly (Core 1.0, sections 4.3.2 and 4.3.4, and the sign
+//! extensions of Core 2.0), on words of 32 and of 64 bits.
 //!
 //! `specs/Operators.antt` writes each operator as the standard does, on whole numbers, through the
 //! unsigned and the signed reading of a word, once for both widths. The functions here are proved

@@ -1,4 +1,4 @@
-//! The sections of a module, one after the other (Core 1.0, section 5.5.16).
+//! The sections of a module, one after the other (Core 1.0, section 5.5.15).
 
 use crate::limits::MODULE_BYTES;
 use crate::place::Place;

@@ -176,7 +176,7 @@ module _ {R : Type 0} where
   abbrev pub after_host : Reply R → (globals : List Val) → ℕ → List Val → List Val → Seq → Step R
   after_host r g f l s i = answered r.answer f l (record { memory = r.memory; globals = g; records = r.records }) s i
 
-  -- a frame round the function's body, within at most 64 frames
+  -- a frame round the function's body; at most 64 frames stand in one another
   abbrev pub invoke_step : ℕ → Function → ℕ → List Val → World R → List Val → Seq → Step R
   invoke_step d fn f l w s i =
       with_last (length fn.type.params) s

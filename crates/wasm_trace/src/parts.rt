@@ -51,6 +51,7 @@ pub(crate) enum Act<'m> {
     Become(Turn<'m>),
     /// It enters a block that leaves this, with this body.
     Enter(BlockType, &'m [Instr]),
+    /// It enters a loop.
     Repeat(&'m Block),
     /// A branch out of so many labels and to the next.
     Branch(u32),

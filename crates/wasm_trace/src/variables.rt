@@ -1,4 +1,4 @@
-//! Locals and globals (Core 1.0, sections 4.4.2 and 4.4.3).
+//! Locals and globals (Core 1.0, section 4.4.3).
 
 ghost use Rattle.std.specs.Prelude.{◌≡◌, slice_get, option_map, IfOk};
 ghost use Rattle.wasm_ast.specs.Op as op;

@@ -1,4 +1,4 @@
-//! Imports, and the types of functions (Core 1.0, sections 3.4.7 and 3.4.9).
+//! Imports, and the types of functions (Core 1.0, sections 3.4.9 and 3.4.1).
 
 ghost use Rattle.std.specs.Prelude.{◌≡◌, ◌<◌, ℕ, length, IfOk, IfErr, Some};
 ghost use Rattle.wasm_ast.specs.declared.module.Import.{Import};

@@ -4,8 +4,8 @@
 //! that the module is valid, or answers a `ValidateFault` with the number of a rule that the module
 //! breaks.
 //!
-//! `validate` accepts only valid modules, and but for want of memory it refuses only modules that are
-//! not valid. The rules and their test are of `wasm_typing`, whose fault is handed on.
+//! `validate` accepts only valid modules, and but for want of memory it refuses only modules that
+//! are not valid. The rules and their test are of `wasm_typing`, whose fault is handed on.
 //!
 //! What a run would otherwise search for by name, the calls of the imports and the index of
 //! `invoke`, a `ValidModule` keeps, and the flat code of its functions (`wasm_translate`).

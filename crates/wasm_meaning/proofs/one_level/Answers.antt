@@ -1,6 +1,5 @@
 use Rattle.wasm_meaning.specs.Laws.Unfold.{meaning-is}
 use Rattle.wasm_meaning.proofs.one_level.Goals as goal
 
--- src/lib.rt:13:1
 pub returns : goal.returns
 returns g c = meaning-is
