@@ -23,7 +23,7 @@ install:
 	@ln -sfn ../lib/regtuma/ledger $(BIN)/ledger
 	@ln -sfn ../lib/regtuma/node/certs.sh $(BIN)/regtuma-certs
 	@ln -sfn ../lib/regtuma/node/change.py $(BIN)/regtuma-change
-	@for name in regtuma regtuma-node regtuma-log; do ln -sfn ../lib/regtuma/node/bin/$$name $(BIN)/$$name || exit 1; done
+	@for name in regtuma regtuma-audit regtuma-log regtuma-node; do ln -sfn ../lib/regtuma/node/bin/$$name $(BIN)/$$name || exit 1; done
 	@for unit in node/systemd/*; do sed 's|/usr/local|$(PREFIX)|g' $$unit > $(UNITS)/$$(basename $$unit) || exit 1; done
 	@echo "installed below $(DESTDIR)$(PREFIX)"
 

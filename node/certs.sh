@@ -34,7 +34,7 @@ check_organisation() {
 check_name() { # NAME: what becomes the name of a file
     case $1 in
         "" | .* | *[!A-Za-z0-9_.-]*) complain "a client has letters, digits, _, . and - in its name, and this is none: $1" ;;
-        ca | node | etcd) complain "a client has another name than ca, node or etcd" ;;
+        ca | node | etcd | authorities | *.ca) complain "a client has another name than ca, node, etcd, authorities or one with .ca" ;;
     esac
 }
 
@@ -106,8 +106,10 @@ case $what:$# in
             openssl x509 -in "$authority" -noout -ext basicConstraints 2> /dev/null | grep -q CA:TRUE ||
                 complain "$authority is no authority's certificate"
         done
-        cat "$@" > "$file"
-        chmod 644 "$file" ;;
+        # FILE may be one of those that are joined.
+        cat "$@" > "$file.new"
+        chmod 644 "$file.new"
+        mv "$file.new" "$file" ;;
     show:1)
         openssl x509 -in "$1" -noout -subject -issuer -enddate ;;
     --help:* | -h:* | help:*) usage 0 ;;

@@ -5,8 +5,8 @@
                            [--keys FILE]..
     regtuma-change upgrade GENESIS STORE CHAINCODE DIGEST --policy TEXT [--profile N] [--fuel N]
 
-Both print a proposal, as `regtuma agree`, `regtuma change` and `ledger endorse` read it, and tell on the terminal what stands, and
-what will.
+Both print a proposal, as `regtuma agree`, `regtuma change` and `ledger endorse` read it, and tell on the terminal what stands, of
+members also what will.
 
 `members` is an amendment: it begins with what stands, or with the JSON in FILE, which is what `ledger state .. --members`
 printed and somebody changed. ENTRY is a file with what `ledger keygen` printed: `--add` takes a member in, `--key` replaces

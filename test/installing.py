@@ -9,7 +9,7 @@ from tree import PROVED, ROOT, UNPROVED
 
 # How long a command may take, in seconds.
 SECONDS = 120
-COMMANDS = ("ledger", "regtuma", "regtuma-certs", "regtuma-change", "regtuma-log", "regtuma-node")
+COMMANDS = ("ledger", "regtuma", "regtuma-audit", "regtuma-certs", "regtuma-change", "regtuma-log", "regtuma-node")
 
 
 def fails_in_words(ran: Ran, status: int = 1) -> bool:
@@ -97,9 +97,12 @@ def try_certs(at: Installing) -> None:
     certs = at.tree / "node" / "certs.sh"
     for words in (["ca", "maker", "Maker"], ["node", "maker", "Maker", "10.0.0.1", "node.maker.example", "::1"],
                   ["etcd", "maker", "Maker", "10.0.0.1"], ["client", "maker", "Maker", "alice"], ["ca", "shop", "Shop"],
-                  ["bundle", "all.pem", "maker/ca.pem", "shop/ca.pem"], ["node", "maker", "Maker", "10.0.0.9"]):
+                  ["bundle", "all.pem", "maker/ca.pem"], ["bundle", "all.pem", "all.pem", "shop/ca.pem"],
+                  ["node", "maker", "Maker", "10.0.0.9"]):
         ran = at.run(certs, *words)
         at.case(f"regtuma-certs {' '.join(words)}", ran.status == 0 and not ran.out + ran.err, ran)
+    joined = "".join((at.certs / it / "ca.pem").read_text() for it in ("maker", "shop"))
+    at.report.case("a bundle may take itself in", (at.certs / "all.pem").read_text() == joined)
     for key in sorted(at.certs.glob("*/*.key")):
         at.report.case(f"{key.name} is its owner's", stat.S_IMODE(key.stat().st_mode) == 0o600)
     for name, wanted in [("node", "subject=O = Maker, CN = node"), ("etcd", "subject=O = Maker, OU = etcd"),
@@ -113,6 +116,7 @@ def try_certs(at: Installing) -> None:
     kept = (at.certs / "maker" / "ca.key").read_bytes()
     for words in (["ca", "maker", "Maker"], ["node", "none", "Maker", "10.0.0.1"], ["node", "maker", "Maker", "a,b"],
                   ["node", "maker", "Maker/CN=x", "10.0.0.1"], ["client", "maker", "Maker", "../alice"], ["client", "maker", "Maker", "ca"],
+                  ["client", "maker", "Maker", "authorities"], ["client", "maker", "Maker", "shop.ca"],
                   ["bundle", "some.pem", "maker/node.pem"], ["ca", "other", "A-1"]):
         ran = at.run(certs, *words)
         at.case(f"refused: {' '.join(words)}", fails_in_words(ran) and ran.err.count("\n") == 1, ran)

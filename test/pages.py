@@ -11,7 +11,8 @@ from report import Report, run
 
 # The words with which a block of commands begins, beside paths (`./ledger`) and settings (`name=value`).
 COMMANDS = {"cat", "cd", "clang", "cmp", "cp", "echo", "etcd", "etcdctl", "export", "install", "ledger", "ln", "machine", "make", "mkdir",
-            "regtuma", "regtuma-certs", "regtuma-change", "regtuma-log", "rt", "sed", "set", "systemctl", "tar", "test", "wasm-objdump"}
+            "regtuma", "regtuma-audit", "regtuma-certs", "regtuma-change", "regtuma-log", "rt", "sed", "set", "systemctl", "tar", "test",
+            "wasm-objdump"}
 PATH = re.compile(r"(\./|bench/|docs/|examples/|node/|test/|/)\S+|[A-Za-z_]+=.*")
 # How long all the commands of a page may take, in seconds.
 SECONDS = 550

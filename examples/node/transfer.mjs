@@ -13,6 +13,7 @@ try {
   process.exit(0);
 } catch (error) {
   const flag = error instanceof NotValid ? error.said.flag ?? "none" : "unknown";
-  console.log(`flag ${flag}: ${pallet} for ${receiver}: ${error.message}`);
+  // A node may answer by words of others: nothing of them speaks to the terminal.
+  console.log(`flag ${flag}: ${pallet} for ${receiver}: ${error.message.replace(/\p{C}/gu, "?")}`);
   process.exit(1);
 }

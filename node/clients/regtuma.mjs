@@ -107,7 +107,10 @@ export class Client {
     return this.ask("GET", "/healthz", undefined, [503]);
   }
 
-  /** Blocks from a number on, by default those that are still to come, for ever. Where a node ends the next one goes on. */
+  /**
+   * Blocks from a number on, by default those that are still to come, for ever. Where a node ends the next one goes on; one that
+   * refuses ends it by `NotValid`.
+   */
   async *blocks({ from } = {}) {
     for (;;) {
       try {
@@ -117,7 +120,9 @@ export class Client {
           from = block.block + 1;
           yield block;
         }
-      } catch { /* the next node goes on */ }
+      } catch (failure) {
+        if (failure instanceof NotValid && failure.status !== 503) throw failure;
+      }
       this.turn++;
       await pause(PAUSE);
     }
@@ -158,6 +163,7 @@ export class Client {
     let timer = setTimeout(() => ending.abort(), SILENCE), left = "";
     try {
       const answer = await this.fetch(this.node + path, { signal: ending.signal });
+      if (!answer.ok) throw new NotValid(answer.status, await answer.json());
       for await (const piece of answer.body.pipeThrough(new TextDecoderStream())) {
         clearTimeout(timer);
         timer = setTimeout(() => ending.abort(), SILENCE);

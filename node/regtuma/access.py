@@ -58,15 +58,24 @@ class Access:
         is_own = len(chain) == 2 and chain[1] in self.authorities.get(organisation, set())
         return f"{organisation}/{name}" if name and is_own else None
 
+    def has(self, caller: str | None, right: str) -> bool:
+        """Whether a caller has a right, as rights are now."""
+        return caller is not None and any(fnmatch.fnmatchcase(caller, it) for it in self.config.rights.get(right, []))
+
+    def may_go_on(self, request: web.Request) -> bool:
+        """Whether who reads a stream has the right to it still. The loopback asks for none."""
+        return "right" not in request or self.has(self.caller(request), request["right"])
+
     def needing(self, right: str, handler: Handler) -> Handler:
         """A handler for those alone who have a right."""
         async def guarded(request: web.Request) -> web.StreamResponse:
             caller = self.caller(request)
-            if caller is None or not any(fnmatch.fnmatchcase(caller, it) for it in self.config.rights.get(right, [])):
+            if not self.has(caller, right):
                 raise Refused(403, {"why": f"{caller or 'no certificate'} may not {right}"})
             if request.method == "POST" and request.content_type != "application/json":
                 # What a page of another site can make a browser send, with its certificate, has another type.
                 raise Refused(415, {"why": "a request has the type application/json"})
+            request["right"] = right
             return await handler(request)
         return guarded
 

@@ -144,7 +144,11 @@ class Api:
         self.metrics.streams += 1
         try:
             while True:
-                if await self.chain.at_least(number, HEARTBEAT):
+                is_there = await self.chain.at_least(number, HEARTBEAT)
+                if not self.access.may_go_on(request):
+                    # Rights were read anew meanwhile.
+                    return stream
+                if is_there:
                     line = chosen(await self.chain.block(number), request.query.get("chaincode"))
                     await stream.write(f"id: {number}\nevent: block\ndata: {line}\n\n".encode())
                     number += 1
@@ -259,7 +263,7 @@ async def body_of(request: web.Request) -> dict:
     """The JSON object that a request has."""
     try:
         body = await request.json()
-    except ValueError:
+    except (ValueError, RecursionError):
         raise Refused(400, {"why": "the body is no JSON"}) from None
     check(isinstance(body, dict), "the body is a JSON object")
     return body

@@ -23,6 +23,8 @@ FULL, NO_MARK = 422, 300
 PROBE, SHORT_PATIENCE = 3.0, 3.0
 # The JSON of so many blocks is kept for those who watch.
 NEWEST = 16
+# So many blocks may be of lines that etcd has told other nodes and not yet this one.
+AHEAD = 100
 
 
 @dataclasses.dataclass(frozen=True)
@@ -87,6 +89,11 @@ class Chain:
 
     async def close(self) -> None:
         await asyncio.gather(*(it.close() for it in (self.order, self.commit, self.query)))
+
+    @property
+    def most_blocks(self) -> int:
+        """How many blocks another node can have, as far as this one knows the log: a line of it ends two batches at most."""
+        return max(self.height, self.awaited.number - 1) + 2 * (self.given - self.read) + AHEAD
 
     @property
     def is_full(self) -> bool:

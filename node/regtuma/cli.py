@@ -34,10 +34,14 @@ from .client import Client, Failed, NoAnswer, from_environment
 DONE, NOT_DONE, NO_TASK, UNANSWERED, INTERRUPTED = 0, 1, 2, 3, 130
 
 
-def printable(data: bytes) -> str:
-    """Bytes as text, of which nothing speaks to a terminal."""
-    text = data.decode("utf-8", "backslashreplace")
+def shown(text: str) -> str:
+    """A text of which nothing speaks to a terminal."""
     return "".join(it if it.isprintable() else f"\\x{ord(it):02x}" for it in text)
+
+
+def printable(data: bytes) -> str:
+    """Bytes as such a text."""
+    return shown(data.decode("utf-8", "backslashreplace"))
 
 
 def text_of(hex_: str) -> str:
@@ -57,7 +61,7 @@ def outcome(said: dict) -> str:
         return f"VALID{place}{result}, id {said['id']}"
     flag = f"flag {said['flag']}{place}: " if "flag" in said else ""
     number = f"refused {said['refused']}: " if said.get("refused") else ""
-    return f"{flag}{number}{said['why']}" + (f", id {said['id']}" if "id" in said else "")
+    return f"{flag}{number}{shown(str(said['why']))}" + (f", id {said['id']}" if "id" in said else "")
 
 
 # ---------------------------------------------------------------- what is asked for

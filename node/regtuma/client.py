@@ -61,8 +61,30 @@ class NoAnswer(Failed):
     """No node answered. Whether a call that was submitted is in the log is not known: `said["id"]` is its id, for `status`."""
 
 
+class Link:
+    """A connection to the node whose turn it is."""
+
+    def __init__(self, client: "Client", turn: int = 0):
+        self.client, self.turn = client, turn
+        self.connection: http.client.HTTPSConnection | None = None
+
+    def begin(self, method: str, path: str, body: dict | None, seconds: float) -> http.client.HTTPResponse:
+        """Begins a request, whose answer may be silent for so many seconds."""
+        if self.connection is None:
+            at = urlsplit(self.client.nodes[self.turn % len(self.client.nodes)])
+            self.connection = http.client.HTTPSConnection(at.netloc, timeout=seconds, context=self.client.tls)
+        self.connection.request(method, path, json.dumps(body) if body else None, {"Content-Type": "application/json"})
+        return self.connection.getresponse()
+
+    def leave(self) -> None:
+        """Leaves the node: the turn is the next one's."""
+        if self.connection:
+            self.connection.close()
+        self.connection, self.turn = None, self.turn + 1
+
+
 class Client:
-    """For any number of threads: each has a connection of its own."""
+    """For any number of threads: each has a connection of its own, and so has each stream of blocks."""
 
     def __init__(self, nodes: list[str], certificate: str, key: str, authorities: str, seconds: float = 40.0):
         """`nodes` are URLs, asked in turn; files are in PEM. After `seconds` without an answer a call fails."""
@@ -80,7 +102,7 @@ class Client:
         """Has a call committed: its id, block, place, flag and result once it is VALID. One that conflicts with another is made
         anew, `tries` times in all. `organisations` are to endorse, in place of those that the policy needs; a `nonce` of 32 hex
         digits names the transaction, where the caller has asked for it before."""
-        for left in range(tries - 1, -1, -1):
+        for left in range(max(tries, 1) - 1, -1, -1):
             call = call_of(chaincode, args, arg, organisations, nonce)
             said, nonce = self.outcome(call), None
             if said.get("valid"):
@@ -154,25 +176,31 @@ class Client:
         return self.ask("GET", "/healthz", accept=(503,))
 
     def blocks(self, first: int | None = None) -> Iterator[dict]:
-        """Blocks from a number on, by default those that are still to come, for ever. Where a node ends the next one goes on."""
+        """Blocks from a number on, by default those that are still to come, for ever. Where a node ends the next one goes on; one
+        that refuses ends it by `Refused`."""
+        link = Link(self, self._link().turn)
         while True:
             try:
-                for line in self._open("GET", "/events" + (f"?from={first}" if first else ""), None, SILENCE):
+                answer = link.begin("GET", "/events" + (f"?from={first}" if first else ""), None, SILENCE)
+                if answer.status not in (200, 503):
+                    raise Refused(answer.status, json.loads(answer.read()))
+                for line in answer:
                     if line.startswith(b"data: "):
                         block = json.loads(line[6:])
                         first = block["block"] + 1
                         yield block
-            except (OSError, http.client.HTTPException):
+            except (OSError, http.client.HTTPException, ValueError):
                 pass
-            self._next()
+            finally:
+                link.leave()
             time.sleep(PAUSE)
 
     def ask(self, method: str, path: str, body: dict | None = None, accept: tuple[int, ...] = ()) -> dict | list:
         """What a node answers. The next one is asked where one gives no answer, or cannot do it now (503)."""
-        until = time.monotonic() + self.seconds
+        link, until = self._link(), time.monotonic() + self.seconds
         while True:
             try:
-                answer = self._open(method, path, body, self.seconds)
+                answer = link.begin(method, path, body, self.seconds)
                 said = json.loads(answer.read())
                 if answer.status < 400 or answer.status in accept:
                     return said
@@ -181,7 +209,7 @@ class Client:
                     raise why
             except (OSError, http.client.HTTPException, ValueError) as error:
                 why = NoAnswer(f"no node answers, of {', '.join(self.nodes)}: {str(error) or type(error).__name__}")
-            self._next()
+            link.leave()
             if time.monotonic() > until:
                 raise why
             time.sleep(PAUSE)
@@ -190,21 +218,11 @@ class Client:
         """Where calls are posted: a node answers before the client takes it for dead."""
         return f"/transactions?wait={max(1.0, self.seconds - 5):g}"
 
-    def _open(self, method: str, path: str, body: dict | None, seconds: float) -> http.client.HTTPResponse:
-        """Begins a request at the node whose turn it is."""
-        link = getattr(self.own, "link", None)
-        if link is None:
-            self.own.turn = getattr(self.own, "turn", 0)
-            at = urlsplit(self.nodes[self.own.turn % len(self.nodes)])
-            link = self.own.link = http.client.HTTPSConnection(at.netloc, timeout=seconds, context=self.tls)
-        link.request(method, path, json.dumps(body) if body else None, {"Content-Type": "application/json"})
-        return link.getresponse()
-
-    def _next(self) -> None:
-        """Leaves the node whose turn it is."""
-        if link := getattr(self.own, "link", None):
-            link.close()
-        self.own.link, self.own.turn = None, getattr(self.own, "turn", 0) + 1
+    def _link(self) -> Link:
+        """This thread's connection."""
+        if not hasattr(self.own, "link"):
+            self.own.link = Link(self)
+        return self.own.link
 
 
 def call_of(chaincode: str, args: Iterable[str] = (), arg: bytes | None = None, organisations: list[str] | None = None,

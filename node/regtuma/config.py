@@ -28,7 +28,7 @@ class Ledger:
     modules: str = ""
     # Filters that simulate calls side by side.
     endorsers: int = 1
-    # A command that says for each call of others whether this organisation endorses it (endorsing.py).
+    # A command that says of each proposal, its own clients' too, whether this organisation endorses it (endorsing.py).
     approver: list[str] = dataclasses.field(default_factory=list)
     # The template of the live page, examples/page/template.html of the repository.
     template: str = ""

@@ -38,6 +38,14 @@ class Agreed:
             self.ids.add(id)
 
 
+class Approver(Asked):
+    """The command that says of each proposal whether the organisation endorses it."""
+
+    def is_last(self, _line: str) -> bool:
+        """Any line is an answer, also one that begins as a refusal of the program does."""
+        return False
+
+
 class Endorsing:
     def __init__(self, config: Config, chain: Chain):
         self.config, self.chain = config, chain
@@ -45,7 +53,7 @@ class Endorsing:
         options = [word for it in ("keys", "modules") if (file := getattr(ledger, it)) for word in (f"--{it}", file)]
         self.command = [ledger.program, "endorse", ledger.genesis, config.organisation, ledger.store, *options]
         self.endorsers = [Asked("ledger endorse", self.command) for _ in range(ledger.endorsers)]
-        self.approver = Asked("the approver", ledger.approver) if ledger.approver else None
+        self.approver = Approver("the approver", ledger.approver) if ledger.approver else None
         self.agreed = Agreed(ledger.store + ".agreed")
         self.turn = 0
         # Why nothing is endorsed: the organisation is no member, or its seed is not at hand.

@@ -88,6 +88,12 @@ class Asked(Filter):
         super().__init__(name, command)
         self.waiting: collections.deque[asyncio.Future[str]] = collections.deque()
         self.unwritten: list[str] = []
+        # Why it answers no more, until it is begun again.
+        self.ended: FilterEnded | None = None
+
+    async def start(self) -> None:
+        await super().start()
+        self.ended = None
 
     async def follow(self) -> None:
         """Hands answers to those who asked, as long as the filter runs."""
@@ -95,6 +101,7 @@ class Asked(Filter):
             while True:
                 await self._hand_on()
         except FilterEnded as ended:
+            self.ended = ended
             while self.waiting:
                 self._answer(ended)
             raise
@@ -117,10 +124,13 @@ class Asked(Filter):
     def ask(self, line: str) -> asyncio.Future[str]:
         """What it answers to a line. What is asked in one turn of the loop is written together."""
         loop = asyncio.get_running_loop()
+        asker: asyncio.Future[str] = loop.create_future()
+        if self.ended:
+            asker.set_exception(self.ended)
+            return asker
         if not self.unwritten:
             loop.call_soon(self._write)
         self.unwritten.append(line)
-        asker: asyncio.Future[str] = loop.create_future()
         self.waiting.append(asker)
         return asker
 

@@ -145,17 +145,24 @@ class Gateway:
                 return made
             if (refusal := lone_refusal(answers)) and (lone := lone + 1) == SURE:
                 raise refusal
-            # Some are behind: all are asked anew, on the height of the one that is ahead.
-            self.leave_behind(answers, height)
-            height, why = max(it["height"] for it in answers.values()), "the organisations do not simulate on one state"
+            height, why = self.next_height(answers, height), "the organisations do not simulate on one state"
             await asyncio.sleep(0.01 * turn)
         raise Refused(503, {"why": why})
 
-    def leave_behind(self, answers: dict[str, dict], height: int) -> None:
-        """Who did not come up to the height that was asked for is passed over, as one whose node of etcd has lost the others."""
-        for organisation, said in answers.items():
-            if said["height"] < height and organisation in self.links:
-                self.links[organisation].pass_over(f"it has {said['height']} blocks, and not yet {height}")
+    def next_height(self, answers: dict[str, dict], asked: int) -> int:
+        """The height on which all are asked anew, where some are behind: that of the one that is ahead.
+
+        Who did not come up to the last one is passed over, as one whose node of etcd has lost the others, and so is who says that
+        there are more blocks than there can be.
+        """
+        most, heights = self.chain.most_blocks, {it: said["height"] for it, said in answers.items()}
+        for organisation in heights.keys() & self.links.keys():
+            had = heights[organisation]
+            if had > most:
+                self.links[organisation].pass_over(f"it says that it has {had} blocks, and there can be {most}")
+            elif had < asked:
+                self.links[organisation].pass_over(f"it has {had} blocks, and not yet {asked}")
+        return max((it for it in heights.values() if it <= most), default=self.chain.height)
 
     def made(self, answers: dict[str, dict]) -> str | None:
         """The envelope of answers that agree; none where they do not."""

@@ -1,5 +1,6 @@
 """Other organisations' nodes, which are asked for endorsements."""
 import asyncio
+import json
 import re
 import time
 from collections.abc import Callable
@@ -14,6 +15,8 @@ ENDORSE_SECONDS, DOWN_SECONDS, CHANGE_SECONDS = 3.0, 5.0, 60.0
 REQUESTS, MOST_PROPOSALS, ENOUGH = 2, 250, 1.0
 # How much slower than of late a node may be until it counts as dead.
 SLACK = 4
+# The longest answer that is read, in bytes.
+LONGEST = 64 << 20
 REFUSAL = re.compile(r"refused \d{1,3}( .*)?")
 # A proposal, the height on which it is simulated at least, and who waits for the answer.
 Waiting = tuple[dict, int, asyncio.Future[dict | None]]
@@ -110,10 +113,10 @@ class Link(Batches):
         try:
             body, timeout = {"proposals": proposals, "height": height}, aiohttp.ClientTimeout(total=patience)
             async with self.http.post(self.url + "/endorse", json=body, timeout=timeout) as answer:
-                return answers_of(answer.status, await answer.json(), len(proposals))
+                return answers_of(answer.status, json.loads(await whole(answer.content)), len(proposals))
         except asyncio.TimeoutError:
             why = f"no answer in {patience:.1f} s"
-        except (ValueError, OSError, aiohttp.ClientError) as error:
+        except (ValueError, RecursionError, OSError, aiohttp.ClientError) as error:
             why = (str(error) or repr(error))[:200]
         self.pass_over(why)
         return None
@@ -122,6 +125,16 @@ class Link(Batches):
         """The node is not asked for a while."""
         self.say(f"no endorsement of {self.organisation}: {why}")
         self.down = time.monotonic() + DOWN_SECONDS
+
+
+async def whole(content: aiohttp.StreamReader) -> bytes:
+    """What another organisation's node answers, which may be anybody's program: no more is read than this node bears."""
+    data = bytearray()
+    async for piece in content.iter_any():
+        data += piece
+        if len(data) > LONGEST:
+            raise ValueError(f"its answer has more than {LONGEST >> 20} MiB")
+    return bytes(data)
 
 
 def answers_of(status: int, said: object, count: int) -> list[dict]:

@@ -1,4 +1,4 @@
-"""What numbers and flags stand for, in words for those who called. docs/FORMATS.md has all of them, and what to do."""
+"""What numbers and flags stand for, in words for those who called. docs/FORMATS.md says where each stands, with what to do."""
 import re
 
 from .filters import Query

@@ -2,6 +2,8 @@
 import re
 import secrets
 
+from .fields import ORGANISATION
+
 KINDS = {"chaincode": {"chaincode", "arg", "nonce"}, "upgrade": {"upgrade", "module", "profile", "fuel", "policy", "nonce"},
          "members": {"members", "policy", "serial", "nonce"}}
 CHAINCODE = re.compile("[a-z0-9_-]{1,32}")
@@ -9,7 +11,6 @@ DIGITS, NONCE, DIGEST = (re.compile(f"[0-9A-Fa-f]{it}") for it in ("*", "{32}", 
 POLICY = re.compile("[ -~]{1,1024}")
 MOST_ARG, MOST_KEY, MOST_FUEL, MOST_SERIAL, MOST_MEMBERS = 4096, 64, 10_000_000, 2**32 - 1, 16
 PROFILES = (1, 2, 17, 18)
-ORGANISATION = re.compile("[A-Za-z0-9_]{1,32}")
 
 
 class Refused(Exception):
@@ -110,7 +111,8 @@ def bound_of(text: str, name: str) -> str:
 
 
 def number_of(text: str, name: str, least: int, most: int) -> int:
-    check(text.isascii() and text.isdigit() and least <= int(text) <= most, f"{name} is a whole number from {least} to {most}")
+    is_short = text.isascii() and text.isdigit() and len(text) < 10
+    check(is_short and least <= int(text) <= most, f"{name} is a whole number from {least} to {most}")
     return int(text)
 
 

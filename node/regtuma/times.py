@@ -21,6 +21,3 @@ class Times:
         """The time of a block, in seconds since 1970."""
         self.file.seek(WIDTH * (number - 1))
         return int.from_bytes(self.file.read(WIDTH), "big") / 1000 or None
-
-    def close(self) -> None:
-        self.file.close()

@@ -107,7 +107,8 @@ class Routes(Case):
         # OPTIONS is what a browser asks before it sends JSON for a foreign page, which needs a yes.
         for method in ("DELETE", "OPTIONS"):
             self.assertEqual((await self.ask(method, "/transactions"))[0], 405)
-        for body, told in (("[1]", "the body is a JSON object"), ("{", "the body is no JSON"), ("", "the body is no JSON")):
+        for body, told in (("[1]", "the body is a JSON object"), ("{", "the body is no JSON"), ("", "the body is no JSON"),
+                           ("[" * 100_000, "the body is no JSON")):
             status, said = await self.ask("POST", "/transactions", data=body, headers={"Content-Type": "application/json"})
             self.assertEqual((status, said["why"]), (400, told))
         status, _ = await self.ask("POST", "/transactions", data=io.BytesIO(b"1" * (api.BODY + 1)), headers={"Content-Type": "application/json"})
@@ -171,6 +172,13 @@ class Reads(Case):
                          [(3, 3, 1), (4, 4, 1)])
         self.assertEqual((await self.get("/events?from=0"))[0], 400)
         self.assertEqual((await self.get("/events", headers={"Last-Event-ID": "x"}))[0], 400)
+
+    async def test_a_stream_ends_with_the_right_to_it(self):
+        async with self.client.get("/events?from=4", headers={"Caller": "Maker/alice"}) as stream:
+            self.assertEqual(await stream.content.readline(), b"id: 4\n")
+            self.config.rights["read"] = []
+            await self.chain.committed(5)
+            self.assertNotIn(b"id: 5", await stream.content.read())
 
     async def test_the_page(self):
         self.chain.query.answers["setting"] = {"ledger": "</script><b>"}

@@ -8,7 +8,7 @@ import support
 from regtuma import chain as chains
 from regtuma import config, filters, gateway
 from regtuma.chain import Asking, Awaited, Chain
-from regtuma.endorsing import Agreed, Endorsing
+from regtuma.endorsing import Agreed, Approver, Endorsing
 from regtuma.etcd import LogError
 from regtuma.filters import Asked, Filter, FilterEnded
 from regtuma.gateway import Gateway
@@ -257,7 +257,7 @@ class Calls(Case):
     """Answers are those of a list, by organisation."""
 
     def answer(self, **answers):
-        self.asked = []
+        self.asked, self.chain.height = [], 3
 
         async def ask(organisation, _caller, _proposal, height):
             self.asked.append((organisation, height))
@@ -299,6 +299,12 @@ class Calls(Case):
         self.assertEqual(await self.refusal(), (503, "the nodes that are up do not satisfy the policy of assets: Maker"))
         self.assertEqual(self.asked, [("Maker", 0), ("Carrier", 0), ("Maker", 3), ("Carrier", 3)])
         self.assertEqual(self.said, ["no endorsement of Carrier: it has 2 blocks, and not yet 3"])
+
+    async def test_who_says_that_there_are_more_blocks_than_can_be_is_passed_over(self):
+        self.chain.given, self.chain.read = 12, 2
+        self.answer(Maker=[ENDORSED], Carrier=[{**ENDORSED, "height": LAST_BLOCK, "payload": "bb"}])
+        self.assertEqual(await self.refusal(), (503, "the nodes that are up do not satisfy the policy of assets: Maker"))
+        self.assertEqual(self.said, ["no endorsement of Carrier: it says that it has 65535 blocks, and there can be 123"])
 
     async def test_refusals(self):
         self.answer(Maker=[{"refused": "refused 404", "height": 3}], Carrier=[{"refused": "refused 404", "height": 3}])
@@ -410,6 +416,33 @@ class Filters(unittest.IsolatedAsyncioTestCase):
             await asked.ask("refused 703")
         with self.assertRaises(FilterEnded):
             await work
+        with self.assertRaisesRegex(FilterEnded, "^cat says: refused 703$"):
+            await asked.ask("1")
+        await asked.close()
+
+    async def test_any_line_of_an_approver_is_an_answer(self):
+        approver = Approver("cat", ["cat"])
+        await approver.start()
+        work = asyncio.ensure_future(approver.follow())
+        self.assertEqual(await approver.ask("refused by the board"), "refused by the board")
+        work.cancel()
+        await asyncio.gather(work, return_exceptions=True)
+        await approver.close()
+
+    async def test_one_that_is_begun_again_answers_those_who_ask_then(self):
+        asked = Asked("cat", ["cat"])
+        await asked.start()
+        work = asyncio.ensure_future(asked.follow())
+        for line in ("refused 806", "1"):
+            with self.assertRaises(FilterEnded):
+                await asked.ask(line)
+        await asyncio.gather(work, return_exceptions=True)
+        await asked.close()
+        await asked.start()
+        work = asyncio.ensure_future(asked.follow())
+        self.assertEqual(await asked.ask("2"), "2")
+        work.cancel()
+        await asyncio.gather(work, return_exceptions=True)
         await asked.close()
 
     async def test_a_line_that_is_too_long_is_no_end(self):

@@ -68,6 +68,12 @@ class Links(unittest.IsolatedAsyncioTestCase):
                 self.assertGreater(link.down, 0)
                 self.assertIn(f"no endorsement of Carrier: {told}", self.said[0])
 
+    async def test_an_answer_that_is_too_long_is_none(self):
+        link = await self.link(answers(5))
+        with mock.patch.object(links, "LONGEST", 9):
+            self.assertIsNone(await link.ask(CALL, 0))
+        self.assertEqual(self.said, ["no endorsement of Carrier: its answer has more than 0 MiB"])
+
     async def test_a_change_has_its_time(self):
         link = await self.link()
         with mock.patch.object(Link, "post", return_value=[ANSWER]) as post:

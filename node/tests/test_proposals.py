@@ -75,7 +75,7 @@ class Proposals(unittest.TestCase):
         self.refused("start is a text of up to 64 bytes, or hex behind 0x", bound_of, "0xf", "start")
         self.refused("start is a text of up to 64 bytes, or hex behind 0x", bound_of, "a" * 65, "start")
         self.assertEqual(number_of("7", "limit", 1, 9), 7)
-        for it in ("", "-1", "10", "1.5", "٣", "x"):
+        for it in ("", "-1", "10", "1.5", "٣", "x", "9" * 5000):
             self.refused("limit is a whole number from 1 to 9", number_of, it, "limit", 1, 9)
 
     def test_seconds(self):
