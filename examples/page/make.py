@@ -1,5 +1,5 @@
 #!/usr/bin/env python3
-"""Makes chains to try the page on, as lines of `show`: bytes, hashes and flags by docs/FORMATS.md, worked out here.
+"""Makes chains to try the page on, as lines of `show`: bytes, hashes and flags by docs/RULES.md, worked out here.
 
     examples/page/make.py BLOCKS > chain.jsonl
 
