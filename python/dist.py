@@ -35,8 +35,9 @@ def digest(file: pathlib.Path) -> str:
 
 
 def lay(tree: pathlib.Path) -> None:
-    """Installs into a folder, and adds the digests of the files."""
-    made = subprocess.run(["make", "--silent", "install", f"DESTDIR={tree}", "PREFIX=/usr/local"], cwd=ROOT, capture_output=True, text=True)
+    """Installs the proved program, also where LEDGER names another one, into a folder, and adds the digests of the files."""
+    words = ["make", "--silent", "install", f"DESTDIR={tree}", "PREFIX=/usr/local", f"LEDGER={PROVED.relative_to(ROOT)}"]
+    made = subprocess.run(words, cwd=ROOT, capture_output=True, text=True)
     if made.returncode:
         raise NoDist(f"make install ended with status {made.returncode}: {made.stderr.strip()}")
     lib = tree / LIB

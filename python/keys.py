@@ -35,7 +35,11 @@ def keygen(file: str, name: str, pem: str | None = None, program: str | None = N
     seed = secrets.token_bytes(32) if pem is None else seed_in(pem)
     program = program or str(find())
     write_new(file, seed.hex() + "\n")
-    ran = subprocess.run([program, "public", file], stdin=subprocess.DEVNULL, stdout=subprocess.PIPE, text=True)
+    try:
+        ran = subprocess.run([program, "public", file], stdin=subprocess.DEVNULL, stdout=subprocess.PIPE, text=True)
+    except OSError as error:
+        os.unlink(file)
+        raise NoKey(f"the program does not run, so {file} was taken away again: {error.strerror}") from error
     told = re.fullmatch(r"public ([0-9a-f]{64})\n", ran.stdout)
     if not told:
         os.unlink(file)

@@ -8,8 +8,6 @@ from network import ORGS, Mistake, ask, quoted, reason, refusal, shown, smallest
 from policies import is_satisfied
 
 PUBLIC = re.compile("[0-9A-Fa-f]{64}")
-# A key file has few lines, and so has the JSON of a membership.
-MOST_BYTES = 65536
 
 
 @dataclasses.dataclass(frozen=True)
@@ -75,9 +73,9 @@ def parsed(file: str) -> dict:
     try:
         with open(file, encoding="utf-8") as source:
             value = json.load(source)
-    except (OSError, UnicodeDecodeError) as error:
+    except OSError as error:
         raise Mistake(f"{quoted(file)} cannot be read: {reason(error)}") from error
-    except ValueError as error:
+    except (ValueError, RecursionError) as error:
         raise Mistake(f"{quoted(file)} is no JSON: {error}") from error
     if not isinstance(value, dict):
         raise Mistake(f"{quoted(file)} is no JSON object")

@@ -52,7 +52,7 @@ def link_file(source: str, target: str) -> None:
 
 
 def link(source: pathlib.Path, target: pathlib.Path, crate: str) -> None:
-    """Puts what one tree keeps of a crate into another one, each part in one step."""
+    """Puts what one tree keeps of a crate into another one. Each part is whole there, or missing."""
     for part in KEPT:
         kept = pathlib.Path("crates", crate, "out", part)
         if (source / kept).is_dir():

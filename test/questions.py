@@ -150,9 +150,10 @@ def try_questions(report: Report, tree: pathlib.Path, room: pathlib.Path, env: d
 
 
 def main(words: list[str]) -> int:
-    if len(words) != 1 or not words[0].isdigit():
-        print(__doc__)
-        return 0
+    if len(words) != 1 or not words[0].isdecimal():
+        is_help = words in (["--help"], ["-h"])
+        print(__doc__, file=sys.stdout if is_help else sys.stderr)
+        return 0 if is_help else 2
     report = Report("query")
     with tempfile.TemporaryDirectory() as room:
         try_questions(report, pathlib.Path(__file__).resolve().parent.parent, pathlib.Path(room), {}, int(words[0]))

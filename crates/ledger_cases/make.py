@@ -1,7 +1,7 @@
 #!/usr/bin/env python3
 """Writes the last groups of `stdin` and `stdout`: open definitions, memberships, amendments and modules files.
 
-Bytes are put together by docs/FORMATS.md, ids and tags made by `hashlib` and `hmac`; the rest follows docs/RULES.md.
+Bytes and rules are those of docs/RULES.md; ids and tags are made by `hashlib` and `hmac`.
 """
 import hashlib
 import hmac

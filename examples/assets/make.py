@@ -3,7 +3,7 @@
 register of pallets, and put its second version in the place of the first.
 
 The versions are ../chaincode/asset_register.wasm and asset_register_2.wasm. The forged envelope is laid out here, by
-docs/FORMATS.md, since no peer hands one out.
+docs/RULES.md, since no peer hands one out.
 """
 import hashlib
 import json

@@ -1,5 +1,5 @@
 /* The functions of the module `fabric`, which chaincode may import. Pointers are addresses in the module's own
-   memory; a pointer and a length that do not lie within it end the run (trap 4). docs/CHAINCODE.md has their answers
+   memory; a pointer and a length that do not lie within it end the run (trap 4). docs/MODULES.md has their answers
    and their costs. */
 #ifndef FABRIC_H
 #define FABRIC_H

@@ -1,8 +1,9 @@
 #!/usr/bin/env python3
 """Writes orders*, sizes*, names*, ends.json, scans.jsonl, stranger.jsonl, bytes.jsonl, upgrades*, versions.jsonl,
 predicted.jsonl, profiles*, seatless.json, nobody.json, doubled.json, look.json, extend.wasm, signed*, alone*, second.json,
-forged.jsonl, seen*, asked.txt, open*, modules*, members*, *questions.jsonl, calls.jsonl, marks*, key files and stores beside
-this file: events with envelopes, genesis files, modules files, modules and stores that are laid out here, by docs/FORMATS.md.
+forged.jsonl, seen*, asked.txt, open*, modules*, members*, *questions.jsonl, calls.jsonl, proposals.jsonl, logs, blocks for
+`commit` (*.txt), key files and stores beside this file: events with envelopes, genesis files, modules files, modules and
+stores that are laid out here, by docs/RULES.md.
 
 older.store is not among them: the program wrote it when calls did not read their definitions yet. It has the blocks of
 whole.store but for these reads.

@@ -1,5 +1,5 @@
 #!/usr/bin/env python3
-"""Compares what `show`, `state`, `marks` and `query` print with what docs/FORMATS.md says of the same stores, read here.
+"""Compares what `show`, `state`, `marks` and `query` print with what docs/OUTPUT.md says of the same stores, read here.
 
 usage: shown.py PROGRAM [FILE]
 
@@ -22,6 +22,8 @@ sys.path.insert(0, str(HERE.resolve().parents[2] / "python"))
 import rfc8032
 
 VALID, UNENDORSED = 0, 1
+# A sentence that says why a line is refused: it is on the standard error, and in no answer of ../stdout.
+SENTENCE = re.compile(r"ledger: .*\((\d+|bad line|flags differ|usage)\)")
 # Stores whose flags are others by the rules than those that they hold, and genesis files by which no call is endorsed.
 FORGED = {"differs.store", "differs-unlinked.store", "unlinked-differs.store"}
 UNENDORSED_BY = {"older.store", "names.json"}
@@ -413,11 +415,12 @@ def shown(words, folder, asked):
 
 
 def ran(program, line, folder):
-    """The lines that the program prints, its remarks, and its status. What stands behind ` < ` is its input."""
+    """The lines that the program prints, its remarks but for sentences, and its status. What stands behind ` < ` is its input."""
     words, _, name = line.partition(" < ")
     with open(folder / name if name else "/dev/null", "rb") as asked:
         done = subprocess.run([program, *words.split()], cwd=folder, stdin=asked, capture_output=True, text=True)
-    remarks = [f"! {it.removeprefix('ledger: ')}" for it in done.stderr.splitlines()]
+    said = [it for it in done.stderr.splitlines() if it.startswith("ledger: ") and not SENTENCE.fullmatch(it)]
+    remarks = [f"! {it.removeprefix('ledger: ')}" for it in said]
     return done.stdout.splitlines(), remarks, done.returncode
 
 
