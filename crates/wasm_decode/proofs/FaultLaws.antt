@@ -1,5 +1,5 @@
 -- What a fault inside a part says of the whole.
-use Rattle.std.proofs.Common.{◌≡◌, ℕ, ◌+◌, ◌≤◌, inl, inr, List, ◌++◌, length, Option, Some, None, slice_get, refl, sym, ap, ◌∙◌, subst}
+use Rattle.std.proofs.Common.{◌≡◌, ℕ, ◌+◌, ◌≤◌, inl, inr, List, ◌++◌, length, Option, Some, None, slice_get, refl, sym, ap, ◌∙◌, subst, arith}
 use Rattle.std.specs.Prelude.{MatchOption, option_map}
 use Rattle.wasm_profile.specs.declared.profile.Profile.{Profile}
 use Rattle.wasm_profile.specs.declared.profile.Profile.TheVariants.{Core1, SignExtension}
@@ -14,7 +14,7 @@ use Rattle.wasm_decode.specs.declared.fault.FaultKind.{FaultKind}
 use Rattle.wasm_decode.specs.declared.fault.FaultKind.TheVariants.{Magic, Version, EndedEarly, BadNumber, SectionOrder, Length, Opcode, TypeByte, NotUtf8}
 use Rattle.wasm_decode.specs.declared.fault.FaultKind.TheVariants.{Float, Limit, CountsDiffer, StartSection}
 use Rattle.wasm_decode.specs.FaultNumbers.{kind_of}
-use Rattle.wasm_decode.specs.Faults.{HasByte, PartEnds, IsReserved, Stands, Says}
+use Rattle.wasm_decode.specs.Faults.{HasByte, PartEnds, IsFloatOpcode, IsReserved, Stands, Says}
 use Rattle.grammar.specs.Table.{row_at}
 use Rattle.wasm_ast.specs.declared.operators.LoadOp.{LoadOp}
 use Rattle.wasm_ast.specs.declared.operators.StoreOp.{StoreOp}
@@ -92,6 +92,9 @@ pub else_unlisted : (profile : Profile) → row_at (opcodes profile) 0x05 ≡ No
 unfolding opcodes operator_rows comparison_rows arithmetic_32_rows arithmetic_64_rows conversion_rows sign_extension_rows load_rows store_rows other_rows
 else_unlisted Core1 = refl
 else_unlisted SignExtension = refl
+
+pub else_of_no_float : ¬ IsFloatOpcode 0x05
+else_of_no_float = λ h. grind arith
 
 -- behind the index of a `call_indirect`
 pub behind_index : (old mid : Place) (n start : ℕ) → HasByte (λ o. o ≡ 0x11) old.whole start → offset_of old ≡ start + 1 →

@@ -74,9 +74,9 @@ Stands profile BadNumber offset end bytes = NoNumber (drop offset bytes)
 Stands profile SectionOrder offset end bytes = HasByte (λ id. 0 < id) bytes offset
 -- the length of a section or of a body
 Stands profile Length offset end bytes = HasNumber (λ _ _. Unit {0}) bytes offset
--- a byte that is no opcode of the profile (as an `else` of no `if` is none), or a reserved byte that is not 0
+-- a byte that is no opcode of the profile (as an `else` of no `if` is none), nor one of floats, or a reserved byte that is not 0
 Stands profile Opcode offset end bytes =
-    HasByte (λ b. (row_at (opcodes profile) b ≡ None) ⊎ ((0 < b) × IsReserved bytes offset)) bytes offset
+    HasByte (λ b. ((row_at (opcodes profile) b ≡ None) × ¬ IsFloatOpcode b) ⊎ ((0 < b) × IsReserved bytes offset)) bytes offset
 Stands profile TypeByte offset end bytes = HasByte (λ _. Unit {0}) bytes offset
 Stands profile NotUtf8 offset end bytes = NoText (drop offset bytes)
 Stands profile Float offset end bytes = HasByte IsFloat bytes offset

@@ -5,7 +5,8 @@ ghost use Rattle.grammar.specs.Table.{row_at, row_byte_at};
 ghost use Rattle.grammar.specs.Reading.{byte_at};
 ghost use Rattle.wasm_ast.specs.View.{code_of};
 ghost use Rattle.wasm_decode.specs.Parses.{Parses};
-ghost use Rattle.wasm_decode.specs.Faults.{HasByte, IsFaultOf, IsReserved, Tells, TellsBy};
+ghost use Rattle.wasm_decode.specs.Faults.{HasByte, IsFaultOf, IsFloatOpcode, IsReserved, Tells, TellsBy};
+ghost use Rattle.wasm_decode.specs.declared.fault.FaultKind.TheVariants as faults;
 ghost use Rattle.wasm_decode.specs.Opcodes.{opcodes};
 ghost use Rattle.wasm_operators.specs.Operators.{load_rows, store_rows, operator_rows};
 ghost use Rattle.wasm_bytes.specs.Place.{offset_of};
@@ -101,7 +102,9 @@ fn memory_argument(cursor: &mut Cursor<'_>) -> Result<MemoryArgument, DecodeFaul
 /// The fault of an opcode that is not of the profile: those of floats are told apart.
 fn opcode_fault(opcode: u8, profile: Profile) -> FaultKind
     requires { row_at (opcodes profile) opcode ≡ None }
-    ensures { IsFaultOf profile opcode result }
+    ensures stands { IsFaultOf profile opcode result }
+    ensures float { IsFloatOpcode opcode → result ≡ faults.Float }
+    ensures other { ¬ IsFloatOpcode opcode → result ≡ faults.Opcode }
 {
     match opcode {
         0x2a | 0x2b | 0x38 | 0x39 | 0x43 | 0x44 | 0x5b..=0x66 => FaultKind::Float,

@@ -7,6 +7,7 @@ ghost use Rattle.wasm_bytes.specs.Reading.{list_at, sized_at};
 ghost use Rattle.wasm_profile.specs.declared.profile.Profile.{Profile};
 ghost use Rattle.wasm_decode.specs.Parses.{Parses, Makes};
 ghost use Rattle.wasm_decode.specs.Faults.{IsFaultOf, Tells, TellsBy};
+ghost use Rattle.wasm_decode.specs.declared.fault.FaultKind.TheVariants as faults;
 ghost use Rattle.wasm_decode.specs.declared.sections.Kind.TheVariants as kinds;
 ghost use Rattle.wasm_decode.specs.SectionReading.{section_rows, custom_at, fill_at, section_at, sections_at};
 
@@ -66,7 +67,9 @@ fn section_kind(id: u8) -> Option<Kind>
 /// The fault of a section that may not stand here.
 fn order_fault(last: u8, id: u8) -> FaultKind
     requires { 0 < id }
-    ensures { (profile : Profile) → IsFaultOf profile id result }
+    ensures stands { (profile : Profile) → IsFaultOf profile id result }
+    ensures start { (id ≡ 8) × (last < 8) → result ≡ faults.StartSection }
+    ensures other { ¬ ((id ≡ 8) × (last < 8)) → result ≡ faults.SectionOrder }
 {
     if id == 8 && last < 8 {
         FaultKind::StartSection

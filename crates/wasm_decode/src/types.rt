@@ -5,7 +5,8 @@ ghost use Rattle.grammar.specs.Table.{row_at, row_byte_at};
 ghost use Rattle.wasm_bytes.specs.Reading.{u32_at};
 ghost use Rattle.wasm_profile.specs.declared.profile.Profile.{Profile};
 ghost use Rattle.wasm_decode.specs.Parses.{Parses};
-ghost use Rattle.wasm_decode.specs.Faults.{IsFaultOf, Tells};
+ghost use Rattle.wasm_decode.specs.Faults.{IsFaultOf, IsFloatType, Tells};
+ghost use Rattle.wasm_decode.specs.declared.fault.FaultKind.TheVariants as faults;
 ghost use Rattle.wasm_decode.specs.Tables.{value_type_rows, block_type_rows, flag_rows};
 ghost use Rattle.wasm_decode.specs.TypeReading.{value_type_at, result_at, func_type_at, limits_at, table_type_at, memory_type_at, global_type_at};
 
@@ -29,7 +30,9 @@ fn value_type_of(byte: u8) -> Option<ValueType>
 
 /// The fault of a byte that stands for no type: f32 and f64 are told apart.
 fn type_fault(byte: u8) -> FaultKind
-    ensures { (profile : Profile) → IsFaultOf profile byte result }
+    ensures stands { (profile : Profile) → IsFaultOf profile byte result }
+    ensures float { IsFloatType byte → result ≡ faults.Float }
+    ensures other { ¬ IsFloatType byte → result ≡ faults.TypeByte }
 {
     match byte {
         0x7c | 0x7d => FaultKind::Float,

@@ -5,7 +5,7 @@ use Rattle.wasm_ast.specs.View.{code_of}
 use Rattle.wasm_decode.specs.CodeReading.{before, block_at, conditional_at, step_at, code_at, body_at, below, is_last}
 use Rattle.wasm_decode.proofs.Loop.{Fails-weaker, differs}
 use Rattle.wasm_decode.proofs.Turns.{code_of-append, body_is, below_is, no_block, nothing_before, no_opcode, is_over, too_many, no_step, turn}
-use Rattle.wasm_decode.proofs.FaultLaws.{has_byte, else_unlisted}
+use Rattle.wasm_decode.proofs.FaultLaws.{has_byte, else_unlisted, else_of_no_float}
 use Rattle.wasm_decode.proofs.code.+code.Goals as goal
 use Rattle.wasm_decode.proofs.code.+code.Goals.{instructions-then-opcode-eq-END-via-then-opcode-eq-END}
 use Rattle.wasm_decode.proofs.code.+code.Goals.{instructions-then-opcode-eq-END-via-else-opcode-eq-END+then-opcode-eq-ELSE}
@@ -135,4 +135,5 @@ closed-returns-then-last-ne-END-clause-tells t c =
     let last = c.in_ok-body.last in
     let other : last.byte ≡ 0x05 = elim c.in_ok-body.ensures.last [ inl e ↦ e | inr e ↦ absurd (c.if-last-ne-END.true e) ] in
     rw c.refuse.ensures
-    (has_byte _ c.args.cursor.now.whole last.offset last.byte c.in_ok-body.ensures.here (inl (rw other (else_unlisted c.args.level.profile))))
+    (has_byte _ c.args.cursor.now.whole last.offset last.byte c.in_ok-body.ensures.here
+    (inl (rw other (else_unlisted c.args.level.profile), rw other else_of_no_float)))
