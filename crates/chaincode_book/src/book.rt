@@ -175,14 +175,6 @@ impl Book {
         }
     }
 
-    /// The modules that are at hand beside those that are installed. Each is valid.
-    pub fn held(&self) -> &[Held]
-        ensures value { result.now ≡ self.now.held }
-        ensures limits { length self.now.held ≤ 64 }
-    {
-        &self.held
-    }
-
     /// The first module at hand of an id, those that are installed before the others.
     pub fn at_hand(&self, id: &ModuleId) -> Option<&ValidModule>
         ensures { option_map (λ m. m.now) result ≡ module_at_hand self.now id.now }
