@@ -180,6 +180,7 @@ impl<'a> Cursor<'a> {
               rest = drop len self.old.rest;
             })) }
         ensures within { IfSome result (λ front. front.end ≤ length self.old.whole) }
+        ensures behind { IfSome result (λ _. offset_of self.new ≡ offset_of self.old + len) }
     {
         let len = len as usize;
         if self.rest.len() < len {

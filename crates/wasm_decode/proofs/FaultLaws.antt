@@ -1,6 +1,7 @@
 -- What a fault inside a part says of the whole.
-use Rattle.std.proofs.Common.{◌≡◌, ℕ, ◌+◌, ◌≤◌, inl, inr, List, ◌++◌, length, Option, Some, None, slice_get, refl, sym, ap, ◌∙◌, subst, arith}
-use Rattle.std.specs.Prelude.{MatchOption, option_map}
+use Rattle.std.proofs.Common.{◌≡◌, ℕ, ◌+◌, ◌≤◌, inl, inr, List, ◌∷◌, ◌++◌, length, Option, Some, None, slice_get, refl, sym, ap, ◌∙◌, subst, arith}
+use Rattle.std.specs.Prelude.{◌<◌, MatchOption, max, option_map}
+use Rattle.std.proofs.lemmas.Bool.{cases_eq, cases_lt}
 use Rattle.wasm_profile.specs.declared.profile.Profile.{Profile}
 use Rattle.wasm_profile.specs.declared.profile.Profile.TheVariants.{Core1, SignExtension}
 use Rattle.wasm_bytes.specs.declared.fault.FaultKind.{FaultKind as ByteFaultKind}
@@ -14,7 +15,8 @@ use Rattle.wasm_decode.specs.declared.fault.FaultKind.{FaultKind}
 use Rattle.wasm_decode.specs.declared.fault.FaultKind.TheVariants.{Magic, Version, EndedEarly, BadNumber, SectionOrder, Length, Opcode, TypeByte, NotUtf8}
 use Rattle.wasm_decode.specs.declared.fault.FaultKind.TheVariants.{Float, Limit, CountsDiffer, StartSection}
 use Rattle.wasm_decode.specs.FaultNumbers.{kind_of}
-use Rattle.wasm_decode.specs.Faults.{HasByte, PartEnds, IsFloatOpcode, IsReserved, Stands, Says}
+use Rattle.wasm_decode.specs.Faults.{HasByte, HasNumber, PartEnds, IsFloatOpcode, IsReserved, ComesBehind, PassesSized, Stands, Says}
+use Rattle.wasm_decode.specs.SectionReading.{section_rows}
 use Rattle.grammar.specs.Table.{row_at}
 use Rattle.wasm_ast.specs.declared.operators.LoadOp.{LoadOp}
 use Rattle.wasm_ast.specs.declared.operators.StoreOp.{StoreOp}
@@ -108,3 +110,32 @@ pub behind_opcode : (p : Place) (byte offset : ℕ) → slice_get p.whole offset
     IsReserved p.whole (offset_of p)
 behind_opcode p byte offset here least most behind =
     (offset, inl (has_byte (λ o. (0x3f ≤ o) × (o ≤ 0x40)) p.whole offset byte here (least, most), behind))
+
+-- one section more
+pub passed_section : (last id next : ℕ) (old mid new : Place) → ComesBehind last old.whole (offset_of old) → next ≡ max id last →
+    slice_get old.whole (offset_of old) ≡ Some id → offset_of mid ≡ offset_of old + 1 → mid.whole ≡ old.whole → new.whole ≡ mid.whole →
+    PassesSized mid new → ComesBehind next new.whole (offset_of new)
+passed_section last id next old mid new behind greater at step same kept sized =
+    let here : HasNumber (λ size end. offset_of new ≡ end + size) old.whole (offset_of old + 1) =
+    subst (λ bytes. HasNumber (λ size end. offset_of new ≡ end + size) bytes (offset_of old + 1)) same
+    (subst (λ k. HasNumber (λ size end. offset_of new ≡ end + size) mid.whole k) step sized) in
+    subst (λ bytes. ComesBehind next bytes (offset_of new)) (sym (kept ∙ same)) (
+      id ∷ behind.0,
+      (offset_of old, behind.1, has_byte (λ b. b ≡ id) old.whole (offset_of old) id at refl, here),
+      greater ∙ ap (max id) behind.2,
+    )
+
+-- the fault of an id that no section has
+pub order_told : (profile : Profile) (last id offset end : ℕ) (bytes : List ℕ) (kind : FaultKind) → ((id ≡ 8) × (last < 8) → kind ≡ StartSection) →
+    (¬ ((id ≡ 8) × (last < 8)) → kind ≡ SectionOrder) → slice_get bytes offset ≡ Some id → 0 < id → row_at section_rows id ≡ None →
+    ComesBehind last bytes offset → Stands profile kind offset end bytes
+order_told profile last id offset end bytes kind start other at some none behind =
+    elim (cases_eq id 8) as (λ _. Stands profile kind offset end bytes) [
+      | inl e ↦ elim (cases_lt last 8) as (λ _. Stands profile kind offset end bytes) [
+        | inl low ↦ subst (λ k. Stands profile k offset end bytes) (sym (start (e, low))) (has_byte _ bytes offset id at (e, last, behind, low))
+        | inr far ↦ subst (λ k. Stands profile k offset end bytes) (sym (other (λ both. omega (arith, both, far))))
+            (has_byte _ bytes offset id at (some, last, behind, inr (omega (arith, e, far))))
+      ]
+      | inr ne ↦ subst (λ k. Stands profile k offset end bytes) (sym (other (λ both. ne both.0)))
+          (has_byte _ bytes offset id at (some, last, behind, inl (none, ne)))
+    ]

@@ -1,8 +1,8 @@
 -- What a fault says of the bytes: what stands, or does not, at its offset (Core 1.0, chapter 5).
-use Rattle.std.specs.Prelude.{◌≡◌, ◌≢◌, ℕ, ◌+◌, ◌<◌, ◌≤◌, ◌⊎◌, List, length, drop, slice_get, Some, None, MatchOption, Result, Ok, Err}
+use Rattle.std.specs.Prelude.{◌≡◌, ◌≢◌, ℕ, ◌+◌, ◌<◌, ◌≤◌, ◌⊎◌, max, List, [], ◌∷◌, length, drop, slice_get, Some, None, MatchOption, Result, Ok, Err}
 use Rattle.wasm_profile.specs.declared.profile.Profile.{Profile}
 use Rattle.wasm_bytes.specs.Spelling.{IsU32}
-use Rattle.wasm_bytes.specs.Place.{Place}
+use Rattle.wasm_bytes.specs.Place.{Place, offset_of}
 use Rattle.wasm_bytes.specs.Stands.{Spans, NoNumber, NoText}
 use Rattle.wasm_decode.specs.declared.fault.DecodeFault.{DecodeFault}
 use Rattle.wasm_decode.specs.declared.fault.DecodeFault.TheVariants.{Memory, Malformed}
@@ -11,6 +11,7 @@ use Rattle.wasm_decode.specs.declared.fault.FaultKind.TheVariants.{Magic, Versio
 use Rattle.wasm_decode.specs.declared.fault.FaultKind.TheVariants.{Float, Limit, CountsDiffer, StartSection}
 use Rattle.grammar.specs.Table.{row_at}
 use Rattle.wasm_decode.specs.Opcodes.{opcodes}
+use Rattle.wasm_decode.specs.SectionReading.{section_rows}
 use Rattle.wasm_decode.specs.ModuleReading.{header_bytes}
 
 -- a byte of which P holds stands at an offset
@@ -64,14 +65,32 @@ IsReserved bytes offset =
     ⊎ (HasByte (λ o. o ≡ 0x11) bytes start
     × HasNumber (λ _ behind. offset ≡ behind) bytes (start + 1)))
 
+-- the greatest of some ids
+abbrev pub greatest : List ℕ → ℕ
+greatest [] = 0
+greatest (id ∷ ids) = max id (greatest ids)
+
+-- sections (5.5.2) with these ids, the last one first, stand between the header and an offset
+abbrev pub AreSections : List ℕ → List ℕ → ℕ → Type 0
+AreSections [] bytes offset = offset ≡ 8
+AreSections (id ∷ ids) bytes offset =
+    (start : ℕ) × AreSections ids bytes start × HasByte (λ b. b ≡ id) bytes start
+    × HasNumber (λ size behind. offset ≡ behind + size) bytes (start + 1)
+
+-- the same, and this is the greatest of their ids
+abbrev pub ComesBehind : (last : ℕ) → List ℕ → ℕ → Type 0
+ComesBehind last bytes offset = (ids : List ℕ) × AreSections ids bytes offset × (last ≡ greatest ids)
+
 -- what a kind of fault says of an offset, where the input is read by a profile and ends at `end`
 abbrev pub Stands : Profile → FaultKind → (offset end : ℕ) → List ℕ → Type 0
 Stands profile Magic offset end bytes = (offset < 4) × Differs bytes offset
 Stands profile Version offset end bytes = (4 ≤ offset) × Differs bytes offset
 Stands profile EndedEarly offset end bytes = IsEnd bytes end offset
 Stands profile BadNumber offset end bytes = NoNumber (drop offset bytes)
--- the id of a section that is not custom
-Stands profile SectionOrder offset end bytes = HasByte (λ id. 0 < id) bytes offset
+-- the id of no section, the start section's apart, or one that is not above those in front
+Stands profile SectionOrder offset end bytes =
+    HasByte (λ id. (0 < id) × (last : ℕ) × ComesBehind last bytes offset
+    × (((row_at section_rows id ≡ None) × (id ≢ 8)) ⊎ (id ≤ last))) bytes offset
 -- the length of a section or of a body
 Stands profile Length offset end bytes = HasNumber (λ _ _. Unit {0}) bytes offset
 -- a byte that is no opcode of the profile (as an `else` of no `if` is none), nor one of floats, or a reserved byte that is not 0
@@ -84,7 +103,9 @@ Stands profile Limit offset end bytes = PassesLimit bytes offset
 -- how many bodies there are, or the end where there is no code section
 Stands profile CountsDiffer offset end bytes =
     (offset ≡ length bytes) ⊎ HasNumber (λ _ _. Unit {0}) bytes offset
-Stands profile StartSection offset end bytes = HasByte (λ id. id ≡ 8) bytes offset
+-- that of a start section (5.5.11), above those in front
+Stands profile StartSection offset end bytes =
+    HasByte (λ id. (id ≡ 8) × (last : ℕ) × ComesBehind last bytes offset × (last < 8)) bytes offset
 
 -- the kind says something true wherever the byte stands
 abbrev pub IsFaultOf : Profile → ℕ → FaultKind → Type 0
@@ -95,6 +116,10 @@ IsFaultOf profile b kind =
 abbrev pub Says : Profile → DecodeFault → (end : ℕ) → List ℕ → Type 0
 Says profile Memory end bytes = Unit {0}
 Says profile (Malformed kind offset) end bytes = Stands profile kind offset end bytes
+
+-- a length stands at one place, and the other one lies that many bytes behind it
+abbrev pub PassesSized : Place → Place → Type 0
+PassesSized old new = HasNumber (λ size behind. offset_of new ≡ behind + size) old.whole (offset_of old)
 
 -- of the same bytes, with the same end
 abbrev pub Kept : Place → Place → Type 0

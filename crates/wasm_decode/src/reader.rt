@@ -1,6 +1,6 @@
 //! A module from its bytes (WebAssembly Core 1.0, section 5.5.15).
 
-ghost use Rattle.std.specs.Prelude.{◌≡◌, ◌<◌, ◌≤◌, ◌-◌, ℕ, List, Option, Some, IfOk, IfErr, length, drop};
+ghost use Rattle.std.specs.Prelude.{◌≡◌, ◌<◌, ◌≤◌, ◌-◌, ℕ, List, Option, Some, IfOk, IfErr, OnOk, length, drop};
 ghost use Rattle.grammar.specs.Reading.{text_at};
 ghost use Rattle.wasm_ast.specs.declared.module.Module.{Module};
 ghost use Rattle.wasm_profile.specs.declared.profile.Profile.{Profile};
@@ -28,6 +28,7 @@ fn header(cursor: &mut Cursor<'_>) -> Result<(), DecodeFault>
     requires { offset_of cursor.old ≡ 0 }
     ensures read { Parses (λ u. u) result cursor.new (text_at HEADER cursor.old.rest) }
     ensures tells { Tells result cursor.old cursor.new }
+    ensures behind { OnOk result (offset_of cursor.new ≡ 8) }
 {
     for expected in &HEADER {
         let offset = cursor.offset();

@@ -1,12 +1,13 @@
 //! Sections (WebAssembly Core 1.0, section 5.5.2).
 
-ghost use Rattle.std.specs.Prelude.{◌≡◌, ◌<◌, ◌≤◌, ℕ, List, Option, Some, None, OnOk, length, slice_get};
+ghost use Rattle.std.specs.Prelude.{◌≡◌, ◌<◌, ◌≤◌, ℕ, List, Option, Some, None, IfOk, OnOk, length, slice_get};
 ghost use Rattle.grammar.specs.Reading.{whole_at};
 ghost use Rattle.grammar.specs.Table.{row_at};
+ghost use Rattle.wasm_bytes.specs.Place.{offset_of};
 ghost use Rattle.wasm_bytes.specs.Reading.{list_at, sized_at};
 ghost use Rattle.wasm_profile.specs.declared.profile.Profile.{Profile};
 ghost use Rattle.wasm_decode.specs.Parses.{Parses, Makes};
-ghost use Rattle.wasm_decode.specs.Faults.{IsFaultOf, Tells, TellsBy};
+ghost use Rattle.wasm_decode.specs.Faults.{ComesBehind, PassesSized, Tells, TellsBy};
 ghost use Rattle.wasm_decode.specs.declared.fault.FaultKind.TheVariants as faults;
 ghost use Rattle.wasm_decode.specs.declared.sections.Kind.TheVariants as kinds;
 ghost use Rattle.wasm_decode.specs.SectionReading.{section_rows, custom_at, fill_at, section_at, sections_at};
@@ -66,8 +67,6 @@ fn section_kind(id: u8) -> Option<Kind>
 
 /// The fault of a section that may not stand here.
 fn order_fault(last: u8, id: u8) -> FaultKind
-    requires { 0 < id }
-    ensures stands { (profile : Profile) → IsFaultOf profile id result }
     ensures start { (id ≡ 8) × (last < 8) → result ≡ faults.StartSection }
     ensures other { ¬ ((id ≡ 8) × (last < 8)) → result ≡ faults.SectionOrder }
 {
@@ -172,6 +171,7 @@ fn fill(
 fn custom(cursor: &mut Cursor<'_>) -> Result<(), DecodeFault>
     ensures read { Parses (λ u. u) result cursor.new (sized_at custom_at cursor.old.rest) }
     ensures tells { Tells result cursor.old cursor.new }
+    ensures sized { IfOk result (λ _. PassesSized cursor.old cursor.new) }
     ensures shorter { OnOk result (length cursor.new.rest < length cursor.old.rest) }
 {
     let offset = cursor.offset();
@@ -196,6 +196,7 @@ fn known(
     ensures read { Parses (λ _. parts.new) result cursor.new
         (sized_at (whole_at (fill_at profile kind parts.old)) cursor.old.rest) }
     ensures tells { TellsBy profile result cursor.old cursor.new }
+    ensures sized { IfOk result (λ _. PassesSized cursor.old cursor.new) }
     ensures shorter { OnOk result (length cursor.new.rest < length cursor.old.rest) }
 {
     let offset = cursor.offset();
@@ -219,10 +220,12 @@ fn section(
     last: u8,
     parts: &mut Parts,
 ) -> Result<u8, DecodeFault>
-    requires { length cursor.old.rest ≤ MODULE_BYTES }
+    requires few { length cursor.old.rest ≤ MODULE_BYTES }
+    requires behind { ComesBehind last cursor.old.whole (offset_of cursor.old) }
     ensures read { Parses (λ id. (id, parts.new)) result cursor.new
         (section_at profile last parts.old cursor.old.rest) }
     ensures tells { TellsBy profile result cursor.old cursor.new }
+    ensures behind { IfOk result (λ id. ComesBehind id cursor.new.whole (offset_of cursor.new)) }
     ensures shorter { OnOk result (length cursor.new.rest < length cursor.old.rest) }
 {
     let offset = cursor.offset();
@@ -248,7 +251,8 @@ pub(crate) fn sections(
     profile: Profile,
     parts: &mut Parts,
 ) -> Result<(), DecodeFault>
-    requires { length cursor.old.rest ≤ MODULE_BYTES }
+    requires few { length cursor.old.rest ≤ MODULE_BYTES }
+    requires start { offset_of cursor.old ≡ 8 }
     ensures read { Makes (λ _. parts.new) result
         (sections_at profile (length cursor.old.rest) 0 parts.old cursor.old.rest) }
     ensures tells { TellsBy profile result cursor.old cursor.new }

@@ -1,4 +1,4 @@
-use Rattle.std.proofs.Common.{◌≡◌, None, rules}
+use Rattle.std.proofs.Common.{◌≡◌, ◌<◌, ◌≤◌, None, arith, rules}
 use Rattle.std.proofs.lemmas.Result.{err_from_is_err_and}
 use Rattle.grammar.specs.Reading.{text_at}
 use Rattle.wasm_decode.specs.ModuleReading.{header_bytes}
@@ -27,9 +27,16 @@ pub loop-expected-preserved : goal.loop-expected-preserved
 loop-expected-preserved c =
     let l = c.loop-expected in
     let total = text_at header_bytes c.args.cursor.now.rest in
+    let more : l.expected-index < 8 = c.loop-expected-test.true in
     record {
       read = text_goes_on header_bytes l.expected-index l.cursor.rest total c.loop-expected-test.true l.invariant.read c.in_ok-byte.field-0 c.byte.new.self.rest
           c.in_ok-byte.ensures.read.0 c.if-branch-expected.false;
       kept = search rules;
       offset = search rules;
+      within = omega arith;
     }
+
+pub returns-clause-behind : goal.returns-clause-behind
+returns-clause-behind c =
+    let done : 8 ≤ c.loop-expected.expected-index = c.loop-expected-test.false in
+    omega (arith, c.loop-expected.invariant.offset, c.loop-expected.invariant.within)

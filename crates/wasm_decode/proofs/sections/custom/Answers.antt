@@ -24,3 +24,6 @@ returns-in_err-name-clause-tells c =
     rw (p.1, p.2) (λ profile. in_part profile (Malformed (kind_of c.in_err-name.field-0.0.kind) c.in_err-name.field-0.0.offset) content old whole
     (part_ends old mid content c.in_ok-size.size size.0 end within)
     (of_bytes profile c.in_err-name.field-0.0.kind c.in_err-name.field-0.0.offset content.end content.whole c.in_err-name.ensures.stands))
+
+pub returns-clause-sized : goal.returns-clause-sized
+returns-clause-sized c = (c.in_ok-size.size, _, c.in_ok-size.ensures.stands.0, c.in-Some.ensures.behind)

@@ -24,3 +24,6 @@ returns-in_err-fill-clause-tells c =
 pub returns-then-not-is_at_end-clause-tells : goal.returns-then-not-is_at_end-clause-tells
 returns-then-not-is_at_end-clause-tells c =
     rw (c.refuse-then-not-is_at_end.ensures, c.offset-offset.ensures) (c.in_ok-size.size, _, c.in_ok-size.ensures.stands.0, tt)
+
+pub returns-clause-sized : goal.returns-clause-sized
+returns-clause-sized c = (c.in_ok-size.size, _, c.in_ok-size.ensures.stands.0, c.in-Some.ensures.behind)
