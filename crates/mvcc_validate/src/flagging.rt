@@ -147,7 +147,7 @@ fn flags_with_ids(
     let envelopes = block.envelopes.as_slice();
     let mut seen: TxIds = BTreeSet::new(alloc);
     let mut written: Overlay = BTreeMap::new(alloc);
-    let mut flags = Vec::new(alloc);
+    let mut flags = Vec::with_capacity(alloc, envelopes.len())?;
     for (place, envelope) in envelopes.iter().enumerate() {
         let payload = &envelope.payload;
         let stood = add_tx(snapshot, &mut seen, ids[place])?;
