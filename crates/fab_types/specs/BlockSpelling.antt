@@ -1,5 +1,6 @@
 -- The one spelling of endorsements, envelopes, headers and blocks in bytes.
-use Rattle.std.specs.Prelude.{ℕ, List, ◌∷◌, ◌++◌, length}
+use Rattle.std.specs.Prelude.{ℕ, ◌+◌, ◌*◌, List, ◌∷◌, ◌++◌, length}
+use Rattle.std.specs.List.{sum_by}
 use Rattle.std.specs.Int.{w32, to_be_bytes}
 use Rattle.fab_types.specs.declared.tag.Tag.{Tag}
 use Rattle.fab_types.specs.declared.tag.Tag.TheVariants as tag
@@ -8,6 +9,7 @@ use Rattle.fab_types.specs.declared.envelope.Envelope.{Envelope}
 use Rattle.fab_types.specs.declared.block.Header.{Header}
 use Rattle.fab_types.specs.declared.block.Block.{Block}
 use Rattle.fab_types.specs.Spelling.{short_bytes, few_bytes, many_bytes, payload_bytes}
+use Rattle.fab_types.specs.Size.{envelope_size}
 
 -- before a signature's name stands the byte 0, which is the length of no name
 abbrev pub tagged_bytes : List ℕ → Tag → List ℕ
@@ -34,3 +36,7 @@ data_bytes es = many_bytes sized_bytes es
 
 abbrev pub block_bytes : Block → List ℕ
 block_bytes b = header_bytes b.header ++ data_bytes b.envelopes
+
+-- how many bytes that are: a header of 68, two for the number of envelopes, and each envelope behind its length in four
+abbrev pub block_size : Block → ℕ
+block_size b = 70 + 4 * length b.envelopes + sum_by envelope_size b.envelopes
