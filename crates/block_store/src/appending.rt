@@ -13,7 +13,7 @@ use sha2::{Digest, Sha256};
 use std::alloc::{AllocError, Global};
 use std::error::Error;
 use std::fmt::{self, Display, Formatter, Write};
-use wire::encode_block;
+use wire::write_block;
 
 /// Why a record is not there, or not all of it.
 #[derive(Clone, Copy, Debug, Drop, PartialEq, Eq)]
@@ -73,11 +73,11 @@ pub fn encode_record(alloc: Global, block: &Block, flags: &[Flag]) -> Result<Vec
         (λ v. v.items ≡ record_bytes (record { block = block.now; flags = flags.now })) }
     ensures within { OnOk result (IsBlock block.now) }
 {
-    let bytes = encode_block(alloc, block)?;
-    let len = bytes.len() as u32;
-    let mut out = Vec::new(alloc);
+    let size = block.size();
+    let mut out = Vec::with_capacity(alloc, (4 + size + 32).saturating_add(flags.len()))?;
+    let len = size as u32;
     out.extend_from_slice(&len.to_be_bytes())?;
-    out.extend_from_slice(&bytes)?;
+    write_block(block, &mut out)?;
     push_flags(flags, &mut out)?;
     let digest = Sha256::digest(out.as_slice());
     out.extend_from_slice(&digest)?;
