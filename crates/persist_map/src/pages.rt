@@ -32,19 +32,29 @@ fn place_in<K: Drop, V: Drop>(
     Ok(())
 }
 
-/// Puts an entry at its place of a page, which is copied where another map has it too.
+/// Puts an entry at its place of a page, or of a copy where another map has the page too.
 fn place_in_shared<K: Drop, V: Drop>(
+    alloc: Global,
     page: &mut Arc<Page<K, V>>,
     place: Result<usize, usize>,
     entry: Arc<(K, V)>,
 ) -> Result<(), AllocError>
-    requires { next_of place ≤ vec_len page.old.value }
+    requires at { at_of place ≤ vec_len page.old.value }
+    requires next { next_of place ≤ vec_len page.old.value }
+    requires size { vec_len page.old.value ≤ 64 }
     ensures ok { OnOk result
         (shared page.new.value.items ≡ placed (shared page.old.value.items) place entry.value) }
     ensures err { OnErr result (shared page.new.value.items ≡ shared page.old.value.items) }
 {
-    let own = Arc::make_mut(page)?;
-    place_in(own, place, entry)
+    match Arc::get_mut(page) {
+        Some(own) => place_in(own, place, entry),
+        None => {
+            let old: &Page<K, V> = &*page;
+            let copy = with_entry(alloc, old, place, entry)?;
+            *page = Arc::new(alloc, copy)?;
+            Ok(())
+        }
+    }
 }
 
 /// Takes an entry out of a page, which is copied where another map has it too.
@@ -63,20 +73,23 @@ fn cut_from_shared<K: Drop, V: Drop>(
 
 /// Puts an entry at its place of one of the pages.
 fn set_entry<K: Drop, V: Drop>(
+    alloc: Global,
     pages: &mut Vec<Arc<Page<K, V>>>,
     page: usize,
     place: Result<usize, usize>,
     entry: Arc<(K, V)>,
 ) -> Result<(), AllocError>
     requires page { page < vec_len pages.old }
-    requires place { next_of place ≤ length (page_at (pages_of pages.old.items) page) }
+    requires at { at_of place ≤ length (page_at (pages_of pages.old.items) page) }
+    requires next { next_of place ≤ length (page_at (pages_of pages.old.items) page) }
+    requires size { length (page_at (pages_of pages.old.items) page) ≤ 64 }
     ensures ok { OnOk result
         (pages_of pages.new.items
         ≡ replaced (pages_of pages.old.items) page
         (placed (page_at (pages_of pages.old.items) page) place entry.value ∷ [])) }
     ensures err { OnErr result (pages_of pages.new.items ≡ pages_of pages.old.items) }
 {
-    place_in_shared(&mut pages[page], place, entry)
+    place_in_shared(alloc, &mut pages[page], place, entry)
 }
 
 /// Takes an entry out of one of the pages.
@@ -227,7 +240,7 @@ pub fn put_in<K: Ord + Drop, V: Drop>(
     if is_full(page, sought.place) {
         return split_page(alloc, pages, sought.page, sought.place, entry);
     }
-    set_entry(pages, sought.page, sought.place, entry)
+    set_entry(alloc, pages, sought.page, sought.place, entry)
 }
 
 /// Whether a page has one entry alone.
