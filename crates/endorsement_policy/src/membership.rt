@@ -1,9 +1,11 @@
 //! Which memberships can be used, and which may come next.
 
-ghost use Rattle.std.specs.Prelude.{◌≡◌, IfOk, option_map};
+ghost use Rattle.std.specs.Prelude.{◌≡◌, IfOk, option_and_then, option_map};
 ghost use Rattle.std.specs.FinMap.{get};
 ghost use Rattle.std.specs.List.{list_all, list_any};
+ghost use Rattle.grammar.specs.Reading.{whole_at};
 ghost use Rattle.fab_types.specs.Memberships.{membership_key};
+ghost use Rattle.wire.specs.Reading.{membership_at};
 ghost use Rattle.endorsement_policy.specs.Judge.{plain_after};
 ghost use Rattle.endorsement_policy.specs.Membership.{has_known_key, have_own_keys, is_next, is_same_key, is_usable, member_names, membership_policy, serial_of, usable_membership};
 
@@ -35,18 +37,31 @@ pub fn usable_membership(
     ensures { IfOk result (λ s. s
         ≡ usable_membership names.now (option_map (λ v. v.now) value.entry)) }
 {
-    let Some(value) = value else {
+    let Some(membership) = spelled_membership(alloc, value)? else {
         return Ok(None);
-    };
-    let membership = match decode_membership(alloc, value.as_slice()) {
-        Ok(membership) => membership,
-        Err(WireFault::Memory) => return Err(AllocError),
-        Err(_) => return Ok(None),
     };
     if !is_usable(alloc, names, &membership)? {
         return Ok(None);
     }
     Ok(Some(membership))
+}
+
+/// The membership that a value spells. None where it spells none. The only error is want of memory.
+pub(crate) fn spelled_membership(
+    alloc: Global,
+    value: Option<&Value>,
+) -> Result<Option<Membership>, AllocError>
+    ensures { IfOk result
+        (λ s. s ≡ option_and_then (whole_at membership_at) (option_map (λ v. v.now) value.entry)) }
+{
+    let Some(value) = value else {
+        return Ok(None);
+    };
+    match decode_membership(alloc, value.as_slice()) {
+        Ok(membership) => Ok(Some(membership)),
+        Err(WireFault::Memory) => Err(AllocError),
+        Err(_) => Ok(None),
+    }
 }
 
 /// Whether a membership may come next where the key of the membership has this value: its serial
@@ -117,7 +132,7 @@ fn has_known_key(names: &[OrgName], member: &Member) -> bool
 }
 
 /// Whether no two members have one public key.
-fn have_own_keys(members: &[Member]) -> bool
+pub(crate) fn have_own_keys(members: &[Member]) -> bool
     ensures { result ≡ have_own_keys members.now }
 {
     match members {

@@ -1,18 +1,20 @@
 //! Who the organisations are before a block.
 
 ghost use Rattle.std.specs.Prelude.{◌≡◌, [], Some, None, IfOk, option_map};
-ghost use Rattle.std.specs.List.{find};
+ghost use Rattle.std.specs.List.{find, list_all};
 ghost use Rattle.endorsement_policy.specs.Endorsed.{is_org, org_names};
 ghost use Rattle.endorsement_policy.specs.Judge.{plain_after};
-ghost use Rattle.endorsement_policy.specs.Membership.{org_by_key, orgs_by, standing_by, standing_in};
+ghost use Rattle.endorsement_policy.specs.Membership.{has_known_key, is_usable, org_by_key, orgs_by, standing_by, standing_in};
 ghost use Rattle.fab_types.specs.declared.membership.MemberKey.TheVariants.{Kept, Public};
 
-use crate::membership::{membership_policy, membership_value, usable_membership};
+use crate::membership::{
+    have_own_keys, membership_policy, membership_value, spelled_membership,
+};
 use crate::organisations::find_organisation;
 use crate::rules::Rules;
 use fab_types::{Member, MemberKey, Membership, OrgName};
 use org_keys::{OrgKey, Organisation, PublicKey};
-use policy_language::Policy;
+use policy_language::{Policy, is_among};
 use std::alloc::{AllocError, Global};
 use std::marker::Model;
 use world_state::Snapshot;
@@ -54,11 +56,14 @@ impl<'a> Standing<'a> {
     ) -> Result<Standing<'a>, AllocError>
         ensures { IfOk result (λ s. s ≡ standing_in rules.now (plain_after snapshot.now)) }
     {
-        let names = rules.installed().orgs();
-        match usable_membership(alloc, names, membership_value(snapshot))? {
-            Some(membership) => Standing::by_membership(alloc, rules, &membership),
-            None => Ok(Standing::by_genesis(rules)),
+        let Some(membership) = spelled_membership(alloc, membership_value(snapshot))? else {
+            return Ok(Standing::by_genesis(rules));
+        };
+        let (standing, is_usable) = Standing::by_membership(alloc, rules, &membership)?;
+        if !is_usable {
+            return Ok(Standing::by_genesis(rules));
         }
+        Ok(standing)
     }
 
     /// Those of a membership, or of the genesis where there is none. The only error is want of
@@ -71,10 +76,11 @@ impl<'a> Standing<'a> {
         ensures { IfOk result
             (λ s. s ≡ standing_by rules.now (option_map (λ m. m.now) membership.entry)) }
     {
-        match membership {
-            Some(membership) => Standing::by_membership(alloc, rules, membership),
-            None => Ok(Standing::by_genesis(rules)),
-        }
+        let Some(membership) = membership else {
+            return Ok(Standing::by_genesis(rules));
+        };
+        let (standing, _) = Standing::by_membership(alloc, rules, membership)?;
+        Ok(standing)
     }
 
     /// Those of the genesis.
@@ -87,26 +93,28 @@ impl<'a> Standing<'a> {
         }
     }
 
-    /// Those of a membership that can be used.
-    pub(crate) fn by_membership(
+    /// Those of a membership, and whether it can be used: each key and the policy's text are read
+    /// once. The only error is want of memory.
+    fn by_membership(
         alloc: Global,
         rules: &'a Rules,
         membership: &Membership,
-    ) -> Result<Standing<'a>, AllocError>
-        ensures { IfOk result (λ s. s ≡ standing_by rules.now (Some membership.now)) }
+    ) -> Result<(Standing<'a>, bool), AllocError>
+        ensures standing { IfOk result (λ s. s.0 ≡ standing_by rules.now (Some membership.now)) }
+        ensures usable { IfOk result
+            (λ s. s.1 ≡ is_usable rules.now.installed.orgs membership.now) }
     {
         let Some(upgrade) = membership_policy(alloc, membership)? else {
-            return Ok(Standing::by_genesis(rules));
+            return Ok((Standing::by_genesis(rules), false));
         };
-        let organisations = organisations_by(alloc, rules, membership.members.as_slice())?;
-        let amended = Amended {
+        let members = membership.members.as_slice();
+        let (organisations, are_known) = organisations_by(alloc, rules, members)?;
+        let amended = Some(Amended {
             organisations,
             upgrade,
-        };
-        Ok(Standing {
-            rules,
-            amended: Some(amended),
-        })
+        });
+        let standing = Standing { rules, amended };
+        Ok((standing, are_known && have_own_keys(members)))
     }
 
     /// The organisations.
@@ -149,31 +157,51 @@ impl<'a> Standing<'a> {
     }
 }
 
-/// The organisations that members are. The only error is want of memory.
+/// The organisations that members are, and whether each member's key is known. The only error is
+/// want of memory.
 fn organisations_by(
     alloc: Global,
     rules: &Rules,
     members: &[Member],
-) -> Result<Vec<Organisation>, AllocError>
-    ensures { IfOk result (λ v. v.items ≡ orgs_by rules.now.orgs members.now) }
+) -> Result<(Vec<Organisation>, bool), AllocError>
+    ensures organisations { IfOk result (λ o. o.0.items ≡ orgs_by rules.now.orgs members.now) }
+    ensures known { IfOk result
+        (λ o. o.1 ≡ list_all (has_known_key rules.now.installed.orgs) members.now) }
 {
     let mut organisations = Vec::with_capacity(alloc, members.len())?;
+    let mut are_known = true;
     for member in members {
-        if let Some(organisation) = organisation_of(rules, member)? {
+        let (organisation, is_known) = organisation_of(rules, member)?;
+        are_known &= is_known;
+        if let Some(organisation) = organisation {
             organisations.push(organisation)?;
         }
     }
-    Ok(organisations)
+    Ok((organisations, are_known))
 }
 
-/// The organisation that a member is. The only error is want of memory.
-fn organisation_of(rules: &Rules, member: &Member) -> Result<Option<Organisation>, AllocError>
-    ensures { IfOk result
-        (λ o. o ≡ org_by_key rules.now.orgs member.now.name member.now.key) }
+/// The organisation that a member is, and whether the member's key is known. The only error is
+/// want of memory.
+fn organisation_of(
+    rules: &Rules,
+    member: &Member,
+) -> Result<(Option<Organisation>, bool), AllocError>
+    ensures organisation { IfOk result
+        (λ o. o.0 ≡ org_by_key rules.now.orgs member.now.name member.now.key) }
+    ensures known { IfOk result
+        (λ o. o.1 ≡ has_known_key rules.now.installed.orgs member.now) }
 {
     match member.key {
-        MemberKey::Kept => kept_organisation(rules, &member.name),
-        MemberKey::Public(bytes) => own_organisation(&member.name, bytes),
+        MemberKey::Kept => {
+            let organisation = kept_organisation(rules, &member.name)?;
+            let is_known = is_among(rules.installed().orgs(), &member.name);
+            Ok((organisation, is_known))
+        }
+        MemberKey::Public(bytes) => {
+            let organisation = own_organisation(&member.name, bytes)?;
+            let is_known = organisation.is_some();
+            Ok((organisation, is_known))
+        }
     }
 }
 
