@@ -10,6 +10,7 @@ ghost use Rattle.endorsement_policy.specs.Shares.{IsShare};
 
 use crate::judge::Judge;
 use crate::rules::Rules;
+use crate::workers::Workers;
 use fab_types::Envelope;
 use std::alloc::{AllocError, Global};
 use std::thread;
@@ -25,27 +26,25 @@ pub trait Gate: Sync {
     fn after(&self, index: usize);
 }
 
-/// For each envelope whether it is endorsed, by 1 to 16 workers at once: the same as `check_plain`
-/// for every number of them. Worker `w` of `n` checks the envelopes at the places `w`, `w + n`,
-/// `w + 2n` and so on, in this order. The caller is one of the workers, and does the checks of one
-/// that cannot be started. The only error is want of memory.
+/// For each envelope whether it is endorsed, by workers at once, no more than there are envelopes:
+/// the same as `check_plain` for every number of them. Worker `w` of `n` checks the envelopes at
+/// the places `w`, `w + n`, `w + 2n` and so on, in this order. The caller is one of the workers,
+/// and does the checks of one that cannot be started. The only error is want of memory.
 pub fn check_all<R: Threads + Sync, G: Gate>(
-    rt: &R,
+    workers: &Workers<'_, R>,
     alloc: Global,
     rules: &Rules,
     snapshot: &Snapshot,
     envelopes: &[Envelope],
-    workers: usize,
     gate: &G,
 ) -> Result<Vec<bool>, AllocError>
-    requires least { 1 ≤ workers }
-    requires greatest { workers ≤ 16 }
     ensures { IfOk result (λ v. v.items
         ≡ map (is_endorsed rules.now (values_of (state (history snapshot.now))))
         envelopes.now) }
 {
     let judge = Judge::new(alloc, rules, snapshot, envelopes)?;
-    check_by(rt, alloc, &judge, envelopes, workers, gate)
+    let count = workers.count().min(envelopes.len().max(1));
+    check_by(workers.rt(), alloc, &judge, envelopes, count, gate)
 }
 
 /// The same with a judge whom the workers share.

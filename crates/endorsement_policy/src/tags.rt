@@ -5,6 +5,7 @@ ghost use Rattle.std.specs.Thread.{IsSync};
 ghost use Rattle.endorsement_policy.specs.Endorsed.{right_orgs};
 
 use crate::organisations::is_tag;
+use crate::workers::Workers;
 use fab_types::Envelope;
 use org_keys::Organisation;
 use policy_language::OrgSet;
@@ -120,16 +121,10 @@ fn right_orgs_of_one<R: Threads + Sync>(
     Ok(all)
 }
 
-/// For each envelope of each block those of these organisations of which it carries a right tag, by
-/// 1 to 16 workers at once: the same for every number of them. Each takes a part of the blocks, one
-/// as large as another, or of one block's envelopes. The caller is one of the workers, and does the
-/// part of one that cannot be started. The only error is want of memory.
-///
-/// What is found depends on no state but by the organisations, so that the tags of many blocks can
-/// be judged at once for who stands before the first of them, and each block then by
-/// `check_with_right_orgs` on the state before it, as long as they stand.
-#[cycle(workers)]
-pub fn right_orgs_of_blocks<R: Threads + Sync>(
+/// The same of each envelope of each block, by 1 to 16 workers at once. Each takes a share of the
+/// blocks, one as large as another, or of one block's envelopes.
+#[cycle(shares)]
+fn right_orgs_by_shares<R: Threads + Sync>(
     rt: &R,
     alloc: Global,
     organisations: &[Organisation],
@@ -155,15 +150,34 @@ pub fn right_orgs_of_blocks<R: Threads + Sync>(
         requires { IsSync R.row × (1 ≤ front_workers) × (front_workers ≤ 16) }
         ensures { IfOk result (λ v. map (λ right. right.items) v.items
             ≡ map (λ block. map (right_orgs organisations.entry.now) block.now) front.entry.now) }
-    { right_orgs_of_blocks(rt, alloc, organisations, front, front_workers) };
+    { right_orgs_by_shares(rt, alloc, organisations, front, front_workers) };
     let back_share = move || -> Result<Vec<Vec<OrgSet>>, AllocError>
         requires { IsSync R.row × (1 ≤ back_workers) × (back_workers ≤ 16) }
         ensures { IfOk result (λ v. map (λ right. right.items) v.items
             ≡ map (λ block. map (right_orgs organisations.entry.now) block.now) back.entry.now) }
-    { right_orgs_of_blocks(rt, alloc, organisations, back, back_workers) };
+    { right_orgs_by_shares(rt, alloc, organisations, back, back_workers) };
     let (low, high) = join(rt, front_share, back_share);
     let mut all = low?;
     let mut rest = high?;
     all.append(&mut rest)?;
     Ok(all)
+}
+
+/// For each envelope of each block those of these organisations of which it carries a right tag, by
+/// workers at once: the same for every number of them. The caller is one of the workers, and does
+/// the share of one that cannot be started. The only error is want of memory.
+///
+/// What is found depends on no state but by the organisations, so that the tags of many blocks can
+/// be judged at once for who stands before the first of them, and each block then by
+/// `check_with_right_orgs` on the state before it, as long as they stand.
+pub fn right_orgs_of_blocks<R: Threads + Sync>(
+    workers: &Workers<'_, R>,
+    alloc: Global,
+    organisations: &[Organisation],
+    blocks: &[&[Envelope]],
+) -> Result<Vec<Vec<OrgSet>>, AllocError>
+    ensures { IfOk result (λ v. map (λ right. right.items) v.items
+        ≡ map (λ block. map (right_orgs organisations.now) block.now) blocks.now) }
+{
+    right_orgs_by_shares(workers.rt(), alloc, organisations, blocks, workers.count())
 }

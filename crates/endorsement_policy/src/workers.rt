@@ -1,6 +1,6 @@
 //! How many threads share work.
 
-ghost use Rattle.std.specs.Prelude.{◌≡◌, ◌≤◌};
+ghost use Rattle.std.specs.Prelude.{◌≡◌, ◌≤◌, max, min};
 
 use std::thread::Threads;
 
@@ -14,7 +14,9 @@ pub struct Workers<'a, T> {
 
 impl<'a, T: Threads> Workers<'a, T> {
     /// So many workers: 1 where 0 are asked for, and 16 where more are.
-    pub fn new(rt: &'a T, count: usize) -> Workers<'a, T> {
+    pub fn new(rt: &'a T, count: usize) -> Workers<'a, T>
+        ensures { result.count ≡ max 1 (min count 16) }
+    {
         Workers {
             rt,
             count: count.clamp(1, 16),
@@ -28,6 +30,7 @@ impl<'a, T: Threads> Workers<'a, T> {
 
     /// How many they are, 1 to 16.
     pub fn count(&self) -> usize
+        ensures value { result ≡ self.now.count }
         ensures least { 1 ≤ result }
         ensures greatest { result ≤ 16 }
     {

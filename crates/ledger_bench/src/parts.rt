@@ -1,6 +1,6 @@
 //! Calls of the ledger's parts, as often as one likes.
 
-ghost use Rattle.std.specs.Prelude.{◌≡◌, ◌≤◌, map};
+ghost use Rattle.std.specs.Prelude.{◌≡◌, map};
 ghost use Rattle.endorsement_policy.specs.Endorsed.{right_orgs};
 ghost use Rattle.endorsement_policy.specs.Judge.{orgs_behind};
 
@@ -11,7 +11,7 @@ use crate::members::{TagKind, rules, tagged_bytes, transaction};
 use crate::workload::Workload;
 use block_store::{End, Loaded};
 use endorsement_policy::{
-    Gate, Rules, Standing, check_all, check_with_right_orgs, right_orgs_of_blocks,
+    Gate, Rules, Standing, Workers, check_all, check_with_right_orgs, right_orgs_of_blocks,
 };
 use fab_types::{Block, Envelope};
 use orderer::Orderer;
@@ -54,10 +54,11 @@ pub fn check<R: Threads + Sync>(
         return Err(Failure::Limit);
     }
     let checked = Checked::new(alloc)?;
+    let workers = Workers::new(rt, workers);
     if at_once {
-        checked.at_once(rt, alloc, workers, count)
+        checked.at_once(&workers, alloc, count)
     } else {
-        checked.one_by_one(rt, alloc, workers, count)
+        checked.one_by_one(&workers, alloc, count)
     }
 }
 
@@ -82,25 +83,13 @@ impl Checked {
     /// Checks the batch so many times.
     fn one_by_one<R: Threads + Sync>(
         &self,
-        rt: &R,
+        workers: &Workers<'_, R>,
         alloc: Global,
-        workers: usize,
         count: u32,
-    ) -> Result<Done, Failure>
-        requires least { 1 ≤ workers }
-        requires greatest { workers ≤ 16 }
-    {
+    ) -> Result<Done, Failure> {
         for _ in 0..count {
-            let answers = check_all(
-                rt,
-                alloc,
-                &self.rules,
-                &self.snapshot,
-                &self.batch,
-                workers,
-                &Open,
-            )?;
-            expect_all(&answers)?;
+            let (rules, snapshot) = (&self.rules, &self.snapshot);
+            expect_all(&check_all(workers, alloc, rules, snapshot, &self.batch, &Open)?)?;
         }
         Ok(Done::hashed(count, BATCH as u64, tags_of(&self.batch)))
     }
@@ -108,19 +97,15 @@ impl Checked {
     /// Checks so many blocks of the batch at once.
     fn at_once<R: Threads + Sync>(
         &self,
-        rt: &R,
+        workers: &Workers<'_, R>,
         alloc: Global,
-        workers: usize,
         count: u32,
-    ) -> Result<Done, Failure>
-        requires least { 1 ≤ workers }
-        requires greatest { workers ≤ 16 }
-    {
+    ) -> Result<Done, Failure> {
         let mut blocks = Vec::new(alloc);
         for _ in 0..count {
             blocks.push(self.batch.as_slice())?;
         }
-        self.check_blocks(rt, alloc, workers, &blocks)?;
+        self.check_blocks(workers, alloc, &blocks)?;
         Ok(Done::hashed(count, BATCH as u64, tags_of(&self.batch)))
     }
 
@@ -128,16 +113,12 @@ impl Checked {
     /// of its tags.
     fn check_blocks<R: Threads + Sync>(
         &self,
-        rt: &R,
+        workers: &Workers<'_, R>,
         alloc: Global,
-        workers: usize,
         blocks: &[&[Envelope]],
-    ) -> Result<(), Failure>
-        requires least { 1 ≤ workers }
-        requires greatest { workers ≤ 16 }
-    {
+    ) -> Result<(), Failure> {
         let standing = Standing::of(alloc, &self.rules, &self.snapshot)?;
-        let right = right_orgs_of_blocks(rt, alloc, standing.organisations(), blocks, workers)?;
+        let right = right_orgs_of_blocks(workers, alloc, standing.organisations(), blocks)?;
         check_each(alloc, &self.rules, &self.snapshot, blocks, &right)
     }
 }

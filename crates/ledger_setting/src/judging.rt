@@ -104,8 +104,7 @@ pub fn check_by_workers<T: Threads + Sync>(
         ≡ map (is_endorsed rules.now (values_of (state (history snapshot.now))))
         envelopes.now) }
 {
-    let (rt, count) = (workers.rt(), workers.count().min(envelopes.len().max(1)));
-    check_all(rt, alloc, rules, snapshot, envelopes, count, &NoGate)
+    check_all(workers, alloc, rules, snapshot, envelopes, &NoGate)
 }
 
 /// For each envelope whether it is endorsed. It may be known of each which of the organisations

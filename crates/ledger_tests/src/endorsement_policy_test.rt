@@ -1,11 +1,9 @@
 //! Policies and rules that no text spells, and checks of envelopes by several workers.
 
-ghost use Rattle.std.specs.Prelude.{◌≤◌};
-
 use crate::samples::{PUBLIC, SEED, shared_key};
 use ed25519::sign;
 use endorsement_policy::{
-    ChaincodePolicy, Gate, Installed, ModuleId, Rules, Standing, check_all, check_plain,
+    ChaincodePolicy, Gate, Installed, ModuleId, Rules, Standing, Workers, check_all, check_plain,
     check_with_right_orgs, right_orgs_of_blocks, satisfied,
 };
 use fab_types::{Envelope, Name, OrgName};
@@ -213,11 +211,12 @@ fn is_same_by_workers<R: Threads + Sync>(
     envelopes: &[Envelope],
 ) -> Result<bool, AllocError> {
     let plain = check_plain(alloc, rules, snapshot, envelopes)?;
-    let one = check_all(rt, alloc, rules, snapshot, envelopes, 1, &Open)?;
-    let two = check_all(rt, alloc, rules, snapshot, envelopes, 2, &Open)?;
-    let sixteen = check_all(rt, alloc, rules, snapshot, envelopes, 16, &Open)?;
-    let same = one == plain && two == plain && sixteen == plain;
-    Ok(same && plain.len() == envelopes.len() && is_first_of_four(&plain))
+    let mut are_same = true;
+    for count in [1, 2, 16] {
+        let workers = Workers::new(rt, count);
+        are_same &= check_all(&workers, alloc, rules, snapshot, envelopes, &Open)? == plain;
+    }
+    Ok(are_same && plain.len() == envelopes.len() && is_first_of_four(&plain))
 }
 
 /// The answers over no envelope, one and all of these.
@@ -242,13 +241,11 @@ fn are_right_by_tags<R: Threads + Sync>(
     rules: &Rules,
     snapshot: &Snapshot,
     blocks: &[&[Envelope]],
-    workers: usize,
-) -> Result<bool, AllocError>
-    requires least { 1 ≤ workers }
-    requires greatest { workers ≤ 16 }
-{
+    count: usize,
+) -> Result<bool, AllocError> {
     let standing = Standing::of(alloc, rules, snapshot)?;
-    let right = right_orgs_of_blocks(rt, alloc, standing.organisations(), blocks, workers)?;
+    let workers = Workers::new(rt, count);
+    let right = right_orgs_of_blocks(&workers, alloc, standing.organisations(), blocks)?;
     let mut are_right = true;
     for place in 0..blocks.len() {
         let (block, orgs) = (blocks[place], &right[place]);
@@ -311,7 +308,8 @@ fn is_met<R: Threads + Sync>(
         came: [AtomicBool::new(false), AtomicBool::new(false)],
         met: [AtomicBool::new(false), AtomicBool::new(false)],
     };
-    let answers = check_all(rt, alloc, rules, snapshot, pair, 2, &meeting)?;
+    let workers = Workers::new(rt, 2);
+    let answers = check_all(&workers, alloc, rules, snapshot, pair, &meeting)?;
     let met = meeting.met[0].load(Ordering::SeqCst) && meeting.met[1].load(Ordering::SeqCst);
     Ok(met && is_first_of_four(&answers))
 }
@@ -347,7 +345,8 @@ fn is_in_turn<R: Threads + Sync>(
         next: [AtomicUsize::new(0), AtomicUsize::new(1)],
         strayed: AtomicUsize::new(0),
     };
-    let _answers = check_all(rt, alloc, rules, snapshot, envelopes, 2, &turns)?;
+    let workers = Workers::new(rt, 2);
+    let _answers = check_all(&workers, alloc, rules, snapshot, envelopes, &turns)?;
     let even = turns.next[0].load(Ordering::SeqCst);
     let odd = turns.next[1].load(Ordering::SeqCst);
     Ok(even == 6 && odd == 5 && turns.strayed.load(Ordering::SeqCst) == 0)

@@ -11,7 +11,7 @@ ghost use Rattle.peer_node.specs.Writers.{peer_of_writer};
 use crate::peer_node_test::commit;
 use crate::samples::{GET_PUT_A, Setup, opening};
 use committer::{CommitRefusal, commit_on};
-use endorsement_policy::{Gate, check_all};
+use endorsement_policy::{Gate, Workers, check_all};
 use fab_types::{Block, Envelope, Flag, Payload, Proposal};
 use fabric_core::{Event, Reply, System};
 use peer_node::{Peer, PeerWriter, Seat, TakeRefusal};
@@ -110,7 +110,8 @@ fn are_endorsed<R: Threads + Sync>(
     envelopes: &[Envelope],
 ) -> Result<bool, AllocError> {
     let (rules, snapshot) = (&setup.genesis.rules, Snapshot::empty(alloc));
-    let answers = check_all(rt, alloc, rules, &snapshot, envelopes, 2, &Open)?;
+    let workers = Workers::new(rt, 2);
+    let answers = check_all(&workers, alloc, rules, &snapshot, envelopes, &Open)?;
     Ok(answers.as_slice() == [true, true].as_slice())
 }
 

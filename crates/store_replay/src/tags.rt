@@ -131,11 +131,5 @@ fn right_of_all<T: Threads + Sync>(
         envelopes.push(stored.block().envelopes.as_slice())?;
     }
     let organisations = standing.organisations();
-    right_orgs_of_blocks(
-        workers.rt(),
-        alloc,
-        organisations,
-        &envelopes,
-        workers.count(),
-    )
+    right_orgs_of_blocks(workers, alloc, organisations, &envelopes)
 }

@@ -2,7 +2,7 @@ use Rattle.std.proofs.Common.{◌≡◌, map, Vec, Global}
 use Rattle.std.proofs.lemmas.Result.{IfOk-at_ok}
 use Rattle.policy_language.specs.GoodSets.{Names}
 use Rattle.endorsement_policy.proofs.RightOrgs.{both_parts, found_in, right_in}
-use Rattle.endorsement_policy.proofs.tags.+workers.Goals as goal
+use Rattle.endorsement_policy.proofs.tags.+shares.Goals as goal
 
 pub returns : goal.returns
 returns g t c =
