@@ -31,3 +31,21 @@ module _ (p : ℕ → Bool) where
 
   pub front_left : (xs : List ℕ) (y : ℕ) (zs : List ℕ) → list_all p xs ≡ true → p y ≡ false → drop (prefix_len p (xs ++ y ∷ zs)) (xs ++ y ∷ zs) ≡ y ∷ zs
   front_left xs y zs all stops = rw (front_len xs y zs all stops) (drop_at xs (y ∷ zs) (length xs) refl)
+
+  -- what passes, before what begins with nothing that passes
+  pub front_ends : (xs zs : List ℕ) → list_all p xs ≡ true → prefix_len p zs ≡ 0 → prefix_len p (xs ++ zs) ≡ length xs
+  front_ends [] zs all stops = stops
+  front_ends (x ∷ xs) zs all stops = decided (p x) refl all (λ rest. front_ends xs zs rest stops)
+    where
+      decided : (t : Bool) → p x ≡ t → (t && list_all p xs) ≡ true → (list_all p xs ≡ true → prefix_len p (xs ++ zs) ≡ length xs) →
+          cond t (1 + prefix_len p (xs ++ zs)) 0 ≡ length (x ∷ xs)
+      decided true e rest more = rw (more rest) (one_more (length xs))
+      decided false e rest more = absurd cc
+
+  pub front_stops : (bs : List ℕ) → prefix_len p (drop (prefix_len p bs) bs) ≡ 0
+  front_stops [] = refl
+  front_stops (b ∷ bs) = decided (p b) refl (front_stops bs)
+    where
+      decided : (t : Bool) → p b ≡ t → prefix_len p (drop (prefix_len p bs) bs) ≡ 0 → prefix_len p (drop (cond t (1 + prefix_len p bs) 0) (b ∷ bs)) ≡ 0
+      decided true e rest = rw (one_more (prefix_len p bs)) rest
+      decided false e rest = rw e refl

@@ -4,6 +4,7 @@ pub mod Children
 pub mod Levels
 pub mod Fronts
 pub mod Tokens
+pub mod Places
 pub mod Texts
 pub mod Found
 pub mod Needed

@@ -99,6 +99,9 @@ Operator rule children = IsOpening rule ⋯ IsEach children ⋯ IsByte 41
 begun : (quote : Bool) (text : List ℕ) → Begins quote text → 1 ≤ length text
 begun quote text h = rw h.2 (omega arith)
 
+pub opening_long : (rule : Rule) (text : List ℕ) → IsOpening rule text → 1 ≤ length text
+opening_long rule text h = begun false text (opening_begins rule text h)
+
 operator_begins : (rule : Rule) (children : Policies) (text : List ℕ) → Operator rule children text → Begins false text
 operator_begins rule children text h = begins_longer false h.0 h.1 text (opening_begins rule h.0 h.2) h.4
 

@@ -20,7 +20,7 @@ use Rattle.policy_language.specs.declared.policy.Policy.{Policy}
 use Rattle.policy_language.specs.declared.policy.Policy.TheVariants as policy
 use Rattle.std.proofs.lemmas.List.Folds.{length-prefix_len}
 use Rattle.std.proofs.lemmas.Bool.Decides.{nat_tests}
-use Rattle.policy_language.proofs.Fronts.{front_passes, front_len, front_taken, front_left}
+use Rattle.policy_language.proofs.Fronts.{front_passes, front_len, front_taken, front_left, front_ends, front_stops}
 
 -- ---- spaces
 
@@ -120,6 +120,29 @@ threshold_read n text b rest h stops =
       h.plain,
       h.value,
     ) refl
+
+-- digits are a threshold as far as they go
+pub threshold_found : (n : ℕ) (text rest : List ℕ) → IsThreshold n text → prefix_len is_digit rest ≡ 0 → threshold_at (text ++ rest) ≡ Some (n, rest)
+unfolding threshold_at
+threshold_found n text rest h stops =
+    rw (
+      front_ends is_digit text rest h.digits stops,
+      take_at text rest (length text) refl,
+      drop_at text rest (length text) refl,
+      le-leb 1 (length text) h.least,
+      le-leb (length text) 4 h.greatest,
+      h.plain,
+      h.value,
+    ) refl
+
+pub threshold_ends : (bytes rest : List ℕ) (n : ℕ) → threshold_at bytes ≡ Some (n, rest) → prefix_len is_digit rest ≡ 0
+unfolding threshold_at
+threshold_ends bytes rest n e =
+    let k = prefix_len is_digit bytes in
+    let text = take k bytes in
+    let g = guarded (nat_le 1 k && nat_le k 4 && not (leads_with_zero text)) (Some (decimal_after 0 text, drop k bytes)) (n, rest) e in
+    let parts = some_pair_parts (decimal_after 0 text) n (drop k bytes) rest g.1 in
+    subst (λ (left : List ℕ). prefix_len is_digit left ≡ 0) parts.1 (front_stops is_digit bytes)
 
 is_false : (b : Bool) → not b ≡ true → b ≡ false
 is_false true e = absurd cc

@@ -4,6 +4,8 @@ pub mod Laws
 pub mod GoodSets
 pub mod Evaluation
 pub mod Spelling
+pub mod Place
+pub mod Wrong
 pub mod Limits
 pub mod Leniency
 pub mod Reading

@@ -1,12 +1,14 @@
 //! A place in the text of a policy.
 
-ghost use Rattle.std.specs.Prelude.{◌≡◌, ◌≤◌, ◌<◌, ◌^◌, ◌==◌, ◌↔◌, IsTrue, false, true, None, [], ℕ, cond, length};
+ghost use Rattle.std.specs.Prelude.{◌≡◌, ◌≤◌, ◌<◌, ◌^◌, ◌==◌, ◌↔◌, IsTrue, IfErr, Some, false, true, None, List, [], ℕ, suc, cond, length};
 ghost use Rattle.std.specs.List.{list_all, prefix_len};
 ghost use Rattle.fab_types.specs.Limits.{is_digit, is_org_name_byte};
-ghost use Rattle.policy_language.specs.Parsing.{Parses, Passes};
+ghost use Rattle.policy_language.specs.Parsing.{IsAt, Misses, Parses, Passes, Tells};
 ghost use Rattle.policy_language.specs.Operators.{rule_of};
+ghost use Rattle.policy_language.specs.Place.{beginning, offset_of};
 ghost use Rattle.policy_language.specs.Reading.{after_spaces, bracket_at, comma_at, is_quoted, opening_at, out_of_at, quoted_at, tag_at, threshold_at, token_at, word_at};
 ghost use Rattle.policy_language.specs.Spelling.{decimal_after, leads_with_zero};
+ghost use Rattle.policy_language.specs.Wrong.{Start, Bracket, CountBracket};
 
 use crate::fault::PolicyFault;
 use crate::operator::Operator;
@@ -22,16 +24,16 @@ pub(crate) struct Reader<'a> {
 }
 
 impl<'a> Model for Reader<'a> {
-    ghost use Rattle.std.specs.Prelude.{List, ℕ};
+    ghost use Rattle.policy_language.specs.Place.{Place};
 
-    ghost Value = { List ℕ };
+    ghost Value = { Place };
 
-    ghost view = { λ r. r.rest.now };
+    ghost view = { λ r. record { total = r.total; rest = r.rest.now } };
 }
 
 impl<'a> Reader<'a> {
     pub(crate) fn new(bytes: &'a [u8]) -> Reader<'a>
-        ensures { result ≡ bytes.now }
+        ensures { result ≡ beginning bytes.now }
     {
         Reader {
             rest: bytes,
@@ -41,26 +43,27 @@ impl<'a> Reader<'a> {
 
     /// That no token of a policy's text stands here.
     pub(crate) fn syntax(&self) -> PolicyFault
-        ensures { (o : ℕ) × (result ≡ PolicyFault.Syntax o) }
+        ensures { result ≡ PolicyFault.Syntax (offset_of self.now) }
     {
         PolicyFault::Syntax(self.total.saturating_sub(self.rest.len()))
     }
 
     pub(crate) fn is_at_end(&self) -> bool
-        ensures { IsTrue result ↔ (self.now ≡ []) }
+        ensures { IsTrue result ↔ (self.now.rest ≡ []) }
     {
         self.rest.is_empty()
     }
 
     /// Whether a name in quotes comes.
     pub(crate) fn is_quoted(&self) -> bool
-        ensures { result ≡ is_quoted self.now }
+        ensures { result ≡ is_quoted self.now.rest }
     {
         matches!(self.rest, [b'\'', ..])
     }
 
     pub(crate) fn skip_spaces(&mut self)
-        ensures { self.new ≡ after_spaces self.old }
+        ensures rest { self.new.rest ≡ after_spaces self.old.rest }
+        ensures total { self.new.total ≡ self.old.total }
     {
         let count = spaces(self.rest);
         self.rest = &self.rest[count..];
@@ -68,7 +71,8 @@ impl<'a> Reader<'a> {
 
     /// Passes over this byte, if it comes.
     fn tag(&mut self, byte: u8) -> bool
-        ensures passed { tag_at byte self.old ≡ cond result (Some self.new) None }
+        ensures passed { tag_at byte self.old.rest ≡ cond result (Some self.new.rest) None }
+        ensures total { self.new.total ≡ self.old.total }
         ensures same { result ≡ false → self.new ≡ self.old }
     {
         match self.rest {
@@ -83,7 +87,10 @@ impl<'a> Reader<'a> {
     /// Passes over spaces and this byte.
     #[tactic(auto, unfolding(crate::specs::Reading::token_at))]
     fn token(&mut self, byte: u8) -> Result<(), PolicyFault>
-        ensures { Passes result self.new (token_at byte self.old) }
+        ensures passed { Passes result self.new.rest (token_at byte self.old.rest) }
+        ensures total { self.new.total ≡ self.old.total }
+        ensures stays { IfErr result (λ _. self.new.rest ≡ after_spaces self.old.rest) }
+        ensures missed { Misses result self.new (token_at byte self.old.rest ≡ None) }
     {
         self.skip_spaces();
         if !self.tag(byte) {
@@ -94,7 +101,8 @@ impl<'a> Reader<'a> {
 
     /// Passes over this word, if it comes.
     fn word(&mut self, word: &[u8]) -> bool
-        ensures passed { word_at word.now self.old ≡ cond result (Some self.new) None }
+        ensures passed { word_at word.now self.old.rest ≡ cond result (Some self.new.rest) None }
+        ensures total { self.new.total ≡ self.old.total }
         ensures same { result ≡ false → self.new ≡ self.old }
     {
         match self.rest.strip_prefix(word) {
@@ -109,7 +117,9 @@ impl<'a> Reader<'a> {
     /// The name in quotes.
     #[tactic(auto, unfolding(crate::specs::Reading::quoted_at))]
     pub(crate) fn quoted(&mut self) -> Result<&'a [u8], PolicyFault>
-        ensures { Parses (λ s. s.now) result self.new (quoted_at self.old) }
+        ensures read { Parses (λ s. s.now) result self.new.rest (quoted_at self.old.rest) }
+        ensures total { self.new.total ≡ self.old.total }
+        ensures missed { Misses result self.old (quoted_at self.old.rest ≡ None) }
     {
         let fault = self.syntax();
         if !self.tag(b'\'') {
@@ -126,7 +136,9 @@ impl<'a> Reader<'a> {
     /// A threshold.
     #[tactic(auto, unfolding(crate::specs::Reading::threshold_at))]
     fn threshold(&mut self) -> Result<u32, PolicyFault>
-        ensures { Parses (λ n. n) result self.new (threshold_at self.old) }
+        ensures read { Parses (λ n. n) result self.new.rest (threshold_at self.old.rest) }
+        ensures total { self.new.total ≡ self.old.total }
+        ensures missed { Misses result self.old (threshold_at self.old.rest ≡ None) }
     {
         let count = digits(self.rest);
         if count < 1 || count > 4 {
@@ -143,7 +155,9 @@ impl<'a> Reader<'a> {
     /// An operator up to its first child.
     #[tactic(auto, unfolding(crate::specs::Reading::opening_at))]
     pub(crate) fn opening(&mut self) -> Result<Operator, PolicyFault>
-        ensures { Parses rule_of result self.new (opening_at self.old) }
+        ensures read { Parses rule_of result self.new.rest (opening_at self.old.rest) }
+        ensures place { (text : List ℕ) (n : ℕ) → is_quoted self.old.rest ≡ false →
+            IsAt text (Start n) self.old → Tells text result (λ _. Start (suc n)) self.new }
     {
         if self.word(b"AND") {
             return self.bracket(Operator::And);
@@ -159,7 +173,10 @@ impl<'a> Reader<'a> {
 
     /// The bracket of an operator without a threshold.
     fn bracket(&mut self, operator: Operator) -> Result<Operator, PolicyFault>
-        ensures { Parses rule_of result self.new (bracket_at (rule_of operator) self.old) }
+        ensures read { Parses rule_of result self.new.rest
+            (bracket_at (rule_of operator) self.old.rest) }
+        ensures place { (text : List ℕ) (n : ℕ) → IsAt text (Bracket n) self.old →
+            Tells text result (λ _. Start (suc n)) self.new }
     {
         self.token(b'(')?;
         Ok(operator)
@@ -167,7 +184,9 @@ impl<'a> Reader<'a> {
 
     /// The bracket, the threshold and the comma of an operator with a threshold.
     fn out_of(&mut self) -> Result<Operator, PolicyFault>
-        ensures { Parses rule_of result self.new (out_of_at self.old) }
+        ensures read { Parses rule_of result self.new.rest (out_of_at self.old.rest) }
+        ensures place { (text : List ℕ) (n : ℕ) → IsAt text (CountBracket n) self.old →
+            Tells text result (λ _. Start (suc n)) self.new }
     {
         self.token(b'(')?;
         self.skip_spaces();
@@ -179,7 +198,10 @@ impl<'a> Reader<'a> {
     /// Whether another child comes, after a comma, or the operator ends.
     #[tactic(auto, unfolding(crate::specs::Reading::comma_at))]
     pub(crate) fn comma(&mut self) -> Result<bool, PolicyFault>
-        ensures { Parses (λ b. b) result self.new (comma_at self.old) }
+        ensures read { Parses (λ b. b) result self.new.rest (comma_at self.old.rest) }
+        ensures total { self.new.total ≡ self.old.total }
+        ensures stays { IfErr result (λ _. self.new.rest ≡ after_spaces self.old.rest) }
+        ensures missed { Misses result self.new (comma_at self.old.rest ≡ None) }
     {
         self.skip_spaces();
         match self.rest {

@@ -1,12 +1,13 @@
 //! Policies from texts.
 
-ghost use Rattle.std.specs.Prelude.{◌≡◌, ◌≤◌, ◌<◌, true, Err, IfErr, IfOk, length};
+ghost use Rattle.std.specs.Prelude.{◌≡◌, ◌≤◌, ◌<◌, ℕ, List, suc, true, Err, IfErr, IfOk, length};
 ghost use Rattle.policy_language.specs.GoodSets.{needs_someone};
 ghost use Rattle.policy_language.specs.Faults.{Finds, HasCause};
-ghost use Rattle.policy_language.specs.Parsing.{MakesBy, ParsesBy};
+ghost use Rattle.policy_language.specs.Parsing.{IsAt, MakesBy, ParsesBy, Tells};
 ghost use Rattle.policy_language.specs.Limits.{IsText};
-ghost use Rattle.policy_language.specs.Reading.{children_at, is_known_by, leaf_at, policy_by, policy_in_text};
+ghost use Rattle.policy_language.specs.Reading.{children_at, is_known_by, is_quoted, leaf_at, policy_by, policy_in_text};
 ghost use Rattle.policy_language.specs.Spelling.{IsSpelled};
+ghost use Rattle.policy_language.specs.Wrong.{Start, More, Says};
 ghost use Rattle.policy_language.specs.declared.policy.Policy.{Policy};
 ghost use Rattle.grammar.specs.Reading.{whole_at};
 
@@ -31,9 +32,9 @@ const MOST_CHILDREN: u32 = 1024;
 ///
 /// A text of more than 1,024 bytes is refused at offset 1,024 before it is read. On another fault
 /// than want of memory the text spells no policy within the limits: a shorter one on `Syntax` none
-/// at all, and on the others each policy that it spells has the cause that the fault names. The
-/// text is read from the left up to the first fault; a threshold is judged once its children are
-/// read.
+/// at all, and at its offset stands no token that may stand behind those before it; on the others
+/// each policy that it spells has the cause that the fault names. The text is read from the left up
+/// to the first fault; a threshold is judged once its children are read.
 pub fn parse(alloc: Global, text: &str, orgs: &[OrgName]) -> Result<Policy, PolicyFault>
     ensures spelled { IfOk result (λ p. IsText orgs.now p text.now) }
     ensures only { (p : Policy) → IsText orgs.now p text.now → Finds result p }
@@ -41,6 +42,7 @@ pub fn parse(alloc: Global, text: &str, orgs: &[OrgName]) -> Result<Policy, Poli
     ensures causes { IfErr result
         (λ e. (p : Policy) → IsSpelled p text.now → length text.now ≤ 1024 →
         HasCause orgs.now e p) }
+    ensures place { length text.now ≤ 1024 → IfErr result (λ e. Says e text.now) }
     ensures needed { IfOk result (λ p. needs_someone p ≡ true) }
 {
     let bytes = text.as_bytes();
@@ -68,7 +70,8 @@ pub fn policy_in_text(
 
 /// The policy that all of the bytes spell.
 fn whole(alloc: Global, bytes: &[u8], orgs: &[OrgName]) -> Result<Policy, PolicyFault>
-    ensures { MakesBy result (λ m. whole_at (policy_by orgs.now m 8) bytes.now) }
+    ensures made { MakesBy result (λ m. whole_at (policy_by orgs.now m 8) bytes.now) }
+    ensures place { length bytes.now ≤ 1024 → IfErr result (λ e. Says e bytes.now) }
 {
     let mut reader = Reader::new(bytes);
     let policy = policy(alloc, &mut reader, orgs, MOST_LEVELS)?;
@@ -86,7 +89,10 @@ fn policy(
     orgs: &[OrgName],
     levels: u32,
 ) -> Result<Policy, PolicyFault>
-    ensures { ParsesBy (λ p. p) result reader.new (λ m. policy_by orgs.now m levels reader.old) }
+    ensures read { ParsesBy (λ p. p) result reader.new.rest
+        (λ m. policy_by orgs.now m levels reader.old.rest) }
+    ensures place { (text : List ℕ) (n : ℕ) → length reader.old.rest ≤ 1024 →
+        IsAt text (Start n) reader.old → Tells text result (λ _. More n) reader.new }
 {
     if reader.is_quoted() {
         return leaf(reader, orgs);
@@ -110,8 +116,10 @@ fn children(
     orgs: &[OrgName],
     levels: u32,
 ) -> Result<Vec<Policy>, PolicyFault>
-    ensures { ParsesBy (λ v. v.items) result reader.new
-        (λ m. children_at (policy_by orgs.now m levels) 1024 reader.old) }
+    ensures read { ParsesBy (λ v. v.items) result reader.new.rest
+        (λ m. children_at (policy_by orgs.now m levels) 1024 reader.old.rest) }
+    ensures place { (text : List ℕ) (n : ℕ) → length reader.old.rest < 1024 →
+        IsAt text (Start (suc n)) reader.old → Tells text result (λ _. More n) reader.new }
 {
     let mut children = Vec::new(alloc);
     for _ in 0..MOST_CHILDREN {
@@ -126,8 +134,10 @@ fn children(
 
 /// The name of a known organisation in quotes.
 fn leaf(reader: &mut Reader<'_>, orgs: &[OrgName]) -> Result<Policy, PolicyFault>
-    ensures { ParsesBy (λ p. p) result reader.new
-        (λ m. leaf_at (is_known_by orgs.now m) reader.old) }
+    ensures read { ParsesBy (λ p. p) result reader.new.rest
+        (λ m. leaf_at (is_known_by orgs.now m) reader.old.rest) }
+    ensures place { (text : List ℕ) (n : ℕ) → is_quoted reader.old.rest ≡ true →
+        IsAt text (Start n) reader.old → Tells text result (λ _. More n) reader.new }
 {
     let fault = reader.syntax();
     let Some(name) = OrgName::from_slice(reader.quoted()?) else {

@@ -1,0 +1,24 @@
+use Rattle.std.proofs.Common.{◌≤◌, length, sym, subst}
+use Rattle.std.proofs.lemmas.Result.{err_from_is_err_and}
+use Rattle.policy_language.specs.Parsing.{IsAt}
+use Rattle.policy_language.specs.Place.{Place}
+use Rattle.policy_language.specs.Wrong.{Start, More}
+use Rattle.policy_language.proofs.Places.{at_start, is_wrong, no_end}
+use Rattle.policy_language.proofs.reading.whole.Goals as goal
+
+pub returns-in_err-policy-clause-place : goal.returns-in_err-policy-clause-place
+returns-in_err-policy-clause-place c = λ short.
+    (let bytes = c.args.bytes.now in
+    let begins = sym c.new-reader.ensures in
+    let p = err_from_is_err_and c.from_residual.result c.from_residual.ensures.1 in
+    rw (p.1, p.2) (c.in_err-policy.ensures.place bytes 0 (subst (λ (place : Place). length place.rest ≤ 1024) begins short)
+    (subst (IsAt bytes (Start 0)) begins (at_start bytes))))
+
+pub returns-then-not-is_at_end-clause-place : goal.returns-then-not-is_at_end-clause-place
+returns-then-not-is_at_end-clause-place c = λ short.
+    (let bytes = c.args.bytes.now in
+    let begins = sym c.new-reader.ensures in
+    let here = c.policy.new.reader in
+    is_wrong bytes (More 0) here c.syntax.result (no_end here.rest) c.syntax.ensures
+    (c.in_ok-policy.ensures.place bytes 0 (subst (λ (place : Place). length place.rest ≤ 1024) begins short)
+    (subst (IsAt bytes (Start 0)) begins (at_start bytes))))
