@@ -1,8 +1,8 @@
 //! The chain of a store that grows.
 
-ghost use Rattle.std.specs.Prelude.{◌≡◌, [], ◌∷◌, ◌++◌, length, option_map, OnOk, OnErr, IfErr};
+ghost use Rattle.std.specs.Prelude.{◌≡◌, [], ◌++◌, option_map, OnOk, IfErr};
 ghost use Rattle.ledger_setting.specs.Rule.{table_of};
-ghost use Rattle.store_replay.specs.Lawful.{AreLawful, IsNextRefused, IsRecommitRefused};
+ghost use Rattle.store_replay.specs.Lawful.{AreLawful, StopsAt};
 ghost use Rattle.log_roles.specs.Committing.{block_at};
 ghost use Rattle.log_roles.specs.Following.{followed_chain};
 
@@ -11,14 +11,14 @@ use endorsement_policy::Rules;
 use fab_types::CommittedBlock;
 use std::alloc::Global;
 use std::thread::Threads;
-use store_replay::{RecommitRefusal, TagChecks, Watch, recommit_behind, recommit_next};
+use store_replay::{RecommitRefusal, TagChecks, Watch, recommit_behind};
 use world_state::Snapshot;
 
 /// A chain that follows the records of a store, from block 1 on. It is nobody's: who endorses or
 /// answers on the state after it gives the rules by which its blocks are committed again.
 ///
 /// Contracts see the blocks with their flags that it has followed (`followed_chain`), which
-/// `follow` and `follow_all` alone change.
+/// `follow_all` alone changes.
 #[derive(Drop)]
 pub struct ChainFollower {
     snapshot: Snapshot,
@@ -36,26 +36,9 @@ impl ChainFollower {
         }
     }
 
-    /// Goes on by the next record of the store. Its block is committed again under these rules, and
-    /// has to have the flags with which it is stored.
-    ///
-    /// Refused as `recommit_next` refuses: where the block does not fit (601 to 604) or has other
-    /// flags than the table's (711), and for want of memory (9), at a block that is the next by its
-    /// number and the hash that it names. A refusal changes nothing.
-    pub fn follow(&mut self, rules: &Rules, stored: CommittedBlock) -> Result<(), RecommitRefusal>
-        ensures lawful { OnOk result
-            (AreLawful (table_of rules.now) (followed_chain self.old) (stored ∷ [])) }
-        ensures followed { OnOk result
-            (followed_chain self.new ≡ followed_chain self.old ++ stored ∷ []) }
-        ensures refused { IfErr result
-            (λ r. IsNextRefused (table_of rules.now) (followed_chain self.old) stored r) }
-        ensures unchanged { OnErr result (followed_chain self.new ≡ followed_chain self.old) }
-    {
-        recommit_next(self.alloc, rules, &mut self.snapshot, stored)
-    }
-
-    /// Goes on by the next records of the store, one after another, under these rules. The answer
-    /// is the same whoever checks the tags in them.
+    /// Goes on by the next records of the store, one after another: each block is committed again
+    /// under these rules, and has to have the flags with which it is stored. The answer is the same
+    /// whoever checks the tags in them.
     ///
     /// Refused as `recommit_behind` refuses: at the first block that does not fit (601 to 604) or
     /// has other flags than the table's (711), and for want of memory (9). The blocks before that
@@ -71,9 +54,8 @@ impl ChainFollower {
         ensures followed { OnOk result
             (followed_chain self.new ≡ followed_chain self.old ++ records.items) }
         ensures refused { IfErr result
-            (λ r. AreLawful (table_of rules.now) [] (followed_chain self.old) →
-            IsRecommitRefused (table_of rules.now)
-            (followed_chain self.old ++ records.items) r) }
+            (λ r. StopsAt (table_of rules.now) (followed_chain self.old) records.items
+            (followed_chain self.new) r) }
     {
         recommit_behind(tags, self.alloc, rules, &mut self.snapshot, records)
     }
@@ -91,12 +73,5 @@ impl ChainFollower {
         ensures { option_map (λ c. c.now) result ≡ block_at (followed_chain self.now) number }
     {
         block_at(&self.snapshot, number)
-    }
-
-    /// How many blocks it has followed, at most 65,535.
-    pub fn height(&self) -> usize
-        ensures { result ≡ length (followed_chain self.now) }
-    {
-        self.snapshot.height()
     }
 }

@@ -33,6 +33,10 @@ impl FinishRefusal {
 }
 
 impl Display for FinishRefusal {
+    ghost use Rattle.peer_node.specs.Refusals.{finish_text};
+
+    ghost output = { finish_text };
+
     fn fmt<W: Write>(&self, f: &mut Formatter<W>) -> fmt::Result {
         match self {
             FinishRefusal::Simulation(refusal) => write!(f, "{refusal}"),
@@ -103,6 +107,11 @@ impl ReopenRefusal {
 }
 
 impl Display for ReopenRefusal {
+    ghost use Rattle.std.specs.Prelude.{Some};
+    ghost use Rattle.peer_node.specs.Refusals.{reopen_text};
+
+    ghost output = { λ r. Some (reopen_text r) };
+
     fn fmt<W: Write>(&self, f: &mut Formatter<W>) -> fmt::Result {
         match self {
             ReopenRefusal::Stored(refusal) => write!(f, "{refusal}"),

@@ -71,17 +71,21 @@ impl Seat {
         ensures same { (endorsing_of self.new ≡ endorsing_of self.old) ×
             (peer_of self.new ≡ peer_of self.old) }
     {
-        self.finish_begun(&begun)
+        self.finish_begun(&begun.snapshot, &begun.proposal)
     }
 
-    /// Finishes what was begun as `finish` does.
-    fn finish_begun(&mut self, begun: &Begun) -> Result<(Payload, Endorsement), FinishRefusal>
-        ensures finished { FinishesBy (endorsing_of self.old) begun.now.proposal
-            (arc_value begun.now.snapshot) (seen_chain self.old) (seen_chain self.new) result }
+    /// Finishes a proposal that was begun on the first snapshot, as `finish` does.
+    fn finish_begun(
+        &mut self,
+        first: &Snapshot,
+        proposal: &Proposal,
+    ) -> Result<(Payload, Endorsement), FinishRefusal>
+        ensures finished { FinishesBy (endorsing_of self.old) proposal.now first.now
+            (seen_chain self.old) (seen_chain self.new) result }
         ensures same { (endorsing_of self.new ≡ endorsing_of self.old) ×
             (peer_of self.new ≡ peer_of self.old) }
     {
-        let payload = self.endorser.simulate(&begun.snapshot, &begun.proposal)?;
+        let payload = self.endorser.simulate(first, proposal)?;
         let endorsement = self.endorse_newest(&payload)?;
         Ok((payload, endorsement))
     }
@@ -111,8 +115,8 @@ impl Seat {
         ensures same { (endorsing_of self.new ≡ endorsing_of self.old) ×
             (peer_of self.new ≡ peer_of self.old) }
     {
-        let begun = self.begin(proposal)?;
-        self.finish(begun)
+        let first = self.reader.take()?;
+        self.finish_begun(&first, proposal)
     }
 
     /// A key's value and version in the state after a list of blocks that begins with all that this

@@ -29,6 +29,12 @@ impl SeatsRefusal {
 }
 
 impl Display for SeatsRefusal {
+    ghost use Rattle.std.specs.Prelude.{◌++◌, Some, codes};
+    ghost use Rattle.std.specs.Fmt.{decimal};
+    ghost use Rattle.seat_threads.specs.Refusals.{seats_number};
+
+    ghost output = { λ r. Some (codes "refused " ++ decimal (seats_number r)) };
+
     fn fmt<W: Write>(&self, f: &mut Formatter<W>) -> fmt::Result {
         write!(f, "refused {}", self.number())
     }

@@ -1,5 +1,5 @@
 -- Lawful blocks and more of them.
-use Rattle.std.proofs.Common.{◌≡◌, ◌+◌, ◌++◌, ◌∷◌, [], List, length, true, refl, ap, sym, subst, append_assoc, append-nil}
+use Rattle.std.proofs.Common.{◌≡◌, ◌++◌, ◌∷◌, [], List, true, refl, ap, sym, subst, append_assoc, append-nil, ◌∙◌}
 use Rattle.fab_types.specs.Committed.{Committed}
 use Rattle.fab_types.specs.declared.flag.Flag.{Flag}
 use Rattle.ledger_model.specs.Chain.{Chain}
@@ -7,9 +7,8 @@ use Rattle.ledger_model.specs.Judged.{BlockRule}
 use Rattle.committer.specs.Fits.{Fits, blocks_of}
 use Rattle.ledger_setting.specs.Judging.{next_by}
 use Rattle.store_replay.specs.Replay.{HasTheFlags}
-use Rattle.store_replay.specs.Lawful.{AreLawful, IsNextRefused, IsRecommitRefused}
+use Rattle.store_replay.specs.Lawful.{AreLawful, IsRecommitRefused, StopsAt}
 use Rattle.store_replay.specs.declared.refusal.RecommitRefusal.{RecommitRefusal}
-use Rattle.store_replay.specs.declared.refusal.RecommitRefusal.TheVariants.{Memory, Unfit, Flags}
 
 pub lawful_more : (rule : BlockRule) (before cs : Chain) (c : Committed) → AreLawful rule before cs → Fits (blocks_of (before ++ cs)) c.block
     → HasTheFlags rule (before ++ cs) c true → AreLawful rule before (cs ++ c ∷ [])
@@ -29,17 +28,26 @@ lawful_joined rule chain (c ∷ cs) h k =
     let rest = lawful_joined rule (chain ++ c ∷ []) cs (lawful_more rule [] chain c h k.0 k.1) k.2 in
     subst (AreLawful rule []) (append_assoc chain (c ∷ []) cs) rest
 
--- the record at which lawful records end is refused
-pub refused_at : (rule : BlockRule) (all before after : List Committed) (c : Committed) (r : RecommitRefusal) → all ≡ before ++ c ∷ after →
-    AreLawful rule [] before → IsNextRefused rule before c r → IsRecommitRefused rule all r
-refused_at rule all before after c Memory split lawful why = (
-  length before + 1,
-  record { before = before; first = c; after = after; all = split; lawful = lawful; place = refl; wrong = why },
-)
-refused_at rule all before after c (Unfit number cause) split lawful why =
-    record { before = before; first = c; after = after; all = split; lawful = lawful; place = why.0; wrong = why.1 }
-refused_at rule all before after c (Flags number) split lawful why =
-    record { before = before; first = c; after = after; all = split; lawful = lawful; place = why.0; wrong = (why.1, why.2) }
+-- records that are refused behind a lawful chain are refused with it
+pub refused_behind : (rule : BlockRule) (chain records last : Chain) (r : RecommitRefusal) → AreLawful rule [] chain → StopsAt rule chain records last r
+    → IsRecommitRefused rule (chain ++ records) r
+refused_behind rule chain records last r lawful stops =
+    let onward = stops.first ∷ stops.after in
+    let split = ap (λ (cs : List Committed). chain ++ cs) stops.all ∙ sym (append_assoc chain stops.before onward)
+    ∙ ap (λ (before : Chain). before ++ onward) (sym stops.put)
+    in
+    record {
+      last = last;
+      stops = record {
+        before = last;
+        first = stops.first;
+        after = stops.after;
+        all = split;
+        lawful = subst (AreLawful rule []) (sym stops.put) (lawful_joined rule chain stops.before lawful stops.lawful);
+        put = refl;
+        why = stops.why;
+      };
+    }
 
 -- a record with the rule's flags is the block as the rule commits it
 pub is_judged : (rule : BlockRule) (chain : Chain) (c : Committed) → HasTheFlags rule chain c true → c ≡ next_by rule chain c.block

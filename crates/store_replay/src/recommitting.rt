@@ -6,7 +6,7 @@ ghost use Rattle.ledger_model.specs.Judged.{BlockRule};
 ghost use Rattle.committer.specs.Fits.{IsRefused, blocks_of};
 ghost use Rattle.ledger_setting.specs.Judging.{IsJudged};
 ghost use Rattle.ledger_setting.specs.Rule.{table_of};
-ghost use Rattle.store_replay.specs.Lawful.{AreLawful, IsNextRefused, IsRecommitRefused};
+ghost use Rattle.store_replay.specs.Lawful.{AreLawful, IsNextRefused, IsRecommitRefused, StopsAt};
 ghost use Rattle.store_replay.specs.Replay.{HasTheFlags};
 ghost use Rattle.endorsement_policy.specs.Judge.{orgs_behind};
 ghost use Rattle.store_replay.specs.Tags.{right_in_record};
@@ -65,28 +65,8 @@ fn judge_as_stored(
 }
 
 /// Puts the block of one record behind a chain. It is committed again, and has to have the flags
-/// with which it is stored.
-///
-/// Refused where the block does not fit (601 to 604) or has other flags than the table's (711), and
-/// for want of memory (9), at a block that is the next by its number and the hash that it names. A
-/// refusal changes nothing.
-pub fn recommit_next(
-    alloc: Global,
-    rules: &Rules,
-    snapshot: &mut Snapshot,
-    stored: CommittedBlock,
-) -> Result<(), RecommitRefusal>
-    ensures chain { OnOk result (snapshot.new ≡ snapshot.old ++ stored ∷ []) }
-    ensures lawful { OnOk result (AreLawful (table_of rules.now) snapshot.old (stored ∷ [])) }
-    ensures unchanged { OnErr result (snapshot.new ≡ snapshot.old) }
-    ensures refused { IfErr result
-        (λ r. IsNextRefused (table_of rules.now) snapshot.old stored r) }
-{
-    recommit_with(alloc, rules, snapshot, stored, None)
-}
-
-/// The same where it may be known of each envelope which of the organisations that stand behind the
-/// chain have right tags on it. Where it is, no tag is computed.
+/// with which it is stored. Where it is known of each envelope which of the organisations that
+/// stand behind the chain have right tags on it, no tag is computed. A refusal changes nothing.
 fn recommit_with(
     alloc: Global,
     rules: &Rules,
@@ -122,8 +102,8 @@ pub fn recommit_behind<T: Threads + Sync, V: Watch>(
 ) -> Result<(), RecommitRefusal>
     ensures chain { OnOk result (snapshot.new ≡ snapshot.old ++ records.items) }
     ensures lawful { OnOk result (AreLawful (table_of rules.now) snapshot.old records.items) }
-    ensures refused { IfErr result (λ r. AreLawful (table_of rules.now) [] snapshot.old →
-        IsRecommitRefused (table_of rules.now) (snapshot.old ++ records.items) r) }
+    ensures refused { IfErr result
+        (λ r. StopsAt (table_of rules.now) snapshot.old records.items snapshot.new r) }
 {
     let mut pending = Pending::new(alloc, records);
     'records: while let Some((stored, right)) = pending.next(tags, alloc, rules, snapshot) {

@@ -2,8 +2,8 @@ use Rattle.std.proofs.Common.{rules, ◌≡◌, ◌∙◌, ◌++◌, ◌∷◌, 
 use Rattle.fab_types.specs.Committed.{Committed}
 use Rattle.ledger_model.specs.Chain.{Chain}
 use Rattle.ledger_setting.specs.Rule.{table_of}
-use Rattle.store_replay.specs.Lawful.{AreLawful, IsRecommitRefused}
-use Rattle.store_replay.proofs.Lawful.{lawful_joined, lawful_more, refused_at}
+use Rattle.store_replay.specs.Lawful.{AreLawful, IsNextRefused, StopsAt}
+use Rattle.store_replay.proofs.Lawful.{lawful_more}
 use Rattle.store_replay.specs.Tags.{orgs_at}
 use Rattle.store_replay.proofs.RightTags.{of_none}
 use Rattle.store_replay.proofs.recommitting.recommit_behind.Goals as goal
@@ -44,14 +44,15 @@ returns-in_err-recommit_with-clause-refused g c =
     let stored = c.in-Some.stored in
     let left = c.next.new.self.records.items in
     let refusal = c.in_err-recommit_with.field-0.0 in
-    let chain = c.records.invariant.chain in
+    let unchanged = c.in_err-recommit_with.ensures.unchanged in
     let steps : c.records.pending.records.items ≡ stored ∷ left = c.in-Some.ensures.next in
-    let split = ap (λ (cs : List Committed). start ++ cs) (c.records.invariant.all ∙ ap (λ (cs : List Committed). done ++ cs) steps)
-    ∙ sym (append_assoc start done (stored ∷ left)) ∙ ap (λ (before : Chain). before ++ stored ∷ left) (sym chain)
-    in
-    let told : AreLawful rule [] start → IsRecommitRefused rule (start ++ c.args.records.items) refusal =
-    λ (lawful : AreLawful rule [] start).
-    refused_at rule (start ++ c.args.records.items) c.records.snapshot left stored refusal split
-    (subst (AreLawful rule []) (sym chain) (lawful_joined rule start done lawful c.records.invariant.lawful)) c.in_err-recommit_with.ensures.refused
-    in
+    let told : StopsAt rule start c.args.records.items c.recommit_with.new.snapshot refusal = record {
+      before = done;
+      first = stored;
+      after = left;
+      all = c.records.invariant.all ∙ ap (λ (cs : List Committed). done ++ cs) steps;
+      lawful = c.records.invariant.lawful;
+      put = unchanged ∙ c.records.invariant.chain;
+      why = subst (λ (chain : Chain). IsNextRefused rule chain stored refusal) (sym unchanged) c.in_err-recommit_with.ensures.refused;
+    } in
     search rules

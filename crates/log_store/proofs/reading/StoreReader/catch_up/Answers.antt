@@ -8,7 +8,7 @@ use Rattle.block_store.specs.Store.{Loads}
 use Rattle.block_store.specs.declared.end.End.TheVariants.{Damaged}
 use Rattle.block_store.proofs.Reading.{left_falls, reads_small}
 use Rattle.store_replay.specs.Lawful.{AreLawful, IsRecommitRefused}
-use Rattle.store_replay.proofs.Lawful.{lawful_joined}
+use Rattle.store_replay.proofs.Lawful.{lawful_joined, refused_behind}
 use Rattle.log_roles.specs.Following.{followed_chain}
 use Rattle.log_store.proofs.Known.{damaged_loads, grows_on, keeps_more, keeps_on, longer_on, next_small, piece_read, shown_same}
 use Rattle.log_store.proofs.reading.StoreReader.catch_up.Goals as goal
@@ -24,8 +24,11 @@ returns-in_err-follow_all-clause-refused g c =
     let more = c.in_ok-records.records.items in
     let read = piece_read c.pieces.self.file.history.moved moved buffer c.deref.result.now c.in_ok-count.count before more c.pieces.self.records
     c.feed.new.self inv.0 inv.1 c.in_ok-records.ensures.fed same c.in_ok-count.ensures.once.1 in
-    let why : (cs : Chain) × (last : Progress) × Reads 1 moved cs last × IsRecommitRefused (table_of c.args.rules.now) cs c.in_err-follow_all.field-0.0 =
-    (before ++ more, c.feed.new.self, read, c.in_err-follow_all.ensures.refused inv.2) in
+    let rule = table_of c.args.rules.now in
+    let refusal = c.in_err-follow_all.field-0.0 in
+    let refused = refused_behind rule before more (followed_chain c.follow_all.new.self) refusal inv.2 c.in_err-follow_all.ensures.refused in
+    let why : (cs : Chain) × (last : Progress) × Reads 1 moved cs last × IsRecommitRefused rule cs refusal =
+    (before ++ more, c.feed.new.self, read, refused) in
     search rules
 
 pub returns-in_err-check_sound-clause-refused : goal.returns-in_err-check_sound-clause-refused

@@ -9,5 +9,5 @@ pub returns-clause-endorsed : goal.returns-clause-endorsed
 returns-clause-endorsed c =
     let old = c.args.self.now in
     let finished : (first : Chain) × IsPrefix (seen_chain old) first ×
-    FinishesBy (endorsing_of old) c.args.proposal.now first first (seen_chain c.finish.new.self) c.finish.result = search rules in
+    FinishesBy (endorsing_of old) c.args.proposal.now first first (seen_chain c.finish_begun.new.self) c.finish_begun.result = search rules in
     inr finished

@@ -1,5 +1,4 @@
 use Rattle.std.proofs.Common.{rules, ◌≡◌, Result, Ok, Err, sym, subst}
-use Rattle.std.specs.Arc.{arc_value}
 use Rattle.fab_types.specs.Payloads.{Payload}
 use Rattle.fab_types.specs.declared.envelope.Endorsement.{Endorsement}
 use Rattle.peer_node.specs.declared.refusal.FinishRefusal.{FinishRefusal}
@@ -10,8 +9,8 @@ pub returns-in_err-endorsement-clause-finished : goal.returns-in_err-endorsement
 returns-in_err-endorsement-clause-finished c =
     let old = c.args.self.now in
     let e = endorsing_of old in
-    let p = c.args.begun.now.proposal in
-    let first = arc_value c.args.begun.now.snapshot in
+    let p = c.args.proposal.now in
+    let first = c.args.first.now in
     let done : simulated_on e p first ≡ Ok c.in_ok-payload.payload = search rules in
     let is : c.from_residual-in_err-endorsement.result ≡ Err c.in_err-endorsement.field-0.0 = search rules in
     subst (λ (r : Result (Payload × Endorsement) FinishRefusal). FinishesBy e p first (seen_chain old) (seen_chain c.endorse_newest.new.self) r) (sym is)
