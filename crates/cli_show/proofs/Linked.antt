@@ -53,12 +53,11 @@ linked_number before (c ∷ cs) rest (suc k) x are e =
     omega (arith, later, length-append before (c.block ∷ []))
 
 -- the block at a place of a linked chain has the next number behind those before it
-pub number_at : (chain earlier : Chain) (xs : List (Arc Committed Global)) (k : ℕ) (x : Arc Committed Global) (c : Committed) → blocks_in xs ≡ chain →
-    AreLinked [] (blocks_of chain) → k < length xs → x ≡ get_or xs k x → c ≡ x.value → earlier ≡ take k (blocks_in xs) →
-    c.block.header.number ≡ length earlier + 1
-number_at chain earlier xs k x c same are within is here was =
+pub number_at : (chain earlier : Chain) (xs : List (Arc Committed Global)) (k : ℕ) (x : Arc Committed Global) → blocks_in xs ≡ chain →
+    AreLinked [] (blocks_of chain) → k < length xs → x ≡ get_or xs k x → earlier ≡ take k (blocks_in xs) →
+    x.value.block.header.number ≡ length earlier + 1
+number_at chain earlier xs k x same are within is was =
     let linked = subst (λ (d : Chain). AreLinked [] (blocks_of d)) (sym same) are in
     let number = linked_number [] (blocks_in xs) (drop (k + 1) (blocks_in xs)) k x.value linked (block_at k xs x within is) in
-    let of : c.block.header.number ≡ x.value.block.header.number = ap (λ (d : Committed). d.block.header.number) here in
     let long : length earlier ≡ length (take k (blocks_in xs)) = ap (λ (d : Chain). length d) was in
-    omega (arith, number, of, long, taken_length k xs (omega (arith, within)))
+    omega (arith, number, long, taken_length k xs (omega (arith, within)))

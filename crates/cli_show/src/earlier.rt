@@ -1,6 +1,7 @@
 //! The chain as it was earlier.
 
-ghost use Rattle.std.specs.Prelude.{◌≡◌, ◌∷◌, [], ◌+◌, ◌++◌, IfErr, IfOk, length, take};
+ghost use Rattle.std.specs.Prelude.{◌≡◌, ◌∷◌, [], ◌+◌, ◌++◌, IfErr, IfOk, OnOk, length, take};
+ghost use Rattle.std.specs.Arc.{arc_value};
 ghost use Rattle.wire.specs.Links.{AreLinked};
 ghost use Rattle.committer.specs.Fits.{blocks_of};
 ghost use Rattle.cli_lines.specs.Told.{IsBrokenOff, IsSilent};
@@ -9,6 +10,7 @@ use cli_lines::Failure;
 use committer::CommitRefusal;
 use fab_types::CommittedBlock;
 use std::alloc::Global;
+use std::sync::Arc;
 use world_state::Snapshot;
 
 /// The chain of the first so many blocks of a chain.
@@ -27,26 +29,25 @@ pub(crate) fn first_blocks(
     let blocks = snapshot.blocks();
     let mut earlier = Snapshot::empty(alloc);
     for index in 0..count.min(blocks.len()) {
-        earlier = with_next(alloc, &earlier, &blocks[index])?;
+        extend_by(alloc, &mut earlier, &blocks[index])?;
     }
     Ok(earlier)
 }
 
-/// The chain with this block more, which keeps its flags.
-fn with_next(
+/// Makes a chain longer by this block, which stays shared and keeps its flags.
+fn extend_by(
     alloc: Global,
-    snapshot: &Snapshot,
-    committed: &CommittedBlock,
-) -> Result<Snapshot, Failure>
-    ensures chain { IfOk result (λ s. s ≡ snapshot.now ++ committed.now ∷ []) }
+    earlier: &mut Snapshot,
+    committed: &Arc<CommittedBlock>,
+) -> Result<(), Failure>
+    ensures chain { OnOk result (earlier.new ≡ earlier.old ++ arc_value committed.now ∷ []) }
     ensures silent { IfErr result IsSilent }
-    ensures lost { committed.now.block.header.number ≡ length snapshot.now + 1
+    ensures lost { (arc_value committed.now).block.header.number ≡ length earlier.old + 1
         → IfErr result IsBrokenOff }
 {
-    if committed.block().header.number.get() as usize != snapshot.height() + 1 {
+    if committed.block().header.number.get() as usize != earlier.height() + 1 {
         return Err(Failure::Commit(CommitRefusal::Number));
     }
-    let block = committed.block().clone()?;
-    let flags = committed.flags().to_vec(alloc)?;
-    Ok(snapshot.extended(alloc, block, flags)?)
+    let shared = Arc::try_clone(committed)?;
+    Ok(earlier.extend_shared(alloc, shared)?)
 }

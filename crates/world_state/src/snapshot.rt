@@ -1,6 +1,7 @@
 //! Snapshots.
 
 ghost use Rattle.std.specs.Prelude.{◌≡◌, ◌≤◌, ◌+◌, ◌-◌, [], ◌∷◌, ◌++◌, length, map, ◌||◌, IfOk, OnOk, OnErr, IfNone, option_map, slice_get};
+ghost use Rattle.std.specs.Arc.{arc_value};
 ghost use Rattle.std.specs.FinMap.{entries};
 ghost use Rattle.std.specs.List.Sorted.{IsStrictlySortedBy};
 ghost use Rattle.std.specs.Map.{keys_of};
@@ -10,7 +11,7 @@ ghost use Rattle.ledger_model.specs.Views.{key_cmp, first, entries_within};
 ghost use Rattle.ledger_model.specs.State.{state, state_at};
 ghost use Rattle.wire.specs.Ids.{id_of};
 ghost use Rattle.ledger_model.specs.Flags.{stands_in};
-ghost use Rattle.world_state.specs.Ids.{is_known, has_id};
+ghost use Rattle.world_state.specs.Ids.{is_known, has_id, ids_of};
 ghost use Rattle.world_state.specs.Judging.{IsOf, flagged};
 ghost use Rattle.world_state.specs.Shared.{blocks_in};
 ghost use Rattle.world_state.specs.Writing.{as_state, put_block};
@@ -224,9 +225,41 @@ impl Snapshot {
         ensures unchanged { OnErr result (self.new ≡ self.old) }
     {
         let Judged { flags, ids } = judged;
-        let (map, ids) = after_block(&self.map, &self.ids, &block, &flags, &ids)?;
-        let block = Arc::new(alloc, CommittedBlock::new(block, flags))?;
-        self.blocks.push(block)?;
+        let committed = Arc::new(alloc, CommittedBlock::new(block, flags))?;
+        self.put(committed, &ids)
+    }
+
+    /// Becomes the snapshot after a block that another one shares, which is the next in number and
+    /// keeps its flags. It copies neither the block nor the list of blocks. The error is of memory,
+    /// and then nothing is changed.
+    pub fn extend_shared(
+        &mut self,
+        alloc: Global,
+        committed: Arc<CommittedBlock>,
+    ) -> Result<(), AllocError>
+        requires next { (arc_value committed).block.header.number ≡ length self.old + 1 }
+        ensures extended { OnOk result (self.new ≡ self.old ++ arc_value committed ∷ []) }
+        ensures unchanged { OnErr result (self.new ≡ self.old) }
+    {
+        let ids = tx_ids(alloc, committed.block())?;
+        self.put(committed, &ids)
+    }
+
+    /// The same, where these are the ids of the block's transactions.
+    fn put(&mut self, committed: Arc<CommittedBlock>, ids: &[[u8; 32]]) -> Result<(), AllocError>
+        requires next { (arc_value committed).block.header.number ≡ length self.old + 1 }
+        requires ids { ids.now ≡ ids_of (arc_value committed).block.envelopes }
+        ensures extended { OnOk result (self.new ≡ self.old ++ arc_value committed ∷ []) }
+        ensures unchanged { OnErr result (self.new ≡ self.old) }
+    {
+        let (map, ids) = after_block(
+            &self.map,
+            &self.ids,
+            committed.block(),
+            committed.flags(),
+            ids,
+        )?;
+        self.blocks.push(committed)?;
         self.map = map;
         self.ids = ids;
         Ok(())
