@@ -12,6 +12,9 @@ use crate::meanings::{failure_words, meaning};
 use std::alloc::{AllocError, Global};
 use std::fmt::{self, Display, Formatter, Write};
 
+/// What the standard input is called.
+pub const STANDARD_INPUT: &str = "standard input";
+
 /// Where in what is read something is wrong.
 #[derive(Clone, Copy)]
 pub struct Location<'a> {
@@ -37,7 +40,7 @@ impl<'a> Location<'a> {
 
     /// A line of the standard input, from 1.
     pub fn input(line: u64) -> Location<'a> {
-        Location::line("standard input", line)
+        Location::line(STANDARD_INPUT, line)
     }
 }
 
@@ -115,7 +118,7 @@ pub fn explain_trouble<F: Files>(alloc: Global, files: &mut F, name: &str, acces
     }
 }
 
-/// The first bytes of a file, as `read_at_most` reads them. Says why it was not read, if that is so.
+/// The first bytes of a file, `most` at most. Says why it was not read, if that is so.
 pub fn read_explained<F: Files>(
     alloc: Global,
     files: &mut F,

@@ -157,7 +157,7 @@ impl From<AllocError> for FileFault {
 }
 
 /// The first bytes of a file, `most` at most, and all where it has no more.
-pub fn read_at_most<F: Files>(
+pub(crate) fn read_at_most<F: Files>(
     alloc: Global,
     files: &mut F,
     name: &str,

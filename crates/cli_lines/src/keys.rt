@@ -65,7 +65,7 @@ pub fn signers_in<F: Files>(alloc: Global, files: &mut F, name: &str) -> Result<
 
 /// Whether an organisation is listed with a public key whose seed is not among these. One that is
 /// not listed lacks none.
-pub fn lacks_seed(rules: &Rules, signers: &Signers, org: &OrgName) -> bool
+fn lacks_seed(rules: &Rules, signers: &Signers, org: &OrgName) -> bool
     ensures { result ≡ lacks_seed rules.now signers.now org.now }
 {
     match rules.organisation(org) {

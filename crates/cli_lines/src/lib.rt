@@ -22,16 +22,16 @@ mod verdict;
 
 pub use committed::CommittedText;
 pub use explaining::{
-    Location, explain, explain_bad_line, explain_failure, explain_number, explain_numbered,
-    explain_read, explain_trouble, read_all_explained, read_explained,
+    Location, STANDARD_INPUT, explain, explain_bad_line, explain_failure, explain_number,
+    explain_numbered, explain_read, explain_trouble, read_all_explained, read_explained,
 };
 pub use failure::{Failure, SimulationText};
-pub use files::{Access, FileFault, Files, Target, read_all, read_at_most};
-pub use keys::{explain_no_seed, keys_in, lacks_seed, need_secrets, signers_in};
+pub use files::{Access, FileFault, Files, Target, read_all};
+pub use keys::{explain_no_seed, keys_in, need_secrets, signers_in};
 pub use lines::{
     hex_of, id_of, print_committed, print_line, print_payload, print_simulation, version_of,
 };
-pub use meanings::{block_words, flags_words, meaning, simulation_words};
+pub use meanings::{TAKE_AGAIN, block_words, flags_words, meaning, simulation_words};
 pub use opening::{genesis_holding, genesis_in, modules_in};
 pub use printer::Printer;
 pub use verdict::print_audit;

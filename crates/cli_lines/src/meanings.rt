@@ -8,12 +8,16 @@ use std::alloc::{AllocError, Global};
 /// What is so where a block has other flags.
 const CHANGED: &str = "from it on the store was changed, or it is another ledger's";
 
+/// What to do about a damaged record of a store.
+pub const TAKE_AGAIN: &str =
+    "the blocks before it are whole, and it and those behind are to be had again";
+
 /// What a number stands for, and what to do about it. The words do not end with the number.
 pub fn meaning(number: u16) -> &'static str {
     match number {
         9 => "there is no memory for it; call again when there is some",
         300..=305 => spelling_meaning(number),
-        401..=411 => call_meaning(number),
+        401..=409 | 411 => call_meaning(number),
         421..=453 => order_meaning(number),
         806 => "no organisation of that name is in the genesis file, or stands behind the store",
         807 => "the log is of another genesis file; take that one, or the log that is this one's",

@@ -2,9 +2,10 @@
 
 ghost use Rattle.std.specs.Prelude.{◌≡◌};
 
-use crate::seen::seen_in;
+use crate::asking::asked_number;
+use crate::marks::leaves_genesis_open;
 use cli_lines::{
-    Access, Files, Location, block_words, explain, explain_bad_line, explain_number,
+    Access, Files, Location, TAKE_AGAIN, block_words, explain, explain_bad_line, explain_number,
     explain_numbered, explain_trouble, flags_words,
 };
 use fab_types::OrgName;
@@ -21,9 +22,8 @@ const NO_MARK: &str = "it is neither tick nor an envelope in hex";
 /// What is wrong where a store fails that is written too.
 const NOT_WRITTEN: &str = "it was not read or written to its end; see whether the disk is full";
 
-/// What is wrong with a record, and what to do.
-const DAMAGED: &str =
-    "is damaged; the blocks before it are whole, and it and those behind are to be had again";
+/// What is wrong with a line that asks for a block by no number.
+const NO_NUMBER: &str = "behind `seen` stands no number of a block, or one that begins with 0";
 
 /// What is wrong with a block of which the store has another.
 const FORKED: &str = "is another one than the store's; the store is of another log";
@@ -41,7 +41,7 @@ pub(crate) fn explain_skip<F: Files>(
     let place = Location::input(line);
     if skip != Skip::NoHex {
         explain_number(alloc, files, &place, skip.number());
-    } else if seen_in(text).is_none() && !text.starts_with("genesis ") {
+    } else if leaves_genesis_open(text) {
         explain_numbered(alloc, files, &place, NO_MARK, 300);
     }
 }
@@ -51,11 +51,19 @@ pub(crate) fn explain_proposal<F: Files>(alloc: Global, files: &mut F, line: u64
     ensures kept { F.bytes files.new ≡ F.bytes files.old }
 {
     let reason = if text.starts_with(b"seen ") {
-        String::from_str(alloc, "the store has no block of this number")
+        String::from_str(alloc, seen_reason(text))
     } else {
         proposal_reason(alloc, text)
     };
     explain_bad_line(alloc, files, &Location::input(line), reason);
+}
+
+/// What is wrong with a line that asks for a block, and for none that the store has.
+fn seen_reason(text: &[u8]) -> &'static str {
+    match std::str::from_utf8(text) {
+        Ok(text) if asked_number(text).is_some() => "the store has no block of this number",
+        _ => NO_NUMBER,
+    }
 }
 
 /// Says that an organisation is not known (806).
@@ -131,7 +139,9 @@ pub(crate) fn explain_block<F: Files>(
 /// Why a store is refused, in words that end with the number.
 fn store_words(alloc: Global, refusal: &StoreRefusal) -> Result<String, AllocError> {
     match refusal {
-        StoreRefusal::Damaged(record) => { format!(in alloc; "record {record} {DAMAGED} (702)") }
+        StoreRefusal::Damaged(record) => {
+            format!(in alloc; "record {record} is damaged; {TAKE_AGAIN} (702)")
+        }
         StoreRefusal::Stored(RecommitRefusal::Unfit(block, cause)) => {
             block_words(alloc, *block, *cause)
         }

@@ -4,16 +4,13 @@ ghost use Rattle.std.specs.Prelude.{◌≡◌, IfErr, IfOk};
 ghost use Rattle.cli_lines.specs.Told.{IsBrokenOff, IsSilent};
 ghost use Rattle.cli_roles.specs.Input.{IsEnded, IsNext};
 
-use cli_lines::{Failure, Files, Location, explain_numbered};
+use cli_lines::{Failure, Files, Location, STANDARD_INPUT, explain_numbered};
 use std::alloc::Global;
 use std::io::{BufRead, BufReader, Read};
 use std::marker::Model;
 
 /// So many bytes are asked for at a time.
 const CAPACITY: usize = 65_536;
-
-/// The name of the input.
-const INPUT: &str = "standard input";
 
 /// What is wrong where it fails.
 const NOT_READ: &str = "it cannot be read to its end";
@@ -73,7 +70,7 @@ impl<R: Read + Drop> InputLines<R> {
     {
         let next = self.read_next();
         if let Err(Failure::File) = &next {
-            explain_numbered(alloc, files, &Location::file(INPUT), NOT_READ, 703);
+            explain_numbered(alloc, files, &Location::file(STANDARD_INPUT), NOT_READ, 703);
         }
         next
     }

@@ -6,7 +6,8 @@ use crate::missing::first_missing;
 use crate::showing::fault_of;
 use block_store::{End, RecordReader};
 use cli_lines::{
-    Access, Failure, Files, Location, block_words, explain, explain_trouble, flags_words,
+    Access, Failure, Files, Location, TAKE_AGAIN, block_words, explain, explain_trouble,
+    flags_words,
 };
 use ledger_setting::Genesis;
 use std::alloc::{AllocError, Global};
@@ -18,10 +19,6 @@ use wasm_reasons::module_reason;
 
 /// What becomes of a part of a record.
 const CUT_OFF: &str = "commit cuts it off";
-
-/// What to do about a damaged record.
-const TAKE_AGAIN: &str =
-    "the blocks before it are whole, and it and those behind are to be had again";
 
 /// How many bytes of a store are read at a time.
 const PIECE: u64 = 65_536;
