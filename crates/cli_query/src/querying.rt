@@ -54,16 +54,18 @@ pub fn query<T: Threads + Sync, F: Files, W: Write>(
     let tags = &TagChecks::new(workers, &watch);
     let asked = Asked {
         tags,
+        alloc,
         genesis,
         store,
     };
-    query_after(alloc, files, &asked, file, &mut lines, out)
+    query_after(files, &asked, file, &mut lines, out)
 }
 
-/// What is asked about, and who checks tags.
+/// What is asked about, and with what.
 #[derive(Drop)]
 struct Asked<'a, T, V> {
     tags: &'a TagChecks<'a, T, V>,
+    alloc: Global,
     genesis: &'a Genesis,
     /// The name of the store.
     store: &'a str,
@@ -71,7 +73,6 @@ struct Asked<'a, T, V> {
 
 /// Follows the store of a file, and answers each line.
 fn query_after<T: Threads + Sync, F: Files, W: Write>(
-    alloc: Global,
     files: &mut F,
     asked: &Asked<'_, T, F::Watch>,
     file: F::Reader,
@@ -87,13 +88,12 @@ fn query_after<T: Threads + Sync, F: Files, W: Write>(
         out.new result }
     ensures kept { F.bytes files.new ≡ F.bytes files.old }
 {
-    let mut reader = StoreReader::new(alloc, file)?;
-    query_lines(alloc, files, asked, &mut reader, lines, out)
+    let mut reader = StoreReader::new(asked.alloc, file)?;
+    query_lines(files, asked, &mut reader, lines, out)
 }
 
 /// Answers each line.
 fn query_lines<T: Threads + Sync, F: Files, W: Write>(
-    alloc: Global,
     files: &mut F,
     asked: &Asked<'_, T, F::Watch>,
     reader: &mut StoreReader<F::Reader>,
@@ -113,11 +113,11 @@ fn query_lines<T: Threads + Sync, F: Files, W: Write>(
     ensures kept { F.bytes files.new ≡ F.bytes files.old }
 {
     for number in 1..u64::MAX {
-        let there = lines.read_explained(alloc, files)?;
+        let there = lines.read_explained(asked.alloc, files)?;
         if !there {
             return Ok(());
         }
-        take_line(alloc, files, asked, reader, lines.line(), number, out)?;
+        take_line(files, asked, reader, lines.line(), number, out)?;
         hand_on(lines, out)?;
     }
     // So many lines no input has.
@@ -126,7 +126,6 @@ fn query_lines<T: Threads + Sync, F: Files, W: Write>(
 
 /// Reads the store on, and answers the line of this number.
 fn take_line<T: Threads + Sync, V: Watch, F: Files, S: Read + Drop, W: Write>(
-    alloc: Global,
     files: &mut F,
     asked: &Asked<'_, T, V>,
     reader: &mut StoreReader<S>,
@@ -148,20 +147,19 @@ fn take_line<T: Threads + Sync, V: Watch, F: Files, S: Read + Drop, W: Write>(
     match reader.catch_up(asked.tags, &asked.genesis.rules) {
         Ok(()) => {
             let snapshot = reader.snapshot();
-            answer(alloc, files, asked.genesis, snapshot, line, number, out)
+            answer(files, asked, snapshot, line, number, out)
         }
         Err(refusal) => {
-            explain_store(alloc, files, asked.store, Access::Read, &refusal);
+            explain_store(asked.alloc, files, asked.store, Access::Read, &refusal);
             Err(end(refusal, out))
         }
     }
 }
 
 /// Answers the line of this number by the chain of a snapshot.
-fn answer<F: Files, W: Write>(
-    alloc: Global,
+fn answer<T, V, F: Files, W: Write>(
     files: &mut F,
-    genesis: &Genesis,
+    asked: &Asked<'_, T, V>,
     snapshot: &Snapshot,
     line: &[u8],
     number: u64,
@@ -169,13 +167,14 @@ fn answer<F: Files, W: Write>(
 ) -> Result<(), Failure>
     ensures tells { Tells out.old out.new result }
     ensures prints { OnOk result
-        (PrintsSo (IsPrinted genesis.now snapshot.now line.now number) out.old out.new) }
+        (PrintsSo (IsPrinted asked.now.genesis.now snapshot.now line.now number) out.old
+        out.new) }
     ensures lost { IfErr result IsBrokenOff }
     ensures nothing { OnErr result (PrintsNothing out.old out.new) }
     ensures kept { F.bytes files.new ≡ F.bytes files.old }
 {
-    let text = said_of(alloc, genesis, snapshot, line, number)?;
-    explain_said(alloc, files, line, number, &text);
+    let text = said_of(asked.alloc, asked.genesis, snapshot, line, number)?;
+    explain_said(asked.alloc, files, line, number, &text);
     writeln!(out, "{text}")
 }
 

@@ -71,16 +71,18 @@ pub fn commit<T: Threads + Sync, F: Files, W: Write>(
     let watch = files.watch();
     let peer = Peer {
         workers,
+        alloc,
         log,
         store,
     };
-    commit_to(alloc, files, &peer, watch, file, &mut lines, out)
+    commit_to(files, &peer, watch, file, &mut lines, out)
 }
 
 /// A peer of a log.
 #[derive(Drop)]
 struct Peer<'a, T> {
     workers: &'a Workers<'a, T>,
+    alloc: Global,
     log: &'a LogGenesis,
     /// The name of its store.
     store: &'a str,
@@ -95,7 +97,6 @@ fn commit_to<
     R: Read + Drop,
     W: Write,
 >(
-    alloc: Global,
     files: &mut F,
     peer: &Peer<'_, T>,
     watch: V,
@@ -112,15 +113,20 @@ fn commit_to<
         (D.remaining file) lines.old.left) out.old out.new result }
 {
     let rules = peer.log.genesis.rules.clone()?;
-    let opened = StoredChain::open(&TagChecks::new(peer.workers, &watch), alloc, rules, file);
+    let opened = StoredChain::open(
+        &TagChecks::new(peer.workers, &watch),
+        peer.alloc,
+        rules,
+        file,
+    );
     drop(watch);
     match opened {
         Ok((mut chain, cut)) => {
-            explain_cut(alloc, files, peer.store, chain.height(), cut);
-            commit_behind(alloc, files, peer, &mut chain, cut, lines, out)
+            explain_cut(peer.alloc, files, peer.store, chain.height(), cut);
+            commit_behind(files, peer, &mut chain, cut, lines, out)
         }
         Err(refusal) => {
-            explain_store(alloc, files, peer.store, Access::Write, &refusal);
+            explain_store(peer.alloc, files, peer.store, Access::Write, &refusal);
             Err(end(refusal, out))
         }
     }
@@ -134,7 +140,6 @@ fn commit_behind<
     R: Read + Drop,
     W: Write,
 >(
-    alloc: Global,
     files: &mut F,
     peer: &Peer<'_, T>,
     chain: &mut StoredChain<D>,
@@ -152,7 +157,7 @@ fn commit_behind<
         lines.old.left) out.old out.new result }
 {
     print_opened(chain.height(), cut, out)?;
-    commit_lines(alloc, files, peer, chain, lines, out)
+    commit_lines(files, peer, chain, lines, out)
 }
 
 /// Prints with how many blocks a store was opened, and how many bytes were cut off, if any.
@@ -192,7 +197,6 @@ fn commit_lines<
     R: Read + Drop,
     W: Write,
 >(
-    alloc: Global,
     files: &mut F,
     peer: &Peer<'_, T>,
     chain: &mut StoredChain<D>,
@@ -209,11 +213,11 @@ fn commit_lines<
         lines.old.left) out.old out.new result }
 {
     for number in 1..u64::MAX {
-        let there = lines.read_explained(alloc, files)?;
+        let there = lines.read_explained(peer.alloc, files)?;
         if !there {
             return Ok(());
         }
-        take_line(alloc, files, peer, chain, lines.line(), number, out)?;
+        take_line(files, peer, chain, lines.line(), number, out)?;
         hand_on(lines, out)?;
     }
     // So many lines no input has.
@@ -222,7 +226,6 @@ fn commit_lines<
 
 /// Commits the block of a line, or judges one that was seen, if it has one.
 fn take_line<T: Threads + Sync, F: Files, D: Read + Write + Seek + OpenFile + Drop, W: Write>(
-    alloc: Global,
     files: &mut F,
     peer: &Peer<'_, T>,
     chain: &mut StoredChain<D>,
@@ -240,14 +243,13 @@ fn take_line<T: Threads + Sync, F: Files, D: Read + Write + Seek + OpenFile + Dr
         (stored_chain chain.old) line.now (stored_chain chain.new) out.old out.new result }
 {
     match std::str::from_utf8(line) {
-        Ok(line) => take_text(alloc, files, peer, chain, line, number, out),
+        Ok(line) => take_text(files, peer, chain, line, number, out),
         Err(_) => Ok(()),
     }
 }
 
 /// The same of a line that is text.
 fn take_text<T: Threads + Sync, F: Files, D: Read + Write + Seek + OpenFile + Drop, W: Write>(
-    alloc: Global,
     files: &mut F,
     peer: &Peer<'_, T>,
     chain: &mut StoredChain<D>,
@@ -266,14 +268,13 @@ fn take_text<T: Threads + Sync, F: Files, D: Read + Write + Seek + OpenFile + Dr
         out.new result }
 {
     match block_digits(line) {
-        Some(digits) => take_block(alloc, files, peer, chain, digits, number, out),
-        None => print_fork(alloc, peer.log, chain, line, out),
+        Some(digits) => take_block(files, peer, chain, digits, number, out),
+        None => print_fork(peer.alloc, peer.log, chain, line, out),
     }
 }
 
 /// Commits the block that hex stands for.
 fn take_block<T: Threads + Sync, F: Files, D: Read + Write + Seek + OpenFile + Drop, W: Write>(
-    alloc: Global,
     files: &mut F,
     peer: &Peer<'_, T>,
     chain: &mut StoredChain<D>,
@@ -298,10 +299,10 @@ fn take_block<T: Threads + Sync, F: Files, D: Read + Write + Seek + OpenFile + D
         (EndsHex (rules_of chain.old) (stored_chain chain.old) digits.now)) out.old out.new
         result }
 {
-    match block_of(alloc, digits)? {
-        Ok(block) => receive(alloc, files, peer, chain, block, line, out),
+    match block_of(peer.alloc, digits)? {
+        Ok(block) => receive(files, peer, chain, block, line, out),
         Err(number) => {
-            explain_number(alloc, files, &Location::input(line), number);
+            explain_number(peer.alloc, files, &Location::input(line), number);
             writeln!(out, "refused {number}")?;
             Err(Failure::Printed)
         }
@@ -353,7 +354,6 @@ fn number_of(block: &Block) -> u32
 
 /// Commits a block, and prints what became of it.
 fn receive<T: Threads + Sync, F: Files, D: Read + Write + Seek + OpenFile + Drop, W: Write>(
-    alloc: Global,
     files: &mut F,
     peer: &Peer<'_, T>,
     chain: &mut StoredChain<D>,
@@ -383,7 +383,7 @@ fn receive<T: Threads + Sync, F: Files, D: Read + Write + Seek + OpenFile + Drop
         Ok(Received::Committed) => print_newest(chain, out),
         Ok(Received::Known) => writeln!(out, "known {number}"),
         Err(refusal) => {
-            explain_block(alloc, files, peer.store, line, number, &refusal);
+            explain_block(peer.alloc, files, peer.store, line, number, &refusal);
             Err(end(refusal, out))
         }
     }

@@ -91,18 +91,20 @@ pub fn endorse<T: Threads + Sync, F: Files, W: Write>(
     let tags = &TagChecks::new(workers, &watch);
     let member = Member {
         tags,
+        alloc,
         log,
         org: asked.org,
         store: asked.store,
         agrees: asked.agrees,
     };
-    endorse_after(alloc, files, &member, file, &mut lines, out)
+    endorse_after(files, &member, file, &mut lines, out)
 }
 
 /// An organisation of a log, who checks tags for it, and whether it agrees to amendments.
 #[derive(Drop)]
 struct Member<'a, T, V> {
     tags: &'a TagChecks<'a, T, V>,
+    alloc: Global,
     log: &'a LogGenesis,
     org: &'a OrgName,
     /// The name of the store.
@@ -112,7 +114,6 @@ struct Member<'a, T, V> {
 
 /// Follows the store of a file, and answers each line.
 fn endorse_after<T: Threads + Sync, V: Watch, F: Files, S: Read + Drop, R: Read + Drop, W: Write>(
-    alloc: Global,
     files: &mut F,
     member: &Member<'_, T, V>,
     file: S,
@@ -128,13 +129,12 @@ fn endorse_after<T: Threads + Sync, V: Watch, F: Files, S: Read + Drop, R: Read 
         (S.remaining file) lines.old.left) out.old out.new result }
     ensures kept { F.bytes files.new ≡ F.bytes files.old }
 {
-    let mut follower = follower_of(alloc, &member.log.genesis, member.org.clone()?, file)?;
-    endorse_behind(alloc, files, member, &mut follower, lines, out)
+    let mut follower = follower_of(member.alloc, &member.log.genesis, member.org.clone()?, file)?;
+    endorse_behind(files, member, &mut follower, lines, out)
 }
 
 /// Reads the store to its end, and answers each line.
 fn endorse_behind<T: Threads + Sync, V: Watch, F: Files, S: Read + Drop, R: Read + Drop, W: Write>(
-    alloc: Global,
     files: &mut F,
     member: &Member<'_, T, V>,
     follower: &mut StoreFollower<S>,
@@ -155,13 +155,12 @@ fn endorse_behind<T: Threads + Sync, V: Watch, F: Files, S: Read + Drop, R: Read
         out.old out.new result }
     ensures kept { F.bytes files.new ≡ F.bytes files.old }
 {
-    catch_up(alloc, files, member, follower, out)?;
-    endorse_known(alloc, files, member, follower, lines, out)
+    catch_up(files, member, follower, out)?;
+    endorse_known(files, member, follower, lines, out)
 }
 
 /// Answers each line, where the organisation is known and can tag.
 fn endorse_known<T: Threads + Sync, V: Watch, F: Files, S: Read + Drop, R: Read + Drop, W: Write>(
-    alloc: Global,
     files: &mut F,
     member: &Member<'_, T, V>,
     follower: &mut StoreFollower<S>,
@@ -185,13 +184,12 @@ fn endorse_known<T: Threads + Sync, V: Watch, F: Files, S: Read + Drop, R: Read 
     ensures kept { F.bytes files.new ≡ F.bytes files.old }
 {
     let genesis = &member.log.genesis;
-    need_keys(alloc, files, genesis, member.org, follower, out)?;
-    endorse_lines(alloc, files, member, follower, lines, out)
+    need_keys(member.alloc, files, genesis, member.org, follower, out)?;
+    endorse_lines(files, member, follower, lines, out)
 }
 
 /// Reads the store on.
 fn catch_up<T: Threads + Sync, V: Watch, F: Files, S: Read + Drop, W: Write>(
-    alloc: Global,
     files: &mut F,
     member: &Member<'_, T, V>,
     follower: &mut StoreFollower<S>,
@@ -217,7 +215,7 @@ fn catch_up<T: Threads + Sync, V: Watch, F: Files, S: Read + Drop, W: Write>(
     match follower.catch_up(member.tags) {
         Ok(()) => Ok(()),
         Err(refusal) => {
-            explain_store(alloc, files, member.store, Access::Read, &refusal);
+            explain_store(member.alloc, files, member.store, Access::Read, &refusal);
             Err(end(refusal, out))
         }
     }
@@ -319,7 +317,6 @@ fn follower_of<S: Read + Drop>(
 
 /// Answers each line.
 fn endorse_lines<T: Threads + Sync, V: Watch, F: Files, S: Read + Drop, R: Read + Drop, W: Write>(
-    alloc: Global,
     files: &mut F,
     member: &Member<'_, T, V>,
     follower: &mut StoreFollower<S>,
@@ -341,11 +338,11 @@ fn endorse_lines<T: Threads + Sync, V: Watch, F: Files, S: Read + Drop, R: Read 
     ensures kept { F.bytes files.new ≡ F.bytes files.old }
 {
     for number in 1..u64::MAX {
-        let there = lines.read_explained(alloc, files)?;
+        let there = lines.read_explained(member.alloc, files)?;
         if !there {
             return Ok(());
         }
-        take_line(alloc, files, member, follower, lines.line(), number, out)?;
+        take_line(files, member, follower, lines.line(), number, out)?;
         hand_on(lines, out)?;
     }
     // So many lines no input has.
@@ -354,7 +351,6 @@ fn endorse_lines<T: Threads + Sync, V: Watch, F: Files, S: Read + Drop, R: Read 
 
 /// Reads the store on, and answers the line of this number.
 fn take_line<T: Threads + Sync, V: Watch, F: Files, S: Read + Drop, W: Write>(
-    alloc: Global,
     files: &mut F,
     member: &Member<'_, T, V>,
     follower: &mut StoreFollower<S>,
@@ -380,13 +376,12 @@ fn take_line<T: Threads + Sync, V: Watch, F: Files, S: Read + Drop, W: Write>(
         (bytes_read follower.old) line.now (bytes_read follower.new)) out.old out.new result }
     ensures kept { F.bytes files.new ≡ F.bytes files.old }
 {
-    catch_up(alloc, files, member, follower, out)?;
-    answer_line(alloc, files, member, follower, line, number, out)
+    catch_up(files, member, follower, out)?;
+    answer_line(files, member, follower, line, number, out)
 }
 
 /// Answers the line of this number.
 fn answer_line<T, V, F: Files, S: Read + Drop, W: Write>(
-    alloc: Global,
     files: &mut F,
     member: &Member<'_, T, V>,
     follower: &StoreFollower<S>,
@@ -408,15 +403,14 @@ fn answer_line<T, V, F: Files, S: Read + Drop, W: Write>(
     match asked_block(follower, line) {
         Some(block) => {
             let standing = follower.standing()?;
-            print_seen(alloc, member, &standing, block, out)
+            print_seen(member, &standing, block, out)
         }
-        None => answer_other(alloc, files, member, follower, line, number, out),
+        None => answer_other(files, member, follower, line, number, out),
     }
 }
 
 /// The same of one that asks for no block of the store.
 fn answer_other<T, V, F: Files, S: Read + Drop, W: Write>(
-    alloc: Global,
     files: &mut F,
     member: &Member<'_, T, V>,
     follower: &StoreFollower<S>,
@@ -435,11 +429,11 @@ fn answer_other<T, V, F: Files, S: Read + Drop, W: Write>(
     ensures nothing { OnErr result (PrintsNothing out.old out.new) }
     ensures kept { F.bytes files.new ≡ F.bytes files.old }
 {
-    match proposal_of(alloc, line) {
-        Ok(proposal) => answer(alloc, files, member, follower, &proposal, number, out),
+    match proposal_of(member.alloc, line) {
+        Ok(proposal) => answer(files, member, follower, &proposal, number, out),
         Err(BadLine::Memory) => Err(Failure::Memory),
         Err(BadLine::NoForm) => {
-            explain_proposal(alloc, files, number, line);
+            explain_proposal(member.alloc, files, number, line);
             writeln!(out, "bad line {number}")
         }
     }
@@ -462,7 +456,6 @@ fn asked_block<'a, S: Read + Drop>(
 /// Prints which hash the header of an organisation's block has, and its signature of that, where it
 /// stands with a public key whose seed is at hand.
 fn print_seen<T, V, W: Write>(
-    alloc: Global,
     member: &Member<'_, T, V>,
     standing: &Standing<'_>,
     block: &CommittedBlock,
@@ -478,9 +471,9 @@ fn print_seen<T, V, W: Write>(
 {
     let (log, org, header) = (member.log, member.org, &block.block().header);
     let (number, hash) = (header.number.get(), header_hash(header));
-    let signed = seen_bytes(alloc, &log.digest, number, &hash)?;
+    let signed = seen_bytes(member.alloc, &log.digest, number, &hash)?;
     let tag = tag_of(standing, &log.genesis.signers, org, &signed);
-    print_said(alloc, org, header, &hash, tag, out)
+    print_said(member.alloc, org, header, &hash, tag, out)
 }
 
 /// Prints that an organisation says that the header of its block has this hash, and what it put on
@@ -536,7 +529,6 @@ fn proposal_of(alloc: Global, line: &[u8]) -> Result<Proposal, BadLine>
 /// Endorses the proposal of the line of this number, and prints the endorsement or the refusal. An
 /// amendment is not looked at where the organisation does not agree.
 fn answer<T, V, F: Files, S: Read + Drop, W: Write>(
-    alloc: Global,
     files: &mut F,
     member: &Member<'_, T, V>,
     follower: &StoreFollower<S>,
@@ -554,12 +546,12 @@ fn answer<T, V, F: Files, S: Read + Drop, W: Write>(
     ensures kept { F.bytes files.new ≡ F.bytes files.old }
 {
     if is_passed_over(member.agrees, proposal) {
-        explain_number(alloc, files, &Location::input(number), 409);
+        explain_number(member.alloc, files, &Location::input(number), 409);
         return writeln!(out, "refused 409");
     }
     match follower.endorse(proposal) {
-        Ok((payload, endorsement)) => print_endorsed(alloc, &payload, &endorsement, out),
-        Err(refusal) => print_refused(alloc, files, refusal, number, out),
+        Ok((payload, endorsement)) => print_endorsed(member.alloc, &payload, &endorsement, out),
+        Err(refusal) => print_refused(member.alloc, files, refusal, number, out),
     }
 }
 

@@ -8,7 +8,7 @@ use Rattle.cli_query.proofs.querying.answer.Goals as goal
 pub returns-clause-prints : goal.returns-clause-prints
 returns-clause-prints g c =
     let said = string_bytes c.in_ok-text.text in
-    prints_so (IsPrinted c.args.genesis.now c.args.snapshot.now c.args.line.now c.args.number) c.args.out.now c.writeln.new.self c.writeln.result (line said)
+    prints_so (IsPrinted c.args.asked.now.genesis.now c.args.snapshot.now c.args.line.now c.args.number) c.args.out.now c.writeln.new.self c.writeln.result (line said)
     c.writeln.ensures.prints (said, c.in_ok-text.ensures, refl)
 
 pub returns-in_err-text-clause-nothing : goal.returns-in_err-text-clause-nothing
