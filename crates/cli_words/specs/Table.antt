@@ -25,12 +25,4 @@ row_of_tuple r = record { name = r.0.now; words = texts r.1.now; options = pairs
 
 -- all commands
 unfoldable pub table : List TableRow
-table =
-    map
-    (λ r. record {
-      name = r.0.now;
-      words = map (λ word. word.now) r.1.now;
-      options = map (λ pair. (pair.0.now, pair.1.now)) r.2.now;
-      does = r.3.now;
-    })
-    COMMANDS
+table = map row_of_tuple COMMANDS
