@@ -1,6 +1,6 @@
 -- Which modules a rerun of a chain needs.
-use Rattle.std.specs.Prelude.{ℕ, Bool, false, not, ◌&&◌, ◌||◌, List, [], ◌∷◌, Option, option_map}
-use Rattle.std.specs.List.{find}
+use Rattle.std.specs.Prelude.{ℕ, Bool, false, not, ◌&&◌, List, Option, option_map}
+use Rattle.std.specs.List.{find, list_any, zip}
 use Rattle.fab_types.specs.declared.envelope.Envelope.{Envelope}
 use Rattle.fab_types.specs.declared.proposal.Proposal.{Proposal}
 use Rattle.fab_types.specs.declared.proposal.Proposal.TheVariants as proposal
@@ -16,9 +16,7 @@ needs_module book (proposal.Amend a) = false
 
 -- of these transactions with their flags, a VALID one is such an upgrade
 abbrev pub need_module : Book → List Envelope → List Flag → Bool
-need_module book [] flags = false
-need_module book (e ∷ es) [] = false
-need_module book (e ∷ es) (f ∷ fs) = (is_valid f && needs_module book e.payload.proposal) || need_module book es fs
+need_module book es fs = list_any (λ (t : Envelope × Flag). is_valid t.1 && needs_module book t.0.payload.proposal) (zip es fs)
 
 abbrev pub block_needs_module : Book → Committed → Bool
 block_needs_module book c = need_module book c.block.envelopes c.flags
