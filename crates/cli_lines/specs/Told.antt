@@ -4,14 +4,19 @@ use Rattle.std.specs.Io.KnownBytes.{Appends}
 use Rattle.cli_lines.specs.declared.failure.Failure.{Failure}
 use Rattle.cli_lines.specs.declared.failure.Failure.TheVariants as failure
 
--- how many texts were printed, whether one could not be, and all that the writer holds, where that is known
+-- how many texts were printed, whether one could not be, whether one waits to be handed on, and all that the writer holds, where that is known
 pub record Told : Type 0 where
   pub printed : ℕ
   pub failed : Bool
+  pub waits : Bool
   pub bytes : Option (List ℕ)
 
 abbrev pub nothing_told : Option (List ℕ) → Told
-nothing_told bytes = record { printed = 0; failed = false; bytes = bytes }
+nothing_told bytes = record { printed = 0; failed = false; waits = false; bytes = bytes }
+
+-- no text waits, unless one could not be printed or handed on
+abbrev pub IsHandedOn : Told → Type 0
+IsHandedOn told = told.failed ≡ false → told.waits ≡ false
 
 -- nothing of it is taken back
 pub record IsMore (before after : Told) : Type 0 where

@@ -1,6 +1,6 @@
 //! Where lines are printed.
 
-ghost use Rattle.std.specs.Prelude.{◌≡◌, ◌<◌, true, IfErr, IfSome, OnOk, OnErr};
+ghost use Rattle.std.specs.Prelude.{◌≡◌, ◌<◌, true, false, IfErr, IfSome, OnOk, OnErr};
 ghost use Rattle.std.specs.Io.KnownBytes.{Appends, Keeps};
 ghost use Rattle.cli_lines.specs.Told.{IsBrokenOff, Prints, PrintsNothing, Says, Tells, Told, nothing_told};
 
@@ -9,13 +9,16 @@ use std::fmt::Display;
 use std::io::{self, ErrorKind, Write};
 use std::marker::Model;
 
-/// A writer on which texts are printed. It keeps how many were, and whether one could not be.
-/// Contracts see this, and the bytes that the writer holds, where they are known.
+/// A writer on which texts are printed. It keeps how many were, whether one could not be, and
+/// whether one waits in the writer. Contracts see this, and the bytes that the writer holds, where
+/// they are known.
 #[derive(Drop)]
 pub struct Printer<'w, W: Write> {
     out: &'w mut W,
     printed: u64,
     has_failed: bool,
+    /// Whether texts were printed since the writer handed on what it held.
+    waits: bool,
 }
 
 impl<'w, W: Write> Model for Printer<'w, W> {
@@ -24,7 +27,12 @@ impl<'w, W: Write> Model for Printer<'w, W> {
     ghost Value = { Told };
 
     ghost view = { λ p.
-        record { printed = p.printed; failed = p.has_failed; bytes = W.contents p.out.now } };
+        record {
+          printed = p.printed;
+          failed = p.has_failed;
+          waits = p.waits;
+          bytes = W.contents p.out.now;
+        } };
 }
 
 impl<'w, W: Write> Printer<'w, W> {
@@ -36,6 +44,7 @@ impl<'w, W: Write> Printer<'w, W> {
             out,
             printed: 0,
             has_failed: false,
+            waits: false,
         }
     }
 
@@ -47,6 +56,7 @@ impl<'w, W: Write> Printer<'w, W> {
         ensures text { OnOk result
             (IfSome (D.output text) (Appends self.old.bytes self.new.bytes)) }
         ensures prints { OnOk result (IfSome (D.output text) (Prints self.old self.new)) }
+        ensures waits { OnOk result (self.new.waits ≡ true) }
         ensures failed { OnErr result (self.new.failed ≡ true) }
         ensures nothing { OnErr result (PrintsNothing self.old self.new) }
         ensures lost { IfErr result IsBrokenOff }
@@ -55,6 +65,7 @@ impl<'w, W: Write> Printer<'w, W> {
             self.has_failed = true;
             return Err(Failure::Output);
         };
+        self.waits = true;
         match self.out.write_fmt(text) {
             Ok(()) => {
                 self.printed = printed;
@@ -72,12 +83,16 @@ impl<'w, W: Write> Printer<'w, W> {
         ensures tells { Tells self.old self.new result }
         ensures printed { self.new.printed ≡ self.old.printed }
         ensures bytes { Keeps self.old.bytes self.new.bytes }
+        ensures handed_on { OnOk result (self.new.waits ≡ false) }
         ensures failed { OnErr result (self.new.failed ≡ true) }
         ensures nothing { OnErr result (PrintsNothing self.old self.new) }
         ensures lost { IfErr result IsBrokenOff }
     {
         match self.out.flush() {
-            Ok(()) => Ok(()),
+            Ok(()) => {
+                self.waits = false;
+                Ok(())
+            }
             Err(error) => {
                 self.has_failed = true;
                 Err(reason(&error))

@@ -6,6 +6,7 @@ ghost use Rattle.cli_program.specs.Ends.{CarriesOut, Ends, PrintsLast, failure_s
 ghost use Rattle.cli_program.specs.Leaving.{KeepsFiles, Leaves, LeavesFiles};
 ghost use Rattle.cli_session.specs.Whole.{RunBegins};
 ghost use Rattle.cli_program.specs.Tasks.{Comes, IsPart, Runs, WithGenesis, Works, known_files};
+ghost use Rattle.cli_lines.specs.Told.{IsHandedOn};
 
 use crate::opening::{opened, order_log};
 use crate::public::public;
@@ -56,6 +57,7 @@ pub fn program<R: Threads + Wait + Sync + Send + Copy + 'static, F: Files, W: Wr
     ensures told { 0 < result → IsTold out.old out.new }
     ensures lost { out.old.failed ≡ false → out.new.failed ≡ true → result ≡ 1 }
     ensures more { IsMore out.old out.new }
+    ensures handed_on { IsHandedOn out.new }
     // What the words ask for is done, where each text could be printed and handed on.
     ensures answers { out.new.failed ≡ false
         → Ends (map string_bytes words.now)
@@ -95,6 +97,7 @@ fn done<W: Write>(out: &mut Printer<'_, W>) -> u8
     ensures lost { out.old.failed ≡ false → out.new.failed ≡ true → result ≡ 1 }
     ensures ended { out.new.failed ≡ false → (result ≡ 0) × Prints out.old out.new [] }
     ensures more { IsMore out.old out.new }
+    ensures handed_on { IsHandedOn out.new }
 {
     if hand_on(out) { 0 } else { 1 }
 }
@@ -110,6 +113,7 @@ fn refused<W: Write>(failure: Failure, out: &mut Printer<'_, W>) -> u8
     ensures ended { out.new.failed ≡ false
         → (result ≡ failure_status failure) × PrintsLast failure out.old out.new }
     ensures more { IsMore out.old out.new }
+    ensures handed_on { IsHandedOn out.new }
 {
     let is_told = tell_and_hand_on(failure, out);
     status_of(failure, is_told)
@@ -123,6 +127,7 @@ fn tell_and_hand_on<W: Write>(failure: Failure, out: &mut Printer<'_, W>) -> boo
     ensures line { result ≡ true → PrintsLast failure out.old out.new }
     ensures lost { result ≡ false → out.new.failed ≡ true }
     ensures more { IsMore out.old out.new }
+    ensures handed_on { IsHandedOn out.new }
 {
     let told = tell(failure, out);
     let is_handed_on = hand_on(out);
@@ -157,6 +162,7 @@ fn hand_on<W: Write>(out: &mut Printer<'_, W>) -> bool
     ensures more { IsMore out.old out.new }
     ensures kept { result ≡ true → Prints out.old out.new [] }
     ensures lost { result ≡ false → out.new.failed ≡ true }
+    ensures handed_on { IsHandedOn out.new }
 {
     match out.flush() {
         Ok(()) => true,

@@ -42,12 +42,13 @@ none_further [] none = All-nil IsNoEnd
 none_further (x ∷ xs) none = none_through (x == 10) x xs refl (none_further xs) none
 
 -- what was read through the first end is a line, or no line is left
-pub next_is : (there : Bool) (last kept read : List ℕ) (a c : Option (List ℕ)) → StopsAt read 10 → Consumes a c read →
-    IfSome a (λ xs. read ≡ take_through 10 xs) → IsEnded there read kept → IsNext there (record { last = last; left = a }) (record { last = kept; left = c })
-next_is true last kept read a c stops eats all ended =
+pub next_is : (there : Bool) (last kept read : List ℕ) (a c : Option (List ℕ)) (p q : List ℕ) → StopsAt read 10 → Consumes a c read →
+    IfSome a (λ xs. read ≡ take_through 10 xs) → IsEnded there read kept →
+    IsNext there (record { last = last; left = a; ahead = p }) (record { last = kept; left = c; ahead = q })
+next_is true last kept read a c p q stops eats all ended =
     (none_before kept (subst (λ (l : List ℕ). StopsAt l 10) ended stops), subst (Consumes a c) ended eats)
-next_is false last kept read None c stops eats all ended = tt
-next_is false last kept read (Some xs) c stops eats all ended = none_further xs (subst HasNoEnd all (none_at_all read stops ended))
+next_is false last kept read None c p q stops eats all ended = tt
+next_is false last kept read (Some xs) c p q stops eats all ended = none_further xs (subst HasNoEnd all (none_at_all read stops ended))
 
 -- ---- line by line
 

@@ -1,14 +1,19 @@
 -- The lines of the standard input, each of which ends with a byte 10. What stands behind the last end may be a part of a line, and is none.
-use Rattle.std.specs.Prelude.{◌≡◌, ◌≢◌, ◌-◌, ◌++◌, ℕ, Bool, true, false, List, Option, IfSome, All, length, slice_index}
+use Rattle.std.specs.Prelude.{◌≡◌, ◌≢◌, ◌==◌, ◌-◌, ◌++◌, ℕ, Bool, true, false, List, Option, IfSome, All, length, slice_index}
 use Rattle.std.specs.Io.KnownBytes.{Consumes}
-use Rattle.std.specs.List.{flat_map}
+use Rattle.std.specs.List.{flat_map, list_any}
 use Rattle.cli_lines.specs.Texts.{line}
 use Rattle.cli_lines.specs.Told.{IsHeld}
 
--- the line that was read last, and the bytes behind it, where they are known
+-- the line that was read last, the bytes behind it, where they are known, and those of them that were read with it
 pub record Input : Type 0 where
   pub last : List ℕ
   pub left : Option (List ℕ)
+  pub ahead : List ℕ
+
+-- a further line was read with the last one
+abbrev pub is_at_hand : Input → Bool
+is_at_hand input = list_any (λ b. b == 10) input.ahead
 
 -- no line ends in these bytes
 abbrev pub HasNoEnd : List ℕ → Type 0

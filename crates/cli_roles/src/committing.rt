@@ -1,6 +1,6 @@
 //! The command `commit`.
 
-ghost use Rattle.std.specs.Prelude.{◌≡◌, ◌+◌, ◌∷◌, [], ◌++◌, IfErr, IfOk, OnErr, OnOk, length, option_map};
+ghost use Rattle.std.specs.Prelude.{◌≡◌, ◌+◌, ◌∷◌, [], ◌++◌, false, IfErr, IfOk, OnErr, OnOk, length, option_map};
 ghost use Rattle.fab_types.specs.BlockSpelling.{block_bytes};
 ghost use Rattle.fab_types.specs.BlockWithin.{IsBlock};
 ghost use Rattle.fab_types.specs.Committed.{Committed};
@@ -169,6 +169,7 @@ fn print_opened<W: Write>(
     ensures tells { Tells out.old out.new result }
     ensures prints { OnOk result (Prints out.old out.new (opened_text cut height)) }
     ensures part { OnErr result (PrintsPart out.old out.new (opened_text cut height)) }
+    ensures handed_on { OnOk result (out.new.waits ≡ false) }
     ensures lost { IfErr result IsBrokenOff }
 {
     print_cut(cut, out)?;

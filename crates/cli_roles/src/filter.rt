@@ -1,8 +1,9 @@
 //! What filters over lines have in common.
 
-ghost use Rattle.std.specs.Prelude.{ℕ, List, OnErr, OnOk, IfErr};
+ghost use Rattle.std.specs.Prelude.{◌≡◌, ℕ, List, false, OnErr, OnOk, IfErr};
 ghost use Rattle.cli_lines.specs.Told.{IsBrokenOff, IsMore, Prints, PrintsNothing, Says, Tells, Told};
 ghost use Rattle.cli_roles.specs.Filters.{IsEndedBy};
+ghost use Rattle.cli_roles.specs.Input.{is_at_hand};
 ghost use Rattle.log_store.specs.Refusals.{store_text};
 
 use crate::input::InputLines;
@@ -30,6 +31,7 @@ pub fn hand_on<R: Read + Drop, W: Write>(
     ensures tells { Tells out.old out.new result }
     ensures kept { (before : Told) (text : List ℕ) → Prints before out.old text →
         OnOk result (Prints before out.new text) }
+    ensures handed_on { is_at_hand lines.now ≡ false → OnOk result (out.new.waits ≡ false) }
     ensures nothing { OnErr result (PrintsNothing out.old out.new) }
     ensures lost { IfErr result IsBrokenOff }
 {

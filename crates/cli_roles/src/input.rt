@@ -2,7 +2,7 @@
 
 ghost use Rattle.std.specs.Prelude.{◌≡◌, IfErr, IfOk};
 ghost use Rattle.cli_lines.specs.Told.{IsBrokenOff, IsSilent};
-ghost use Rattle.cli_roles.specs.Input.{IsEnded, IsNext};
+ghost use Rattle.cli_roles.specs.Input.{IsEnded, IsNext, is_at_hand};
 
 use cli_lines::{Failure, Files, Location, STANDARD_INPUT, explain_numbered};
 use std::alloc::Global;
@@ -15,8 +15,8 @@ const CAPACITY: usize = 65_536;
 /// What is wrong where it fails.
 const NOT_READ: &str = "it cannot be read to its end";
 
-/// A reader of lines. Contracts see the line that was read last, and the bytes behind it, where they
-/// are known.
+/// A reader of lines. Contracts see the line that was read last, the bytes behind it, where they
+/// are known, and those of them that were read with it.
 #[derive(Drop)]
 pub struct InputLines<R: Read> {
     input: BufReader<R>,
@@ -24,13 +24,17 @@ pub struct InputLines<R: Read> {
 }
 
 impl<R: Read> Model for InputLines<R> {
-    ghost use Rattle.std.specs.Io.Buffered.{reader_remaining};
+    ghost use Rattle.std.specs.Io.Buffered.{reader_buffer, reader_remaining};
     ghost use Rattle.cli_roles.specs.Input.{Input};
 
     ghost Value = { Input };
 
     ghost view = { λ lines.
-        record { last = lines.line.items; left = reader_remaining R.remaining lines.input } };
+        record {
+          last = lines.line.items;
+          left = reader_remaining R.remaining lines.input;
+          ahead = reader_buffer lines.input;
+        } };
 }
 
 impl<R: Read + Drop> InputLines<R> {
@@ -83,7 +87,9 @@ impl<R: Read + Drop> InputLines<R> {
     }
 
     /// Whether a further line was read with the last one.
-    pub fn is_at_hand(&self) -> bool {
+    pub fn is_at_hand(&self) -> bool
+        ensures { result ≡ is_at_hand self.now }
+    {
         self.input.buffer().contains(&b'\n')
     }
 }
