@@ -12,6 +12,7 @@
 
 ghost use Rattle.std.specs.Prelude.{◌≡◌, [], true, false, Some, map, string_bytes};
 ghost use Rattle.cli_program.specs.Ends.{Ends};
+ghost use Rattle.cli_program.specs.Leaving.{KeepsFiles};
 ghost use Rattle.cli_program.specs.Tasks.{known_files};
 ghost use Rattle.cli_cases.specs.Memory.{bytes_in};
 
@@ -45,10 +46,12 @@ fn in_memory<R: Threads + Wait + Sync + Send + Copy + 'static>(
     out: &mut Printer<'_, Vec<u8>>,
 ) -> u8
     // The bytes of its files, of its input and of its output are known.
-    ensures { out.new.failed ≡ false
+    ensures answers { out.new.failed ≡ false
         → Ends (map string_bytes words.now)
         (known_files true (bytes_in files.old) (bytes_in files.new) (Some [])) out.old out.new
         result }
+    ensures files { KeepsFiles true (map string_bytes words.now) (bytes_in files.old)
+        (bytes_in files.new) }
 {
     program(rt, alloc, words, files, out)
 }

@@ -1,6 +1,7 @@
 //! Files in memory, of which every byte is known.
 
-ghost use Rattle.std.specs.Prelude.{◌≡◌, Some, IfOk, OnOk};
+ghost use Rattle.std.specs.Prelude.{◌≡◌, ◌∷◌, [], true, Some, IfOk, OnOk};
+ghost use Rattle.cli_lines.specs.Places.{ChangesOnly};
 ghost use Rattle.cli_cases.specs.Memory.{bytes_in};
 
 use crate::memory::MemoryFile;
@@ -42,7 +43,8 @@ impl MemoryFiles {
 
     /// Gives a file of a name these bytes, in the place of one that has it.
     fn put(&mut self, name: &str, bytes: Vec<u8>) -> Result<(), AllocError>
-        ensures { OnOk result (bytes_in self.new name.now ≡ Some bytes.items) }
+        ensures put { OnOk result (bytes_in self.new name.now ≡ Some bytes.items) }
+        ensures others { ChangesOnly true (name.now ∷ []) (bytes_in self.old) (bytes_in self.new) }
     {
         let name = String::from_str(self.alloc, name)?;
         self.by_name.insert(name, bytes)?;

@@ -1,7 +1,16 @@
--- Where that goes which is written under a name.
-use Rattle.std.specs.Prelude.{◌≡◌, ℕ, List, string_bytes}
+-- What files hold, and where that goes which is written under a name.
+use Rattle.std.specs.Prelude.{◌≡◌, ◌≢◌, ℕ, Bool, true, List, Option, string_bytes}
+use Rattle.std.specs.List.{AllByRecursion}
 use Rattle.cli_lines.specs.declared.files.Target.{Target}
 use Rattle.cli_lines.specs.declared.files.Target.TheVariants.{File, NewFile, Device}
+
+-- what the file of each name holds, where that is known
+abbrev pub FilesHeld : Type 0
+FilesHeld = List ℕ → Option (List ℕ)
+
+-- where it is known what is written, each file but those of these names holds what it held
+abbrev pub ChangesOnly : (known : Bool) → (names : List (List ℕ)) → (before after : FilesHeld) → Type 0
+ChangesOnly known names before after = known ≡ true → (name : List ℕ) → AllByRecursion (λ n. name ≢ n) names → after name ≡ before name
 
 -- to a file of this name
 abbrev pub IsFileOf : List ℕ → Target → Type 0

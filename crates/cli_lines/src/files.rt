@@ -1,7 +1,7 @@
 //! The files that the program is given.
 
-ghost use Rattle.std.specs.Prelude.{◌≡◌, ℕ, Bool, true, false, [], List, Option, Some, None, IfSome, IfOk, IsTrue, OnOk, take};
-ghost use Rattle.cli_lines.specs.Places.{IsFileOf};
+ghost use Rattle.std.specs.Prelude.{◌≡◌, ◌∷◌, ℕ, Bool, true, false, [], List, Option, Some, None, IfSome, IfOk, IsTrue, OnOk, take};
+ghost use Rattle.cli_lines.specs.Places.{ChangesOnly, FilesHeld, IsFileOf};
 ghost use Rattle.cli_lines.specs.Told.{IsHeld};
 
 use std::alloc::{AllocError, Global};
@@ -25,12 +25,13 @@ pub trait Files {
     type Watch: Watch + Drop;
 
     /// The bytes of the file of a name, where they are known.
-    ghost bytes: { Self → List ℕ → Option (List ℕ) } = { λ _ _. None };
+    ghost bytes: { Self → FilesHeld } = { λ _ _. None };
 
     /// The bytes of the standard input, from where it was read to, where they are known.
     ghost input_bytes: { Self → Option (List ℕ) } = { λ _. None };
 
-    /// Whether what is written is known. Then no name is a link's or a device's.
+    /// Whether what is written is known. Then no name is a link's or a device's, and no two lead to
+    /// one file.
     ghost is_known: { Bool } = { false };
 
     /// Opens a file for reading, from its first byte on. None where it cannot be opened.
@@ -55,36 +56,44 @@ pub trait Files {
 
     /// Takes the file of a name for the program alone. None where that cannot be done, and where
     /// another one has the file so, by `open_store` too.
-    fn lock(&mut self, name: &str) -> Option<Self::Lock>;
+    fn lock(&mut self, name: &str) -> Option<Self::Lock>
+        ensures kept { bytes self.new ≡ bytes self.old };
 
     /// Makes an empty file of a name that no file has, and takes it as `lock` does. None where that
     /// cannot be done.
-    fn lock_new(&mut self, name: &str) -> Option<Self::Lock>;
+    fn lock_new(&mut self, name: &str) -> Option<Self::Lock>
+        ensures others { ChangesOnly is_known (name.now ∷ []) (bytes self.old) (bytes self.new) };
 
     /// Makes a file for writing, in the place of a file of that name, and takes it as `lock` does.
     /// None where that cannot be done, where anything but a file has the name, and where another one
     /// has that file.
     fn create(&mut self, name: &str) -> Option<Self::Writer>
-        ensures { is_known ≡ true → IfSome result (λ w. Self.Writer.contents w ≡ Some []) };
+        ensures empty { is_known ≡ true → IfSome result (λ w. Self.Writer.contents w ≡ Some []) }
+        ensures others { ChangesOnly is_known (name.now ∷ []) (bytes self.old) (bytes self.new) };
 
     /// Opens a device or a pipe for writing. None where that cannot be done.
-    fn open_device(&mut self, name: &str) -> Option<Self::Writer>;
+    fn open_device(&mut self, name: &str) -> Option<Self::Writer>
+        ensures kept { bytes self.new ≡ bytes self.old };
 
     /// Closes a file that was made for writing and gives it another name, in the place of a file
     /// that has it. Answers whether that was done.
     fn keep(&mut self, writer: Self::Writer, from: &str, to: &str) -> bool
-        ensures { is_known ≡ true → IsTrue result
-            → bytes self.new to.now ≡ Self.Writer.contents writer };
+        ensures moved { is_known ≡ true → IsTrue result
+            → bytes self.new to.now ≡ Self.Writer.contents writer }
+        ensures others { ChangesOnly is_known (from.now ∷ to.now ∷ []) (bytes self.old)
+            (bytes self.new) };
 
     /// Takes a file away, where that can be done.
-    fn remove(&mut self, name: &str);
+    fn remove(&mut self, name: &str)
+        ensures others { ChangesOnly is_known (name.now ∷ []) (bytes self.old) (bytes self.new) };
 
     /// Opens a file for reading, from its first byte on, and for writing at its end, and makes it
     /// where there is none. The program has it for itself alone. None where that cannot be done,
     /// and where another one has the file so, by `lock` too.
     fn open_store(&mut self, name: &str) -> Option<Self::Store>
         ensures read { IfSome result (λ s. Self.Store.remaining s ≡ bytes self.old name.now) }
-        ensures input { input_bytes self.new ≡ input_bytes self.old };
+        ensures input { input_bytes self.new ≡ input_bytes self.old }
+        ensures others { ChangesOnly is_known (name.now ∷ []) (bytes self.old) (bytes self.new) };
 
     /// The standard input, from where it was read to.
     fn input(&mut self) -> Self::Input

@@ -1,6 +1,6 @@
 -- What tasks come to by what is known of files.
 use Rattle.std.proofs.Common.{◌≡◌, ℕ, List, Bool, Option, ap, sym, ◌∙◌}
-use Rattle.cli_program.specs.Opening.{FilesHeld}
+use Rattle.cli_lines.specs.Places.{FilesHeld}
 use Rattle.cli_program.specs.Tasks.{known_files}
 
 -- where the files hold behind a step what they held before it

@@ -1,20 +1,21 @@
 -- Tasks that leave files as they were.
-use Rattle.std.proofs.Common.{◌≡◌, Option, Some, None, refl}
+use Rattle.std.proofs.Common.{◌≡◌, ◌∷◌, ℕ, Bool, List, [], Option, Some, None, IfSome, refl}
 use Rattle.std.specs.Borrow.{Bor}
-use Rattle.std.specs.Prelude.{ℕ, List}
+use Rattle.cli_lines.specs.Places.{ChangesOnly, FilesHeld}
+use Rattle.cli_lines.proofs.Changes.{changes_none}
 use Rattle.cli_words.specs.declared.task.Work.{Work}
 use Rattle.cli_words.specs.declared.task.Work.TheVariants as work
+use Rattle.cli_session.specs.Stored.{store_names}
 use Rattle.cli_program.specs.Leaving.{Leaves}
-use Rattle.cli_program.specs.Opening.{FilesHeld}
 
-pub leaves_all : (w : Work) (before after : FilesHeld) → after ≡ before → Leaves w before after
-leaves_all (work.Run events None) before after same = same
-leaves_all (work.Run events (Some store)) before after same = tt
-leaves_all (work.Commit store) before after same = tt
-leaves_all w before after same = same
+pub leaves_all : (known : Bool) (w : Work) (before after : FilesHeld) → after ≡ before → Leaves known w before after
+leaves_all known (work.Run events None) before after same = same
+leaves_all known (work.Run events (Some store)) before after same = changes_none known (store_names store.now) before after same
+leaves_all known (work.Commit store) before after same = changes_none known (store.now ∷ []) before after same
+leaves_all known w before after same = same
 
--- a run without a store does
-pub leaves_run : (events : Bor (List ℕ)) (store : Option (Bor (List ℕ))) (before after : FilesHeld) → (store ≡ None → after ≡ before) →
-    Leaves (work.Run events store) before after
-leaves_run events None before after kept = kept refl
-leaves_run events (Some store) before after kept = tt
+-- a run leaves all files where it has no store, and else all but that
+pub leaves_run : (known : Bool) (events : Bor (List ℕ)) (store : Option (Bor (List ℕ))) (before after : FilesHeld) → (store ≡ None → after ≡ before) →
+    IfSome store (λ s. ChangesOnly known (store_names s.now) before after) → Leaves known (work.Run events store) before after
+leaves_run known events None before after kept others = kept refl
+leaves_run known events (Some store) before after kept others = others

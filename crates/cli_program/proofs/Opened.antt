@@ -11,7 +11,7 @@ use Rattle.cli_lines.specs.Sealing.{HasSeeds, IsNoKeyFile}
 use Rattle.cli_lines.specs.declared.failure.Failure.{Failure}
 use Rattle.cli_roles.specs.declared.log_genesis.LogGenesis.{LogGenesis}
 use Rattle.cli_words.specs.declared.task.Beginning.{Beginning}
-use Rattle.cli_program.specs.Opening.{FileHeld, FilesHeld, HasKeys, IsOpened, IsNotOpened, Signs, SpellsWith}
+use Rattle.cli_program.specs.Opening.{FileHeld, HasKeys, IsOpened, IsNotOpened, Signs, SpellsWith}
 
 -- with no key file
 pub opened_alone : (held : Option (List ℕ)) (modules keys : FileHeld) (bytes : List ℕ) (log : LogGenesis) → keys ≡ None → IsHeld held bytes →

@@ -6,16 +6,13 @@ use Rattle.sha2.specs.Sha256.{sha256}
 use Rattle.chaincode_book.specs.declared.book.Held.{Held}
 use Rattle.ledger_setting.specs.declared.genesis.Genesis.{Genesis}
 use Rattle.json_genesis.specs.Spelling.{Spells, SpellsHolding, SpellsModules}
+use Rattle.cli_lines.specs.Places.{FilesHeld}
 use Rattle.cli_lines.specs.Told.{IsBrokenOff, IsHeld}
 use Rattle.cli_lines.specs.Sealing.{HasSeeds, IsNoKeyFile}
 use Rattle.cli_lines.specs.Opening.{AreNoModules, IsNoGenesis}
 use Rattle.cli_lines.specs.declared.failure.Failure.{Failure}
 use Rattle.cli_roles.specs.declared.log_genesis.LogGenesis.{LogGenesis}
 use Rattle.cli_words.specs.declared.task.Beginning.{Beginning}
-
--- what the file of each name holds, where that is known
-abbrev pub FilesHeld : Type 0
-FilesHeld = List ℕ → Option (List ℕ)
 
 -- what is known of a file, where one is named
 abbrev pub FileHeld : Type 0

@@ -1,6 +1,7 @@
 -- What the program's tasks come to.
 use Rattle.std.specs.Prelude.{◌≡◌, ◌⊎◌, ℕ, Bool, List, [], Option, None, Result, Err, option_map}
 use Rattle.ledger_setting.specs.declared.genesis.Genesis.{Genesis}
+use Rattle.cli_lines.specs.Places.{FilesHeld}
 use Rattle.cli_lines.specs.Told.{Told, Answers, Begins, IsTextOf}
 use Rattle.cli_lines.specs.declared.failure.Failure.{Failure}
 use Rattle.cli_words.specs.declared.task.Beginning.{Beginning}
@@ -27,7 +28,7 @@ use Rattle.cli_show.specs.Version.{Versions}
 use Rattle.cli_session.specs.Stored.{HoldsAsked}
 use Rattle.cli_session.specs.Whole.{ComesTo, RunBegins}
 use Rattle.cli_program.specs.Keys.{Publishes}
-use Rattle.cli_program.specs.Opening.{FilesHeld, IsOpened, IsNotOpened, Opens, NotOpens}
+use Rattle.cli_program.specs.Opening.{IsOpened, IsNotOpened, Opens, NotOpens}
 use Rattle.cli_program.specs.Seats.{RunsSeats}
 use Rattle.cli_program.specs.Verdicts.{verdict_answer}
 

@@ -1,9 +1,11 @@
 //! The program, but for the machine that it runs on.
 
-ghost use Rattle.std.specs.Prelude.{◌≡◌, ◌<◌, [], true, false, None, OnErr, OnOk, map, option_map, string_bytes};
+ghost use Rattle.std.specs.Prelude.{◌≡◌, ◌<◌, [], true, false, None, IfSome, OnErr, OnOk, map, option_map, string_bytes};
+ghost use Rattle.cli_lines.specs.Places.{ChangesOnly};
 ghost use Rattle.cli_lines.specs.Told.{Answers, Begins, IsMore, IsTold, Prints, Says, Tells, Told};
 ghost use Rattle.cli_program.specs.Ends.{CarriesOut, Ends, PrintsLast, failure_status};
 ghost use Rattle.cli_program.specs.Leaving.{KeepsFiles, Leaves, LeavesFiles};
+ghost use Rattle.cli_session.specs.Stored.{store_names};
 ghost use Rattle.cli_session.specs.Whole.{RunBegins};
 ghost use Rattle.cli_program.specs.Tasks.{Comes, IsPart, Runs, WithGenesis, Works, known_files};
 ghost use Rattle.cli_lines.specs.Told.{IsHandedOn};
@@ -63,8 +65,9 @@ pub fn program<R: Threads + Wait + Sync + Send + Copy + 'static, F: Files, W: Wr
         → Ends (map string_bytes words.now)
         (known_files F.is_known (F.bytes files.old) (F.bytes files.new)
         (F.input_bytes files.old)) out.old out.new result }
-    // Only a run with a store and a commit write files.
-    ensures files { KeepsFiles (map string_bytes words.now) (F.bytes files.old)
+    // Only a run with a store and a commit write files, and none but the store's, where it is known
+    // what is written.
+    ensures files { KeepsFiles F.is_known (map string_bytes words.now) (F.bytes files.old)
         (F.bytes files.new) }
 {
     match carry_out(Machine { rt, alloc }, words, files, out) {
@@ -197,7 +200,7 @@ fn carry_out<R: Threads + Wait + Sync + Send + Copy + 'static, F: Files, W: Writ
     ensures carries { CarriesOut (map string_bytes words.now)
         (known_files F.is_known (F.bytes files.old) (F.bytes files.new)
         (F.input_bytes files.old)) out.old out.new result }
-    ensures files { KeepsFiles (map string_bytes words.now) (F.bytes files.old)
+    ensures files { KeepsFiles F.is_known (map string_bytes words.now) (F.bytes files.old)
         (F.bytes files.new) }
 {
     match parse(machine.alloc, words) {
@@ -218,7 +221,7 @@ fn do_task<R: Threads + Wait + Sync + Send + Copy + 'static, F: Files, W: Write>
     ensures comes { Comes task.now
         (known_files F.is_known (F.bytes files.old) (F.bytes files.new)
         (F.input_bytes files.old)) out.old out.new result }
-    ensures files { LeavesFiles task.now (F.bytes files.old) (F.bytes files.new) }
+    ensures files { LeavesFiles F.is_known task.now (F.bytes files.old) (F.bytes files.new) }
 {
     let alloc = machine.alloc;
     match task {
@@ -244,7 +247,7 @@ fn with_genesis<R: Threads + Wait + Sync + Send + Copy + 'static, F: Files, W: W
     ensures works { let k = known_files F.is_known (F.bytes files.old) (F.bytes files.new)
         (F.input_bytes files.old) in
         WithGenesis k begin.now (λ log. Works log work.now k) out.old out.new result }
-    ensures files { Leaves work.now (F.bytes files.old) (F.bytes files.new) }
+    ensures files { Leaves F.is_known work.now (F.bytes files.old) (F.bytes files.new) }
 {
     let log = opened(machine.alloc, files, begin)?;
     do_work(machine, files, Subject { begin, log: &log }, work, out)
@@ -262,7 +265,7 @@ fn do_work<R: Threads + Wait + Sync + Send + Copy + 'static, F: Files, W: Write>
     ensures works { Works subject.entry.log.now work.now
         (known_files F.is_known (F.bytes files.old) (F.bytes files.new)
         (F.input_bytes files.old)) out.old out.new result }
-    ensures files { Leaves work.now (F.bytes files.old) (F.bytes files.new) }
+    ensures files { Leaves F.is_known work.now (F.bytes files.old) (F.bytes files.new) }
 {
     let Machine { rt, alloc } = machine;
     let Subject { begin, log } = subject;
@@ -337,6 +340,8 @@ fn run_events<T: Threads + Sync, F: Files, W: Write>(
     ensures begins { Begins (RunBegins genesis.now (F.bytes files.old names.now.events.now))
         out.old out.new result }
     ensures kept { names.now.store ≡ None → F.bytes files.new ≡ F.bytes files.old }
+    ensures others { IfSome names.now.store
+        (λ s. ChangesOnly F.is_known (store_names s.now) (F.bytes files.old) (F.bytes files.new)) }
 {
     answer_of(run(workers, alloc, files, genesis, names, out))
 }

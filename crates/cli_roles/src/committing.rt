@@ -7,6 +7,7 @@ ghost use Rattle.fab_types.specs.Committed.{Committed};
 ghost use Rattle.ledger_model.specs.Chain.{Chain};
 ghost use Rattle.log_store.specs.Storing.{IsStored, rules_of, stored_chain};
 ghost use Rattle.cli_lines.specs.Lines.{committed_text};
+ghost use Rattle.cli_lines.specs.Places.{ChangesOnly};
 ghost use Rattle.cli_lines.specs.Told.{Answers, Begins, IsBrokenOff, Prints, PrintsNothing, PrintsPart, Tells};
 ghost use Rattle.cli_roles.specs.Committing.{BeginsLine, BeginsText, Commits, CommitsBegin, CommitsLines, CommitsOpened, LinesBegin, OpenedBegins};
 ghost use Rattle.cli_roles.specs.Committing.{DoesHex, DoesReceive, TakesLine, TakesText, TellsFork};
@@ -62,6 +63,9 @@ pub fn commit<T: Threads + Sync, F: Files, W: Write>(
     ensures begins { Begins
         (CommitsBegin log.now.genesis.rules.value log.now.digest (F.bytes files.old store.now)
         (F.input_bytes files.old)) out.old out.new result }
+    // No file is changed but the store, where it is known what is written.
+    ensures others { ChangesOnly F.is_known (store.now ∷ []) (F.bytes files.old)
+        (F.bytes files.new) }
 {
     let Some(file) = files.open_store(store) else {
         explain_trouble(alloc, files, store, Access::Write);
@@ -111,6 +115,7 @@ fn commit_to<
     ensures begins { Begins
         (CommitsBegin peer.now.log.now.genesis.rules.value peer.now.log.now.digest
         (D.remaining file) lines.old.left) out.old out.new result }
+    ensures kept { F.bytes files.new ≡ F.bytes files.old }
 {
     let rules = peer.log.genesis.rules.clone()?;
     let opened = StoredChain::open(
@@ -155,6 +160,7 @@ fn commit_behind<
     ensures begins { Begins
         (OpenedBegins (rules_of chain.old) peer.now.log.now.digest (stored_chain chain.old) cut
         lines.old.left) out.old out.new result }
+    ensures kept { F.bytes files.new ≡ F.bytes files.old }
 {
     print_opened(chain.height(), cut, out)?;
     commit_lines(files, peer, chain, lines, out)
@@ -212,6 +218,7 @@ fn commit_lines<
     ensures begins { Begins
         (LinesBegin (rules_of chain.old) peer.now.log.now.digest (stored_chain chain.old)
         lines.old.left) out.old out.new result }
+    ensures kept { F.bytes files.new ≡ F.bytes files.old }
 {
     for number in 1..u64::MAX {
         let there = lines.read_explained(peer.alloc, files)?;
@@ -242,6 +249,7 @@ fn take_line<T: Threads + Sync, F: Files, D: Read + Write + Seek + OpenFile + Dr
         (stored_chain chain.old) line.now (stored_chain chain.new) out.old out.new result }
     ensures begins { BeginsLine (rules_of chain.old) peer.now.log.now.digest number
         (stored_chain chain.old) line.now (stored_chain chain.new) out.old out.new result }
+    ensures kept { F.bytes files.new ≡ F.bytes files.old }
 {
     match std::str::from_utf8(line) {
         Ok(line) => take_text(files, peer, chain, line, number, out),
@@ -267,6 +275,7 @@ fn take_text<T: Threads + Sync, F: Files, D: Read + Write + Seek + OpenFile + Dr
     ensures begins { BeginsText (rules_of chain.old) peer.now.log.now.digest
         (stored_chain chain.old) line.now (block_digits line.now) (stored_chain chain.new) out.old
         out.new result }
+    ensures kept { F.bytes files.new ≡ F.bytes files.old }
 {
     match block_digits(line) {
         Some(digits) => take_block(files, peer, chain, digits, number, out),
@@ -299,6 +308,7 @@ fn take_block<T: Threads + Sync, F: Files, D: Read + Write + Seek + OpenFile + D
         (stored_chain chain.new))
         (EndsHex (rules_of chain.old) (stored_chain chain.old) digits.now)) out.old out.new
         result }
+    ensures kept { F.bytes files.new ≡ F.bytes files.old }
 {
     match block_of(peer.alloc, digits)? {
         Ok(block) => receive(files, peer, chain, block, line, out),
@@ -378,6 +388,7 @@ fn receive<T: Threads + Sync, F: Files, D: Read + Write + Seek + OpenFile + Drop
         (stored_chain chain.new))
         (EndsReceive (rules_of chain.old) (stored_chain chain.old) block)) out.old out.new
         result }
+    ensures kept { F.bytes files.new ≡ F.bytes files.old }
 {
     let number = number_of(&block);
     match chain.receive(peer.workers, block) {

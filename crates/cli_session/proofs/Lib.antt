@@ -3,4 +3,5 @@ pub mod Printed
 pub mod Steps
 pub mod Several
 pub mod Whole
+pub mod Stored
 pub mod Begun

@@ -1,6 +1,6 @@
 //! The place of the store that a run writes.
 
-ghost use Rattle.std.specs.Prelude.{◌≡◌, true, IfErr, IfOk};
+ghost use Rattle.std.specs.Prelude.{◌≡◌, ◌++◌, true, IfErr, IfOk, codes, string_bytes};
 ghost use Rattle.cli_lines.specs.Places.{IsFileOf};
 ghost use Rattle.cli_lines.specs.Told.{IsBrokenOff, IsSilent};
 
@@ -31,6 +31,7 @@ pub(crate) fn place_of<F: Files>(
     ensures silent { IfErr result IsSilent }
     ensures lost { IfErr result IsBrokenOff }
     ensures file { F.is_known ≡ true → IfOk result (λ p. IsFileOf store.now p.target) }
+    ensures kept { F.bytes files.new ≡ F.bytes files.old }
 {
     let found = files.target(alloc, store);
     explain_target(alloc, files, store, &found);
@@ -58,7 +59,9 @@ fn explain_target<F: Files>(
     files: &mut F,
     name: &str,
     found: &Result<Target, FileFault>,
-) {
+)
+    ensures kept { F.bytes files.new ≡ F.bytes files.old }
+{
     if matches!(found, Err(FileFault::Device)) {
         explain_trouble(alloc, files, name, Access::Write);
     }
@@ -68,6 +71,7 @@ fn explain_target<F: Files>(
 fn lock_of<F: Files>(alloc: Global, files: &mut F, name: &str) -> Result<F::Lock, Failure>
     ensures silent { IfErr result IsSilent }
     ensures lost { IfErr result IsBrokenOff }
+    ensures kept { F.bytes files.new ≡ F.bytes files.old }
 {
     let Some(lock) = files.lock(name) else {
         explain_trouble(alloc, files, name, Access::Write);
@@ -77,7 +81,9 @@ fn lock_of<F: Files>(alloc: Global, files: &mut F, name: &str) -> Result<F::Lock
 }
 
 /// The name under which a store is written before it takes the place of the file of a name.
-pub(crate) fn part_of(alloc: Global, name: &str) -> Result<String, AllocError> {
+pub(crate) fn part_of(alloc: Global, name: &str) -> Result<String, AllocError>
+    ensures { IfOk result (λ part. string_bytes part ≡ name.now ++ codes ".part") }
+{
     format!(in alloc; "{name}.part")
 }
 
@@ -87,7 +93,9 @@ fn is_read<F: Files>(
     files: &mut F,
     names: &RunFiles<'_>,
     target: &Target,
-) -> Result<bool, AllocError> {
+) -> Result<bool, AllocError>
+    ensures kept { F.bytes files.new ≡ F.bytes files.old }
+{
     match target {
         Target::File(name) | Target::NewFile(name) => {
             let part = part_of(alloc, name)?;
@@ -98,7 +106,9 @@ fn is_read<F: Files>(
 }
 
 /// Whether a file is one that the run reads.
-fn is_one_of<F: Files>(files: &mut F, names: &RunFiles<'_>, name: &str) -> bool {
+fn is_one_of<F: Files>(files: &mut F, names: &RunFiles<'_>, name: &str) -> bool
+    ensures kept { F.bytes files.new ≡ F.bytes files.old }
+{
     files.is_same(name, names.genesis)
         || files.is_same(name, names.events)
         || is_given(files, names.modules, name)
@@ -106,7 +116,9 @@ fn is_one_of<F: Files>(files: &mut F, names: &RunFiles<'_>, name: &str) -> bool 
 }
 
 /// Whether a file is one that was given by an option.
-fn is_given<F: Files>(files: &mut F, given: Option<&str>, name: &str) -> bool {
+fn is_given<F: Files>(files: &mut F, given: Option<&str>, name: &str) -> bool
+    ensures kept { F.bytes files.new ≡ F.bytes files.old }
+{
     match given {
         Some(given) => files.is_same(name, given),
         None => false,

@@ -1,18 +1,19 @@
 //! The command `run`: a system, on which the lines of a file are events.
 
-ghost use Rattle.std.specs.Prelude.{◌≡◌, ◌≢◌, ◌<◌, ◌⊎◌, false, None, IfErr, IfOk, OnErr, OnOk, map, option_map, string_bytes};
+ghost use Rattle.std.specs.Prelude.{◌≡◌, ◌≢◌, ◌<◌, ◌⊎◌, false, None, IfErr, IfOk, IfSome, OnErr, OnOk, map, option_map, string_bytes};
 ghost use Rattle.json_events.specs.Bound.{bound_as, envelope_named};
 ghost use Rattle.simulator.specs.Execution.{exec_of};
 ghost use Rattle.fabric_core.specs.declared.event.Event.TheVariants.{Begin, Finish};
 ghost use Rattle.fabric_core.specs.declared.event.Reply.TheVariants.{Endorsed};
 ghost use Rattle.wire.specs.FaultNumbers.{number_of};
 ghost use Rattle.wire.specs.declared.fault.WireFault.TheVariants.{Memory};
+ghost use Rattle.cli_lines.specs.Places.{ChangesOnly};
 ghost use Rattle.cli_lines.specs.Texts.{line, refused};
 ghost use Rattle.cli_lines.specs.Told.{Answers, Begins, IsBrokenOff, Prints, PrintsNothing, Tells, Told};
 ghost use Rattle.cli_session.specs.Replies.{begin_text, endorsed_text, finish_text, reply_text};
 ghost use Rattle.cli_session.specs.Running.{Does, DoesAll, DoesFirst, IsBadLine, IsBytes, IsLine, IsNamed, IsUnbound, MeetsBadLine, StopsAt};
 ghost use Rattle.cli_session.specs.Stages.{DoesPrint, Gets, IsStepOf, Stay, StepsTo, first_chain, stage_at};
-ghost use Rattle.cli_session.specs.Stored.{HoldsAsked, HoldsPlaced};
+ghost use Rattle.cli_session.specs.Stored.{ChangesPlaced, HoldsAsked, HoldsPlaced, store_names};
 ghost use Rattle.cli_session.specs.Whole.{BeginsFrom, ComesTo, EndsPrinted, IsEnd, LinesBegin, LinesComeTo, RunBegins};
 
 use crate::explaining::{Refused, explain_line, next_explained, refused_by};
@@ -90,8 +91,10 @@ pub fn run<T: Threads + Sync, F: Files, W: Write>(
     // first lines come to, and, where they are all, the state and its audit.
     ensures begins { Begins (RunBegins genesis.now (F.bytes files.old names.now.events.now))
         out.old out.new result }
-    // Where no store is asked for, no file is written.
+    // Where no store is asked for, no file is written, and else none but the store's.
     ensures kept { names.now.store ≡ None → F.bytes files.new ≡ F.bytes files.old }
+    ensures others { IfSome names.now.store
+        (λ s. ChangesOnly F.is_known (store_names s.now) (F.bytes files.old) (F.bytes files.new)) }
 {
     need_secrets(alloc, files, genesis, &genesis.peers)?;
     let Some(events) = files.open(names.events) else {
@@ -119,6 +122,8 @@ fn run_read<T: Threads + Sync, F: Files, B: BufRead, W: Write>(
         out.old out.new result }
     ensures begins { Begins (LinesBegin genesis.now (B.remaining lines.old)) out.old out.new result }
     ensures kept { names.now.store ≡ None → F.bytes files.new ≡ F.bytes files.old }
+    ensures others { IfSome names.now.store
+        (λ s. ChangesOnly F.is_known (store_names s.now) (F.bytes files.old) (F.bytes files.new)) }
 {
     match names.store {
         Some(store) => {
@@ -165,6 +170,8 @@ fn run_into<T: Threads + Sync, F: Files, B: BufRead, W: Write>(
         out.new result }
     ensures begins { Begins (LinesBegin genesis.now (B.remaining lines.old)) out.old out.new result }
     ensures kept { store.entry ≡ None → F.bytes files.new ≡ F.bytes files.old }
+    ensures others { IfSome store.entry
+        (λ t. ChangesPlaced F.is_known t.now (F.bytes files.old) (F.bytes files.new)) }
 {
     ordering_laws();
     let system = System::new(alloc, genesis)?;
@@ -210,6 +217,8 @@ impl<T: Threads + Sync> Session<'_, T> {
             (BeginsFrom (exec_of genesis.now.book.value) (B.remaining lines.old)
             (stage_at self.old.system self.old.bindings)) out.old out.new result }
         ensures kept { store.entry ≡ None → F.bytes files.new ≡ F.bytes files.old }
+        ensures others { IfSome store.entry
+            (λ t. ChangesPlaced F.is_known t.now (F.bytes files.old) (F.bytes files.new)) }
     {
         self.run_lines(files, lines, out)?;
         let is_good = self.print_end(genesis, out)?;

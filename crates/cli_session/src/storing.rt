@@ -1,12 +1,12 @@
 //! The store that a run writes.
 
-ghost use Rattle.std.specs.Prelude.{◌≡◌, ℕ, true, List, IfErr, IfOk, OnOk};
+ghost use Rattle.std.specs.Prelude.{◌≡◌, ◌∷◌, ℕ, true, List, [], Some, IfErr, IfOk, OnOk};
 ghost use Rattle.std.specs.Io.KnownBytes.{Appends};
 ghost use Rattle.block_store.specs.Record.{record_bytes};
 ghost use Rattle.world_state.specs.Shared.{blocks_in};
-ghost use Rattle.cli_lines.specs.Places.{IsFileOf};
+ghost use Rattle.cli_lines.specs.Places.{ChangesOnly, IsFileOf};
 ghost use Rattle.cli_lines.specs.Told.{IsBrokenOff, IsSilent};
-ghost use Rattle.cli_session.specs.Stored.{Holds, store_bytes};
+ghost use Rattle.cli_session.specs.Stored.{ChangesPlaced, Holds, store_bytes, store_names};
 
 use crate::placing::part_of;
 use block_store::encode_record;
@@ -32,6 +32,7 @@ pub(crate) fn write_store<F: Files>(
     ensures stored { OnOk result
         ((name : List ℕ) → IsFileOf name target.now
         → Holds F.is_known (F.bytes files.new) name snapshot.now) }
+    ensures others { ChangesPlaced F.is_known target.now (F.bytes files.old) (F.bytes files.new) }
 {
     match target {
         Target::File(name) => write_beside(alloc, files, name, snapshot, true),
@@ -63,26 +64,49 @@ fn write_beside<F: Files>(
     ensures lost { IfErr result IsBrokenOff }
     ensures stored { OnOk result
         (Holds F.is_known (F.bytes files.new) name.now snapshot.now) }
+    ensures others { ChangesOnly F.is_known (store_names name.now) (F.bytes files.old)
+        (F.bytes files.new) }
 {
     let part = part_of(alloc, name)?;
-    let Some(writer) = files.create(&part) else {
-        explain_trouble(alloc, files, &part, Access::Write);
-        return Err(Failure::File);
-    };
-    let chain = write_chain(alloc, writer, snapshot);
-    explain_written(alloc, files, &part, &chain);
-    let written = match chain {
-        Ok(writer) if is_there => replace_file(alloc, files, writer, &part, name),
-        Ok(writer) => place_file(alloc, files, writer, &part, name),
-        Err(failure) => Err(failure),
-    };
-    if written.is_err() {
-        files.remove(&part);
+    let writer = write_part(alloc, files, &part, snapshot)?;
+    if is_there {
+        replace_file(alloc, files, writer, &part, name)
+    } else {
+        place_file(alloc, files, writer, &part, name)
     }
-    written
 }
 
-/// Gives a file that was written the name of another one, whose place it takes.
+/// Makes a file of a name and writes a chain to it. Where that fails, nothing of it stays.
+fn write_part<F: Files>(
+    alloc: Global,
+    files: &mut F,
+    part: &str,
+    snapshot: &Snapshot,
+) -> Result<F::Writer, Failure>
+    ensures silent { IfErr result IsSilent }
+    ensures lost { IfErr result IsBrokenOff }
+    ensures written { F.is_known ≡ true → IfOk result
+        (λ w. F.Writer.contents w ≡ Some (store_bytes snapshot.now)) }
+    ensures others { ChangesOnly F.is_known (part.now ∷ []) (F.bytes files.old)
+        (F.bytes files.new) }
+{
+    let Some(writer) = files.create(part) else {
+        explain_trouble(alloc, files, part, Access::Write);
+        return Err(Failure::File);
+    };
+    let written = write_chain(alloc, writer, snapshot);
+    explain_written(alloc, files, part, &written);
+    match written {
+        Ok(writer) => Ok(writer),
+        Err(failure) => {
+            files.remove(part);
+            Err(failure)
+        }
+    }
+}
+
+/// Gives a file that was written the name of another one, whose place it takes. Where that cannot
+/// be done, nothing of it stays.
 fn replace_file<F: Files>(
     alloc: Global,
     files: &mut F,
@@ -94,17 +118,20 @@ fn replace_file<F: Files>(
     ensures lost { IfErr result IsBrokenOff }
     ensures kept { F.is_known ≡ true → OnOk result
         (F.bytes files.new name.now ≡ F.Writer.contents writer) }
+    ensures others { ChangesOnly F.is_known (part.now ∷ name.now ∷ []) (F.bytes files.old)
+        (F.bytes files.new) }
 {
     if files.keep(writer, part, name) {
         Ok(())
     } else {
         explain_numbered(alloc, files, &Location::file(part), NOT_RENAMED, 703);
+        files.remove(part);
         Err(Failure::File)
     }
 }
 
 /// Gives a file that was written a name that no file has, in the place of an empty one that nobody
-/// else has.
+/// else has. Where that cannot be done, neither stays.
 fn place_file<F: Files>(
     alloc: Global,
     files: &mut F,
@@ -116,16 +143,21 @@ fn place_file<F: Files>(
     ensures lost { IfErr result IsBrokenOff }
     ensures kept { F.is_known ≡ true → OnOk result
         (F.bytes files.new name.now ≡ F.Writer.contents writer) }
+    ensures others { ChangesOnly F.is_known (part.now ∷ name.now ∷ []) (F.bytes files.old)
+        (F.bytes files.new) }
 {
     let Some(_lock) = files.lock_new(name) else {
         explain_numbered(alloc, files, &Location::file(name), NAME_TAKEN, 703);
+        files.remove(part);
         return Err(Failure::File);
     };
-    let placed = replace_file(alloc, files, writer, part, name);
-    if placed.is_err() {
-        files.remove(name);
+    match replace_file(alloc, files, writer, part, name) {
+        Ok(()) => Ok(()),
+        Err(failure) => {
+            files.remove(name);
+            Err(failure)
+        }
     }
-    placed
 }
 
 /// What is wrong where a store that is written does not get its name.
@@ -141,7 +173,9 @@ fn explain_written<F: Files, W>(
     files: &mut F,
     name: &str,
     written: &Result<W, Failure>,
-) {
+)
+    ensures kept { F.bytes files.new ≡ F.bytes files.old }
+{
     if matches!(written, Err(Failure::File)) {
         explain_numbered(alloc, files, &Location::file(name), NOT_WRITTEN, 703);
     }

@@ -30,6 +30,13 @@ returns-in-Endorse-clause-works g c =
 pub returns-in-Run-clause-files : goal.returns-in-Run-clause-files
 returns-in-Run-clause-files g c =
     let r = c.run_events in
+    let known = g.F.Files.is_known in
     let old = g.F.Files.bytes c.args.files.now in
     let new = g.F.Files.bytes r.new.files in
-    subst (λ (w : Work). Leaves w old new) (sym c.in-Run.is) (leaves_run c.in-Run.events c.in-Run.store old new r.ensures.kept)
+    subst (λ (w : Work). Leaves known w old new) (sym c.in-Run.is)
+    (leaves_run known c.in-Run.events c.in-Run.store old new r.ensures.kept r.ensures.others)
+
+pub returns-in-Commit-clause-files : goal.returns-in-Commit-clause-files
+returns-in-Commit-clause-files g c =
+    let r = c.commit in
+    subst (λ (w : Work). Leaves g.F.Files.is_known w (g.F.Files.bytes c.args.files.now) (g.F.Files.bytes r.new.files)) (sym c.in-Commit.is) r.ensures.others

@@ -1,8 +1,8 @@
 use Rattle.std.proofs.Common.{Ok, Err, ap, map, string_bytes, subst, sym, ◌∙◌}
+use Rattle.cli_lines.specs.Places.{FilesHeld}
 use Rattle.cli_lines.proofs.Silence.{and_more}
 use Rattle.cli_program.specs.Ends.{CarriesOut}
 use Rattle.cli_program.specs.Leaving.{KeepsFiles}
-use Rattle.cli_program.specs.Opening.{FilesHeld}
 use Rattle.cli_program.specs.Tasks.{KnownFiles}
 use Rattle.cli_program.proofs.Beginning.{same_after}
 use Rattle.cli_program.proofs.Telling.{not_output}
@@ -38,7 +38,8 @@ returns-in-Err-clause-told g c = λ positive. c.refused.ensures.told c.args.out.
 pub returns-in-Err-clause-files : goal.returns-in-Err-clause-files
 returns-in-Err-clause-files g c =
     let files = g.F.Files.bytes in
-    subst (λ (h : FilesHeld). KeepsFiles (map string_bytes c.args.words.now) (files c.args.files.now) h) (sym c.explain_refusal.ensures) c.in-Err.ensures.files
+    subst (λ (h : FilesHeld). KeepsFiles g.F.Files.is_known (map string_bytes c.args.words.now) (files c.args.files.now) h) (sym c.explain_refusal.ensures)
+    c.in-Err.ensures.files
 
 pub returns-in-Ok-clause-lost : goal.returns-in-Ok-clause-lost
 returns-in-Ok-clause-lost g c = λ whole lost. c.done.ensures.lost (c.in-Ok.ensures.tells.1 ∙ whole) lost

@@ -1,8 +1,8 @@
 use Rattle.std.proofs.Common.{inl, inr, refl, subst}
 use Rattle.std.proofs.lemmas.Result.{err_from_is_err_and}
+use Rattle.cli_lines.specs.Places.{FilesHeld}
 use Rattle.cli_lines.proofs.Silence.{no_less, tells_by}
 use Rattle.cli_program.specs.Leaving.{Leaves}
-use Rattle.cli_program.specs.Opening.{FilesHeld}
 use Rattle.cli_program.specs.Tasks.{KnownFiles, Works}
 use Rattle.cli_program.proofs.Beginning.{same_files}
 use Rattle.cli_program.proofs.Leaving.{leaves_all}
@@ -16,7 +16,7 @@ returns-in_err-log g c =
     rw (p.1, p.2) (record {
       tells = tells_by t t _ (no_less t) e.silent;
       works = inr (c.in_err-log.field-0.0, e.refused, refl, refl);
-      files = leaves_all c.args.work.now (g.F.Files.bytes c.args.files.now) (g.F.Files.bytes c.opened.new.files) e.kept;
+      files = leaves_all g.F.Files.is_known c.args.work.now (g.F.Files.bytes c.args.files.now) (g.F.Files.bytes c.opened.new.files) e.kept;
     })
 
 pub returns-clause-works : goal.returns-clause-works
@@ -36,4 +36,4 @@ returns-clause-works g c =
 pub returns-clause-files : goal.returns-clause-files
 returns-clause-files g c =
     let r = c.do_work in
-    subst (λ (h : FilesHeld). Leaves c.args.work.now h (g.F.Files.bytes r.new.files)) c.in_ok-log.ensures.kept r.ensures.files
+    subst (λ (h : FilesHeld). Leaves g.F.Files.is_known c.args.work.now h (g.F.Files.bytes r.new.files)) c.in_ok-log.ensures.kept r.ensures.files

@@ -2,8 +2,9 @@ use Rattle.std.proofs.Common.{List, ℕ, IfOk, IfErr, inl, inr, ap, subst, ◌�
 use Rattle.std.specs.Prelude.{option_map}
 use Rattle.std.proofs.lemmas.Result.{err_from_is_err_and}
 use Rattle.sha2.specs.Sha256.{sha256}
+use Rattle.cli_lines.specs.Places.{FilesHeld}
 use Rattle.cli_lines.specs.Sealing.{HasSeeds, IsNoKeyFile}
-use Rattle.cli_program.specs.Opening.{FilesHeld, SpellsWith, SpellsNoneWith}
+use Rattle.cli_program.specs.Opening.{SpellsWith, SpellsNoneWith}
 use Rattle.cli_program.proofs.Opened.{opened_alone, read_before, signed_opens, signed_refused}
 use Rattle.cli_program.proofs.opening.opened.Goals as goal
 

@@ -13,6 +13,7 @@ pub loop-number-init : goal.loop-number-init
 loop-number-init g c =
     record {
       stored = c.requires.stored;
+      kept = refl;
       rules = refl;
       done = none_done (DoesLine (rules_of c.args.chain.now) c.args.peer.now.log.now.digest) c.args.lines.now.left (stored_chain c.args.chain.now)
           c.args.out.now;
@@ -37,6 +38,7 @@ loop-number-preserved g c =
     inv.done c.in_ok-there.ensures.next c.if-not-there.false c.line.ensures taken in
     record {
       stored = c.in_ok-take_line.ensures.stored;
+      kept = c.take_line.ensures.kept ∙ c.read_explained.ensures.kept ∙ inv.kept;
       rules = c.in_ok-take_line.ensures.rules ∙ inv.rules;
       done = done_kept (DoesLine by digest) input after.left first _ new c.args.out.now u c.hand_on.new.out done
           (λ text printed. c.in_ok-hand_on.ensures.kept c.args.out.now text printed);
@@ -67,7 +69,12 @@ returns-in_err-take_line g c =
     c.in_ok-there.there lent (stored_chain c.args.chain.now) mid new n c.args.out.now t u e inv.done c.in_ok-there.ensures.next c.if-not-there.false
     c.line.ensures took.tells (subst (λ (r : Listed). TakesLine {A = Unit {0}} r digest n mid lent new t u (Err e)) inv.rules took.does)
     (subst (λ (r : Listed). BeginsLine {A = Unit {0}} r digest n mid lent new t u (Err e)) inv.rules took.begins) in
-    rw (p.1, p.2) (record { tells = ended.0; answers = ended.1; begins = ended.2 })
+    rw (p.1, p.2) (record {
+      tells = ended.0;
+      answers = ended.1;
+      begins = ended.2;
+      kept = c.take_line.ensures.kept ∙ c.read_explained.ensures.kept ∙ inv.kept;
+    })
 
 pub returns-in_err-there : goal.returns-in_err-there
 returns-in_err-there g c =
@@ -79,6 +86,7 @@ returns-in_err-there g c =
           {A = Unit {0}} c.args.lines.now.left c.loop-number.lines.left (stored_chain c.args.chain.now) c.loop-number.number (stored_chain c.loop-number.chain)
           c.args.out.now c.loop-number.out c.loop-number.out (Err c.in_err-there.field-0.0) c.loop-number.invariant.done
           (nothing_same c.loop-number.out);
+      kept = c.in_err-there.ensures.kept ∙ c.loop-number.invariant.kept;
     })
 
 pub returns-in_err-hand_on-clause-begins : goal.returns-in_err-hand_on-clause-begins

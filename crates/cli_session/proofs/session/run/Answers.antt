@@ -9,6 +9,7 @@ use Rattle.cli_lines.specs.Told.{Answers, Begins}
 use Rattle.cli_session.specs.Stored.{HoldsAsked}
 use Rattle.cli_session.specs.Whole.{LinesBegin, LinesComeTo, RunBegins}
 use Rattle.cli_session.proofs.Pieces.{fresh_reader}
+use Rattle.cli_session.proofs.Stored.{asked_behind, asked_kept}
 use Rattle.cli_session.proofs.Whole.{with_secrets}
 use Rattle.cli_session.proofs.session.run.Goals as goal
 
@@ -24,7 +25,25 @@ returns-in_err-need_secrets g c =
       answers = inr ([], inr (lack, ap Err e.only, refl), prints_none c.args.out.now);
       begins = λ broken. inl (nothing_same c.args.out.now);
       kept = λ none. c.in_err-need_secrets.ensures.kept;
+      others = asked_kept g.F.Files.is_known c.args.names.now.store (g.F.Files.bytes c.args.files.now) (g.F.Files.bytes c.need_secrets.new.files)
+          c.in_err-need_secrets.ensures.kept;
     })
+
+pub returns-in_default-clause-others : goal.returns-in_default-clause-others
+returns-in_default-clause-others g c =
+    asked_kept g.F.Files.is_known c.args.names.now.store (g.F.Files.bytes c.args.files.now) (g.F.Files.bytes c.explain_trouble.new.files)
+    (c.explain_trouble.ensures.kept ∙ c.open.ensures.kept ∙ c.need_secrets.ensures.kept)
+
+pub returns-in_err-lines-clause-others : goal.returns-in_err-lines-clause-others
+returns-in_err-lines-clause-others g c =
+    asked_kept g.F.Files.is_known c.args.names.now.store (g.F.Files.bytes c.args.files.now) (g.F.Files.bytes c.open.new.self)
+    (c.open.ensures.kept ∙ c.need_secrets.ensures.kept)
+
+pub returns-clause-others : goal.returns-clause-others
+returns-clause-others g c =
+    let bytes = g.F.Files.bytes in
+    asked_behind g.F.Files.is_known c.args.names.now.store (bytes c.args.files.now) (bytes c.open.new.self) (bytes c.run_read.new.files)
+    (c.open.ensures.kept ∙ c.need_secrets.ensures.kept) c.run_read.ensures.others
 
 pub returns-clause-answers : goal.returns-clause-answers
 returns-clause-answers g c =

@@ -5,8 +5,13 @@ use Rattle.simulator.specs.Execution.{exec_of}
 use Rattle.cli_lines.proofs.Answering.{begins_by}
 use Rattle.cli_session.specs.Stages.{Stage, stage_at}
 use Rattle.cli_session.specs.Whole.{BeginsFrom, LinesBegin}
+use Rattle.cli_session.proofs.Stored.{placed_kept}
 use Rattle.cli_session.proofs.Whole.{comes_to}
 use Rattle.cli_session.proofs.session.run_into.Goals as goal
+
+pub returns-in_err-system-clause-others : goal.returns-in_err-system-clause-others
+returns-in_err-system-clause-others g c =
+    placed_kept g.F.Files.is_known c.args.store (g.F.Files.bytes c.args.files.now) (g.F.Files.bytes c.args.files.now) refl
 
 pub returns-clause-comes : goal.returns-clause-comes
 returns-clause-comes g c =

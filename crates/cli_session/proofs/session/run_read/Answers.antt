@@ -5,6 +5,7 @@ use Rattle.cli_lines.proofs.Silence.{no_less, tells_by}
 use Rattle.cli_lines.specs.Told.{Answers}
 use Rattle.cli_session.specs.Stored.{HoldsAsked, HoldsPlaced}
 use Rattle.cli_session.specs.Whole.{LinesComeTo}
+use Rattle.cli_session.proofs.Stored.{asked_by, asked_kept, asked_none}
 use Rattle.cli_session.proofs.Whole.{asked_of_place, stored_by}
 use Rattle.cli_session.proofs.session.run_read.Goals as goal
 
@@ -17,7 +18,21 @@ returns-in_err-place-in-Some g c =
       comes = inl c.in_err-place-in-Some.ensures.lost;
       begins = λ broken. inl (nothing_same c.args.out.now);
       kept = λ none. absurd (cc (sym c.in-Some.is ∙ none));
+      others =
+          asked_kept g.F.Files.is_known c.args.names.now.store (g.F.Files.bytes c.args.files.now) (g.F.Files.bytes c.place_of.new.files)
+          c.in_err-place-in-Some.ensures.kept;
     })
+
+pub returns-in_ok-place-in-Some-clause-others : goal.returns-in_ok-place-in-Some-clause-others
+returns-in_ok-place-in-Some-clause-others g c =
+    let bytes = g.F.Files.bytes in
+    asked_by g.F.Files.is_known c.args.names.now.store c.in-Some.store c.in_ok-place-in-Some.place.target (bytes c.args.files.now)
+    (bytes c.place_of.new.files) (bytes c.run_into.new.files) c.in-Some.is c.in_ok-place-in-Some.ensures.file c.in_ok-place-in-Some.ensures.kept
+    c.run_into.ensures.others
+
+pub returns-in-None-clause-others : goal.returns-in-None-clause-others
+returns-in-None-clause-others g c =
+    asked_none g.F.Files.is_known c.args.names.now.store (g.F.Files.bytes c.args.files.now) (g.F.Files.bytes c.run_into-in-None.new.files) c.in-None.is
 
 pub returns-in_ok-place-in-Some-clause-comes : goal.returns-in_ok-place-in-Some-clause-comes
 returns-in_ok-place-in-Some-clause-comes g c =

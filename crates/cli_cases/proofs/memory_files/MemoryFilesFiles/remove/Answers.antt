@@ -1,0 +1,9 @@
+use Rattle.std.proofs.Common.{None, refl, vec_items}
+use Rattle.cli_cases.proofs.ByName.{others_kept}
+use Rattle.cli_cases.proofs.memory_files.MemoryFilesFiles.remove.Goals as goal
+
+pub returns : goal.returns
+returns c = record {
+  others = λ known other apart.
+      others_kept vec_items c.args.name.now c.args.name.now c.args.self.now.by_name c.remove.new.self None refl c.remove.ensures.updates other apart.0;
+}

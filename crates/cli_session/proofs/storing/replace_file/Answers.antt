@@ -1,0 +1,17 @@
+use Rattle.std.proofs.Common.{ℕ, List, [], ◌∷◌}
+use Rattle.cli_lines.proofs.Changes.{changes_first, changes_kept, changes_then}
+use Rattle.cli_session.proofs.storing.replace_file.Goals as goal
+
+pub returns-else-keep-clause-others : goal.returns-else-keep-clause-others
+returns-else-keep-clause-others g c =
+    let known = g.F.Files.is_known in
+    let part = c.args.part.now in
+    let name = c.args.name.now in
+    let names : List (List ℕ) = part ∷ name ∷ [] in
+    let bytes = g.F.Files.bytes in
+    let old = bytes c.args.files.now in
+    let told = bytes c.explain_numbered.new.files in
+    let new = bytes c.remove.new.self in
+    changes_then known names old told new
+    (changes_kept known names old (bytes c.keep.new.self) told c.explain_numbered.ensures.kept c.keep.ensures.others)
+    (changes_first known part name told new c.remove.ensures.others)
