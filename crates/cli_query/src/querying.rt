@@ -9,7 +9,7 @@ ghost use Rattle.log_store.specs.Reading.{IsReadBy, bytes_read, store_bytes};
 ghost use Rattle.cli_query.specs.Printed.{IsPrinted, IsSaid, LinesBegin, Queries, QueriesBegin, QueriesLines, TakesLine};
 
 use cli_lines::{Access, Failure, Files, Location, Printer, explain_bad_line, explain_trouble};
-use cli_roles::{InputLines, end, explain_store, hand_on};
+use cli_roles::{InputLines, end, explain_store, next_line};
 use endorsement_policy::Workers;
 use json_events::BadLine;
 use json_questions::{answer_line, read_question};
@@ -113,12 +113,11 @@ fn query_lines<T: Threads + Sync, F: Files, W: Write>(
     ensures kept { F.bytes files.new ≡ F.bytes files.old }
 {
     for number in 1..u64::MAX {
-        let there = lines.read_explained(asked.alloc, files)?;
+        let there = next_line(asked.alloc, files, lines, out)?;
         if !there {
             return Ok(());
         }
         take_line(files, asked, reader, lines.line(), number, out)?;
-        hand_on(lines, out)?;
     }
     // So many lines no input has.
     Err(Failure::File)

@@ -53,7 +53,7 @@ says_then t u v (failure.BadLine number) more says = tt
 says_then t u v failure.Printed more says = omega (arith, more, says)
 says_then t u v failure.Output more says = says
 
-tells_then : (t u v : Told) (e : Failure) → IsMore t u → IsMore u v × Says u v e → IsMore t v × Says t v e
+pub tells_then : (t u v : Told) (e : Failure) → IsMore t u → IsMore u v × Says u v e → IsMore t v × Says t v e
 tells_then t u v e first next = (and_more t u v first next.0, says_then t u v e first.prints next.1)
 
 -- done, by some text that it printed
@@ -224,6 +224,16 @@ module _ {S : Type 0} (Does : ℕ → S → List ℕ → List ℕ → S → Type
     begins_lines input left old number new t u v r h none =
         λ broken.
         inr (h.text, (h.lines, first_lines input left h.lines h.taken, inl (new, h.done)), part_ended t u v h.text h.prints none)
+
+    -- it was broken off where the next line was to be read
+    pub begins_between : {A : Type 0} (input left : Option (List ℕ)) (old : S) (number : ℕ) (new : S) (t u v : Told) (r : Result A Failure)
+        → HasDone input left old number new t u → PrintsPart u v [] → Begins (FiltersBegin Does Ends old input) t v r
+    begins_between input left old number new t u v r h part =
+        λ broken. inr (
+          h.text,
+          (h.lines, first_lines input left h.lines h.taken, inl (new, h.done)),
+          subst (λ (s : List ℕ). PrintsPart t v s) (append-nil h.text) (part_then t u v h.text [] h.prints part),
+        )
 
     -- lines that were done, and one of which a beginning was printed
     begun_line : (input : Option (List ℕ)) (before after : Input) (old mid new : S) (number : ℕ) (t u v : Told) (whole : List ℕ)

@@ -17,7 +17,7 @@ ghost use Rattle.cli_roles.specs.Filters.{ComesTo, DoesOrEnds, PrintsSo};
 ghost use Rattle.cli_roles.specs.Seen.{has_hash, is_fork};
 
 use crate::explaining::{explain_block, explain_cut, explain_store};
-use crate::filter::{end, hand_on};
+use crate::filter::{end, next_line};
 use crate::input::InputLines;
 use crate::log_genesis::LogGenesis;
 use crate::seen::{SignedSeen, is_signed, signed_seen_in};
@@ -221,12 +221,11 @@ fn commit_lines<
     ensures kept { F.bytes files.new ≡ F.bytes files.old }
 {
     for number in 1..u64::MAX {
-        let there = lines.read_explained(peer.alloc, files)?;
+        let there = next_line(peer.alloc, files, lines, out)?;
         if !there {
             return Ok(());
         }
         take_line(files, peer, chain, lines.line(), number, out)?;
-        hand_on(lines, out)?;
     }
     // So many lines no input has.
     Err(Failure::File)

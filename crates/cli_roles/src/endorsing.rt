@@ -22,7 +22,7 @@ ghost use Rattle.simulator.specs.declared.refusal.SimRefusal.TheVariants as simu
 
 use crate::asking::asked_number;
 use crate::explaining::{explain_proposal, explain_store, explain_stranger};
-use crate::filter::{end, hand_on};
+use crate::filter::{end, next_line};
 use crate::input::InputLines;
 use crate::log_genesis::LogGenesis;
 use crate::seen::seen_bytes;
@@ -338,12 +338,11 @@ fn endorse_lines<T: Threads + Sync, V: Watch, F: Files, S: Read + Drop, R: Read 
     ensures kept { F.bytes files.new ≡ F.bytes files.old }
 {
     for number in 1..u64::MAX {
-        let there = lines.read_explained(member.alloc, files)?;
+        let there = next_line(member.alloc, files, lines, out)?;
         if !there {
             return Ok(());
         }
         take_line(files, member, follower, lines.line(), number, out)?;
-        hand_on(lines, out)?;
     }
     // So many lines no input has.
     Err(Failure::File)

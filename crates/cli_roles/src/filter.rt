@@ -1,14 +1,15 @@
 //! What filters over lines have in common.
 
-ghost use Rattle.std.specs.Prelude.{◌≡◌, ℕ, List, false, OnErr, OnOk, IfErr};
-ghost use Rattle.cli_lines.specs.Told.{IsBrokenOff, IsMore, Prints, PrintsNothing, Says, Tells, Told};
+ghost use Rattle.std.specs.Prelude.{◌≡◌, ℕ, List, [], false, OnErr, OnOk, IfErr, IfOk};
+ghost use Rattle.cli_lines.specs.Told.{IsBrokenOff, IsMore, Prints, PrintsNothing, PrintsPart, Says, Tells, Told};
 ghost use Rattle.cli_roles.specs.Filters.{IsEndedBy};
-ghost use Rattle.cli_roles.specs.Input.{is_at_hand};
+ghost use Rattle.cli_roles.specs.Input.{IsNext, is_at_hand};
 ghost use Rattle.log_store.specs.Refusals.{store_text};
 
 use crate::input::InputLines;
-use cli_lines::{Failure, Printer};
+use cli_lines::{Failure, Files, Printer};
 use log_store::StoreRefusal;
+use std::alloc::Global;
 use std::io::{Read, Write};
 
 /// Prints why a filter ends.
@@ -24,7 +25,7 @@ pub fn end<W: Write>(refusal: StoreRefusal, out: &mut Printer<'_, W>) -> Failure
 }
 
 /// Hands on what a filter printed, where no further line is at hand.
-pub fn hand_on<R: Read + Drop, W: Write>(
+fn hand_on<R: Read + Drop, W: Write>(
     lines: &InputLines<R>,
     out: &mut Printer<'_, W>,
 ) -> Result<(), Failure>
@@ -39,4 +40,26 @@ pub fn hand_on<R: Read + Drop, W: Write>(
         return Ok(());
     }
     out.flush()
+}
+
+/// Reads the next line, behind what was printed: where no further line is at hand, that is handed
+/// on first, so that nobody waits for it who has to send the next line. Answers whether there is
+/// one. Says why the input was not read, if it was not.
+pub fn next_line<F: Files, R: Read + Drop, W: Write>(
+    alloc: Global,
+    files: &mut F,
+    lines: &mut InputLines<R>,
+    out: &mut Printer<'_, W>,
+) -> Result<bool, Failure>
+    ensures next { IfOk result (λ there. IsNext there lines.old lines.new) }
+    ensures handed_on { is_at_hand lines.old ≡ false → OnOk result (out.new.waits ≡ false) }
+    ensures told { (before : Told) (text : List ℕ) → Prints before out.old text →
+        OnOk result (Prints before out.new text) }
+    ensures part { OnErr result (PrintsPart out.old out.new []) }
+    ensures tells { Tells out.old out.new result }
+    ensures lost { IfErr result IsBrokenOff }
+    ensures kept { F.bytes files.new ≡ F.bytes files.old }
+{
+    hand_on(lines, out)?;
+    lines.read_explained(alloc, files)
 }

@@ -51,7 +51,7 @@ impl<R: Read + Drop> InputLines<R> {
     }
 
     /// Reads the next line. Answers whether there is one: a line is read with its end.
-    pub fn read_next(&mut self) -> Result<bool, Failure>
+    fn read_next(&mut self) -> Result<bool, Failure>
         ensures next { IfOk result (λ there. IsNext there self.old self.new) }
         ensures silent { IfErr result IsSilent }
         ensures lost { IfErr result IsBrokenOff }
@@ -62,7 +62,7 @@ impl<R: Read + Drop> InputLines<R> {
     }
 
     /// The same. Says why the input was not read, if it was not.
-    pub fn read_explained<F: Files>(
+    pub(crate) fn read_explained<F: Files>(
         &mut self,
         alloc: Global,
         files: &mut F,
@@ -87,7 +87,7 @@ impl<R: Read + Drop> InputLines<R> {
     }
 
     /// Whether a further line was read with the last one.
-    pub fn is_at_hand(&self) -> bool
+    pub(crate) fn is_at_hand(&self) -> bool
         ensures { result ≡ is_at_hand self.now }
     {
         self.input.buffer().contains(&b'\n')

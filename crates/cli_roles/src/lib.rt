@@ -9,9 +9,9 @@
 //! Who has a public key signs which blocks it has: `endorse` makes the line, `order` hands it on,
 //! and `commit`, which has the chain, tells where another one is meant.
 //!
-//! [`InputLines`] are the lines of such a filter, and [`end`] says why it ends before them. The
-//! state of each is a type with a contract: `Replica` of `log_orderer`, `StoredChain` and
-//! `StoreFollower` of `log_store`.
+//! [`InputLines`] are the lines of such a filter, [`next_line`] reads one, and [`end`] says why it
+//! ends before them. The state of each is a type with a contract: `Replica` of `log_orderer`,
+//! `StoredChain` and `StoreFollower` of `log_store`.
 #![tactic(auto)]
 
 mod asking;
@@ -29,7 +29,7 @@ mod words;
 pub use committing::commit;
 pub use endorsing::{Endorsing, endorse};
 pub use explaining::explain_store;
-pub use filter::{end, hand_on};
+pub use filter::{end, next_line};
 pub use input::InputLines;
 pub use log_genesis::LogGenesis;
 pub use ordering::order;

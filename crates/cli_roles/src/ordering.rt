@@ -10,7 +10,7 @@ ghost use Rattle.cli_roles.specs.Orders.{batch_text, fresh, left_out_text, left_
 ghost use Rattle.cli_roles.specs.Seen.{IsUnsigned, TellsText, forked_text, sighting_of};
 
 use crate::explaining::explain_skip;
-use crate::filter::hand_on;
+use crate::filter::next_line;
 use crate::input::InputLines;
 use crate::log_genesis::LogGenesis;
 use crate::marks::{is_of_mark, leaves_genesis_open, names_another_genesis, parted};
@@ -102,11 +102,10 @@ impl Ordering {
         ensures kept { F.bytes files.new ≡ F.bytes files.old }
     {
         for number in 1..u64::MAX {
-            if !lines.read_explained(self.alloc, files)? {
+            if !next_line(self.alloc, files, lines, out)? {
                 return Ok(());
             }
             self.take_line(files, lines.line(), number, digest, out)?;
-            hand_on(lines, out)?;
         }
         // So many lines no input has.
         Err(Failure::File)

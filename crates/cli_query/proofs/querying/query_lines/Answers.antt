@@ -9,9 +9,8 @@ use Rattle.cli_lines.specs.Told.{Told}
 use Rattle.cli_lines.specs.declared.failure.Failure.{Failure}
 use Rattle.cli_lines.specs.declared.failure.Failure.TheVariants as failure
 use Rattle.cli_lines.proofs.Printing.{nothing_same}
-use Rattle.cli_lines.proofs.Silence.{tells_by}
 use Rattle.cli_roles.specs.Input.{Input, IsNext}
-use Rattle.cli_roles.proofs.Filters.{HasDone, none_done, one_done, done_kept, all_done, comes_by, line_ended, begins_lines}
+use Rattle.cli_roles.proofs.Filters.{HasDone, none_done, one_done, done_kept, all_done, comes_by, line_ended, begins_between, begins_lines, tells_then}
 use Rattle.cli_roles.proofs.Stores.{read_by, stops_by}
 use Rattle.cli_query.specs.Printed.{DoesLine, EndsLine, TakesLine}
 use Rattle.cli_query.proofs.querying.query_lines.Goals as goal
@@ -53,17 +52,17 @@ loop-number-preserved g c =
     let held = store_bytes (left first.file.device) first in
     let known = store_bytes (left old.file.device) old in
     let input = c.args.lines.now.left in
-    let after = c.read_explained.new.self in
-    let u = c.take_line.new.out in
-    let done = line_done genesis held known input c.loop-number.lines after c.in_ok-there.there (bytes_read first) (bytes_read old) (bytes_read new)
-    c.line.result.now c.loop-number.number c.args.out.now c.loop-number.out u inv.done inv.store c.in_ok-there.ensures.next c.if-not-there.false c.line.ensures
-    c.in_ok-take_line.ensures.does in
+    let after = c.next_line.new.lines in
+    let t = c.next_line.new.out in
+    let told = done_kept (DoesLine genesis held) input c.loop-number.lines.left (bytes_read first) c.loop-number.number (bytes_read c.loop-number.reader)
+    c.args.out.now c.loop-number.out t c.loop-number.invariant.done (λ text printed. c.in_ok-there.ensures.told c.args.out.now text printed) in
     record {
-      kept = c.take_line.ensures.kept ∙ c.read_explained.ensures.kept ∙ inv.kept;
+      kept = c.take_line.ensures.kept ∙ c.next_line.ensures.kept ∙ inv.kept;
       read = c.in_ok-take_line.ensures.read;
       store = Keeps-trans held known (store_bytes (left new.file.device) new) inv.store c.in_ok-take_line.ensures.store;
-      done = done_kept (DoesLine genesis held) input after.left (bytes_read first) _ (bytes_read new) c.args.out.now u c.hand_on.new.out done
-          (λ text printed. c.in_ok-hand_on.ensures.kept c.args.out.now text printed);
+      done = line_done genesis held known input c.loop-number.lines after c.in_ok-there.there (bytes_read first) (bytes_read old) (bytes_read new)
+          c.line.result.now c.loop-number.number c.args.out.now t c.take_line.new.out told inv.store c.in_ok-there.ensures.next c.if-not-there.false
+          c.line.ensures c.in_ok-take_line.ensures.does;
     }
 
 pub returns-then-not-there-clause-answers : goal.returns-then-not-there-clause-answers
@@ -71,14 +70,29 @@ returns-then-not-there-clause-answers g c =
     let genesis = c.args.asked.now.genesis.now in
     let first = c.args.reader.now in
     let held = store_bytes (g.F.Reader.Read.remaining first.file.device) first in
-    all_done (DoesLine genesis held) (EndsLine genesis held) c.args.lines.now.left c.loop-number.lines c.read_explained.new.self c.in_ok-there.there
-    (bytes_read first) (bytes_read c.loop-number.reader) c.loop-number.number c.args.out.now c.loop-number.out (tt {0}) c.loop-number.invariant.done
-    c.in_ok-there.ensures.next c.if-not-there.true
+    let t = c.next_line.new.out in
+    let told = done_kept (DoesLine genesis held) c.args.lines.now.left c.loop-number.lines.left (bytes_read first) c.loop-number.number
+    (bytes_read c.loop-number.reader) c.args.out.now c.loop-number.out t c.loop-number.invariant.done
+    (λ text printed. c.in_ok-there.ensures.told c.args.out.now text printed) in
+    all_done (DoesLine genesis held) (EndsLine genesis held) c.args.lines.now.left c.loop-number.lines c.next_line.new.lines c.in_ok-there.there
+    (bytes_read first) (bytes_read c.loop-number.reader) c.loop-number.number c.args.out.now t (tt {0}) told c.in_ok-there.ensures.next c.if-not-there.true
+
+pub returns-then-not-there-clause-tells : goal.returns-then-not-there-clause-tells
+returns-then-not-there-clause-tells g c =
+    let genesis = c.args.asked.now.genesis.now in
+    let first = c.args.reader.now in
+    let held = store_bytes (g.F.Reader.Read.remaining first.file.device) first in
+    let t = c.next_line.new.out in
+    let told = done_kept (DoesLine genesis held) c.args.lines.now.left c.loop-number.lines.left (bytes_read first) c.loop-number.number
+    (bytes_read c.loop-number.reader) c.args.out.now c.loop-number.out t c.loop-number.invariant.done
+    (λ text printed. c.in_ok-there.ensures.told c.args.out.now text printed) in
+    (told.prints.more, told.prints.whole)
 
 pub returns-in_err-there-clause-tells : goal.returns-in_err-there-clause-tells
 returns-in_err-there-clause-tells g c =
     let p = err_from_is_err_and c.from_residual.result c.from_residual.ensures.1 in
-    rw (p.1, p.2) (tells_by c.args.out.now c.loop-number.out _ c.loop-number.invariant.done.prints.more c.in_err-there.ensures.silent)
+    rw (p.1, p.2) (tells_then c.args.out.now c.loop-number.out c.next_line.new.out c.in_err-there.field-0.0 c.loop-number.invariant.done.prints.more
+    c.in_err-there.ensures.tells)
 
 pub returns-in_err-there-clause-answers : goal.returns-in_err-there-clause-answers
 returns-in_err-there-clause-answers g c =
@@ -98,12 +112,15 @@ returns-in_err-take_line g c =
     let known = store_bytes (left old.file.device) old in
     let n = c.loop-number.number in
     let lent = c.line.result.now in
-    let t = c.loop-number.out in
+    let t = c.next_line.new.out in
+    let told = done_kept (DoesLine genesis held) c.args.lines.now.left c.loop-number.lines.left (bytes_read first) c.loop-number.number
+    (bytes_read c.loop-number.reader) c.args.out.now c.loop-number.out t c.loop-number.invariant.done
+    (λ text printed. c.in_ok-there.ensures.told c.args.out.now text printed) in
     let u = c.take_line.new.out in
     let cause = c.in_err-take_line.field-0.0 in
     let took = c.in_err-take_line.ensures in
-    let ended = line_ended (DoesLine genesis held) (EndsLine genesis held) (Unit {0}) c.args.lines.now.left c.loop-number.lines c.read_explained.new.self
-    c.in_ok-there.there lent (bytes_read first) (bytes_read old) (bytes_read new) n c.args.out.now t u cause inv.done c.in_ok-there.ensures.next
+    let ended = line_ended (DoesLine genesis held) (EndsLine genesis held) (Unit {0}) c.args.lines.now.left c.loop-number.lines c.next_line.new.lines
+    c.in_ok-there.there lent (bytes_read first) (bytes_read old) (bytes_read new) n c.args.out.now t u cause told c.in_ok-there.ensures.next
     c.if-not-there.false c.line.ensures took.tells
     (taken_by {A = Unit {0}} genesis held known n (bytes_read old) lent (bytes_read new) t u (Err cause) inv.store took.does)
     (λ broken. inl (took.nothing broken)) in
@@ -111,7 +128,7 @@ returns-in_err-take_line g c =
       tells = ended.0;
       answers = ended.1;
       begins = ended.2;
-      kept = c.take_line.ensures.kept ∙ c.read_explained.ensures.kept ∙ inv.kept;
+      kept = c.take_line.ensures.kept ∙ c.next_line.ensures.kept ∙ inv.kept;
     })
 
 -- ---- where it is broken off
@@ -122,29 +139,8 @@ returns-in_err-there-clause-begins g c =
     let genesis = c.args.asked.now.genesis.now in
     let first = c.args.reader.now in
     let held = store_bytes (g.F.Reader.Read.remaining first.file.device) first in
-    let u = c.loop-number.out in
-    begins_lines (DoesLine genesis held) (EndsLine genesis held) c.args.lines.now.left c.loop-number.lines.left (bytes_read first) c.loop-number.number
-    (bytes_read c.loop-number.reader) c.args.out.now u u c.from_residual.result inv.done (nothing_same u)
-
-pub returns-in_err-hand_on-clause-begins : goal.returns-in_err-hand_on-clause-begins
-returns-in_err-hand_on-clause-begins g c =
-    let inv = c.loop-number.invariant in
-    let genesis = c.args.asked.now.genesis.now in
-    let left = g.F.Reader.Read.remaining in
-    let first = c.args.reader.now in
-    let old = c.loop-number.reader in
-    let new = c.take_line.new.reader in
-    let held = store_bytes (left first.file.device) first in
-    let known = store_bytes (left old.file.device) old in
-    let input = c.args.lines.now.left in
-    let after = c.read_explained.new.self in
-    let n = c.loop-number.number in
-    let u = c.take_line.new.out in
-    let done = line_done genesis held known input c.loop-number.lines after c.in_ok-there.there (bytes_read first) (bytes_read old) (bytes_read new)
-    c.line.result.now n c.args.out.now c.loop-number.out u inv.done inv.store c.in_ok-there.ensures.next c.if-not-there.false c.line.ensures
-    c.in_ok-take_line.ensures.does in
-    begins_lines (DoesLine genesis held) (EndsLine genesis held) input after.left (bytes_read first) (n + 1) (bytes_read new) c.args.out.now u
-    c.hand_on.new.out c.from_residual-in_err-hand_on.result done c.in_err-hand_on.ensures.nothing
+    begins_between (DoesLine genesis held) (EndsLine genesis held) c.args.lines.now.left c.loop-number.lines.left (bytes_read first) c.loop-number.number
+    (bytes_read c.loop-number.reader) c.args.out.now c.loop-number.out c.next_line.new.out c.from_residual.result inv.done c.in_err-there.ensures.part
 
 pub returns-clause-begins : goal.returns-clause-begins
 returns-clause-begins g c =

@@ -4,9 +4,8 @@ use Rattle.endorsement_policy.specs.Endorsed.{Listed}
 use Rattle.log_store.specs.Storing.{rules_of, stored_chain}
 use Rattle.cli_lines.specs.declared.failure.Failure.TheVariants as failure
 use Rattle.cli_lines.proofs.Printing.{nothing_same}
-use Rattle.cli_lines.proofs.Silence.{tells_by}
 use Rattle.cli_roles.specs.Committing.{BeginsLine, DoesLine, EndsLine, TakesLine}
-use Rattle.cli_roles.proofs.Filters.{all_done, begins_lines, done_kept, line_ended, none_done, one_done}
+use Rattle.cli_roles.proofs.Filters.{all_done, begins_between, begins_lines, done_kept, line_ended, none_done, one_done, tells_then}
 use Rattle.cli_roles.proofs.committing.commit_lines.Goals as goal
 
 pub loop-number-init : goal.loop-number-init
@@ -26,30 +25,44 @@ loop-number-preserved g c =
     let digest = c.args.peer.now.log.now.digest in
     let n = c.loop-number.number in
     let input = c.args.lines.now.left in
-    let after = c.read_explained.new.self in
+    let after = c.next_line.new.lines in
     let lent = c.line.result.now in
     let first = stored_chain c.args.chain.now in
     let mid = stored_chain c.loop-number.chain in
     let new = stored_chain c.take_line.new.chain in
-    let t = c.loop-number.out in
+    let t = c.next_line.new.out in
+    let told = done_kept (DoesLine by digest) c.args.lines.now.left c.loop-number.lines.left (stored_chain c.args.chain.now) c.loop-number.number
+    (stored_chain c.loop-number.chain) c.args.out.now c.loop-number.out t c.loop-number.invariant.done
+    (λ text printed. c.in_ok-there.ensures.told c.args.out.now text printed) in
     let u = c.take_line.new.out in
     let taken = subst (λ (r : Listed). TakesLine r digest n mid lent new t u (Ok (tt {0}))) inv.rules c.in_ok-take_line.ensures.does in
-    let done = one_done (DoesLine by digest) (EndsLine by) input c.loop-number.lines after c.in_ok-there.there lent first mid new n c.args.out.now t u (tt {0})
-    inv.done c.in_ok-there.ensures.next c.if-not-there.false c.line.ensures taken in
     record {
       stored = c.in_ok-take_line.ensures.stored;
-      kept = c.take_line.ensures.kept ∙ c.read_explained.ensures.kept ∙ inv.kept;
+      kept = c.take_line.ensures.kept ∙ c.next_line.ensures.kept ∙ inv.kept;
       rules = c.in_ok-take_line.ensures.rules ∙ inv.rules;
-      done = done_kept (DoesLine by digest) input after.left first _ new c.args.out.now u c.hand_on.new.out done
-          (λ text printed. c.in_ok-hand_on.ensures.kept c.args.out.now text printed);
+      done = one_done (DoesLine by digest) (EndsLine by) input c.loop-number.lines after c.in_ok-there.there lent first mid new n c.args.out.now t u (tt {0})
+          told c.in_ok-there.ensures.next c.if-not-there.false c.line.ensures taken;
     }
 
 pub returns-then-not-there-clause-answers : goal.returns-then-not-there-clause-answers
 returns-then-not-there-clause-answers g c =
     let by = rules_of c.args.chain.now in
-    all_done (DoesLine by c.args.peer.now.log.now.digest) (EndsLine by) c.args.lines.now.left c.loop-number.lines c.read_explained.new.self
-    c.in_ok-there.there (stored_chain c.args.chain.now) (stored_chain c.loop-number.chain) c.loop-number.number c.args.out.now c.loop-number.out (tt {0})
-    c.loop-number.invariant.done c.in_ok-there.ensures.next c.if-not-there.true
+    let t = c.next_line.new.out in
+    let told = done_kept (DoesLine by c.args.peer.now.log.now.digest) c.args.lines.now.left c.loop-number.lines.left (stored_chain c.args.chain.now)
+    c.loop-number.number (stored_chain c.loop-number.chain) c.args.out.now c.loop-number.out t c.loop-number.invariant.done
+    (λ text printed. c.in_ok-there.ensures.told c.args.out.now text printed) in
+    all_done (DoesLine by c.args.peer.now.log.now.digest) (EndsLine by) c.args.lines.now.left c.loop-number.lines c.next_line.new.lines
+    c.in_ok-there.there (stored_chain c.args.chain.now) (stored_chain c.loop-number.chain) c.loop-number.number c.args.out.now t (tt {0}) told
+    c.in_ok-there.ensures.next c.if-not-there.true
+
+pub returns-then-not-there-clause-tells : goal.returns-then-not-there-clause-tells
+returns-then-not-there-clause-tells g c =
+    let by = rules_of c.args.chain.now in
+    let t = c.next_line.new.out in
+    let told = done_kept (DoesLine by c.args.peer.now.log.now.digest) c.args.lines.now.left c.loop-number.lines.left (stored_chain c.args.chain.now)
+    c.loop-number.number (stored_chain c.loop-number.chain) c.args.out.now c.loop-number.out t c.loop-number.invariant.done
+    (λ text printed. c.in_ok-there.ensures.told c.args.out.now text printed) in
+    (told.prints.more, told.prints.whole)
 
 pub returns-in_err-take_line : goal.returns-in_err-take_line
 returns-in_err-take_line g c =
@@ -61,53 +74,37 @@ returns-in_err-take_line g c =
     let lent = c.line.result.now in
     let mid = stored_chain c.loop-number.chain in
     let new = stored_chain c.take_line.new.chain in
-    let t = c.loop-number.out in
+    let t = c.next_line.new.out in
+    let told = done_kept (DoesLine by digest) c.args.lines.now.left c.loop-number.lines.left (stored_chain c.args.chain.now) c.loop-number.number
+    (stored_chain c.loop-number.chain) c.args.out.now c.loop-number.out t c.loop-number.invariant.done
+    (λ text printed. c.in_ok-there.ensures.told c.args.out.now text printed) in
     let u = c.take_line.new.out in
     let e = c.in_err-take_line.field-0.0 in
     let took = c.in_err-take_line.ensures in
-    let ended = line_ended (DoesLine by digest) (EndsLine by) (Unit {0}) c.args.lines.now.left c.loop-number.lines c.read_explained.new.self
-    c.in_ok-there.there lent (stored_chain c.args.chain.now) mid new n c.args.out.now t u e inv.done c.in_ok-there.ensures.next c.if-not-there.false
+    let ended = line_ended (DoesLine by digest) (EndsLine by) (Unit {0}) c.args.lines.now.left c.loop-number.lines c.next_line.new.lines
+    c.in_ok-there.there lent (stored_chain c.args.chain.now) mid new n c.args.out.now t u e told c.in_ok-there.ensures.next c.if-not-there.false
     c.line.ensures took.tells (subst (λ (r : Listed). TakesLine {A = Unit {0}} r digest n mid lent new t u (Err e)) inv.rules took.does)
     (subst (λ (r : Listed). BeginsLine {A = Unit {0}} r digest n mid lent new t u (Err e)) inv.rules took.begins) in
     rw (p.1, p.2) (record {
       tells = ended.0;
       answers = ended.1;
       begins = ended.2;
-      kept = c.take_line.ensures.kept ∙ c.read_explained.ensures.kept ∙ inv.kept;
+      kept = c.take_line.ensures.kept ∙ c.next_line.ensures.kept ∙ inv.kept;
     })
 
 pub returns-in_err-there : goal.returns-in_err-there
 returns-in_err-there g c =
     let p = err_from_is_err_and c.from_residual.result c.from_residual.ensures.1 in
     rw (p.1, p.2) (record {
-      tells = tells_by c.args.out.now c.loop-number.out _ c.loop-number.invariant.done.prints.more c.in_err-there.ensures.silent;
+      tells = tells_then c.args.out.now c.loop-number.out c.next_line.new.out c.in_err-there.field-0.0 c.loop-number.invariant.done.prints.more
+          c.in_err-there.ensures.tells;
       answers = inl c.in_err-there.ensures.lost;
-      begins = begins_lines (DoesLine (rules_of c.args.chain.now) c.args.peer.now.log.now.digest) (EndsLine (rules_of c.args.chain.now))
+      begins = begins_between (DoesLine (rules_of c.args.chain.now) c.args.peer.now.log.now.digest) (EndsLine (rules_of c.args.chain.now))
           {A = Unit {0}} c.args.lines.now.left c.loop-number.lines.left (stored_chain c.args.chain.now) c.loop-number.number (stored_chain c.loop-number.chain)
-          c.args.out.now c.loop-number.out c.loop-number.out (Err c.in_err-there.field-0.0) c.loop-number.invariant.done
-          (nothing_same c.loop-number.out);
+          c.args.out.now c.loop-number.out c.next_line.new.out (Err c.in_err-there.field-0.0) c.loop-number.invariant.done
+          c.in_err-there.ensures.part;
       kept = c.in_err-there.ensures.kept ∙ c.loop-number.invariant.kept;
     })
-
-pub returns-in_err-hand_on-clause-begins : goal.returns-in_err-hand_on-clause-begins
-returns-in_err-hand_on-clause-begins g c =
-    let inv = c.loop-number.invariant in
-    let by = rules_of c.args.chain.now in
-    let digest = c.args.peer.now.log.now.digest in
-    let n = c.loop-number.number in
-    let input = c.args.lines.now.left in
-    let after = c.read_explained.new.self in
-    let lent = c.line.result.now in
-    let first = stored_chain c.args.chain.now in
-    let mid = stored_chain c.loop-number.chain in
-    let new = stored_chain c.take_line.new.chain in
-    let t = c.loop-number.out in
-    let u = c.take_line.new.out in
-    let taken = subst (λ (r : Listed). TakesLine r digest n mid lent new t u (Ok (tt {0}))) inv.rules c.in_ok-take_line.ensures.does in
-    let done = one_done (DoesLine by digest) (EndsLine by) input c.loop-number.lines after c.in_ok-there.there lent first mid new n c.args.out.now t u (tt {0})
-    inv.done c.in_ok-there.ensures.next c.if-not-there.false c.line.ensures taken in
-    begins_lines (DoesLine by digest) (EndsLine by) input after.left first (n + 1) new c.args.out.now u c.hand_on.new.out
-    c.from_residual-in_err-hand_on.result done c.in_err-hand_on.ensures.nothing
 
 pub returns-clause-begins : goal.returns-clause-begins
 returns-clause-begins g c =
