@@ -1,6 +1,6 @@
 -- Where the fault is 201, some front of the body is without a typing and breaks none of the rules with faults of their own.
-use Rattle.std.proofs.Common.{◌≡◌, ◌<◌, ◌+◌, inl, inr, ℕ, List, [], refl, sym, ap, ◌∙◌, subst, Option, Some, None, length, drop, slice_index_or, true≢false}
-use Rattle.std.specs.Prelude.{◌⊎◌, IsSome}
+use Rattle.std.proofs.Common.{◌≡◌, ◌<◌, ◌+◌, inl, inr, ℕ, List, [], refl, sym, ap, ◌∙◌, subst, Option, Some, None, length, drop, slice_index_or}
+use Rattle.std.specs.Prelude.{◌⊎◌}
 use Rattle.wasm_ast.specs.declared.types.ValueType.TheVariants.{I32}
 use Rattle.wasm_ast.specs.declared.body.Instr.{Instr}
 use Rattle.wasm_ast.specs.declared.body.Instr.TheVariants as instr
@@ -9,9 +9,9 @@ use Rattle.wasm_ast.specs.Code.{BlockType, Code, End, Do, Block, Loop, If}
 use Rattle.wasm_ast.specs.View.{then_code, code_of}
 use Rattle.wasm_typing.specs.declared.fault.ValidateFault.{ValidateFault}
 use Rattle.wasm_typing.specs.declared.fault.ValidateFault.TheVariants as fault
-use Rattle.wasm_typing.specs.Typing.{Context, Types, under, results}
+use Rattle.wasm_typing.specs.Typing.{Context, under, results}
 use Rattle.wasm_typing.specs.Operands.{Operands, then, pop_as, push_result, no_operands, finish}
-use Rattle.wasm_typing.specs.Algorithm.{step, check, whole_body, first, conditional, instruction}
+use Rattle.wasm_typing.specs.Algorithm.{check, whole_body, first, instruction}
 use Rattle.wasm_typing.specs.Breaks.{Breaks, BreaksIn, BreaksFirst, BreaksInstr, KeepsOwn, BreaksNone}
 use Rattle.wasm_typing.specs.Refused.{Refused}
 use Rattle.wasm_typing.specs.Front.{unreachable_end, IsFront}
@@ -56,7 +56,7 @@ cut_front (Block t b rest) = inl refl
 cut_front (Loop t b rest) = inl refl
 cut_front (If t a b rest) = inl refl
 
-always_none : {A B : Type 0} (o : Option A) (f : A → Option B) → ((a : A) → f a ≡ None) → then o f ≡ None
+pub always_none : {A B : Type 0} (o : Option A) (f : A → Option B) → ((a : A) → f a ≡ None) → then o f ≡ None
 always_none None f h = refl
 always_none (Some a) f h = h a
 

@@ -1,5 +1,5 @@
 -- A function is typed where its body is accepted, and breaks a rule where it is refused.
-use Rattle.std.proofs.Common.{◌≡◌, ◌<◌, ◌+◌, ℕ, List, [], ◌∷◌, ◌++◌, sym, ap, ◌∙◌, subst, Option, Some, None, Result, Ok, Err, length, map, slice_index_or}
+use Rattle.std.proofs.Common.{◌≡◌, ◌<◌, ◌+◌, ℕ, List, [], ◌∷◌, ◌++◌, sym, ap, ◌∙◌, subst, Some, None, Result, Ok, Err, length, map, slice_index_or}
 use Rattle.std.specs.Prelude.{IsSome, IfErr}
 use Rattle.wasm_ast.specs.declared.types.ValueType.{ValueType}
 use Rattle.wasm_ast.specs.declared.types.FuncType.{FuncType}

@@ -7,6 +7,7 @@ pub mod Complete
 pub mod Instructions
 pub mod Untyped
 pub mod Fronts
+pub mod Parts
 pub mod Functions
 pub mod Modules
 pub mod PlainInstructions

@@ -51,6 +51,26 @@ calls_next items xs k i call done same lt e n =
     append_assoc done (call ∷ []) (host_calls (drop (k + 1) xs)) ∙
     ap (λ cs. done ++ cs) (sym (ap host_calls (next_item items xs k i same lt e) ∙ ap (λ o. then_call o (host_calls (drop (k + 1) xs))) n))
 
+-- the index of one imported function more, and the imports after it
+pub indices_next : (items xs : List Import) (k : ℕ) (i : Import) (t : ℕ) (done : List ℕ) → items ≡ xs → k < length items → i ≡ slice_index_or items k i →
+    i.kind ≡ kind.Function t → (done ++ (t ∷ [])) ++ imported_functions (drop (k + 1) xs) ≡ done ++ imported_functions (drop k xs)
+indices_next items xs k i t done same lt e d =
+    let rest = imported_functions (drop (k + 1) xs) in
+    append_assoc done (t ∷ []) rest ∙
+    ap (λ is. done ++ is)
+    (sym (ap imported_functions (next_item items xs k i same lt e) ∙ ap (λ d. elim d [ kind.Function t ↦ t ∷ rest | _ ↦ rest ]) d))
+
+-- an import of something else is passed over
+pub indices_skip : (items xs : List Import) (k : ℕ) (i : Import) → items ≡ xs → k < length items → i ≡ slice_index_or items k i →
+    ((t : ℕ) → i.kind ≡ kind.Function t → ⊥) → imported_functions (drop (k + 1) xs) ≡ imported_functions (drop k xs)
+indices_skip items xs k i same lt e none =
+    sym (ap imported_functions (next_item items xs k i same lt e) ∙ passed_over (drop (k + 1) xs))
+  where
+    passed_over : (is : List Import) → imported_functions (i ∷ is) ≡ imported_functions is
+    passed_over is =
+        elim i.kind as (λ d. i.kind ≡ d → elim d [ kind.Function t ↦ t ∷ imported_functions is | _ ↦ imported_functions is ] ≡ imported_functions is)
+        [ kind.Function t ↦ λ e. absurd (none t e) | _ ↦ λ e. refl ] refl
+
 -- some import is of a function of the type at t
 abbrev HasImport : List Import → ℕ → Type 0
 HasImport is t = (j : ℕ) × (i : Import) × (at is j ≡ Some i) × (i.kind ≡ kind.Function t)

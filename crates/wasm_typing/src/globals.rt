@@ -43,9 +43,12 @@ pub fn constant_of(body: &Body, of_type: ValueType) -> Option<u64>
         (λ n. body.now ≡ Do (Const of_type n) End) }
     ensures bound { IfSome result (λ n. n < words of_type) }
 {
-    match (body.items(), of_type) {
-        ([Instr::I32Const(word)], ValueType::I32) => Some(*word as u64),
-        ([Instr::I64Const(word)], ValueType::I64) => Some(*word),
+    let [instr] = body.items() else {
+        return None;
+    };
+    match (instr, of_type) {
+        (Instr::I32Const(word), ValueType::I32) => Some(*word as u64),
+        (Instr::I64Const(word), ValueType::I64) => Some(*word),
         _ => None,
     }
 }

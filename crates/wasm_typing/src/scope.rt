@@ -32,17 +32,10 @@ impl<'a> Scope<'a> {
         ensures { let found = at (map (type_at self.now.types.now) self.now.functions.now) function
             in MatchOption result (found ≡ None) (λ t. found ≡ Some t.now) }
     {
-        let Some(type_index) = self.type_index_of(function) else {
+        let Some(type_index) = self.functions.get(function as usize) else {
             return None;
         };
-        Some(&self.types[type_index as usize])
-    }
-
-    // The index of the type of a function.
-    fn type_index_of(&self, function: u32) -> Option<u32>
-        ensures { result ≡ at self.now.functions.now function }
-    {
-        Some(*self.functions.get(function as usize)?)
+        Some(&self.types[*type_index as usize])
     }
 
     /// The type at an index.
@@ -57,7 +50,7 @@ impl<'a> Scope<'a> {
     pub fn type_of_local(&self, local: u32) -> Option<ValueType>
         ensures { result ≡ at self.now.locals.now local }
     {
-        Some(*self.locals.get(local as usize)?)
+        self.locals.get(local as usize).copied()
     }
 
     /// The table, if there is one.
@@ -78,6 +71,9 @@ impl<'a> Scope<'a> {
     pub fn type_of_global(&self, global: u32) -> Option<GlobalType>
         ensures { result ≡ at (map (λ (g : Global). g.global_type) self.now.globals.now) global }
     {
-        Some(self.globals.get(global as usize)?.global_type)
+        match self.globals.get(global as usize) {
+            None => None,
+            Some(found) => Some(found.global_type),
+        }
     }
 }
