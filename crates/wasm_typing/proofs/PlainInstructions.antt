@@ -1,5 +1,5 @@
 -- Instructions with none inside, and those among them that can break no rule with a fault of its own.
-use Rattle.std.proofs.Common.{◌≡◌, refl, sym, true≢false, Result, Ok, Err, Box, Global}
+use Rattle.std.proofs.Common.{◌≡◌, refl, sym, subst, true≢false, Option, Result, Ok, Err, Box, Global}
 use Rattle.std.specs.Prelude.{Bool, true, false, IfErr}
 use Rattle.wasm_ast.specs.declared.body.Block.{Block}
 use Rattle.wasm_ast.specs.declared.body.Conditional.{Conditional}
@@ -11,6 +11,9 @@ use Rattle.wasm_typing.specs.declared.fault.ValidateFault.{ValidateFault}
 use Rattle.wasm_typing.specs.declared.fault.ValidateFault.TheVariants as fault
 use Rattle.wasm_typing.specs.Typing.{Context}
 use Rattle.wasm_typing.specs.Operands.{Operands}
+use Rattle.wasm_typing.specs.Algorithm.{instruction}
+use Rattle.wasm_typing.specs.Breaks.{BreaksInstr}
+use Rattle.wasm_typing.specs.Refused.{Refused}
 use Rattle.wasm_typing.specs.Mistyped.{Mismatch, MistypedFirst}
 use Rattle.wasm_typing.specs.Plain.{is_plain}
 
@@ -72,3 +75,14 @@ pub plain_keeps : {T : Type 0} (c : Context) (i : Instr) (s : Operands) (r : Res
     IfErr r (λ e. Mismatch e (MistypedFirst c (then_code i End) s))
 plain_keeps c i s (Ok x) h = tt
 plain_keeps c i s (Err e) h = mismatched e (MistypedFirst c (then_code i End) s) (keeps_own c i s h)
+
+wider : (e : ValidateFault) (P : Type 0) (o : Option Operands) → Refused e ⊥ o → Refused e P o
+wider fault.Memory P o h = tt
+wider fault.TypeMismatch P o h = h
+wider _ P o h = absurd h
+
+-- what refuses it for its operands alone refuses it
+pub plain_refused : {T : Type 0} (c : Context) (i j : Instr) (s : Operands) (r : Result T ValidateFault) → i ≡ j →
+    IfErr r (λ e. Refused e ⊥ (instruction c j s)) → IfErr r (λ e. Refused e (BreaksInstr e c i) (instruction c i s))
+plain_refused c i j s (Ok x) is h = tt
+plain_refused c i j s (Err e) is h = wider e (BreaksInstr e c i) (instruction c i s) (subst (λ k. Refused e ⊥ (instruction c k s)) (sym is) h)
