@@ -1,5 +1,6 @@
 -- Lines that are done one after another.
-use Rattle.std.proofs.Common.{◌≡◌, ◌≤◌, ◌⊎◌, inl, inr, ℕ, ◌+◌, List, [], ◌∷◌, ◌++◌, length, Option, Bool, true, false, Result, Ok, Err, OnOk, OnErr, IfErr, refl, sym, ap, subst, ◌∙◌, append_assoc, arith}
+use Rattle.std.proofs.Common.{◌≡◌, ◌≤◌, ◌⊎◌, inl, inr, ℕ, ◌+◌, List, [], ◌∷◌, ◌++◌, length, Option, Bool, true, false, Result, Ok, Err}
+use Rattle.std.proofs.Common.{OnOk, OnErr, IfErr, refl, sym, ap, subst, ◌∙◌, append_assoc, arith}
 use Rattle.std.proofs.lemmas.List.{append-nil, length-append}
 use Rattle.cli_lines.specs.Texts.{line}
 use Rattle.cli_lines.specs.Told.{Told, Answers, Begins, IsBrokenOff, IsMore, Prints, PrintsNothing, PrintsPart, Says, Tells}
@@ -55,6 +56,10 @@ says_then t u v failure.Output more says = says
 
 pub tells_then : (t u v : Told) (e : Failure) → IsMore t u → IsMore u v × Says u v e → IsMore t v × Says t v e
 tells_then t u v e first next = (and_more t u v first next.0, says_then t u v e first.prints next.1)
+
+pub tells_behind : {A : Type 0} (t u v : Told) (r : Result A Failure) → IsMore t u × (u.failed ≡ t.failed) → Tells u v r → Tells t v r
+tells_behind t u v (Ok a) first next = (and_more t u v first.0 next.0, next.1 ∙ first.1)
+tells_behind t u v (Err e) first next = tells_then t u v e first.0 next
 
 -- done, by some text that it printed
 pub done_so : {A : Type 0} (Does Ends : List ℕ → Type 0) (t u : Told) (r : Result A Failure) → OnOk r (PrintsSo Does t u) → IfErr r IsBrokenOff

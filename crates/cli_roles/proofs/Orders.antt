@@ -1,5 +1,6 @@
 -- What is printed of lines, one after another.
-use Rattle.std.proofs.Common.{◌≡◌, ◌+◌, ◌<◌, ◌≤◌, ℕ, List, [], ◌++◌, ◌⊎◌, inl, inr, Option, Some, None, Result, Ok, Err, IfErr, OnErr, OnOk, get_or, length, take, refl, sym, ap, ◌∙◌, subst, arith}
+use Rattle.std.proofs.Common.{◌≡◌, ◌+◌, ◌<◌, ◌≤◌, ℕ, Bool, true, List, [], ◌++◌, ◌⊎◌, inl, inr, Option, Some, None, Result, Ok, Err, IfErr, OnErr, OnOk}
+use Rattle.std.proofs.Common.{get_or, length, take, refl, sym, ap, ◌∙◌, subst, arith}
 use Rattle.std.proofs.lemmas.List.{append-nil, take_all}
 use Rattle.std.proofs.lemmas.Option.{slice_get_cases, slice_get_past, slice_get_read, slice_get_within, slice_get-get_or, get_or_from_slice_get}
 use Rattle.std.proofs.lemmas.Slice.Zip.{length-zip, get_or-zip}
@@ -9,20 +10,23 @@ use Rattle.std.specs.Prelude.{option_map}
 use denote.Ref.{Bor}
 use Rattle.std.specs.Str.Lossy.{utf8_lossy}
 use Rattle.hex.specs.Hex.{encode_lower}
+use Rattle.batch_cutter.specs.Division.{message, timeout}
 use Rattle.endorsement_policy.specs.Endorsed.{Listed}
 use Rattle.ledger_setting.specs.declared.genesis.Genesis.{Genesis}
 use Rattle.orderer.specs.Ordering.{Ordering}
 use Rattle.orderer.specs.declared.arrangement.AbortCause.{AbortCause}
 use Rattle.fab_types.specs.declared.block.Block.{Block}
 use Rattle.log_orderer.specs.declared.replica.LineReport.{LineReport}
-use Rattle.log_orderer.specs.declared.replica.LineReport.TheVariants.{Skipped, Ticked}
+use Rattle.log_orderer.specs.Skipped.{IsSkippedBy}
+use Rattle.log_orderer.specs.declared.batch.LogBatch.{LogBatch}
+use Rattle.log_orderer.specs.declared.replica.LineReport.TheVariants.{Accepted, Skipped, Ticked}
 use Rattle.log_orderer.specs.declared.skip.Skip.{Skip}
 use Rattle.cli_lines.specs.Told.{Told, Answers, Begins, IsBrokenOff, Prints, PrintsNothing, PrintsPart}
 use Rattle.cli_lines.specs.declared.failure.Failure.{Failure}
 use Rattle.cli_lines.proofs.Printing.{part_first, part_none, part_then, prints_next, prints_none, prints_same, prints_then}
 use Rattle.cli_roles.specs.Filters.{ComesTo, DoesOrEnds, FiltersBegin, PrintsSo}
 use Rattle.cli_roles.specs.Orders.{EndsOrders, IsTaken, NamesAnother, OrdersBegin, OrdersLine, ReadsLine, TellsReport, fresh, left_out_text, left_text, read_text, skipped_text}
-use Rattle.cli_roles.specs.Marks.{NamesAnotherIn}
+use Rattle.cli_roles.specs.Marks.{IsMarkBy, IsMarkOrNone, NamesAnotherIn}
 use Rattle.cli_roles.specs.Seen.{TellsText}
 use Rattle.cli_roles.specs.Parts.{behind_first, first_word}
 use Rattle.cli_roles.proofs.Filters.{part_ended}
@@ -125,6 +129,18 @@ told_begun r listed chain index said report skip t u v is first none =
       subst (λ (r : LineReport). TellsReport listed chain index said r (first.0 ++ more)) (sym is) told,
       part_then t u v first.0 more first.2 (part_none u v more none),
     )
+
+-- which mark a report tells
+pub marked_accepted : (report : LineReport) (id : List ℕ) (batches : List LogBatch) (said : List ℕ) → report ≡ Accepted id batches → IsMarkBy report said true
+marked_accepted report id batches said is =
+    subst (λ (r : LineReport). IsMarkBy r said true) (sym is) (λ old tells why. (message tells.0, tells.1))
+
+pub marked_ticked : (report : LineReport) (batch : Option LogBatch) (said : List ℕ) → report ≡ Ticked batch → IsMarkBy report said true
+marked_ticked report batch said is = subst (λ (r : LineReport). IsMarkBy r said true) (sym is) (λ old tells why. (timeout, tells.0))
+
+pub marked_skipped : (report : LineReport) (skip : Skip) (said : List ℕ) (b : Bool) → report ≡ Skipped skip →
+    ((old : Ordering) (line : List ℕ) → IsSkippedBy skip old line → IsMarkOrNone line b) → IsMarkBy report said b
+marked_skipped report skip said b is marks = subst (λ (r : LineReport). IsMarkBy r said b) (sym is) (λ old tells why. marks old said why)
 
 -- whether a line names another genesis, by its text
 pub names_line : (digest bytes decoded said : List ℕ) → decoded ≡ utf8_lossy bytes → said ≡ behind_first decoded → NamesAnotherIn digest said → NamesAnother digest bytes

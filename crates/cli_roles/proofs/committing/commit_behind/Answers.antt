@@ -4,7 +4,7 @@ use Rattle.cli_lines.specs.Told.{PrintsPart}
 use Rattle.cli_lines.proofs.Answering.{answers_behind, begins_behind, begins_part}
 use Rattle.cli_lines.proofs.Printing.{on_err, part_first}
 use Rattle.cli_roles.specs.Committing.{CommitsLines, CommitsOpened, DoesLine, EndsLine, LinesBegin, OpenedBegins, opened_text}
-use Rattle.cli_roles.proofs.Filters.{none_begun}
+use Rattle.cli_roles.proofs.Filters.{none_begun, tells_behind}
 use Rattle.cli_roles.proofs.committing.commit_behind.Goals as goal
 
 pub returns-clause-answers : goal.returns-clause-answers
@@ -41,3 +41,8 @@ returns-clause-begins g c =
     begins_behind (LinesBegin rules digest chain input) (OpenedBegins rules digest chain c.args.cut input) c.args.out.now c.print_opened.new.out
     c.commit_lines.new.out c.commit_lines.result front [] (rw c.height.ensures at c.in_ok-print_opened.ensures.prints)
     ([], none_begun (DoesLine rules digest) (EndsLine rules) chain input, refl) (λ text lines. (text, lines, refl)) c.commit_lines.ensures.begins
+
+pub returns-clause-tells : goal.returns-clause-tells
+returns-clause-tells g c =
+    tells_behind c.args.out.now c.print_opened.new.out c.commit_lines.new.out c.commit_lines.result c.in_ok-print_opened.ensures.tells
+    c.commit_lines.ensures.tells

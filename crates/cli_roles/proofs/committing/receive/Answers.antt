@@ -6,9 +6,10 @@ use Rattle.log_roles.specs.Committing.{Receives}
 use Rattle.log_roles.specs.declared.receiving.Received.{Received}
 use Rattle.log_roles.specs.declared.receiving.Received.TheVariants as received
 use Rattle.log_store.specs.Refusals.{store_text}
-use Rattle.log_store.specs.Storing.{rules_of, stored_chain}
+use Rattle.log_store.specs.Storing.{IsStored, rules_of, stored_chain}
 use Rattle.cli_lines.specs.Texts.{line}
 use Rattle.cli_lines.specs.Told.{Prints}
+use Rattle.cli_lines.proofs.Printing.{printed_on_ok}
 use Rattle.cli_roles.specs.Committing.{DoesReceive, EndsReceive, received_text}
 use Rattle.cli_roles.proofs.Blocks.{not_received}
 use Rattle.cli_roles.proofs.Filters.{begins_ended, begins_still, done_by, ended_by}
@@ -61,3 +62,7 @@ returns-in-Ok-Known-clause-begins g c = begins_still _ c.args.out.now c.writeln.
 pub returns-in-Err-clause-begins : goal.returns-in-Err-clause-begins
 returns-in-Err-clause-begins g c =
     begins_ended (Unit {0}) _ c.args.out.now c.end.new.out c.end.result (store_text c.in-Err.refusal) c.end.ensures.ends
+
+pub returns-in-Ok-Known-clause-stored : goal.returns-in-Ok-Known-clause-stored
+returns-in-Ok-Known-clause-stored g c =
+    printed_on_ok c.writeln.result _ (IsStored c.receive.new.self) (λ prints. c.in-Ok-Known.ensures.stored) c.writeln.ensures.prints

@@ -1,9 +1,10 @@
-use Rattle.std.proofs.Common.{inr, rules}
+use Rattle.std.proofs.Common.{inl, inr, refl, rules}
 use Rattle.ledger_model.specs.Chain.{Bytes}
 use Rattle.log_store.specs.Storing.{rules_of, stored_chain}
 use Rattle.cli_lines.proofs.Answering.{begins_by}
 use Rattle.cli_roles.specs.Filters.{ComesTo}
-use Rattle.cli_roles.specs.Committing.{DoesHex, DoesReceive, EndsHex, EndsReceive, IsBlockHex}
+use Rattle.cli_lines.specs.Texts.{line, refused}
+use Rattle.cli_roles.specs.Committing.{DoesHex, DoesReceive, EndsHex, EndsReceive, IsBlockHex, IsNoBlockHex}
 use Rattle.cli_roles.proofs.Filters.{comes_by, comes_more}
 use Rattle.cli_roles.proofs.committing.take_block.Goals as goal
 
@@ -31,3 +32,9 @@ returns-in-Ok-clause-begins g c =
     begins_by (ComesTo Does (EndsReceive by old block)) (ComesTo Done (EndsHex by old digits)) c.args.out.now c.receive.new.out c.receive.result
     (comes_more Does (EndsReceive by old block) Done (EndsHex by old digits) (λ text does. (block, is, does)) (λ text ends. inr (block, is, ends)))
     c.receive.ensures.begins
+
+pub returns-in_ok-writeln-in-Err-clause-does : goal.returns-in_ok-writeln-in-Err-clause-does
+returns-in_ok-writeln-in-Err-clause-does g c =
+    let number = c.in-Err.number in
+    let is : IsNoBlockHex c.args.digits.now number = search rules in
+    inr (line (refused number), (refl, inl (number, is, refl)), c.in_ok-writeln-in-Err.ensures.prints)

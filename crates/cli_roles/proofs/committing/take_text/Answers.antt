@@ -1,7 +1,7 @@
 use Rattle.std.proofs.Common.{Option, None, refl, subst}
 use Rattle.ledger_model.specs.Chain.{Bytes}
-use Rattle.log_store.specs.Storing.{rules_of, stored_chain}
-use Rattle.cli_lines.proofs.Printing.{prints_none}
+use Rattle.log_store.specs.Storing.{IsStored, rules_of, stored_chain}
+use Rattle.cli_lines.proofs.Printing.{printed_on_ok, prints_none}
 use Rattle.cli_roles.specs.Committing.{BeginsText, DoesText, EndsText, TakesText, TellsFork}
 use Rattle.cli_roles.proofs.Filters.{begins_still, done_so, so_behind}
 use Rattle.cli_roles.proofs.committing.take_text.Goals as goal
@@ -32,3 +32,7 @@ returns-in-Some-clause-begins g c =
 
 pub returns-in-None-clause-begins : goal.returns-in-None-clause-begins
 returns-in-None-clause-begins g c = begins_still _ c.args.out.now c.print_fork.new.out c.print_fork.result c.print_fork.ensures.nothing
+
+pub returns-in-None-clause-stored : goal.returns-in-None-clause-stored
+returns-in-None-clause-stored g c =
+    printed_on_ok c.print_fork.result _ (IsStored c.args.chain.now) (λ so. c.requires.stored) c.print_fork.ensures.prints

@@ -2,10 +2,10 @@ use Rattle.std.proofs.Common.{ap, subst}
 use Rattle.std.proofs.lemmas.Result.{err_from_is_err_and}
 use Rattle.endorsement_policy.specs.Endorsed.{Listed}
 use Rattle.endorser.specs.Endorsing.{Endorsing}
-use Rattle.log_store.specs.Following.{bytes_read, read_chain, store_bytes}
-use Rattle.cli_lines.specs.Told.{Begins, Told}
+use Rattle.log_store.specs.Following.{IsFollowed, bytes_read, read_chain, store_bytes}
+use Rattle.cli_lines.specs.Told.{Begins, Tells, Told}
 use Rattle.cli_lines.proofs.Answering.{begins_err}
-use Rattle.cli_lines.proofs.Printing.{prints_none}
+use Rattle.cli_lines.proofs.Printing.{printed_on_ok, prints_none}
 use Rattle.cli_roles.specs.Endorsing.{DoesLine, EndsLine, IsAnswered, LineComesTo, TakesLine, endorser}
 use Rattle.cli_roles.specs.Stores.{IsReadOn, IsStopped}
 use Rattle.cli_roles.proofs.Filters.{begins_ended, done_so, so_behind}
@@ -70,3 +70,11 @@ returns-in_err-catch_up-clause-begins g c =
     let whole = LineComesTo e held c.args.number (bytes_read f) c.args.line.now (bytes_read c.catch_up.new.follower) in
     let ends = c.in_err-catch_up.ensures.ends in
     rw (p.1, p.2) (begins_ended (Unit {0}) whole c.args.out.now c.catch_up.new.out c.in_err-catch_up.field-0.0 ends.0 ends.2)
+
+pub returns-clause-tells : goal.returns-clause-tells
+returns-clause-tells g c =
+    subst (λ (s : Told). Tells s c.answer_line.new.out c.answer_line.result) c.in_ok-catch_up.ensures.silent c.answer_line.ensures.tells
+
+pub returns-clause-followed : goal.returns-clause-followed
+returns-clause-followed g c =
+    printed_on_ok c.answer_line.result _ (IsFollowed c.catch_up.new.follower) (λ so. c.in_ok-catch_up.ensures.followed) c.answer_line.ensures.prints

@@ -1,7 +1,7 @@
 use Rattle.std.proofs.Common.{◌≡◌, true, refl, ◌∙◌}
 use Rattle.std.specs.Prelude.{codes}
 use Rattle.cli_roles.specs.Orders.{EndsOrders, NamesAnother}
-use Rattle.cli_roles.proofs.Filters.{begins_ended, ended_by}
+use Rattle.cli_roles.proofs.Filters.{begins_ended, ended_by, tells_behind}
 use Rattle.cli_roles.proofs.Orders.{line_begun, line_begun_behind, line_done, line_read, names_line, names_text}
 use Rattle.cli_roles.proofs.ordering.Ordering.take_line.Given.{Over}
 use Rattle.cli_roles.proofs.ordering.Ordering.take_line.Goals as goal
@@ -73,3 +73,7 @@ returns-clause-begins g c =
     line_begun_behind c.print_read.result self.rules.value digest c.args.number self.replica c.take_text.new.self.replica bytes decoded
     c.parted.result.0.now said c.args.out.now c.take_text.new.out c.print_read.new.out lossy c.parted.ensures.0 c.parted.ensures.1 fits
     c.in_ok-is_mark.ensures.does c.print_read.ensures.nothing
+
+pub returns-clause-tells : goal.returns-clause-tells
+returns-clause-tells g c =
+    tells_behind c.args.out.now c.take_text.new.out c.print_read.new.out c.print_read.result c.in_ok-is_mark.ensures.tells c.print_read.ensures.tells
