@@ -103,8 +103,8 @@ impl Clone for Membership {
     fn clone(&self) -> Result<Membership, AllocError> {
         Ok(Membership {
             serial: self.serial,
-            members: self.members.clone()?,
             policy: self.policy.clone()?,
+            members: self.members.clone()?,
         })
     }
 }
