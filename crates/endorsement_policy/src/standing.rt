@@ -7,9 +7,7 @@ ghost use Rattle.endorsement_policy.specs.Judge.{plain_after};
 ghost use Rattle.endorsement_policy.specs.Membership.{has_known_key, is_usable, org_by_key, orgs_by, standing_by, standing_in};
 ghost use Rattle.fab_types.specs.declared.membership.MemberKey.TheVariants.{Kept, Public};
 
-use crate::membership::{
-    have_own_keys, membership_policy, membership_value, spelled_membership,
-};
+use crate::membership::{have_own_keys, membership_policy, membership_value, spelled_membership};
 use crate::organisations::find_organisation;
 use crate::rules::Rules;
 use fab_types::{Member, MemberKey, Membership, OrgName};

@@ -5,7 +5,7 @@ use Rattle.cli_lines.proofs.printer.Printer.write_fmt.Goals as goal
 pub returns-in-Err-clause-tells : goal.returns-in-Err-clause-tells
 returns-in-Err-clause-tells g c =
     let after : Told =
-        record { printed = c.self.inside.printed; failed = true; waits = true; bytes = g.W.Write.contents c.write_fmt.new.self } in
+    record { printed = c.self.inside.printed; failed = true; waits = true; bytes = g.W.Write.contents c.write_fmt.new.self } in
     (record { prints = search rules; fails = search rules }, c.reason.ensures.says c.args.self.now after refl)
 
 pub returns-in-Err-clause-nothing : goal.returns-in-Err-clause-nothing

@@ -19,7 +19,7 @@ invariant_of-self-2 c =
     let block : c.block.result.now ≡ new.block = c.block.ensures ∙ ap (λ (b : Committed). b.block) c.deref.ensures in
     let flags : c.flags.result.now ≡ new.flags = c.flags.ensures.value ∙ ap (λ (b : Committed). b.flags) c.deref-2.ensures in
     let each : length new.flags ≡ length new.block.envelopes =
-        subst (λ (b : Committed). length b.flags ≡ length b.block.envelopes) c.deref-2.ensures c.flags.ensures.one_each in
+    subst (λ (b : Committed). length b.flags ≡ length b.block.envelopes) c.deref-2.ensures c.flags.ensures.one_each in
     let limit : new.block.header.number ≤ 65535 = subst (λ (b : Block). b.header.number ≤ 65535) block c.in_ok-map.ensures.limits in
     let number : new.block.header.number ≡ length chain + 1 = omega (arith, c.requires.next, ap length c.self.view_is) in
     let pushed = blocks_pushed s.blocks.items c.push.new.self.items c.args.committed new c.in_ok-push.ensures.items refl in
