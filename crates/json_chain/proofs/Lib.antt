@@ -1,4 +1,3 @@
-pub mod Pairs
 pub mod Depths
 mod Written
 mod Stands
