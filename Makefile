@@ -9,8 +9,9 @@ LIB = $(DESTDIR)$(PREFIX)/lib/regtuma
 BIN = $(DESTDIR)$(PREFIX)/bin
 UNITS = $(DESTDIR)/etc/systemd/system
 
-FILES = VERSION LICENSE Makefile README.md $(wildcard docs/*.md python/*.py node/*.example node/regtuma/*.py node/regtuma/*.js \
-	node/clients/*.mjs node/systemd/* examples/node/*) examples/page/template.html crates/cli_words/src/table.rt
+FILES = VERSION LICENSE Makefile CHANGELOG.md CONTRIBUTING.md README.md bench/README.md crates/README.md docs/page.png \
+	$(wildcard docs/*.md docs/decisions/*.md python/*.py node/*.example node/regtuma/*.py node/regtuma/*.js node/clients/*.mjs \
+	node/systemd/* examples/node/*) examples/page/template.html crates/cli_words/src/table.rt
 SCRIPTS = ledger node/certs.sh node/change.py $(wildcard node/bin/*)
 
 .PHONY: install users
