@@ -23,6 +23,14 @@ row_of form = record { name = form.name.now; words = texts form.words.now; optio
 abbrev pub row_of_tuple : Bor (List ℕ) × Bor (List (Bor (List ℕ))) × Bor (List (Bor (List ℕ) × Bor (List ℕ))) × Bor (List ℕ) → TableRow
 row_of_tuple r = record { name = r.0.now; words = texts r.1.now; options = pairs r.2.now; does = r.3.now }
 
--- all commands
+-- all commands; `row_of_tuple` does not fit the rows of a constant, whose texts are of a type of their own
 unfoldable pub table : List TableRow
-table = map row_of_tuple COMMANDS
+table =
+    map
+    (λ r. record {
+      name = r.0.now;
+      words = map (λ word. word.now) r.1.now;
+      options = map (λ pair. (pair.0.now, pair.1.now)) r.2.now;
+      does = r.3.now;
+    })
+    COMMANDS
