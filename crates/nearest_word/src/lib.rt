@@ -1,6 +1,9 @@
 //! The word that somebody meant, among those that are possible.
 #![tactic(auto)]
 
+ghost use Rattle.std.specs.Prelude.{◌≡◌, ◌<◌, ◌≤◌, Ok, None, IfOk, length};
+ghost use Rattle.nearest_word.specs.Nearest.{IsNearest, most_edits};
+
 use std::alloc::{AllocError, Global};
 use strsim::osa_distance;
 
@@ -18,17 +21,22 @@ pub fn nearest<'a>(
     alloc: Global,
     word: &str,
     words: &[&'a str],
-) -> Result<Option<&'a str>, AllocError> {
+) -> Result<Option<&'a str>, AllocError>
+    ensures long { 64 < length word.now → result ≡ Ok None }
+    ensures nearest { length word.now ≤ 64 → IfOk result
+        (λ found. IsNearest (most_edits word.now) word.now words.now found) }
+{
     if word.len() > MOST_BYTES {
         return Ok(None);
     }
     let mut best = None;
-    let mut most = MOST_EDITS.min(word.len() / 2);
+    // A nearer word takes fewer edits than these.
+    let mut bound = MOST_EDITS.min(word.len() / 2) + 1;
     for &each in words {
         let edits = osa_distance(alloc, word, each)?;
-        if edits <= most && (best.is_none() || edits < most) {
+        if edits < bound {
             best = Some(each);
-            most = edits;
+            bound = edits;
         }
     }
     Ok(best)
