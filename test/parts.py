@@ -16,6 +16,7 @@ import networks
 import operating
 import questions
 import reasons as sentences
+import signing as timed
 from calling import find_pieces
 from pages import Block, Typist, blocks_of
 from report import Report, run
@@ -208,6 +209,10 @@ def growths(report: Report, at: Setting) -> None:
     growing.growths(report, at.room)
 
 
+def signing(report: Report, _at: Setting) -> None:
+    timed.try_signing(report)
+
+
 # Those that take long come first.
 PARTS: list[Callable[[Report, Setting], None]] = [demo, operations, page, query, chaincode, node, tutorial, readme, formats, network, modules,
-                                                  change, reasons, numbers, keys, install, growths, scripts, calling]
+                                                  change, reasons, numbers, keys, install, growths, signing, scripts, calling]
