@@ -1,12 +1,11 @@
 -- Which tokens stand before a place, and where none stands that may.
-use Rattle.std.proofs.Common.{◌≡◌, ℕ, suc, ◌+◌, ◌-◌, ◌≤◌, ◌<◌, take, drop, Bool, true, false, cond, List, [], ◌∷◌, ◌++◌, length, Option, Some, None, inl, inr}
+use Rattle.std.proofs.Common.{◌≡◌, ℕ, suc, ◌+◌, ◌-◌, ◌≤◌, ◌<◌, take, drop, Bool, true, false, cond, List, [], ◌∷◌, ◌++◌, length, Some, None, inl, inr}
 use Rattle.std.proofs.Common.{refl, sym, ap, subst, ◌∙◌, append_assoc, arith}
 use Rattle.std.specs.Prelude.{nat_eq, codes}
-use Rattle.std.specs.List.{prefix_len}
 use Rattle.std.specs.Cmp.Lexicographic.{pointwise}
 use Rattle.std.proofs.lemmas.List.{length-append}
-use Rattle.std.proofs.lemmas.Option.{same_Some}
-use Rattle.fab_types.specs.Limits.{IsOrgName, is_digit}
+use Rattle.std.proofs.lemmas.Option.{none-some, same_Some}
+use Rattle.fab_types.specs.Limits.{IsOrgName}
 use Rattle.grammar.specs.Laws.Steps.{guarded}
 use Rattle.policy_language.specs.GoodSets.{Names}
 use Rattle.policy_language.specs.Leniency.{strict}
@@ -27,17 +26,17 @@ use Rattle.policy_language.proofs.Found.{policy_found}
 
 module _ (text : List ℕ) where
   pub at_start : IsAt text (Start 0) (beginning text)
-  at_start = (refl, [], refl, refl)
+  at_start = (refl, [], (refl, refl))
 
   pub passed_spaces : (next : Next) (old new : Place) → new.total ≡ old.total → new.rest ≡ after_spaces old.rest → IsAt text next old → IsAt text next new
   passed_spaces next old new total rest at =
       let s = spaces_taken old.rest in
       let is : old.rest ≡ s.0 ++ new.rest = s.2 ∙ ap (λ (x : List ℕ). s.0 ++ x) (sym rest) in
-      (total ∙ at.0, s.0 ∷ at.1, next, subst (Leads at.1 text next) is at.2, inl (s.1, refl))
+      (total ∙ at.0, s.0 ∷ at.1, (next, subst (Leads at.1 text next) is at.2, inl (s.1, refl)))
 
   pub passed_token : (before next : Next) (old new : Place) (token : List ℕ) → new.total ≡ old.total → old.rest ≡ token ++ new.rest →
       Takes before token new.rest next → IsAt text before old → IsAt text next new
-  passed_token before next old new token total is takes at = (total ∙ at.0, token ∷ at.1, before, subst (Leads at.1 text before) is at.2, inr takes)
+  passed_token before next old new token total is takes at = (total ∙ at.0, token ∷ at.1, (before, subst (Leads at.1 text before) is at.2, inr takes))
 
   -- a token of one byte behind spaces
   pub passed_byte : (b : ℕ) (before next : Next) (old new : Place) → new.total ≡ old.total → token_at b old.rest ≡ Some new.rest →
@@ -45,7 +44,7 @@ module _ (text : List ℕ) where
   passed_byte b before next old new total some takes at =
       let s = token_taken b old.rest new.rest some in
       let spaced = subst (Leads at.1 text before) s.2 at.2 in
-      (total ∙ at.0, (b ∷ []) ∷ (s.0 ∷ at.1), before, (before, spaced, inl (s.1, refl)), inr takes)
+      (total ∙ at.0, (b ∷ []) ∷ (s.0 ∷ at.1), (before, (before, spaced, inl (s.1, refl)), inr takes))
 
   pub passed_word : (word : List ℕ) (before next : Next) (old new : Place) → new.total ≡ old.total → word_at word old.rest ≡ Some new.rest →
       Takes before word new.rest next → IsAt text before old → IsAt text next new
@@ -71,11 +70,11 @@ module _ (text : List ℕ) where
   passed_comma true n old new total some at =
       let s = comma_taken old.rest new.rest true some in
       let spaced = subst (Leads at.1 text (More (suc n))) s.2 at.2 in
-      (total ∙ at.0, (44 ∷ []) ∷ (s.0 ∷ at.1), More (suc n), (More (suc n), spaced, inl (s.1, refl)), inr (inl (refl, refl)))
+      (total ∙ at.0, (44 ∷ []) ∷ (s.0 ∷ at.1), (More (suc n), (More (suc n), spaced, inl (s.1, refl)), inr (inl (refl, refl))))
   passed_comma false n old new total some at =
       let s = comma_taken old.rest new.rest false some in
       let spaced = subst (Leads at.1 text (More (suc n))) s.2 at.2 in
-      (total ∙ at.0, (41 ∷ []) ∷ (s.0 ∷ at.1), More (suc n), (More (suc n), spaced, inl (s.1, refl)), inr (inr (refl, refl)))
+      (total ∙ at.0, (41 ∷ []) ∷ (s.0 ∷ at.1), (More (suc n), (More (suc n), spaced, inl (s.1, refl)), inr (inr (refl, refl))))
 
   left_within : (pieces : List (List ℕ)) (next : Next) (left : List ℕ) → Leads pieces text next left → length left ≤ length text
   left_within [] next left h = omega (arith, ap (λ (x : List ℕ). length x) h.1)
@@ -98,13 +97,13 @@ module _ (text : List ℕ) where
 -- ---- where no token stands
 
 no_byte : (b : ℕ) (bytes behind : List ℕ) → tag_at b bytes ≡ None → bytes ≡ b ∷ behind → ⊥
-no_byte b bytes behind none is = let clash : Some behind ≡ None = sym (tag_passed b behind) ∙ ap (tag_at b) (sym is) ∙ none in cc
+no_byte b bytes behind none is = none-some behind (sym none ∙ ap (tag_at b) is ∙ tag_passed b behind)
 
 no_word : (word bytes behind : List ℕ) → pointwise nat_eq (take (length word) (word ++ behind)) word ≡ true → word_at word bytes ≡ None →
     bytes ≡ word ++ behind → ⊥
 no_word word bytes behind stands none is =
     let some : word_at word (word ++ behind) ≡ Some (drop (length word) (word ++ behind)) = rw stands refl in
-    let clash : Some (drop (length word) (word ++ behind)) ≡ None = sym some ∙ ap (word_at word) (sym is) ∙ none in cc
+    none-some (drop (length word) (word ++ behind)) (sym none ∙ ap (word_at word) is ∙ some)
 
 -- what stands in front, where the token is known
 fronted : (bytes token known behind : List ℕ) → bytes ≡ token ++ behind → token ≡ known → bytes ≡ known ++ behind
@@ -122,7 +121,7 @@ module _ (n : ℕ) (bytes : List ℕ) where
 
   pub no_count : threshold_at bytes ≡ None → NoToken (Count n) bytes
   no_count none = λ token behind after takes is.
-      (let clash : Some (takes.0, behind) ≡ None = sym (threshold_found takes.0 token behind takes.1 takes.2) ∙ ap threshold_at (sym is) ∙ none in cc)
+      none-some {A = ℕ × List ℕ} (takes.0, behind) (sym none ∙ ap threshold_at is ∙ threshold_found takes.0 token behind takes.1 takes.2)
 
   pub no_more : comma_at bytes ≡ None → NoToken (More (suc n)) (after_spaces bytes)
   unfolding comma_at
@@ -130,10 +129,10 @@ module _ (n : ℕ) (bytes : List ℕ) where
       elim takes [
         | inl comma ↦ (let here : after_spaces bytes ≡ 44 ∷ behind = fronted (after_spaces bytes) token (codes ",") behind is comma.0 in
             let some : comma_at bytes ≡ Some (true, behind) = rw here refl in
-            let clash : Some (true, behind) ≡ None = sym some ∙ none in cc)
+            none-some {A = Bool × List ℕ} (true, behind) (sym none ∙ some))
         | inr ends ↦ (let here : after_spaces bytes ≡ 41 ∷ behind = fronted (after_spaces bytes) token (codes ")") behind is ends.0 in
             let some : comma_at bytes ≡ Some (false, behind) = rw here refl in
-            let clash : Some (false, behind) ≡ None = sym some ∙ none in cc)
+            none-some {A = Bool × List ℕ} (false, behind) (sym none ∙ some))
       ]
 
   pub no_start : is_quoted bytes ≡ false → word_at (codes "AND") bytes ≡ None → word_at (codes "OR") bytes ≡ None → word_at (codes "OutOf") bytes ≡ None →

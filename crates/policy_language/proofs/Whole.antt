@@ -1,11 +1,11 @@
 -- Reading the whole of a text gives the policy that it spells, and no other.
-use Rattle.std.proofs.Common.{◌≡◌, ℕ, ◌+◌, ◌≤◌, Bool, true, false, cond, eqb, List, [], ◌++◌, length, Some, None, inl, inr, refl, sym, ap, subst, ◌∙◌, arith}
-use Rattle.std.proofs.Common.{Result, Ok, Err}
+use Rattle.std.proofs.Common.{◌≡◌, ℕ, ◌+◌, ◌≤◌, Bool, true, false, cond, eqb, List, [], ◌++◌, length, Option, Some, None, inl, inr, refl, sym, ap}
+use Rattle.std.proofs.Common.{subst, ◌∙◌, arith, Result, Ok, Err}
 use Rattle.std.specs.Prelude.{IfOk, IfErr}
-use Rattle.std.proofs.lemmas.Bool.{eqb-true, le-leb, cases_lt}
+use Rattle.std.proofs.lemmas.Bool.{eqb-true, ne_eqb, le-leb, cases_lt, cond-false}
 use Rattle.std.proofs.lemmas.Option.{same_Some}
 use Rattle.std.proofs.lemmas.List.{append-nil, nil_from_length}
-use Rattle.grammar.specs.Reading.{whole_at}
+use Rattle.grammar.specs.Reading.{◌>>=◌, whole_at}
 use Rattle.grammar.specs.Laws.Steps.{bind_some, guarded}
 use Rattle.policy_language.specs.Tree.{Rule, And, Or, OutOf, Policies, End, Org, Of}
 use Rattle.policy_language.specs.View.{alone}
@@ -56,6 +56,13 @@ rules_kept : (ps : Policies) → HasRules ps → FitsAll is_threshold ps
 rules_kept End h = tt
 rules_kept (Org name after) h = rules_kept after h
 rules_kept (Of rule children after) h = (rule_kept rule (count children) h.0, rules_kept children h.1, rules_kept after h.2)
+
+-- bytes that are left over are no part of a whole
+pub left_over : {A : Type 0} (read : List ℕ → Option (A × List ℕ)) (bytes rest : List ℕ) (x : A) → read bytes ≡ Some (x, rest) → (rest ≡ [] → ⊥) →
+    whole_at read bytes ≡ None
+left_over {A = A} read bytes rest x e more =
+    let some : eqb (length rest) 0 ≡ false = ne_eqb (length rest) 0 (λ none. more (nil_from_length rest none)) in
+    ap (λ (o : Option (A × List ℕ)). o >>= λ y. cond (eqb (length y.1) 0) (Some y.0) None) e ∙ cond-false (eqb (length rest) 0) (Some x) None some
 
 module _ (orgs : Names) where
   pub whole_found : (text : List ℕ) (p : Policy) → length text ≤ 1024 → whole_at (policy_by orgs strict 8) text ≡ Some p → IsText orgs p text

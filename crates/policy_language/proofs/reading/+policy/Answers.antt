@@ -40,8 +40,8 @@ children-returns-in_err-comma-clause-read t c =
     let p = err_from_is_err_and c.from_residual-in_err-comma.result c.from_residual-in_err-comma.ensures.1 in
     let child = rw c.skip_spaces.ensures.rest at c.in_ok-policy.ensures.read in
     rw (p.1, p.2) (Fails-weaker e (comma_at c.policy.new.reader.rest ≡ None) ((m : Leniency) → Keeps e m → total m ≡ None)
-    (λ h m k. broken (read m) c.loop.children.items c.loop.counter c.loop.reader.rest (total m) c.loop-test.true (c.loop.invariant.read m) c.in_ok-policy.field-0
-    c.policy.new.reader.rest (child m) h)
+    (λ h m k. broken (read m) c.loop.children.items c.loop.counter c.loop.reader.rest (total m) c.loop-test.true (c.loop.invariant.read m)
+    c.in_ok-policy.field-0 c.policy.new.reader.rest (child m) h)
     c.in_err-comma.ensures.read)
 
 pub children-returns-in_err-comma-clause-place : goal.children-returns-in_err-comma-clause-place
@@ -131,7 +131,8 @@ policy-returns-in_err-operator-clause-read t c =
     let orgs = c.args.orgs.now in
     let e = c.in_err-operator.field-0.0 in
     let p = err_from_is_err_and c.from_residual.result c.from_residual.ensures.1 in
-    rw (p.1, p.2) (Fails-weaker e (opening_at c.args.reader.now.rest ≡ None) ((m : Leniency) → Keeps e m → policy_by orgs m c.args.levels c.args.reader.now.rest ≡ None)
+    rw (p.1, p.2) (Fails-weaker e (opening_at c.args.reader.now.rest ≡ None)
+    ((m : Leniency) → Keeps e m → policy_by orgs m c.args.levels c.args.reader.now.rest ≡ None)
     (λ h m k. unopened (is_known_by orgs m) (fits_by m) (c.args.levels + m.more) c.args.reader.now.rest (search rules) h) c.in_err-operator.ensures.read)
 
 pub policy-returns-in_err-operator-clause-place : goal.policy-returns-in_err-operator-clause-place
@@ -142,7 +143,8 @@ policy-returns-in_err-operator-clause-place t c = λ text n short at.
 pub policy-returns-then-levels-eq0-clause-read : goal.policy-returns-then-levels-eq0-clause-read
 policy-returns-then-levels-eq0-clause-read t c =
     let orgs = c.args.orgs.now in
-    λ m k. at_bottom (is_known_by orgs m) (fits_by m) (c.args.levels + m.more) c.args.reader.now.rest (search rules) (let z = c.if-levels-eq0.true in omega arith)
+    λ m k. at_bottom (is_known_by orgs m) (fits_by m) (c.args.levels + m.more) c.args.reader.now.rest (search rules)
+    (let z = c.if-levels-eq0.true in omega arith)
 
 pub policy-returns-in_err-children-clause-read : goal.policy-returns-in_err-children-clause-read
 policy-returns-in_err-children-clause-read t c =
@@ -187,7 +189,8 @@ policy-returns-clause-read t c =
     (fed (is_known_by orgs m) (fits_by m) (c.args.levels + m.more) (c.args.levels - 1 + m.more) c.args.reader.now.rest (search rules)
     (let z = c.if-levels-eq0.false in omega arith) rule c.opening.new.self.rest c.in_ok-operator.ensures.read children c.children.new.reader.rest
     (c.in_ok-children.ensures.read m)
-    ∙ ap (λ (o : Option Policy). o >>= λ p. Some (p, c.children.new.reader.rest)) (made_by m rule children c.in-Some.policy (sym c.over.ensures ∙ c.in-Some.is)))
+    ∙ ap (λ (o : Option Policy). o >>= λ p. Some (p, c.children.new.reader.rest))
+    (made_by m rule children c.in-Some.policy (sym c.over.ensures ∙ c.in-Some.is)))
 
 pub policy-returns-clause-place : goal.policy-returns-clause-place
 policy-returns-clause-place t c = λ text n short at.
