@@ -5,7 +5,7 @@ ghost use Rattle.serde_json.specs.View.{view};
 ghost use Rattle.json_chain.specs.Members.{members_in};
 ghost use Rattle.json_chain.specs.Texts.{list_json};
 ghost use Rattle.fab_types.specs.Spelling.{form_of};
-ghost use Rattle.json_chain.specs.Transactions.{amend_json, of_parts, call_json, definition_json, endorsement_json, endorsements_json, transaction_json, upgrade_json};
+ghost use Rattle.json_chain.specs.Transactions.{definition_json, endorsement_json, endorsements_json, transaction_json};
 ghost use Rattle.json_chain.specs.Transactions.{with_amend, with_call, with_payload, with_rest, with_upgrade};
 ghost use Rattle.json_chain.specs.Transactions.{payload_json, placed_transaction_json, with_place, with_proposal};
 ghost use Rattle.json_chain.specs.Writes.{placed_at};
@@ -32,11 +32,10 @@ pub(crate) fn transaction_of(
 ) -> Result<Value, AllocError>
     ensures { IfOk result (λ v. view v ≡ transaction_json organisations.now envelope.now flag) }
 {
-    match envelope.payload.proposal() {
-        Proposal::Call(call) => call_of(alloc, organisations, envelope, flag, call),
-        Proposal::Upgrade(upgrade) => upgrade_of(alloc, organisations, envelope, flag, upgrade),
-        Proposal::Amend(amend) => amend_of(alloc, organisations, envelope, flag, amend),
-    }
+    let mut object = Object::new(alloc);
+    put_proposal(&mut object, envelope.payload.proposal())?;
+    put_rest(alloc, &mut object, organisations, envelope, flag)?;
+    Ok(object.into_value())
 }
 
 /// A transaction as in its block, by the keys of these organisations, with the number of the block
@@ -93,23 +92,6 @@ pub fn payload_of(alloc: Global, payload: &Payload) -> Result<Value, AllocError>
     Ok(object.into_value())
 }
 
-/// A transaction of this call.
-fn call_of(
-    alloc: Global,
-    organisations: &[Organisation],
-    envelope: &Envelope,
-    flag: Flag,
-    call: &Call,
-) -> Result<Value, AllocError>
-    ensures { IfOk result
-        (λ v. view v ≡ of_parts (call_json call.now flag) organisations.now envelope.now) }
-{
-    let mut object = Object::new(alloc);
-    put_call(&mut object, call)?;
-    put_rest(alloc, &mut object, organisations, envelope, flag)?;
-    Ok(object.into_value())
-}
-
 /// Puts in what a call has alone.
 fn put_call(object: &mut Object, call: &Call) -> Result<(), AllocError>
     ensures { OnOk result (members_in object.new ≡ with_call call.now (members_in object.old)) }
@@ -117,23 +99,6 @@ fn put_call(object: &mut Object, call: &Call) -> Result<(), AllocError>
     object.put_hex("arg", call.argument.as_slice())?;
     object.put_text("chaincode", name_of(&call.chaincode))?;
     object.put_hex("nonce", &call.nonce)
-}
-
-/// A transaction of this upgrade.
-fn upgrade_of(
-    alloc: Global,
-    organisations: &[Organisation],
-    envelope: &Envelope,
-    flag: Flag,
-    upgrade: &Upgrade,
-) -> Result<Value, AllocError>
-    ensures { IfOk result
-        (λ v. view v ≡ of_parts (upgrade_json upgrade.now flag) organisations.now envelope.now) }
-{
-    let mut object = Object::new(alloc);
-    put_upgrade(&mut object, upgrade)?;
-    put_rest(alloc, &mut object, organisations, envelope, flag)?;
-    Ok(object.into_value())
 }
 
 /// Puts in what an upgrade has alone.
@@ -144,23 +109,6 @@ fn put_upgrade(object: &mut Object, upgrade: &Upgrade) -> Result<(), AllocError>
     object.put_text("chaincode", name_of(&upgrade.chaincode))?;
     object.put_hex("nonce", &upgrade.nonce)?;
     object.put_json("upgrade", &upgrade.definition)
-}
-
-/// A transaction of this amendment.
-fn amend_of(
-    alloc: Global,
-    organisations: &[Organisation],
-    envelope: &Envelope,
-    flag: Flag,
-    amend: &Amend,
-) -> Result<Value, AllocError>
-    ensures { IfOk result
-        (λ v. view v ≡ of_parts (amend_json amend.now flag) organisations.now envelope.now) }
-{
-    let mut object = Object::new(alloc);
-    put_amend(&mut object, amend)?;
-    put_rest(alloc, &mut object, organisations, envelope, flag)?;
-    Ok(object.into_value())
 }
 
 /// Puts in what an amendment has alone.
