@@ -3,16 +3,16 @@
 use crate::limits::{MOST_ITEMS, MOST_LOCALS, MOST_PAGES, MOST_PARAMETERS};
 use crate::reader::{Holder, Reader};
 use crate::section::Section;
-use crate::stop::{Stop, malformed};
+use crate::stop::Stop;
 use wasm_ast::ValueType;
 use wasm_decode::FaultKind;
 
 /// An import or an export: its name, its kind (0 is a function) and its index, which an import has
 /// as the one of its type.
-#[derive(Clone, Copy)]
+#[derive(Drop)]
 pub(crate) struct External<'a> {
-    /// The name of an import's module; empty at an export.
-    pub(crate) module: &'a str,
+    /// The name of an import's module.
+    pub(crate) module: Option<&'a str>,
     pub(crate) name: &'a str,
     pub(crate) kind: u8,
     pub(crate) index: u32,
@@ -40,10 +40,10 @@ impl<'a> Reader<'a> {
         let bodies = self.number_to(MOST_ITEMS, "the count of its bodies")?;
         let functions = self.source.count_of(Section::Function)?;
         if bodies != functions {
-            let words = format!(in self.source.alloc;
+            let words = format_args!(
                 "the count of its bodies is {bodies}, and that of the functions is {functions}"
-            )?;
-            return malformed(FaultKind::CountsDiffer, offset, words);
+            );
+            return self.malformed(FaultKind::CountsDiffer, offset, words);
         }
         self.item_by_item(Section::Code, bodies)
     }
@@ -119,7 +119,7 @@ impl<'a> Reader<'a> {
 
     /// An import.
     pub(crate) fn import(&mut self) -> Result<External<'a>, Stop> {
-        let module = self.name("the name of its module")?;
+        let module = Some(self.name("the name of its module")?);
         let name = self.name("its name")?;
         let kind = self.kind()?;
         let mut index = 0;
@@ -143,7 +143,7 @@ impl<'a> Reader<'a> {
         let kind = self.kind()?;
         let index = self.number("its index")?;
         Ok(External {
-            module: "",
+            module: None,
             name,
             kind,
             index,
@@ -187,10 +187,8 @@ impl<'a> Reader<'a> {
             return Ok(());
         }
         let used = code.cursor.offset().saturating_sub(start);
-        let words = format!(in self.source.alloc;
-            "its code takes fewer bytes than its size says: {used}"
-        )?;
-        malformed(FaultKind::Length, offset, words)
+        let words = format_args!("its code takes fewer bytes than its size says: {used}");
+        self.malformed(FaultKind::Length, offset, words)
     }
 
     /// A reader of the code of a function, of its own size.
@@ -198,10 +196,10 @@ impl<'a> Reader<'a> {
         let offset = self.cursor.offset();
         let size = self.number("the size of its code")?;
         let Some(content) = self.cursor.split(size) else {
-            let words = format!(in self.source.alloc;
+            let words = format_args!(
                 "its code has {size} bytes by its size, and the section ends before"
-            )?;
-            return malformed(FaultKind::Length, offset, words);
+            );
+            return self.malformed(FaultKind::Length, offset, words);
         };
         Ok(Reader {
             source: self.source,

@@ -7,19 +7,19 @@ use wasm_typing::ValidateFault;
 
 /// The fault of an index that names nothing, where there are so many.
 pub(crate) fn no_such<T>(alloc: Global, noun: &str, index: u32, count: usize) -> Result<T, Stop> {
-    let words = if count == 0 {
-        format!(in alloc; "it names {noun} {index}, and there is none")?
-    } else {
-        let last = count.saturating_sub(1);
-        format!(in alloc; "it names {noun} {index}, and the last one is {last}")?
-    };
-    invalid(ValidateFault::Index, words)
+    if count == 0 {
+        let words = format_args!("it names {noun} {index}, and there is none");
+        return invalid(alloc, ValidateFault::Index, words);
+    }
+    let last = count.saturating_sub(1);
+    let words = format_args!("it names {noun} {index}, and the last one is {last}");
+    invalid(alloc, ValidateFault::Index, words)
 }
 
 /// The fault of an instruction that needs a table or a memory, where the module has none.
 pub(crate) fn no_part<T>(alloc: Global, noun: &str) -> Result<T, Stop> {
-    let words = format!(in alloc; "it needs a {noun}, and the module has none")?;
-    invalid(ValidateFault::Index, words)
+    let words = format_args!("it needs a {noun}, and the module has none");
+    invalid(alloc, ValidateFault::Index, words)
 }
 
 /// How many functions a module has, the imported ones first. Its imports are functions.

@@ -5,6 +5,7 @@ use crate::place::Numbered;
 use crate::stop::{Stop, invalid};
 use crate::types::{Carried, Type};
 use std::alloc::Global;
+use std::fmt::Display;
 use wasm_ast::{BlockType, ValueType};
 use wasm_typing::ValidateFault;
 
@@ -131,30 +132,30 @@ impl Operands {
         match self.take() {
             Some(found) => Ok(found),
             None => {
-                let words = format!(in self.alloc;
-                    "{part} is missing: the block has no operand left"
-                )?;
-                invalid(ValidateFault::TypeMismatch, words)
+                let words = format_args!("{part} is missing: the block has no operand left");
+                invalid(self.alloc, ValidateFault::TypeMismatch, words)
             }
         }
     }
 
     /// Takes off an operand of a type, by the part that it has in the instruction.
-    pub(crate) fn pop_as(&mut self, needed: ValueType, part: &str) -> Result<(), Stop> {
+    pub(crate) fn pop_as(
+        &mut self,
+        needed: ValueType,
+        part: impl Display + Drop,
+    ) -> Result<(), Stop> {
         let needs = Type(needed);
         match self.take() {
             None => {
-                let words = format!(in self.alloc;
+                let words = format_args!(
                     "{part} is missing: the block has no operand left, where {needs} is needed"
-                )?;
-                invalid(ValidateFault::TypeMismatch, words)
+                );
+                invalid(self.alloc, ValidateFault::TypeMismatch, words)
             }
             Some(Some(found)) if found != needed => {
                 let has = Type(found);
-                let words = format!(in self.alloc;
-                    "{part} is of type {has}, where {needs} is needed"
-                )?;
-                invalid(ValidateFault::TypeMismatch, words)
+                let words = format_args!("{part} is of type {has}, where {needs} is needed");
+                invalid(self.alloc, ValidateFault::TypeMismatch, words)
             }
             _ => Ok(()),
         }
@@ -173,8 +174,7 @@ impl Operands {
         let count = params.len();
         for behind in 0..count {
             let before = count - 1 - behind;
-            let argument = format!(in self.alloc; "its argument {before}")?;
-            self.pop_as(params[before], &argument)?;
+            self.pop_as(params[before], format_args!("its argument {before}"))?;
         }
         Ok(())
     }
@@ -185,10 +185,10 @@ impl Operands {
         let more = self.types.len().saturating_sub(self.here.height);
         if more > 0 {
             let result = Carried(self.here.result);
-            let words = format!(in self.alloc;
+            let words = format_args!(
                 "operands are left beside its result, which is {result}: {more}"
-            )?;
-            return invalid(ValidateFault::TypeMismatch, words);
+            );
+            return invalid(self.alloc, ValidateFault::TypeMismatch, words);
         }
         Ok(())
     }
@@ -199,8 +199,8 @@ impl Operands {
         match self.here.result {
             Some(result) if self.here.lacks_else => {
                 let leaves = Type(result);
-                let words = format!(in self.alloc; "it has no else, and has to leave {leaves}")?;
-                invalid(ValidateFault::TypeMismatch, words)
+                let words = format_args!("it has no else, and has to leave {leaves}");
+                invalid(self.alloc, ValidateFault::TypeMismatch, words)
             }
             _ => Ok(()),
         }

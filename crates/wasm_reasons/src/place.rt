@@ -1,5 +1,6 @@
 //! Places in a module, in words.
 
+use crate::items::External;
 use crate::operators::operator_name;
 use crate::section::Section;
 use std::fmt::{self, Display, Formatter, Write};
@@ -23,6 +24,61 @@ impl Place {
         spot: None,
         offset: None,
     };
+}
+
+/// A section, or an item of one by its index, of a function that among all. An import and an export
+/// have their names where these can be read, and a function those of its export.
+#[derive(Drop)]
+pub(crate) struct Item<'a> {
+    pub(crate) section: Section,
+    pub(crate) index: Option<usize>,
+    pub(crate) external: Option<External<'a>>,
+}
+
+impl Display for Item<'_> {
+    fn fmt<W: Write>(&self, f: &mut Formatter<W>) -> fmt::Result {
+        let noun = self.section.item();
+        match (self.index, &self.external) {
+            (None, _) => write!(f, "{} section", self.section),
+            (Some(index), None) => write!(f, "{noun} {index}"),
+            (Some(index), Some(external)) => write!(f, "{noun} {index} ({external})"),
+        }
+    }
+}
+
+/// The name, behind that of its module where it is an import.
+impl Display for External<'_> {
+    fn fmt<W: Write>(&self, f: &mut Formatter<W>) -> fmt::Result {
+        let name = Shown(self.name);
+        match self.module {
+            None => write!(f, "{name}"),
+            Some(module) => write!(f, "{}.{name}", Shown(module)),
+        }
+    }
+}
+
+/// A place as it is told in front of what is wrong there: nothing where no place is known.
+#[derive(Drop)]
+pub(crate) struct NamedPlace<'a> {
+    pub(crate) item: Option<Item<'a>>,
+    /// A spot in the item.
+    pub(crate) spot: Option<Spot>,
+    pub(crate) offset: Option<usize>,
+}
+
+impl Display for NamedPlace<'_> {
+    fn fmt<W: Write>(&self, f: &mut Formatter<W>) -> fmt::Result {
+        match (&self.item, self.spot, self.offset) {
+            (None, _, None) => Ok(()),
+            (None, _, Some(offset)) => write!(f, "at byte {offset}: "),
+            (Some(item), None, None) => write!(f, "{item}: "),
+            (Some(item), None, Some(offset)) => write!(f, "{item}, at byte {offset}: "),
+            (Some(item), Some(spot), None) => write!(f, "{item}, {spot}: "),
+            (Some(item), Some(spot), Some(offset)) => {
+                write!(f, "{item}, {spot}, at byte {offset}: ")
+            }
+        }
+    }
 }
 
 /// A place in an expression.
@@ -81,12 +137,22 @@ impl Display for Shown<'_> {
             if place == SHOWN {
                 return f.write_str("..");
             }
-            if character.is_ascii_graphic() {
-                f.write_char(character)?;
-            } else {
-                write!(f, "\\u{{{:x}}}", character as u32)?;
-            }
+            write!(f, "{}", Character(character))?;
         }
         Ok(())
+    }
+}
+
+/// A character of a name as it is shown.
+#[derive(Clone, Copy)]
+struct Character(char);
+
+impl Display for Character {
+    fn fmt<W: Write>(&self, f: &mut Formatter<W>) -> fmt::Result {
+        if self.0.is_ascii_graphic() {
+            f.write_char(self.0)
+        } else {
+            write!(f, "\\u{{{:x}}}", self.0 as u32)
+        }
     }
 }

@@ -3,11 +3,12 @@
 use crate::place::Place;
 use crate::section::Section;
 use crate::source::Source;
-use crate::stop::{Stop, malformed};
+use crate::stop::{Fault, Stop};
 use std::fmt::{self, Display, Formatter, Write};
 use wasm_ast::{BlockType, ValueType};
 use wasm_bytes::{ByteFault, Cursor};
 use wasm_decode::FaultKind;
+use wasm_file::ModuleRefusal;
 
 /// What bytes belong to.
 #[derive(Clone, Copy)]
@@ -67,23 +68,35 @@ impl<'a> Reader<'a> {
         self.place.item = Some(item);
     }
 
+    /// The fault of bytes that spell no module, at an offset.
+    pub(crate) fn malformed<T>(
+        &self,
+        kind: FaultKind,
+        offset: usize,
+        words: impl Display + Drop,
+    ) -> Result<T, Stop> {
+        let refusal = ModuleRefusal::Malformed(kind, offset);
+        let words = String::format(self.source.alloc, words)?;
+        Err(Stop::Fault(Fault { refusal, words }))
+    }
+
     // The fault of a part that could not be read.
     fn unread<T>(&self, fault: ByteFault, part: &str) -> Result<T, Stop> {
         let holder = self.holder;
         match fault.kind {
             wasm_bytes::FaultKind::EndedEarly => {
-                let words = format!(in self.source.alloc; "{holder} ends inside {part}")?;
-                malformed(FaultKind::EndedEarly, fault.offset, words)
+                let words = format_args!("{holder} ends inside {part}");
+                self.malformed(FaultKind::EndedEarly, fault.offset, words)
             }
             wasm_bytes::FaultKind::BadNumber => {
-                let words = format!(in self.source.alloc;
+                let words = format_args!(
                     "{part} is no number in LEB128: too many bytes, or wrong unused bits"
-                )?;
-                malformed(FaultKind::BadNumber, fault.offset, words)
+                );
+                self.malformed(FaultKind::BadNumber, fault.offset, words)
             }
             wasm_bytes::FaultKind::NotUtf8 => {
-                let words = format!(in self.source.alloc; "{part} is not UTF-8")?;
-                malformed(FaultKind::NotUtf8, fault.offset, words)
+                let words = format_args!("{part} is not UTF-8");
+                self.malformed(FaultKind::NotUtf8, fault.offset, words)
             }
         }
     }
@@ -109,10 +122,8 @@ impl<'a> Reader<'a> {
         let offset = self.cursor.offset();
         let number = self.number(part)?;
         if number > most {
-            let words = format!(in self.source.alloc;
-                "{part} is {number}, where at most {most} is allowed"
-            )?;
-            return malformed(FaultKind::Limit, offset, words);
+            let words = format_args!("{part} is {number}, where at most {most} is allowed");
+            return self.malformed(FaultKind::Limit, offset, words);
         }
         Ok(number)
     }
@@ -141,19 +152,29 @@ impl<'a> Reader<'a> {
         }
     }
 
-    // The fault of a byte that stands for nothing of what is wanted.
-    fn wrong_byte<T>(&self, byte: u8, offset: usize, wanted: &str) -> Result<T, Stop> {
-        if byte == 0x7c || byte == 0x7d {
-            let float = if byte == 0x7d { "f32" } else { "f64" };
-            let words = format!(in self.source.alloc;
-                "{float} ({byte:02x}) is a type of floats, and the ledger has only integers"
-            )?;
-            return malformed(FaultKind::Float, offset, words);
-        }
-        let words = format!(in self.source.alloc;
-            "byte {byte:02x} stands where {wanted} is needed"
-        )?;
-        malformed(FaultKind::TypeByte, offset, words)
+    // The fault of a byte that stands for no type.
+    fn no_type<T>(&self, byte: u8, offset: usize, wanted: &str) -> Result<T, Stop> {
+        let float = match byte {
+            0x7c => "f64",
+            0x7d => "f32",
+            _ => return self.misplaced(FaultKind::TypeByte, byte, offset, wanted),
+        };
+        let words = format_args!(
+            "{float} ({byte:02x}) is a type of floats, and the ledger has only integers"
+        );
+        self.malformed(FaultKind::Float, offset, words)
+    }
+
+    /// The fault of a byte in the place of what is wanted.
+    pub(crate) fn misplaced<T>(
+        &self,
+        kind: FaultKind,
+        byte: u8,
+        offset: usize,
+        wanted: &str,
+    ) -> Result<T, Stop> {
+        let words = format_args!("byte {byte:02x} stands where {wanted} is needed");
+        self.malformed(kind, offset, words)
     }
 
     /// A byte that is at most so large.
@@ -161,10 +182,7 @@ impl<'a> Reader<'a> {
         let offset = self.cursor.offset();
         let byte = self.byte(part)?;
         if byte > most {
-            let words = format!(in self.source.alloc;
-                "byte {byte:02x} stands where {wanted} is needed"
-            )?;
-            return malformed(FaultKind::TypeByte, offset, words);
+            return self.misplaced(FaultKind::TypeByte, byte, offset, wanted);
         }
         Ok(byte)
     }
@@ -174,10 +192,7 @@ impl<'a> Reader<'a> {
         let offset = self.cursor.offset();
         let byte = self.byte(part)?;
         if byte != needed {
-            let words = format!(in self.source.alloc;
-                "byte {byte:02x} stands where {part} is needed"
-            )?;
-            return malformed(FaultKind::TypeByte, offset, words);
+            return self.misplaced(FaultKind::TypeByte, byte, offset, part);
         }
         Ok(())
     }
@@ -188,7 +203,7 @@ impl<'a> Reader<'a> {
         match self.byte(part)? {
             0x7f => Ok(ValueType::I32),
             0x7e => Ok(ValueType::I64),
-            byte => self.wrong_byte(byte, offset, "a value type (i32 is 7f, i64 is 7e)"),
+            byte => self.no_type(byte, offset, "a value type (i32 is 7f, i64 is 7e)"),
         }
     }
 
@@ -199,7 +214,7 @@ impl<'a> Reader<'a> {
             0x40 => Ok(None),
             0x7f => Ok(Some(ValueType::I32)),
             0x7e => Ok(Some(ValueType::I64)),
-            byte => self.wrong_byte(
+            byte => self.no_type(
                 byte,
                 offset,
                 "a block type (none is 40, i32 is 7f, i64 is 7e)",

@@ -1,7 +1,7 @@
 //! The sentence of a refusal.
 
 use crate::generic::rule_of;
-use crate::place::Place;
+use crate::place::{NamedPlace, Place};
 use crate::rules::look_at_rules;
 use crate::sections::look_at_bytes;
 use crate::source::Source;
@@ -38,22 +38,15 @@ pub fn module_reason(
         profile,
         bytes,
     };
-    let sentence = sentence_of(source, refusal)?;
-    let number = number_of(refusal);
-    format!(in alloc; "{sentence} ({number})")
-}
-
-// The sentence: what was found, or else the rule that the refusal says is broken.
-fn sentence_of(source: Source<'_>, refusal: &ModuleRefusal) -> Result<String, AllocError> {
     let mut place = Place::NOWHERE;
-    let stop = match look(source, refusal, &mut place) {
-        Ok(()) => return String::from_str(source.alloc, rule_of(refusal)),
-        Err(stop) => stop,
-    };
-    match found(source, refusal, place, stop) {
-        Ok(sentence) => Ok(sentence),
-        Err(Stop::Memory) => Err(AllocError),
-        Err(Stop::Fault(_fault)) => String::from_str(source.alloc, rule_of(refusal)),
+    let looked = look(source, refusal, &mut place);
+    let number = number_of(refusal);
+    match found(source, refusal, place, looked)? {
+        None => {
+            let rule = rule_of(refusal);
+            format!(in alloc; "{rule} ({number})")
+        }
+        Some((place, words)) => format!(in alloc; "{place}{words} ({number})"),
     }
 }
 
@@ -73,23 +66,24 @@ fn look(source: Source<'_>, refusal: &ModuleRefusal, place: &mut Place) -> Resul
     }
 }
 
-// The sentence of a fault at a place, where it is that of the refusal.
-fn found(
-    source: Source<'_>,
+// The place and the words of a fault, where it is that of the refusal.
+fn found<'a>(
+    source: Source<'a>,
     refusal: &ModuleRefusal,
     place: Place,
-    stop: Stop,
-) -> Result<String, Stop> {
-    let Stop::Fault(fault) = stop else {
-        return Err(Stop::Memory);
+    looked: Result<(), Stop>,
+) -> Result<Option<(NamedPlace<'a>, String)>, AllocError> {
+    let fault = match looked {
+        Ok(()) => return Ok(None),
+        Err(Stop::Memory) => return Err(AllocError),
+        Err(Stop::Fault(fault)) => fault,
     };
     if fault.refusal != *refusal {
-        return Err(Stop::Fault(fault));
+        return Ok(None);
     }
-    let words = fault.words;
-    let place = source.words_of(source.with_offset(place)?)?;
-    if place.is_empty() {
-        return Ok(words);
+    match source.named(place) {
+        Ok(place) => Ok(Some((place, fault.words))),
+        Err(Stop::Memory) => Err(AllocError),
+        Err(Stop::Fault(_fault)) => Ok(None),
     }
-    Ok(format!(in source.alloc; "{place}: {words}")?)
 }

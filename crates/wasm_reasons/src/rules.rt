@@ -76,28 +76,23 @@ impl<'m> Look<'m> {
 
     fn import(&self, import: &Import) -> Result<(), Stop> {
         let ImportKind::Function(type_index) = import.kind else {
-            let words = format!(in self.alloc;
-                "it is no function, and only host calls are imported"
-            )?;
-            return invalid(ValidateFault::Import, words);
+            let words = "it is no function, and only host calls are imported";
+            return invalid(self.alloc, ValidateFault::Import, words);
         };
         let types = self.module.types.as_slice();
         let Some(function_type) = types.get(type_index as usize) else {
             return no_such(self.alloc, "type", type_index, types.len());
         };
         if import.module.as_str() != "fabric" {
-            let words = format!(in self.alloc;
-                "it is no host call: these are of the module fabric"
-            )?;
-            return invalid(ValidateFault::Import, words);
+            let words = "it is no host call: these are of the module fabric";
+            return invalid(self.alloc, ValidateFault::Import, words);
         }
         match call_named(import.name.as_str()) {
             None => {
-                let words = format!(in self.alloc;
+                let words =
                     "it is no host call: these are get_state, put_state, del_state, range_state, \
-                     get_arg and set_result"
-                )?;
-                invalid(ValidateFault::Import, words)
+                     get_arg and set_result";
+                invalid(self.alloc, ValidateFault::Import, words)
             }
             Some(call) => self.host_call(function_type, call),
         }
@@ -110,10 +105,10 @@ impl<'m> Look<'m> {
         }
         let count = arity(call);
         let found = Signature(function_type);
-        let words = format!(in self.alloc;
+        let words = format_args!(
             "its type is {found}, and the host call takes {count} i32 and leaves one i32"
-        )?;
-        invalid(ValidateFault::Import, words)
+        );
+        invalid(self.alloc, ValidateFault::Import, words)
     }
 
     fn functions(&mut self) -> Result<(), Stop> {
@@ -154,20 +149,18 @@ impl<'m> Look<'m> {
             return Ok(());
         }
         self.go_to(section, 1);
-        let words = format!(in self.alloc;
-            "it is the second of {count}, and a module has at most one"
-        )?;
-        invalid(ValidateFault::Limits, words)
+        let words = format_args!("it is the second of {count}, and a module has at most one");
+        invalid(self.alloc, ValidateFault::Limits, words)
     }
 
     fn ordered(&self, limits: &Limits) -> Result<(), Stop> {
         let least = limits.least;
         match limits.greatest {
             Some(greatest) if least > greatest => {
-                let words = format!(in self.alloc;
+                let words = format_args!(
                     "its least size {least} is above its greatest, {greatest}"
-                )?;
-                invalid(ValidateFault::Limits, words)
+                );
+                invalid(self.alloc, ValidateFault::Limits, words)
             }
             _ => Ok(()),
         }
@@ -179,10 +172,10 @@ impl<'m> Look<'m> {
         if most <= MAX_PAGES {
             return Ok(());
         }
-        let words = format!(in self.alloc;
+        let words = format_args!(
             "its size may reach {most} pages, and a memory has at most {MAX_PAGES}"
-        )?;
-        invalid(ValidateFault::Limits, words)
+        );
+        invalid(self.alloc, ValidateFault::Limits, words)
     }
 
     fn globals(&mut self) -> Result<(), Stop> {
@@ -198,32 +191,31 @@ impl<'m> Look<'m> {
     }
 
     // The word of an expression that is one constant of a type.
-    fn constant(&self, body: &Body, of_type: ValueType, part: &str) -> Result<u64, Stop> {
-        let needed = Type(of_type);
-        let words = match (body.items(), of_type) {
-            ([Instr::I32Const(word)], ValueType::I32) => return Ok(*word as u64),
-            ([Instr::I64Const(word)], ValueType::I64) => return Ok(*word),
-            ([Instr::I32Const(_)], _) => {
-                format!(in self.alloc;
-                    "{part} is an i32.const, where one {needed}.const is needed"
-                )?
-            }
-            ([Instr::I64Const(_)], _) => {
-                format!(in self.alloc;
-                    "{part} is an i64.const, where one {needed}.const is needed"
-                )?
-            }
-            ([_], _) => format!(in self.alloc;
-                "{part} is no constant, where one {needed}.const is needed"
-            )?,
-            (items, _) => {
-                let count = items.len();
-                format!(in self.alloc;
-                    "{part} has {count} instructions, where one {needed}.const is needed"
-                )?
-            }
+    fn constant(&self, body: &Body, needed: ValueType, part: &str) -> Result<u64, Stop> {
+        let needs = Type(needed);
+        let [instruction] = body.items() else {
+            let count = body.items().len();
+            let words = format_args!(
+                "{part} has {count} instructions, where one {needs}.const is needed"
+            );
+            return invalid(self.alloc, ValidateFault::Initializer, words);
         };
-        invalid(ValidateFault::Initializer, words)
+        match constant_of(instruction) {
+            Some((found, word)) if found == needed => Ok(word),
+            Some((found, _word)) => {
+                let found = Type(found);
+                let words = format_args!(
+                    "{part} is an {found}.const, where one {needs}.const is needed"
+                );
+                invalid(self.alloc, ValidateFault::Initializer, words)
+            }
+            None => {
+                let words = format_args!(
+                    "{part} is no constant, where one {needs}.const is needed"
+                );
+                invalid(self.alloc, ValidateFault::Initializer, words)
+            }
+        }
     }
 
     fn exports(&mut self) -> Result<(), Stop> {
@@ -241,8 +233,8 @@ impl<'m> Look<'m> {
     fn named_once(&self, earlier: &[Export], export: &Export) -> Result<(), Stop> {
         for (before, other) in earlier.iter().enumerate() {
             if other.name.as_str() == export.name.as_str() {
-                let words = format!(in self.alloc; "export {before} has the same name")?;
-                return invalid(ValidateFault::DuplicateExport, words);
+                let words = format_args!("export {before} has the same name");
+                return invalid(self.alloc, ValidateFault::DuplicateExport, words);
             }
         }
         Ok(())
@@ -272,8 +264,8 @@ impl<'m> Look<'m> {
         }
         self.place = Place::NOWHERE;
         self.place.section = Some(Section::Export);
-        let words = format!(in self.alloc; "no function is exported as invoke")?;
-        invalid(ValidateFault::NoInvoke, words)
+        let words = "no function is exported as invoke";
+        invalid(self.alloc, ValidateFault::NoInvoke, words)
     }
 
     fn invoked(&self, function: u32) -> Result<(), Stop> {
@@ -284,10 +276,10 @@ impl<'m> Look<'m> {
             return Ok(());
         }
         let found = Signature(function_type);
-        let words = format!(in self.alloc;
+        let words = format_args!(
             "function {function} is of type {found}, and invoke is of type [] to [i32]"
-        )?;
-        invalid(ValidateFault::NoInvoke, words)
+        );
+        invalid(self.alloc, ValidateFault::NoInvoke, words)
     }
 
     fn elements(&mut self) -> Result<(), Stop> {
@@ -334,10 +326,19 @@ impl<'m> Look<'m> {
         if end <= room {
             return Ok(());
         }
-        let words = format!(in self.alloc;
+        let words = format_args!(
             "it reaches from {offset} to {end}, and the {noun} has {room} at its start"
-        )?;
-        invalid(ValidateFault::Segment, words)
+        );
+        invalid(self.alloc, ValidateFault::Segment, words)
+    }
+}
+
+// The type and the word of an instruction that is a constant.
+fn constant_of(instruction: &Instr) -> Option<(ValueType, u64)> {
+    match instruction {
+        Instr::I32Const(word) => Some((ValueType::I32, *word as u64)),
+        Instr::I64Const(word) => Some((ValueType::I64, *word)),
+        _ => None,
     }
 }
 

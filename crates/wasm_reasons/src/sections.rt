@@ -5,7 +5,7 @@ use crate::place::Place;
 use crate::reader::Reader;
 use crate::section::Section;
 use crate::source::Source;
-use crate::stop::{Stop, malformed};
+use crate::stop::Stop;
 use wasm_decode::FaultKind;
 
 /// What each module begins with.
@@ -13,24 +13,23 @@ const HEADER: [u8; 8] = [0x00, 0x61, 0x73, 0x6d, 0x01, 0x00, 0x00, 0x00];
 
 /// Looks for what is wrong with the bytes of a module, and leaves the place of it.
 pub(crate) fn look_at_bytes(source: Source<'_>, place: &mut Place) -> Result<(), Stop> {
-    let alloc = source.alloc;
+    let mut reader = Reader::new(source);
     let size = source.bytes.len();
     if size > MODULE_BYTES {
-        let words = format!(in alloc;
+        let words = format_args!(
             "the module has {size} bytes, where at most {MODULE_BYTES} are allowed"
-        )?;
-        return malformed(FaultKind::Limit, MODULE_BYTES, words);
+        );
+        return reader.malformed(FaultKind::Limit, MODULE_BYTES, words);
     }
-    let mut reader = Reader::new(source);
     let read = reader.module();
     *place = reader.place;
     read?;
     *place = Place::NOWHERE;
     let functions = source.count_of(Section::Function)?;
-    let words = format!(in alloc;
+    let words = format_args!(
         "the module ends without a code section, and the count of its functions is {functions}"
-    )?;
-    malformed(FaultKind::CountsDiffer, size, words)
+    );
+    reader.malformed(FaultKind::CountsDiffer, size, words)
 }
 
 impl<'a> Reader<'a> {
@@ -62,16 +61,16 @@ impl<'a> Reader<'a> {
 
     // The fault of a byte among the first eight.
     fn wrong_header<T>(&self, byte: u8, offset: usize) -> Result<T, Stop> {
-        if offset < 4 {
-            let words = format!(in self.source.alloc;
-                "byte {byte:02x} stands where a module begins with 00 61 73 6d"
-            )?;
-            return malformed(FaultKind::Magic, offset, words);
-        }
-        let words = format!(in self.source.alloc;
-            "byte {byte:02x} stands where bytes 4 to 7 are the version, 01 00 00 00"
-        )?;
-        malformed(FaultKind::Version, offset, words)
+        let (kind, needed) = if offset < 4 {
+            (FaultKind::Magic, "a module begins with 00 61 73 6d")
+        } else {
+            (
+                FaultKind::Version,
+                "bytes 4 to 7 are the version, 01 00 00 00",
+            )
+        };
+        let words = format_args!("byte {byte:02x} stands where {needed}");
+        self.malformed(kind, offset, words)
     }
 
     // A section that may stand behind the last one, and the one behind which the next may stand.
@@ -81,10 +80,8 @@ impl<'a> Reader<'a> {
         let offset = self.cursor.offset();
         let size = self.number("its size")?;
         let Some(content) = self.cursor.split(size) else {
-            let words = format!(in self.source.alloc;
-                "it has {size} bytes by its size, and the module ends before"
-            )?;
-            return malformed(FaultKind::Length, offset, words);
+            let words = format_args!("it has {size} bytes by its size, and the module ends before");
+            return self.malformed(FaultKind::Length, offset, words);
         };
         let mut content = self.of_section(section, content);
         let start = content.cursor.offset();
@@ -98,10 +95,8 @@ impl<'a> Reader<'a> {
             return Ok(section);
         }
         let used = content.cursor.offset().saturating_sub(start);
-        let words = format!(in self.source.alloc;
-            "its items take {used} of the {size} bytes that its size says"
-        )?;
-        malformed(FaultKind::Length, offset, words)
+        let words = format_args!("its items take {used} of the {size} bytes that its size says");
+        self.malformed(FaultKind::Length, offset, words)
     }
 
     // The section of the id that comes.
@@ -109,29 +104,30 @@ impl<'a> Reader<'a> {
         let offset = self.cursor.offset();
         let id = self.byte("the id of a section")?;
         let Some(section) = Section::of_id(id) else {
-            let words = format!(in self.source.alloc; "byte {id:02x} is the id of no section")?;
-            return malformed(FaultKind::SectionOrder, offset, words);
+            let words = format_args!("byte {id:02x} is the id of no section");
+            return self.malformed(FaultKind::SectionOrder, offset, words);
         };
         if section == Section::Custom {
             return Ok(section);
         }
         if section == Section::Start && (last as u8) < 8 {
-            let words = format!(in self.source.alloc;
-                "a start section stands here, and the ledger runs none"
-            )?;
-            return malformed(FaultKind::StartSection, offset, words);
+            let words = "a start section stands here, and the ledger runs none";
+            return self.malformed(FaultKind::StartSection, offset, words);
         }
         if id > last as u8 {
             return Ok(section);
         }
-        let words = if section == last {
-            format!(in self.source.alloc; "a second {section} section stands here")?
-        } else {
-            format!(in self.source.alloc;
-                "the {section} section stands here, behind the {last} section"
-            )?
-        };
-        malformed(FaultKind::SectionOrder, offset, words)
+        self.out_of_order(section, last, offset)
+    }
+
+    // The fault of a section that may not stand behind the last one.
+    fn out_of_order<T>(&self, section: Section, last: Section, offset: usize) -> Result<T, Stop> {
+        if section == last {
+            let words = format_args!("a second {section} section stands here");
+            return self.malformed(FaultKind::SectionOrder, offset, words);
+        }
+        let words = format_args!("the {section} section stands here, behind the {last} section");
+        self.malformed(FaultKind::SectionOrder, offset, words)
     }
 
     // What a section holds.

@@ -9,10 +9,11 @@ use crate::opcodes::{
 use crate::operators::operator_name;
 use crate::place::{Numbered, Spot};
 use crate::reader::Reader;
-use crate::stop::{Stop, malformed};
+use crate::shapes::shape_of;
+use crate::stop::Stop;
 use wasm_ast::{BlockType, MemoryArgument};
 use wasm_decode::FaultKind;
-use wasm_operators::{load, operator, store};
+use wasm_operators::{load, store};
 use wasm_profile::Profile;
 
 /// An instruction as it stands in the bytes, or an `else` or an `end`.
@@ -52,7 +53,7 @@ impl<'a> Reader<'a> {
 
     // What stands behind an opcode.
     fn immediate(&mut self, opcode: u8) -> Result<Immediate, Stop> {
-        if operator(opcode, self.source.profile).is_some() {
+        if shape_of(opcode, self.source.profile).is_some() {
             return Ok(Immediate::None);
         }
         if load(opcode).is_some() || store(opcode).is_some() {
@@ -97,8 +98,7 @@ impl<'a> Reader<'a> {
         let offset = self.cursor.offset();
         let byte = self.byte("its reserved byte")?;
         if byte != 0 {
-            let words = format!(in self.source.alloc; "byte {byte:02x} stands where 00 is needed")?;
-            return malformed(FaultKind::Opcode, offset, words);
+            return self.misplaced(FaultKind::Opcode, byte, offset, "00");
         }
         Ok(Immediate::None)
     }
@@ -115,18 +115,21 @@ impl<'a> Reader<'a> {
 
     // The fault of an opcode that the profile does not have, behind which the reader stands.
     fn no_instruction<T>(&self, opcode: u8) -> Result<T, Stop> {
-        let alloc = self.source.alloc;
         let offset = self.cursor.offset().saturating_sub(1);
-        if operator(opcode, Profile::SignExtension).is_some() {
-            let words = format!(in alloc; "profile 2 has this instruction, and profile 1 has not")?;
-            return malformed(FaultKind::Opcode, offset, words);
-        }
-        if operator_name(opcode).is_some() {
-            let words = format!(in alloc; "it works on floats, and the ledger has only integers")?;
-            return malformed(FaultKind::Float, offset, words);
-        }
-        let words = format!(in alloc; "the opcode stands for no instruction")?;
-        malformed(FaultKind::Opcode, offset, words)
+        let (kind, words) = if shape_of(opcode, Profile::SignExtension).is_some() {
+            (
+                FaultKind::Opcode,
+                "profile 2 has this instruction, and profile 1 has not",
+            )
+        } else if operator_name(opcode).is_some() {
+            (
+                FaultKind::Float,
+                "it works on floats, and the ledger has only integers",
+            )
+        } else {
+            (FaultKind::Opcode, "the opcode stands for no instruction")
+        };
+        self.malformed(kind, offset, words)
     }
 
     /// An expression within the limits.
@@ -161,24 +164,22 @@ impl<'a> Reader<'a> {
     // The fault of an `else`, behind which the reader stands.
     fn stray_else<T>(&self) -> Result<T, Stop> {
         let offset = self.cursor.offset().saturating_sub(1);
-        let words = format!(in self.source.alloc; "it stands where no if waits for it")?;
-        malformed(FaultKind::Opcode, offset, words)
+        let words = "it stands where no if waits for it";
+        self.malformed(FaultKind::Opcode, offset, words)
     }
 
     // Whether an instruction may come, before which so many stand, in so many blocks.
     fn within_limits(&self, number: u32, opcode: u8, depth: usize) -> Result<(), Stop> {
         let offset = self.cursor.offset().saturating_sub(1);
         if number >= MOST_INSTRUCTIONS {
-            let words = format!(in self.source.alloc;
+            let words = format_args!(
                 "{number} instructions stand before it, and no more are allowed"
-            )?;
-            return malformed(FaultKind::Limit, offset, words);
+            );
+            return self.malformed(FaultKind::Limit, offset, words);
         }
         if depth >= MOST_NESTING && (opcode == BLOCK || opcode == LOOP || opcode == IF) {
-            let words = format!(in self.source.alloc;
-                "{depth} blocks stand round it, and no more are allowed"
-            )?;
-            return malformed(FaultKind::Limit, offset, words);
+            let words = format_args!("{depth} blocks stand round it, and no more are allowed");
+            return self.malformed(FaultKind::Limit, offset, words);
         }
         Ok(())
     }

@@ -1,7 +1,7 @@
 //! What a look at a module ends with, where it finds a fault.
 
-use std::alloc::{AllocError, AllocFailed};
-use wasm_decode::FaultKind;
+use std::alloc::{AllocError, AllocFailed, Global};
+use std::fmt::Display;
 use wasm_file::ModuleRefusal;
 use wasm_typing::ValidateFault;
 
@@ -33,14 +33,13 @@ impl<T: Drop> From<AllocFailed<T>> for Stop {
     }
 }
 
-/// The fault of bytes that spell no module, at an offset.
-pub(crate) fn malformed<T>(kind: FaultKind, offset: usize, words: String) -> Result<T, Stop> {
-    let refusal = ModuleRefusal::Malformed(kind, offset);
-    Err(Stop::Fault(Fault { refusal, words }))
-}
-
 /// The fault of a module that breaks a rule.
-pub(crate) fn invalid<T>(fault: ValidateFault, words: String) -> Result<T, Stop> {
+pub(crate) fn invalid<T>(
+    alloc: Global,
+    fault: ValidateFault,
+    words: impl Display + Drop,
+) -> Result<T, Stop> {
     let refusal = ModuleRefusal::Invalid(fault);
+    let words = String::format(alloc, words)?;
     Err(Stop::Fault(Fault { refusal, words }))
 }

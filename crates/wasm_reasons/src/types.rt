@@ -29,21 +29,31 @@ impl Display for Carried {
     }
 }
 
+/// Value types with spaces between, as they are shown.
+#[derive(Clone, Copy)]
+struct Types<'a>(&'a [ValueType]);
+
+impl Display for Types<'_> {
+    fn fmt<W: Write>(&self, f: &mut Formatter<W>) -> fmt::Result {
+        let mut separator = "";
+        for value_type in self.0 {
+            write!(f, "{separator}{}", Type(*value_type))?;
+            separator = " ";
+        }
+        Ok(())
+    }
+}
+
 /// The type of a function, as it is shown: `[i32 i64] to [i32]`.
 #[derive(Clone, Copy)]
 pub(crate) struct Signature<'a>(pub(crate) &'a FuncType);
 
 impl Display for Signature<'_> {
     fn fmt<W: Write>(&self, f: &mut Formatter<W>) -> fmt::Result {
-        f.write_str("[")?;
-        let mut separator = "";
-        for value_type in self.0.params.as_slice() {
-            write!(f, "{separator}{}", Type(*value_type))?;
-            separator = " ";
-        }
+        let parameters = Types(self.0.params.as_slice());
         match self.0.result {
-            None => f.write_str("] to []"),
-            Some(result) => write!(f, "] to [{}]", Type(result)),
+            None => write!(f, "[{parameters}] to []"),
+            Some(result) => write!(f, "[{parameters}] to [{}]", Type(result)),
         }
     }
 }

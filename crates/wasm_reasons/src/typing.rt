@@ -2,19 +2,20 @@
 
 use crate::lookup::{function_count, no_part, no_such, type_of};
 use crate::opcodes::{
-    BLOCK, BR, BR_IF, CALL, CALL_INDIRECT, DROP, ELSE, END, GLOBAL_GET, GLOBAL_SET, I32_CONST,
-    I64_CONST, IF, LOCAL_GET, LOCAL_SET, LOCAL_TEE, LOOP, MEMORY_GROW, MEMORY_SIZE, RETURN, SELECT,
+    BR, BR_IF, CALL, CALL_INDIRECT, DROP, ELSE, END, GLOBAL_GET, GLOBAL_SET, I32_CONST, I64_CONST,
+    IF, LOCAL_GET, LOCAL_SET, LOCAL_TEE, LOOP, MEMORY_GROW, MEMORY_SIZE, RETURN, SELECT,
     UNREACHABLE,
 };
 use crate::operands::Operands;
 use crate::place::{Numbered, Spot};
+use crate::shapes::{Shape, shape_of};
 use crate::steps::{Immediate, Step};
 use crate::stop::{Stop, invalid};
 use crate::types::{Carried, Type};
 use std::alloc::Global;
 use wasm_ast::ValueType::{I32, I64};
-use wasm_ast::{BlockType, ConvertOp, Instr, MemoryArgument, Module, ValueType};
-use wasm_operators::{load, operator, store};
+use wasm_ast::{BlockType, MemoryArgument, Module, ValueType};
+use wasm_operators::{load, store};
 use wasm_profile::Profile;
 use wasm_typing::ValidateFault;
 
@@ -44,25 +45,36 @@ impl<'m> Typing<'m> {
 
     /// An instruction. Whether it ends the body.
     pub(crate) fn check(&mut self, number: u32, step: &Step) -> Result<bool, Stop> {
-        let opcode = step.opcode;
-        match (opcode, &step.immediate) {
-            (END, _) => {
+        match step.opcode {
+            END => {
                 self.operands.finish_last()?;
                 self.operands.exit()
             }
-            (ELSE, _) => {
+            ELSE => {
                 self.operands.finish()?;
                 self.operands.begin_else();
                 Ok(false)
             }
-            (BLOCK | LOOP | IF, Immediate::Block(result)) => {
-                self.enter(Numbered { number, opcode }, *result)?;
-                Ok(false)
-            }
             _ => {
-                self.plain(step)?;
+                self.instruction(number, step)?;
                 Ok(false)
             }
+        }
+    }
+
+    fn instruction(&mut self, number: u32, step: &Step) -> Result<(), Stop> {
+        let opcode = step.opcode;
+        match shape_of(opcode, self.profile) {
+            Some(Shape::One(taken, given)) => return self.one(taken, given),
+            Some(Shape::Two(taken, given)) => return self.two(taken, given),
+            None => {}
+        }
+        match &step.immediate {
+            Immediate::None => self.without(opcode),
+            Immediate::Block(result) => self.enter(Numbered { number, opcode }, *result),
+            Immediate::Index(index) => self.indexed(opcode, *index),
+            Immediate::Labels(labels) => self.branch_table(labels),
+            Immediate::Access(argument) => self.access(opcode, *argument),
         }
     }
 
@@ -72,35 +84,6 @@ impl<'m> Typing<'m> {
         }
         let carried = if opener.opcode == LOOP { None } else { left };
         self.operands.enter(opener, carried, left)
-    }
-
-    // An instruction with none inside.
-    fn plain(&mut self, step: &Step) -> Result<(), Stop> {
-        if let Some(instruction) = operator(step.opcode, self.profile) {
-            return self.operator(&instruction);
-        }
-        match &step.immediate {
-            Immediate::None => self.without(step.opcode),
-            Immediate::Block(_) => Ok(()),
-            Immediate::Index(index) => self.indexed(step.opcode, *index),
-            Immediate::Labels(labels) => self.branch_table(labels),
-            Immediate::Access(argument) => self.access(step.opcode, *argument),
-        }
-    }
-
-    // An operator on words.
-    fn operator(&mut self, instruction: &Instr) -> Result<(), Stop> {
-        match instruction {
-            Instr::I32Eqz | Instr::I32Unary(_) => self.one(I32, I32),
-            Instr::I64Eqz => self.one(I64, I32),
-            Instr::I64Unary(_) => self.one(I64, I64),
-            Instr::I32Compare(_) | Instr::I32Binary(_) => self.two(I32, I32),
-            Instr::I64Compare(_) => self.two(I64, I32),
-            Instr::I64Binary(_) => self.two(I64, I64),
-            Instr::Convert(ConvertOp::WrapI64) => self.one(I64, I32),
-            Instr::Convert(_) => self.one(I32, I64),
-            _ => Ok(()),
-        }
     }
 
     fn one(&mut self, taken: ValueType, given: ValueType) -> Result<(), Stop> {
@@ -136,10 +119,8 @@ impl<'m> Typing<'m> {
         if align < u32::BITS && 1 << align <= width {
             return Ok(());
         }
-        let words = format!(in self.alloc;
-            "its alignment is 2^{align} bytes, and it moves {width}"
-        )?;
-        invalid(ValidateFault::Alignment, words)
+        let words = format_args!("its alignment is 2^{align} bytes, and it moves {width}");
+        invalid(self.alloc, ValidateFault::Alignment, words)
     }
 
     fn needs_memory(&self) -> Result<(), Stop> {
@@ -188,10 +169,10 @@ impl<'m> Typing<'m> {
         match (first, second) {
             (Some(one), Some(other)) if one != other => {
                 let (one, other) = (Type(one), Type(other));
-                let words = format!(in self.alloc;
+                let words = format_args!(
                     "its operands are of types {one} and {other}, where one type is needed"
-                )?;
-                invalid(ValidateFault::TypeMismatch, words)
+                );
+                invalid(self.alloc, ValidateFault::TypeMismatch, words)
             }
             (None, _) => self.operands.push(second),
             _ => self.operands.push(first),
@@ -257,10 +238,10 @@ impl<'m> Typing<'m> {
         match self.operands.label(label) {
             Some(other) if other != carried => {
                 let (other, carried) = (Carried(other), Carried(carried));
-                let words = format!(in self.alloc;
+                let words = format_args!(
                     "its label {label} carries {other}, and its default label {carried}"
-                )?;
-                invalid(ValidateFault::TypeMismatch, words)
+                );
+                invalid(self.alloc, ValidateFault::TypeMismatch, words)
             }
             _ => Ok(()),
         }
@@ -317,8 +298,8 @@ impl<'m> Typing<'m> {
             return self.operands.push(Some(global_type.value_type));
         }
         if !global_type.is_variable {
-            let words = format!(in self.alloc; "it writes global {global}, which is constant")?;
-            return invalid(ValidateFault::ImmutableGlobal, words);
+            let words = format_args!("it writes global {global}, which is constant");
+            return invalid(self.alloc, ValidateFault::ImmutableGlobal, words);
         }
         self.operands.pop_as(global_type.value_type, "its operand")
     }
