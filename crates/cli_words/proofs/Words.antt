@@ -23,16 +23,12 @@ use Rattle.cli_words.proofs.Behind.{mapped}
 use Rattle.cli_words.specs.Table.{TableRow, table}
 use Rattle.cli_words.proofs.Reading.{none_is, reads_by}
 use Rattle.cli_words.specs.Commands.{IsCommandOf, command_name}
-use Rattle.cli_words.specs.Words.{IsTaskAs, IsTaskBy, IsTaskOf, MayHave, Reads, app_of_row, app_with, row_shape, rows_in, text_of, with_rules}
+use Rattle.cli_words.specs.Words.{IsTaskAs, IsTaskBy, IsTaskOf, MayHave, Reads, app_by, app_of_row, app_with, row_shape, rows_in, text_of}
 use Rattle.cli_words.specs.declared.task.Task.{Task}
 use Rattle.cli_words.specs.declared.task.WordsFault.{WordsFault}
 use Rattle.cli_words.specs.declared.task.WordsFault.TheVariants as words
 
 -- ---- a command is built
-
--- a command of these rules alone
-abbrev pub app_by : Text → List Rule → App
-app_by name rules = record { top = with_rules name rules; subs = [] }
 
 -- none of its arguments is global
 abbrev pub IsLocal : Command → Type 0

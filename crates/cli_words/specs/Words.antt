@@ -50,6 +50,10 @@ with_rules name rules = record (new_shape name) { rules = rules }
 abbrev pub row_shape : TableRow → Shape
 row_shape row = with_rules row.name (row_rules row)
 
+-- a command of these rules alone
+abbrev pub app_by : Text → List Rule → App
+app_by name rules = record { top = with_rules name rules; subs = [] }
+
 abbrev pub app_of_row : TableRow → App
 app_of_row row = record { top = row_shape row; subs = [] }
 

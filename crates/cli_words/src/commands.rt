@@ -4,10 +4,10 @@ ghost use Rattle.std.specs.Prelude.{◌≡◌, false, map, IfOk};
 ghost use Rattle.clap.specs.Simple.{app_of};
 ghost use Rattle.clap.specs.Walk.{rule_of};
 ghost use Rattle.clap.specs.declared.builder.command.Command.TheViews.{out-Command};
-ghost use Rattle.cli_words.specs.Table.{row_of, row_of_tuple, table};
-ghost use Rattle.cli_words.specs.Words.{app_of_row, app_with, option_rule, word_rule};
+ghost use Rattle.cli_words.specs.Table.{row_of, table, texts};
+ghost use Rattle.cli_words.specs.Words.{app_by, app_of_row, app_with, option_rule, word_rule};
 
-use crate::table::{COMMANDS, Form, Row};
+use crate::table::{Form, rows};
 use clap::{Arg, ArgAction, Command};
 use std::alloc::{AllocError, Global};
 
@@ -37,12 +37,22 @@ fn command<'a>(alloc: Global, form: &Form) -> Result<Command<'a>, AllocError>
     ensures app { IfOk result (λ command. app_of command ≡ app_of_row (row_of form.now)) }
     ensures local { IfOk result (λ command. (out-Command command).has_globals ≡ false) }
 {
+    let mut command = worded(alloc, form)?;
+    for (name, value) in form.options {
+        command = command.arg(option(alloc, name, value))?;
+    }
+    Ok(command)
+}
+
+/// A command with the words of this form, and none of its options.
+fn worded<'a>(alloc: Global, form: &Form) -> Result<Command<'a>, AllocError>
+    ensures app { IfOk result (λ command. app_of command
+        ≡ app_by form.now.name.now (map word_rule (texts form.now.words.now))) }
+    ensures local { IfOk result (λ command. (out-Command command).has_globals ≡ false) }
+{
     let mut command = Command::new(alloc, form.name);
     for name in form.words {
         command = command.arg(word(alloc, name))?;
-    }
-    for (name, value) in form.options {
-        command = command.arg(option(alloc, name, value))?;
     }
     Ok(command)
 }
@@ -51,18 +61,10 @@ fn command<'a>(alloc: Global, form: &Form) -> Result<Command<'a>, AllocError>
 pub(crate) fn commands<'a>(alloc: Global) -> Result<Command<'a>, AllocError>
     ensures { IfOk result (λ ledger. app_of ledger ≡ app_with table) }
 {
-    commands_of(alloc, &COMMANDS)
-}
-
-/// The commands of these rows, as one that has them. A loop hands them on, since each place that does
-/// is dear to prove.
-fn commands_of<'a>(alloc: Global, rows: &[Row]) -> Result<Command<'a>, AllocError>
-    ensures { IfOk result (λ ledger. app_of ledger ≡ app_with (map row_of_tuple rows.now)) }
-{
     let mut ledger = Command::new(alloc, "ledger")
         .no_binary_name(true)
         .subcommand_required(true);
-    for row in rows {
+    for row in rows() {
         let command = command(alloc, &Form::of(row))?;
         ledger = ledger.subcommand(command)?;
     }

@@ -1,6 +1,6 @@
 //! Why words name no task, in words.
 
-use crate::table::{COMMANDS, Form};
+use crate::table::{Form, rows};
 use crate::usage::FormUsage;
 use crate::values::{is_right, rule_of};
 use nearest_word::nearest;
@@ -13,7 +13,7 @@ pub fn words_reason(alloc: Global, words: &[String]) -> Result<String, AllocErro
     let [command, words @ ..] = words else {
         return format!(in alloc; "a command is needed, in UTF-8: {Commands} (usage)");
     };
-    for row in &COMMANDS {
+    for row in rows() {
         let form = Form::of(row);
         if form.name == command.as_str() {
             return reason_of(alloc, &form, words);
@@ -25,7 +25,7 @@ pub fn words_reason(alloc: Global, words: &[String]) -> Result<String, AllocErro
 /// Why a word is no command.
 fn unknown_command(alloc: Global, word: &str) -> Result<String, AllocError> {
     let mut names = Vec::new(alloc);
-    for (name, _, _, _) in &COMMANDS {
+    for (name, _, _, _) in rows() {
         names.push(*name)?;
     }
     match nearest(alloc, word, &names)? {
@@ -94,21 +94,21 @@ impl<'a> Reading<'a> {
         }
         match word.strip_prefix("--") {
             Some(option) => self.take_option(alloc, option),
-            None => Ok(Some(unknown_option(alloc, self.form, word)?)),
+            None => unknown_option(alloc, self.form, word).map(Some),
         }
     }
 
     /// Reads a word that is no option.
     fn take_place(&mut self, alloc: Global, word: &str) -> Result<Option<String>, AllocError> {
         let Some(name) = self.form.words.get(self.places) else {
-            return Ok(Some(format!(in alloc; "{word:?} is one word too many")?));
+            return format!(in alloc; "{word:?} is one word too many").map(Some);
         };
         self.places = self.places.saturating_add(1);
         if is_right(alloc, name, word)? {
             return Ok(None);
         }
         let rule = rule_of(name);
-        Ok(Some(format!(in alloc; "{name} is {word:?}; it has to be {rule}")?))
+        format!(in alloc; "{name} is {word:?}; it has to be {rule}").map(Some)
     }
 
     /// Reads an option, which may have a value behind `=`, without the `--` before it.
@@ -123,7 +123,7 @@ impl<'a> Reading<'a> {
             }
         }
         let word = format!(in alloc; "--{name}")?;
-        Ok(Some(unknown_option(alloc, self.form, &word)?))
+        unknown_option(alloc, self.form, &word).map(Some)
     }
 
     /// Reads an option that the command has, with the name of its value, and the value behind `=`.
@@ -135,13 +135,11 @@ impl<'a> Reading<'a> {
         inline: Option<&str>,
     ) -> Result<Option<String>, AllocError> {
         if self.seen.contains(&name) {
-            return Ok(Some(format!(in alloc; "--{name} stands twice")?));
+            return format!(in alloc; "--{name} stands twice").map(Some);
         }
         self.seen.push(name)?;
         match inline {
-            Some(_) if value.is_empty() => {
-                Ok(Some(format!(in alloc; "--{name} takes no value")?))
-            }
+            Some(_) if value.is_empty() => format!(in alloc; "--{name} takes no value").map(Some),
             Some(text) => wrong_value(alloc, name, text),
             None => {
                 self.pending = if value.is_empty() { None } else { Some(name) };
@@ -153,13 +151,13 @@ impl<'a> Reading<'a> {
     /// What is missing behind the last word, or what may not stand side by side.
     fn fault_at_end(&self, alloc: Global) -> Result<Option<String>, AllocError> {
         if let Some(name) = self.pending {
-            return Ok(Some(format!(in alloc; "--{name} has no value behind it")?));
+            return format!(in alloc; "--{name} has no value behind it").map(Some);
         }
         if let Some(name) = self.form.words.get(self.places) {
-            return Ok(Some(format!(in alloc; "{name} is missing")?));
+            return format!(in alloc; "{name} is missing").map(Some);
         }
         if self.seen.contains(&"key") && self.seen.contains(&"members") {
-            return Ok(Some(format!(in alloc; "--key and --members exclude each other")?));
+            return format!(in alloc; "--key and --members exclude each other").map(Some);
         }
         Ok(None)
     }
@@ -168,9 +166,9 @@ impl<'a> Reading<'a> {
 /// What is wrong with the word behind an option, as its value.
 fn value_fault(alloc: Global, name: &str, word: &str) -> Result<Option<String>, AllocError> {
     if word.len() > 1 && word.starts_with('-') && is_right(alloc, name, word)? {
-        return Ok(Some(format!(in alloc;
+        return format!(in alloc;
             "--{name} has no value behind it: one that begins with - is written --{name}={word}"
-        )?));
+        ).map(Some);
     }
     wrong_value(alloc, name, word)
 }
@@ -181,7 +179,7 @@ fn wrong_value(alloc: Global, name: &str, text: &str) -> Result<Option<String>, 
         return Ok(None);
     }
     let rule = rule_of(name);
-    Ok(Some(format!(in alloc; "--{name} is {text:?}; it has to be {rule}")?))
+    format!(in alloc; "--{name} is {text:?}; it has to be {rule}").map(Some)
 }
 
 /// Why a word is no option of a command.
@@ -207,7 +205,7 @@ struct Commands;
 impl Display for Commands {
     fn fmt<W: Write>(&self, f: &mut Formatter<W>) -> fmt::Result {
         let mut lead = "";
-        for (name, _, _, _) in &COMMANDS {
+        for (name, _, _, _) in rows() {
             write!(f, "{lead}{name}")?;
             lead = ", ";
         }

@@ -6,7 +6,7 @@ ghost use Rattle.std.specs.List.{flat_map};
 ghost use Rattle.cli_words.specs.Table.{pairs, row_of, row_of_tuple, texts};
 ghost use Rattle.cli_words.specs.UsageText.{explanation_text, explanations_text, line_text, lines_text, named_option, option_text, word_text};
 
-use crate::table::{COMMANDS, Form, Row};
+use crate::table::{Form, Row, rows};
 use std::fmt::{self, Display, Formatter, Write};
 
 /// The usage of the program, as `{}` prints it: a line for each command with its words and options,
@@ -21,8 +21,8 @@ impl Display for Usage {
     ghost output = { λ _. Some usage_text };
 
     fn fmt<W: Write>(&self, f: &mut Formatter<W>) -> fmt::Result {
-        write_lines(&COMMANDS, f)?;
-        write_explanations(&COMMANDS, f)
+        write_lines(rows(), f)?;
+        write_explanations(rows(), f)
     }
 }
 
