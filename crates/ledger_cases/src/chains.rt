@@ -19,33 +19,34 @@ pub fn show_flags(alloc: Global, chain: &str) -> Result<String, CaseFault> {
 
 /// Each key of the state after a chain, with its value and version.
 pub fn show_state(alloc: Global, chain: &str) -> Result<String, CaseFault> {
-    let mut snapshot = Snapshot::empty(alloc);
-    judge_chain(alloc, &mut snapshot, chain)?;
-    state_text(alloc, &snapshot)
+    state_after(alloc, &mut Snapshot::empty(alloc), chain)
 }
 
 /// What the state after a chain has at the key that the first word is.
 pub fn show_key(alloc: Global, text: &str) -> Result<String, CaseFault> {
     let (key, chain) = split_word(text);
-    let mut snapshot = Snapshot::empty(alloc);
-    judge_chain(alloc, &mut snapshot, chain)?;
-    key_text(alloc, &snapshot, key)
+    key_after(alloc, &mut Snapshot::empty(alloc), chain, key)
 }
 
 /// The first entries of the range that the first word is, in the state after a chain.
 pub fn show_range(alloc: Global, text: &str) -> Result<String, CaseFault> {
     let (asked, chain) = split_word(text);
-    let mut snapshot = Snapshot::empty(alloc);
-    judge_chain(alloc, &mut snapshot, chain)?;
-    range_text(alloc, &snapshot, asked)
+    range_after(alloc, &mut Snapshot::empty(alloc), chain, asked)
 }
 
-fn state_text(alloc: Global, snapshot: &Snapshot) -> Result<String, CaseFault> {
+fn state_after(alloc: Global, snapshot: &mut Snapshot, chain: &str) -> Result<String, CaseFault> {
+    judge_chain(alloc, snapshot, chain)?;
     let entries = snapshot.entries(alloc)?;
     Ok(entries_text(alloc, &entries)?)
 }
 
-fn key_text(alloc: Global, snapshot: &Snapshot, key: &str) -> Result<String, CaseFault> {
+fn key_after(
+    alloc: Global,
+    snapshot: &mut Snapshot,
+    chain: &str,
+    key: &str,
+) -> Result<String, CaseFault> {
+    judge_chain(alloc, snapshot, chain)?;
     let key = key_of(alloc, key)?;
     let mut answer = String::new(alloc);
     match snapshot.get(&key) {
@@ -55,7 +56,13 @@ fn key_text(alloc: Global, snapshot: &Snapshot, key: &str) -> Result<String, Cas
     Ok(answer)
 }
 
-fn range_text(alloc: Global, snapshot: &Snapshot, asked: &str) -> Result<String, CaseFault> {
+fn range_after(
+    alloc: Global,
+    snapshot: &mut Snapshot,
+    chain: &str,
+    asked: &str,
+) -> Result<String, CaseFault> {
+    judge_chain(alloc, snapshot, chain)?;
     let asked = asked_range(alloc, asked)?;
     let limit = usize::from(asked.limit);
     let entries = snapshot.range(alloc, &asked.start, &asked.end, limit)?;

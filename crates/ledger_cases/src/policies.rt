@@ -73,16 +73,18 @@ fn case_of(rest: &str) -> Case<'_> {
 /// Whether an envelope with these tags is endorsed under the policy, on the state after the chain,
 /// which may be empty.
 pub fn show_endorsed(alloc: Global, rest: &str) -> Result<String, CaseFault> {
-    let case = case_of(rest);
-    let mut snapshot = Snapshot::empty(alloc);
-    if !case.chain.is_empty() {
-        judge_chain(alloc, &mut snapshot, case.chain)?;
-    }
-    endorsed_on(alloc, &snapshot, case)
+    endorsed_after(alloc, &mut Snapshot::empty(alloc), case_of(rest))
 }
 
-/// The same on a state.
-fn endorsed_on(alloc: Global, snapshot: &Snapshot, case: Case<'_>) -> Result<String, CaseFault> {
+/// The same of a chain that goes on behind a snapshot.
+fn endorsed_after(
+    alloc: Global,
+    snapshot: &mut Snapshot,
+    case: Case<'_>,
+) -> Result<String, CaseFault> {
+    if !case.chain.is_empty() {
+        judge_chain(alloc, snapshot, case.chain)?;
+    }
     let rules = rules_of(alloc, case.known, case.text)?;
     endorsed_by(alloc, &rules, snapshot, case)
 }

@@ -82,8 +82,8 @@ fn writes_of(alloc: Global, words: &str) -> Result<WriteSet, CaseFault> {
 /// The upgrade or the amendment that a word says, or else the call with an empty argument.
 fn proposal_of(alloc: Global, nonce: [u8; 16], words: &str) -> Result<Proposal, CaseFault> {
     let nonce = nonce_of(nonce, words)?;
-    match change_in(alloc, nonce, words)? {
-        Some(proposal) => Ok(proposal),
+    match change_in(words)? {
+        Some((kind, text)) => change_of(alloc, nonce, kind, text),
         None => call_with(alloc, empty_value(alloc), nonce),
     }
 }
@@ -99,13 +99,14 @@ fn nonce_of(nonce: [u8; 16], words: &str) -> Result<[u8; 16], CaseFault> {
     Ok(nonce)
 }
 
-/// The upgrade or the amendment among the words. A bad line where a word says nothing.
-fn change_in(alloc: Global, nonce: [u8; 16], words: &str) -> Result<Option<Proposal>, CaseFault> {
+/// The word that says an upgrade or an amendment: the last one, in front of and behind its colon. A
+/// bad line where a word says nothing.
+fn change_in(words: &str) -> Result<Option<(&str, &str)>, CaseFault> {
     let mut change = None;
     for word in words.split_whitespace() {
         let (kind, text) = word.split_once(':').ok_or(CaseFault::BadLine)?;
         if !matches!(kind, "r" | "q" | "w" | "d" | "n" | "e") {
-            change = Some(change_of(alloc, nonce, kind, text)?);
+            change = Some((kind, text));
         }
     }
     Ok(change)
@@ -138,8 +139,8 @@ fn membership_of(alloc: Global, text: &str) -> Result<Membership, CaseFault> {
     let Ok(serial) = serial.parse::<u32>() else {
         return Err(CaseFault::BadLine);
     };
-    let members = members_of(alloc, names)?;
     let policy = policy_text_of(alloc, policy)?;
+    let members = members_of(alloc, names)?;
     Ok(Membership {
         serial,
         members,
