@@ -1,9 +1,8 @@
 use Rattle.std.proofs.Common.{◌∙◌, ◌++◌, ◌∷◌, [], ap, sym, subst, refl, map, arith}
-use Rattle.std.proofs.lemmas.Grind.{common_steps}
-use Rattle.std.proofs.lemmas.List.{map-append}
+use Rattle.std.proofs.lemmas.List.{map-append, take_all}
 use Rattle.std.specs.List.{AllByRecursion}
 use Rattle.ledger_setting.specs.Rule.{table_of}
-use Rattle.fabric_core.specs.System.{chain_of_first}
+use Rattle.fabric_core.specs.System.{chain_of_first, fresh}
 use Rattle.endorsement_policy.specs.Endorsed.{Listed}
 use Rattle.orderer.specs.Ordering.{Ordering}
 use Rattle.fabric_core.specs.Inside.{peer_of, IsPeerRight, IsRight}
@@ -36,4 +35,15 @@ invariant_of-result c =
     (subst (λ (l : Listed). IsRight l peers []) (sym same) c.loop-org.invariant.right)
 
 pub returns : goal.returns
-returns c = grind (arith, common_steps)
+returns c =
+    let opened = fresh c.args.genesis.now.seats in
+    let peers =
+    c.loop-org.invariant.state
+    ∙ ap (map opened) (take_all c.loop-org.org-index c.as_slice-orgs.result.now c.loop-org-test.false ∙ c.as_slice-orgs.ensures.value) in
+    λ i. record {
+      book = c.in_ok-clone-2.ensures.cases i;
+      rules = c.in_ok-clone-3.ensures.cases i;
+      seeds = c.in_ok-clone-4.ensures.cases i;
+      capacity = c.args.genesis.now.queue;
+      world = record { peers = peers i; queue = c.new-2.ensures.items i; orderer = c.new-3.ensures i };
+    }
