@@ -1,21 +1,15 @@
-//! Policies and rules that no text spells, and checks of envelopes by several workers.
+//! Checks of envelopes by several workers, and tags.
 
-use crate::samples::{PUBLIC, SEED, shared_key};
+use crate::samples::{PUBLIC, SEED, TWO_OF_THREE, genesis};
 use ed25519::sign;
-use endorsement_policy::{
-    ChaincodePolicy, Gate, Installed, ModuleId, Rules, Standing, Workers, check_all, check_plain,
-    check_with_right_orgs, right_orgs_of_blocks, satisfied,
-};
-use fab_types::{Envelope, Name, OrgName};
+use endorsement_policy::{Gate, Rules, Workers, check_all, check_plain};
+use fab_types::Envelope;
 use hmac_tag::{check, tag};
-use org_keys::{OrgKey, Organisation, PublicKey};
-use policy_language::{OrgSet, Policies, Policy, parse};
 use std::alloc::{AllocError, Global};
 use std::sync::atomic::{AtomicBool, AtomicUsize, Ordering};
 use std::test::Fail;
 use std::thread;
 use std::thread::Threads;
-use wasm_profile::Profile;
 use wire::decode_envelope;
 use world_state::Snapshot;
 
@@ -36,96 +30,9 @@ const TAG: usize = 71;
 /// The length of a call whose second endorsement is a signature, behind the byte 00.
 const SIGNED: usize = 136;
 
-fn org(alloc: Global, letter: u8) -> Option<OrgName> {
-    OrgName::new(vec![in alloc; letter].ok()?)
-}
-
-/// The organisations of these letters.
-fn orgs(alloc: Global, letters: &[u8]) -> Option<Vec<OrgName>> {
-    let mut names = Vec::new(alloc);
-    for letter in letters {
-        names.push(org(alloc, *letter)?).ok()?;
-    }
-    Some(names)
-}
-
-/// The bytes of an organisation's key.
+/// The bytes of an organisation's shared key.
 fn secret(letter: u8) -> [u8; 3] {
     [letter, 0, letter]
-}
-
-/// C's key is the public one of `SEED`, the others' are shared.
-fn key(alloc: Global, letter: u8) -> Option<OrgKey> {
-    if letter == b'C' {
-        Some(OrgKey::Public(PublicKey::new(PUBLIC)?))
-    } else {
-        shared_key(alloc, &secret(letter))
-    }
-}
-
-fn organisation(alloc: Global, letter: u8) -> Option<Organisation> {
-    let (name, key) = org(alloc, letter).zip(key(alloc, letter))?;
-    Some(Organisation { name, key })
-}
-
-fn add_organisations(alloc: Global, organisations: &mut Vec<Organisation>) -> Option<()> {
-    for letter in b"ABC" {
-        organisations.push(organisation(alloc, *letter)?).ok()?;
-    }
-    Some(())
-}
-
-fn organisations(alloc: Global) -> Option<Vec<Organisation>> {
-    let mut organisations = Vec::new(alloc);
-    add_organisations(alloc, &mut organisations)?;
-    Some(organisations)
-}
-
-fn two_of_three(alloc: Global) -> Option<Policy> {
-    let known = orgs(alloc, b"ABC")?;
-    parse(alloc, "OutOf(2, 'A', 'B', 'C')", &known).ok()
-}
-
-fn kv(alloc: Global) -> Option<Name> {
-    Name::new(b"kv".to_vec(alloc).ok()?)
-}
-
-/// The policy of `kv`, where there is one.
-fn of_kv(alloc: Global, policy: Option<Policy>) -> Option<Vec<ChaincodePolicy>> {
-    let (chaincode, policy) = kv(alloc).zip(policy)?;
-    vec![in alloc; ChaincodePolicy { chaincode, policy }].ok()
-}
-
-/// What the one module is known by.
-const MODULE: ModuleId = ModuleId {
-    digest: [7; 32],
-    profile: Profile::SignExtension,
-};
-
-/// That module alone, and the organisations A, B and C.
-fn installed(alloc: Global) -> Option<Installed> {
-    let modules = vec![in alloc; MODULE].ok()?;
-    Some(Installed::new(modules, orgs(alloc, b"ABC")?))
-}
-
-/// What `Rules::new` makes of these organisations, a policy of `kv` and one of upgrades, where all
-/// of them are there.
-fn rules_of(
-    alloc: Global,
-    organisations: Option<Vec<Organisation>>,
-    policy: Option<Policy>,
-    upgrade: Option<Policy>,
-) -> Option<Option<Rules>> {
-    let policies = of_kv(alloc, policy).zip(upgrade);
-    let known = organisations.zip(installed(alloc));
-    let ((organisations, installed), (policies, upgrade)) = known.zip(policies)?;
-    Some(Rules::new(organisations, policies, upgrade, installed))
-}
-
-/// A, B and C, of which two have to endorse a transaction of `kv` or an upgrade.
-fn rules(alloc: Global) -> Option<Rules> {
-    let (policy, upgrade) = (two_of_three(alloc), two_of_three(alloc));
-    rules_of(alloc, organisations(alloc), policy, upgrade)?
 }
 
 /// The call with endorsements by A under its own key, and by a name with the HMAC under a key.
@@ -194,7 +101,7 @@ fn is_first_of_four(answers: &[bool]) -> bool {
 
 /// Nothing is done round a check.
 #[derive(Drop)]
-struct Open;
+pub struct Open;
 
 impl Gate for Open {
     fn before(&self, _index: usize) {}
@@ -231,46 +138,6 @@ fn are_same<R: Threads + Sync>(
     let are = is_same_by_workers(rt, alloc, rules, snapshot, &[])?
         && is_same_by_workers(rt, alloc, rules, snapshot, one)?
         && is_same_by_workers(rt, alloc, rules, snapshot, envelopes)?;
-    Ok(are)
-}
-
-/// Whether each block has the right answers by the tags that so many workers judged.
-fn are_right_by_tags<R: Threads + Sync>(
-    rt: &R,
-    alloc: Global,
-    rules: &Rules,
-    snapshot: &Snapshot,
-    blocks: &[&[Envelope]],
-    count: usize,
-) -> Result<bool, AllocError> {
-    let standing = Standing::of(alloc, rules, snapshot)?;
-    let workers = Workers::new(rt, count);
-    let right = right_orgs_of_blocks(&workers, alloc, standing.organisations(), blocks)?;
-    let mut are_right = true;
-    for place in 0..blocks.len() {
-        let (block, orgs) = (blocks[place], &right[place]);
-        let answers = check_with_right_orgs(alloc, rules, snapshot, block, orgs)?;
-        are_right &= answers.len() == block.len() && is_first_of_four(&answers);
-    }
-    Ok(are_right)
-}
-
-/// The same by 1, 2, 3 and 16 workers, of blocks of no envelope, one and all of these.
-fn are_same_by_tags<R: Threads + Sync>(
-    rt: &R,
-    alloc: Global,
-    rules: &Rules,
-    snapshot: &Snapshot,
-    envelopes: &[Envelope],
-) -> Result<bool, AllocError> {
-    let one = envelopes.get(..1).unwrap_or(&[]);
-    let none = envelopes.get(..0).unwrap_or(&[]);
-    let blocks = [envelopes, none, one, envelopes, one];
-    let are = are_right_by_tags(rt, alloc, rules, snapshot, &blocks, 1)?
-        && are_right_by_tags(rt, alloc, rules, snapshot, &blocks, 2)?
-        && are_right_by_tags(rt, alloc, rules, snapshot, &blocks, 3)?
-        && are_right_by_tags(rt, alloc, rules, snapshot, &blocks, 16)?
-        && are_right_by_tags(rt, alloc, rules, snapshot, &[], 2)?;
     Ok(are)
 }
 
@@ -363,82 +230,20 @@ fn are_right<R: Threads + Sync>(
     let are_same = are_same(rt, alloc, rules, snapshot, all)?;
     let is_met = is_met(rt, alloc, rules, snapshot, all.get(..2).unwrap_or(&[]))?;
     let is_in_turn = is_in_turn(rt, alloc, rules, snapshot, all.get(..5).unwrap_or(&[]))?;
-    let are_same_by_tags = are_same_by_tags(rt, alloc, rules, snapshot, all)?;
-    Ok(are_same && is_met && is_in_turn && are_same_by_tags)
+    Ok(are_same && is_met && is_in_turn)
 }
 
-fn workers_are_right<R: Threads + Sync>(rt: &R, alloc: Global) -> Option<bool> {
-    let (rules, all) = rules(alloc).zip(envelopes(alloc, 33))?;
-    are_right(rt, alloc, &rules, &Snapshot::empty(alloc), &all).ok()
+fn workers_are_right<R: Threads + Sync>(rt: &R, alloc: Global, rules: &Rules) -> Option<bool> {
+    let all = envelopes(alloc, 33)?;
+    are_right(rt, alloc, rules, &Snapshot::empty(alloc), &all).ok()
 }
 
 #[test]
 fn workers_answer_as_one_thread(rt: HostRuntime) -> Result<(), Fail> {
-    let are_right = workers_are_right(&rt, rt.alloc());
+    let alloc = rt.alloc();
+    let are_right = workers_are_right(&rt, alloc, &genesis(alloc, TWO_OF_THREE)?.rules);
     assert!(rt; are_right == Some(true));
     Ok(())
-}
-
-/// Whether this is B's key.
-fn is_key_of_b(key: &OrgKey) -> bool {
-    match key {
-        OrgKey::Shared(key) => key.as_slice() == secret(b'B').as_slice(),
-        OrgKey::Public(_) => false,
-    }
-}
-
-/// Whether these rules know B and its key, and the policy of `kv`, and not D.
-fn is_of_three(rules: &Rules, b: &OrgName, d: &OrgName, kv: &Name) -> bool {
-    let known = match rules.organisation(b) {
-        Some(organisation) => is_key_of_b(&organisation.key),
-        None => false,
-    };
-    known
-        && rules.organisation(d).is_none()
-        && rules.policy(kv).is_some()
-        && rules.policies().len() == 1
-        && rules.installed().orgs().len() == 3
-        && rules.installed().modules() == [MODULE].as_slice()
-}
-
-fn are_looked_up(alloc: Global) -> Option<bool> {
-    let (b, d, kv) = (org(alloc, b'B')?, org(alloc, b'D')?, kv(alloc)?);
-    Some(is_of_three(&rules(alloc)?, &b, &d, &kv))
-}
-
-/// A leaf, made without a text.
-fn leaf(alloc: Global) -> Option<Policies> {
-    let a = Policy::Org(org(alloc, b'A')?);
-    Policies::new(vec![in alloc; a].ok()?)
-}
-
-/// Whether any of A is satisfied by A and C, which has C and not B.
-fn is_satisfied(policy: &Policy, two: &OrgSet, names: &[OrgName]) -> bool {
-    match names {
-        [b, c] => satisfied(policy, two) && two.contains(c) && !two.contains(b),
-        _ => false,
-    }
-}
-
-fn is_by_two(alloc: Global) -> Option<bool> {
-    let names = orgs(alloc, b"BC")?;
-    let (leaf, two) = leaf(alloc).zip(OrgSet::new(orgs(alloc, b"AC")?))?;
-    let is_one = leaf.items().len() == 1;
-    Some(is_one && is_satisfied(&Policy::Or(leaf), &two, &names))
-}
-
-/// A policy that needs nobody: none of A.
-fn nobody(alloc: Global) -> Option<Policy> {
-    Some(Policy::OutOf(0, leaf(alloc)?))
-}
-
-/// Whether there are no rules where either policy needs nobody.
-fn is_no_rule(alloc: Global) -> bool {
-    let none = Some(Vec::new(alloc));
-    let calls = rules_of(alloc, none, nobody(alloc), two_of_three(alloc));
-    let none = Some(Vec::new(alloc));
-    let upgrades = rules_of(alloc, none, two_of_three(alloc), nobody(alloc));
-    matches!(calls, Some(None)) && matches!(upgrades, Some(None))
 }
 
 /// Whether a tag is that of its key alone: test case 2 of RFC 4231.
@@ -467,10 +272,6 @@ fn is_each_flip_told() -> bool {
 }
 
 #[test]
-fn policies_and_rules_are_made(rt: HostRuntime) -> Result<(), Fail> {
-    let alloc = rt.alloc();
-    let made = [are_looked_up(alloc), is_by_two(alloc)];
-    let is_none = is_no_rule(alloc) && Policies::new(Vec::new(alloc)).is_none();
-    assert!(rt; made == [Some(true); 2] && is_none && is_checked() && is_each_flip_told());
-    Ok(())
+fn tags_are_of_their_keys_and_bytes(rt: HostRuntime) {
+    assert!(rt; is_checked() && is_each_flip_told());
 }

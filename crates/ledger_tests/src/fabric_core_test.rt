@@ -2,8 +2,7 @@
 
 use crate::samples::{GET_PUT_A, Setup, opening};
 use fab_types::Proposal;
-use fabric_core::{Audit, Event, Ran, Reply, audit, honest_chains_pass_the_audit, run};
-use host_api::{equal_views, reads_alone};
+use fabric_core::{Audit, Event, Ran, Reply, audit, run};
 use ledger_setting::Genesis;
 use std::alloc::{AllocError, Global};
 use std::test::Fail;
@@ -49,13 +48,6 @@ fn is_run(alloc: Global, setup: &Setup) -> Result<bool, AllocError> {
     let events = events(alloc, setup.call.payload.proposal())?;
     let ran = run(alloc, genesis, &events)?;
     is_done(alloc, genesis, &ran)
-}
-
-#[test]
-fn laws_hold(_rt: HostRuntime) {
-    honest_chains_pass_the_audit();
-    reads_alone();
-    equal_views();
 }
 
 #[test]

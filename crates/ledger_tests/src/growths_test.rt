@@ -8,10 +8,11 @@ ghost use Rattle.std.specs.Prelude.{◌≡◌};
 ghost use Rattle.peer_node.specs.Seats.{peer_of};
 ghost use Rattle.peer_node.specs.Writers.{peer_of_writer};
 
+use crate::endorsement_policy_test::Open;
 use crate::peer_node_test::commit;
 use crate::samples::{GET_PUT_A, Setup, opening};
 use committer::{CommitRefusal, commit_on};
-use endorsement_policy::{Gate, Workers, check_all};
+use endorsement_policy::{Workers, check_all};
 use fab_types::{Block, Envelope, Flag, Payload, Proposal};
 use fabric_core::{Event, Reply, System};
 use peer_node::{Peer, PeerWriter, Seat, TakeRefusal};
@@ -29,43 +30,25 @@ use world_state::Snapshot;
 const MODULE: [u8; 42] =
     *b"\x00asm\x01\x00\x00\x00\x01\x05\x01\x60\x00\x01\x7f\x03\x02\x01\x00\x07\x0a\x01\x06invoke\x00\x00\x0a\x09\x01\x07\x00\x03\x7f\x0c\x00\x0b\x0b";
 
-/// Why a module was not made.
-#[derive(Clone, Copy, Debug, PartialEq, Eq)]
-enum NoModule {
-    Memory,
-    Wrong,
-}
-
-impl From<DecodeFault> for NoModule {
-    fn from(fault: DecodeFault) -> NoModule {
-        match fault {
-            DecodeFault::Memory => NoModule::Memory,
-            DecodeFault::Malformed { .. } => NoModule::Wrong,
-        }
+/// Decodes and validates the module. Whether it is valid.
+fn is_valid(alloc: Global) -> Result<bool, AllocError> {
+    let module = match decode(alloc, &MODULE) {
+        Ok(module) => module,
+        Err(DecodeFault::Memory) => return Err(AllocError),
+        Err(DecodeFault::Malformed { .. }) => return Ok(false),
+    };
+    match validate(alloc, module) {
+        Ok(_) => Ok(true),
+        Err(ValidateFault::Memory) => Err(AllocError),
+        Err(_) => Ok(false),
     }
-}
-
-impl From<ValidateFault> for NoModule {
-    fn from(fault: ValidateFault) -> NoModule {
-        if fault == ValidateFault::Memory {
-            NoModule::Memory
-        } else {
-            NoModule::Wrong
-        }
-    }
-}
-
-/// Decodes and validates the module.
-fn validated(alloc: Global) -> Result<(), NoModule> {
-    validate(alloc, decode(alloc, &MODULE)?)?;
-    Ok(())
 }
 
 #[test]
 fn modules_are_read_again(rt: HostRuntime) {
     let alloc = rt.alloc();
-    let first = validated(alloc);
-    let is_read = first.is_ok() || first == Err(NoModule::Memory) && validated(alloc).is_ok();
+    let first = is_valid(alloc);
+    let is_read = first == Ok(true) || first == Err(AllocError) && is_valid(alloc) == Ok(true);
     assert!(rt; is_read);
 }
 
@@ -92,16 +75,6 @@ fn calls_are_simulated_again(rt: HostRuntime) -> Result<(), Fail> {
     Ok(())
 }
 
-/// A gate that everybody goes through.
-#[derive(Drop)]
-struct Open;
-
-impl Gate for Open {
-    fn before(&self, _index: usize) {}
-
-    fn after(&self, _index: usize) {}
-}
-
 /// Checks an endorsed transaction twice, by two workers. Whether both are endorsed.
 fn are_endorsed<R: Threads + Sync>(
     rt: &R,
@@ -115,15 +88,25 @@ fn are_endorsed<R: Threads + Sync>(
     Ok(answers.as_slice() == [true, true].as_slice())
 }
 
+/// Whether a setup's call is endorsed by that check, again where it was refused memory.
+fn are_checked<R: Threads + Sync>(
+    rt: &R,
+    alloc: Global,
+    setup: &Setup,
+) -> Result<bool, AllocError> {
+    let pair = vec![in alloc; setup.call.clone()?, setup.call.clone()?]?;
+    let first = are_endorsed(rt, alloc, setup, &pair);
+    Ok(
+        first == Ok(true)
+            || first == Err(AllocError) && are_endorsed(rt, alloc, setup, &pair) == Ok(true),
+    )
+}
+
 #[test]
 fn envelopes_are_checked_again(rt: HostRuntime) -> Result<(), Fail> {
     let alloc = rt.alloc();
-    let setup = opening(alloc, GET_PUT_A, 0)?;
-    let pair = vec![in alloc; setup.call.clone()?, setup.call.clone()?]?;
-    let first = are_endorsed(&rt, alloc, &setup, &pair);
-    let are_checked = first == Ok(true)
-        || first == Err(AllocError) && are_endorsed(&rt, alloc, &setup, &pair) == Ok(true);
-    assert!(rt; are_checked);
+    let are_checked = are_checked(&rt, alloc, &opening(alloc, GET_PUT_A, 0)?);
+    assert!(rt; are_checked?);
     Ok(())
 }
 
@@ -142,15 +125,21 @@ fn is_valid_alone(snapshot: &Snapshot) -> bool {
     snapshot.height() == 1 && flags == Some([Flag::Valid].as_slice())
 }
 
+/// Whether the first block of a setup's chain is committed so, again where that was refused memory.
+fn is_first_committed(alloc: Global, setup: &Setup) -> Result<bool, Fail> {
+    let first = is_committed(alloc, first_block(setup)?);
+    Ok(
+        first == Ok(true)
+            || first == Err(CommitRefusal::Memory)
+                && is_committed(alloc, first_block(setup)?) == Ok(true),
+    )
+}
+
 #[test]
 fn blocks_are_committed_again(rt: HostRuntime) -> Result<(), Fail> {
     let alloc = rt.alloc();
-    let setup = opening(alloc, GET_PUT_A, 1)?;
-    let first = is_committed(alloc, first_block(&setup)?);
-    let is_committed = first == Ok(true)
-        || first == Err(CommitRefusal::Memory)
-            && is_committed(alloc, first_block(&setup)?) == Ok(true);
-    assert!(rt; is_committed);
+    let is_committed = is_first_committed(alloc, &opening(alloc, GET_PUT_A, 1)?);
+    assert!(rt; is_committed?);
     Ok(())
 }
 
@@ -213,13 +202,18 @@ fn are_replied(system: &mut System, events: &[Event]) -> bool {
     are_replied && system.snapshot(0).is_some_and(is_valid_alone)
 }
 
+/// Whether the steps are taken by a system with a setup's genesis.
+fn are_taken(alloc: Global, setup: &Setup) -> Result<bool, AllocError> {
+    let events = events(alloc, &setup.call)?;
+    let mut system = System::new(alloc, &setup.genesis)?;
+    Ok(are_replied(&mut system, &events))
+}
+
 #[test]
 fn steps_are_taken_again(rt: HostRuntime) -> Result<(), Fail> {
     let alloc = rt.alloc();
-    let setup = opening(alloc, GET_PUT_A, 0)?;
-    let events = events(alloc, &setup.call)?;
-    let mut system = System::new(alloc, &setup.genesis)?;
-    assert!(rt; are_replied(&mut system, &events));
+    let are_taken = are_taken(alloc, &opening(alloc, GET_PUT_A, 0)?);
+    assert!(rt; are_taken?);
     Ok(())
 }
 
@@ -303,8 +297,7 @@ fn are_peers_calls_answered<R: Threads + Wait + Sync>(
 #[test]
 fn peers_answer_again(rt: HostRuntime) -> Result<(), Fail> {
     let alloc = rt.alloc();
-    let setup = opening(alloc, GET_PUT_A, 1)?;
-    let are_answered = are_peers_calls_answered(&rt, alloc, &setup)?;
-    assert!(rt; are_answered);
+    let are_answered = are_peers_calls_answered(&rt, alloc, &opening(alloc, GET_PUT_A, 1)?);
+    assert!(rt; are_answered?);
     Ok(())
 }

@@ -2,9 +2,9 @@
 //!
 //! What can be said as data (bytes, batches, their order, chains with their flags, chains that do
 //! not fit, calls of the host and of chaincode, with their answers) is a line of `ledger_cases` or
-//! `cli_cases`. What stands here is what no line can say: calls that no line makes, threads,
-//! devices that fail, and some laws. It stands above the crates that it tests, since a crate
-//! with tests is proved a second time together with them.
+//! `cli_cases`. What stands here is what no line can say: calls that no line makes, threads and
+//! devices that fail. It stands above the crates that it tests, since a crate with tests is proved a
+//! second time together with them.
 #![tactic(auto)]
 
 #[cfg(test)]
@@ -12,21 +12,13 @@ mod batch_cutter_test;
 #[cfg(test)]
 mod block_store_test;
 #[cfg(test)]
-mod committer_test;
-#[cfg(test)]
 mod concurrent_reads_test;
 #[cfg(test)]
 mod endorsement_policy_test;
 #[cfg(test)]
-mod fab_types_test;
-#[cfg(test)]
 mod fabric_core_test;
 #[cfg(test)]
 mod growths_test;
-#[cfg(test)]
-mod intake_test;
-#[cfg(test)]
-mod ledger_model_test;
 #[cfg(test)]
 mod orderer_test;
 #[cfg(test)]

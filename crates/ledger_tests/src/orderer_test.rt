@@ -1,6 +1,6 @@
 //! The links of an orderer's blocks, and its last block. The hashes are those of another program.
 
-use crate::samples::transaction;
+use crate::samples::{refusal_of, transaction};
 use fab_types::{Block, Envelope};
 use orderer::Orderer;
 use std::alloc::{AllocError, Global};
@@ -42,10 +42,7 @@ fn are_linked(orderer: &Orderer) -> bool {
 fn last_refusal(orderer: &mut Orderer, envelope: &Envelope, count: u32) -> Result<u16, AllocError> {
     let mut number = 0;
     for _ in 0..count {
-        number = match orderer.accept(envelope.clone()?) {
-            Ok(_) => 0,
-            Err(refusal) => refusal.cause.number(),
-        };
+        number = refusal_of(orderer, envelope.clone()?);
     }
     Ok(number)
 }

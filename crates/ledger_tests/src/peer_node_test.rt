@@ -5,9 +5,8 @@ ghost use Rattle.snapshot_cell.specs.Seats.{cell_of_told};
 ghost use Rattle.peer_node.specs.Seats.{peer_of};
 ghost use Rattle.peer_node.specs.Writers.{peer_of_writer};
 
-use crate::samples::{GET_PUT_A, Setup, opening, signing_genesis, transaction};
-use fab_types::{Endorsement, Endorsements, Envelope, Flag, Key, Payload, Proposal};
-use ledger_setting::Genesis;
+use crate::samples::{GET_PUT_A, Setup, opening};
+use fab_types::{Key, Proposal};
 use orderer::Orderer;
 use peer_node::{Peer, PeerWriter, Seat, Told};
 use std::alloc::Global;
@@ -167,94 +166,5 @@ fn what_was_told_is_read(rt: HostRuntime) -> Result<(), Fail> {
         refused: 405,
     };
     assert!(rt; seen == (Some(expected), 4));
-    Ok(())
-}
-
-/// A payload with this endorsement alone.
-fn endorsed(alloc: Global, payload: Payload, first: Endorsement) -> Result<Envelope, Fail> {
-    let endorsements = alone(alloc, first)?;
-    Ok(Envelope {
-        payload,
-        endorsements,
-    })
-}
-
-fn alone(alloc: Global, first: Endorsement) -> Result<Endorsements, Fail> {
-    match Endorsements::new(vec![in alloc; first]?) {
-        Some(endorsements) => Ok(endorsements),
-        None => Err("an endorsement".into()),
-    }
-}
-
-/// The transaction that a seat hands out.
-fn handed_out(alloc: Global, seats: &mut [Seat], proposal: &Proposal) -> Result<Envelope, Fail> {
-    let Some(seat) = seats.first_mut() else {
-        return Err("a seat".into());
-    };
-    match seat.endorse(proposal) {
-        Ok((payload, endorsement)) => endorsed(alloc, payload, endorsement),
-        Err(_) => Err("an endorsement".into()),
-    }
-}
-
-/// The flag of a transaction that a chain without blocks takes, and a peer commits as block 1.
-fn committed_flag<R: Threads + Wait + Sync>(
-    rt: &R,
-    writer: &mut PeerWriter,
-    chain: &mut Orderer,
-    envelope: Envelope,
-) -> Option<Flag> {
-    chain.accept(envelope).ok()?;
-    commit(rt, writer, chain, 1)?;
-    writer.newest().last()?.flags().first().copied()
-}
-
-/// The flag of a call that the first seat endorses, and the peer commits.
-fn flag_of<R: Threads + Wait + Sync>(
-    rt: &R,
-    alloc: Global,
-    writer: &mut PeerWriter,
-    seats: &mut [Seat],
-    proposal: &Proposal,
-) -> Result<Option<Flag>, Fail> {
-    let envelope = handed_out(alloc, seats, proposal)?;
-    let mut chain = Orderer::new(alloc, 1, 1000, 1000, false);
-    Ok(committed_flag(rt, writer, &mut chain, envelope))
-}
-
-/// The same of a peer that opens with this genesis.
-fn flag_by<R: Threads + Wait + Sync>(
-    rt: &R,
-    alloc: Global,
-    genesis: &Genesis,
-    proposal: &Proposal,
-) -> Result<Option<Flag>, Fail> {
-    let Some(org) = genesis.peers.first() else {
-        return Err("a peer".into());
-    };
-    let Ok((mut writer, mut seats)) = Peer::open(rt, alloc, genesis, org, 1) else {
-        return Err("a peer".into());
-    };
-    let flag = flag_of(rt, alloc, &mut writer, &mut seats, proposal);
-    writer.close(rt);
-    flag
-}
-
-/// The same of a peer that signs.
-fn signed_flag<R: Threads + Wait + Sync>(
-    rt: &R,
-    alloc: Global,
-    proposal: &Proposal,
-) -> Result<Option<Flag>, Fail> {
-    let genesis = signing_genesis(alloc)?;
-    flag_by(rt, alloc, &genesis, proposal)
-}
-
-#[test]
-fn a_seat_signs(rt: HostRuntime) -> Result<(), Fail> {
-    let alloc = rt.alloc();
-    let call = transaction(alloc, 50, b'k')?;
-    let flag = signed_flag(&rt, alloc, call.payload.proposal())?;
-    assert!(rt; flag == Some(Flag::Valid));
     Ok(())
 }

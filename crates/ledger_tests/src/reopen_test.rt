@@ -56,7 +56,7 @@ fn are_valid(blocks: &[Arc<CommittedBlock>]) -> bool {
 }
 
 /// Whether an entry of a state is `1` at this key, put by the one transaction of this block.
-pub fn is_put(entry: &(&Key, &(Value, Version)), key: &[u8], block: u32) -> bool {
+fn is_put(entry: &(&Key, &(Value, Version)), key: &[u8], block: u32) -> bool {
     let (value, version) = entry.1;
     entry.0.as_slice() == key
         && value.as_slice() == b"1".as_slice()

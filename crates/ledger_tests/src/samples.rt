@@ -1,14 +1,11 @@
 //! Transactions, a genesis and chains that several tests look at or are made of.
 
-use ed25519::SigningKey;
 use fab_types::Envelope;
 use hmac_tag::tag;
 use json_genesis::read_genesis;
 use ledger_setting::Genesis;
 use orderer::Orderer;
-use org_keys::{OrgKey, Signers, TagKey};
-use std::alloc::{AllocError, Global};
-use std::sync::Arc;
+use std::alloc::Global;
 use std::test::Fail;
 use wire::decode_envelope;
 
@@ -42,6 +39,11 @@ pub const GET_PUT_A: &str =
 pub const LOOP: &str =
     "{\"orgs\":[{\"name\":\"A\",\"key\":\"4a656665\"}],\"peers\":[\"A\"],\"seats\":4,\"queue\":4,\"count\":1,\"preferred\":1000,\"absolute\":1000,\"reorder\":false,\"chaincodes\":[{\"name\":\"kv\",\"module\":\"0061736d010000000105016000017f03020100070a0106696e766f6b6500000a09010700037f0c000b0b\",\"policy\":\"'A'\",\"fuel\":10000000,\"profile\":1}],\"modules\":[],\"upgrade\":\"'A'\"}";
 
+/// The same of organisations A, B and C, of which two have to endorse. C's key is the public one of
+/// `SEED`, the others' are shared: each has its letter, a zero and the letter.
+pub const TWO_OF_THREE: &str =
+    "{\"orgs\":[{\"name\":\"A\",\"key\":\"410041\"},{\"name\":\"B\",\"key\":\"420042\"},{\"name\":\"C\",\"public\":\"d75a980182b10ab7d54bfed3c964073a0ee172f3daa62325af021a68f707511a\"}],\"peers\":[\"A\"],\"seats\":4,\"queue\":4,\"count\":1,\"preferred\":1000,\"absolute\":1000,\"reorder\":false,\"chaincodes\":[{\"name\":\"kv\",\"module\":\"0061736d010000000105016000017f03020100070a0106696e766f6b6500000a09010700037f0c000b0b\",\"policy\":\"OutOf(2, 'A', 'B', 'C')\",\"fuel\":10000000,\"profile\":1}],\"modules\":[],\"upgrade\":\"OutOf(2, 'A', 'B', 'C')\"}";
+
 /// The bytes of a call of `kv` that read its definition as absent and nothing else, and puts `1` at
 /// `a`, with a tag of A of zeros.
 const PUT: [u8; 75] =
@@ -66,31 +68,6 @@ pub const SEED: [u8; 32] =
 
 pub const PUBLIC: [u8; 32] =
     *b"\xd7\x5a\x98\x01\x82\xb1\x0a\xb7\xd5\x4b\xfe\xd3\xc9\x64\x07\x3a\x0e\xe1\x72\xf3\xda\xa6\x23\x25\xaf\x02\x1a\x68\xf7\x07\x51\x1a";
-
-/// The fields of A's shared key, and of that public one.
-const KEY_FIELD: &str = "\"key\":\"4a656665\"";
-
-const PUBLIC_FIELD: &str =
-    "\"public\":\"d75a980182b10ab7d54bfed3c964073a0ee172f3daa62325af021a68f707511a\"";
-
-/// The shared key of these bytes.
-pub fn shared_key(alloc: Global, bytes: &[u8]) -> Option<OrgKey> {
-    Some(OrgKey::Shared(TagKey::new(bytes.to_vec(alloc).ok()?)?))
-}
-
-/// That seed.
-fn signers(alloc: Global) -> Result<Signers, AllocError> {
-    Ok(Signers::new(vec![in alloc; SigningKey::new(&SEED)]?))
-}
-
-/// What `GET_PUT_A` spells, but for A's key, which is that public one. Its seed is at hand.
-pub fn signing_genesis(alloc: Global) -> Result<Genesis, Fail> {
-    let signers = Arc::new(alloc, signers(alloc)?)?;
-    let text = GET_PUT_A.replace(alloc, KEY_FIELD, PUBLIC_FIELD)?;
-    let mut genesis = genesis(alloc, &text)?;
-    genesis.signers = signers;
-    Ok(genesis)
-}
 
 /// What a text spells.
 pub fn genesis(alloc: Global, text: &str) -> Result<Genesis, Fail> {
@@ -156,9 +133,17 @@ fn order(alloc: Global, orderer: &mut Orderer, count: u8) -> Result<(), Fail> {
             _ if step % 2 == 1 => b'b',
             _ => b'k',
         };
-        if orderer.accept(transaction(alloc, step, key)?).is_err() {
+        if refusal_of(orderer, transaction(alloc, step, key)?) != 0 {
             return Err("a block".into());
         }
     }
     Ok(())
+}
+
+/// The number of the refusal of a transaction that an orderer is given, or 0.
+pub fn refusal_of(orderer: &mut Orderer, envelope: Envelope) -> u16 {
+    match orderer.accept(envelope) {
+        Ok(_) => 0,
+        Err(refusal) => refusal.cause.number(),
+    }
 }

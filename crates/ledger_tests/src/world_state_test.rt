@@ -1,7 +1,6 @@
 //! An older snapshot, behind which a hundred blocks are put.
 
-use crate::committer_test::pushed;
-use crate::samples::{deletion, transaction};
+use crate::samples::{deletion, refusal_of, transaction};
 use committer::{Replay, commit_on};
 use fab_types::{Block, Bound, Envelope, Flag, Key, Value, Version};
 use orderer::Orderer;
@@ -30,18 +29,29 @@ fn nth(alloc: Global, number: u8) -> Result<Envelope, Fail> {
 
 fn order(alloc: Global, orderer: &mut Orderer) -> Result<(), Fail> {
     for number in 1..=ALL {
-        if orderer.accept(nth(alloc, number)?).is_err() {
+        if refusal_of(orderer, nth(alloc, number)?) != 0 {
             return Err("a block".into());
         }
     }
     Ok(())
 }
 
+/// Whether a copy of a block of one transaction, which is endorsed, joins a chain and is VALID.
+fn is_pushed(alloc: Global, chain: &mut Replay, block: &Block) -> Result<bool, AllocError> {
+    if block.envelopes.as_slice().len() != 1 {
+        return Ok(false);
+    }
+    match chain.push(alloc, block.clone()?, &[true]) {
+        Ok(flags) => Ok(flags == [Flag::Valid].as_slice()),
+        Err(_) => Ok(false),
+    }
+}
+
 /// Whether blocks of one transaction each join a chain, each VALID.
 fn are_pushed(alloc: Global, chain: &mut Replay, blocks: &[Block]) -> Result<bool, AllocError> {
     let mut are_pushed = true;
     for block in blocks {
-        are_pushed &= pushed(alloc, chain, block, &[true], &[Flag::Valid])? == 0;
+        are_pushed &= is_pushed(alloc, chain, block)?;
     }
     Ok(are_pushed)
 }
