@@ -7,6 +7,7 @@ use Rattle.sha2.specs.Sha256.{sha256}
 use Rattle.ledger_setting.specs.declared.genesis.Genesis.{Genesis}
 use Rattle.cli_lines.specs.Told.{IsBrokenOff, IsHeld}
 use Rattle.cli_lines.specs.Opening.{AreNoModules}
+use Rattle.cli_lines.specs.Places.{FilesHeld}
 use Rattle.cli_lines.specs.Sealing.{HasSeeds, IsNoKeyFile}
 use Rattle.cli_lines.specs.declared.failure.Failure.{Failure}
 use Rattle.cli_roles.specs.declared.log_genesis.LogGenesis.{LogGenesis}
