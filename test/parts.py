@@ -16,7 +16,7 @@ import networks
 import operating
 import questions
 import reasons as sentences
-import signing as timed
+import timed as timed_words
 from calling import find_pieces
 from pages import Block, Typist, blocks_of
 from report import Report, run
@@ -209,10 +209,10 @@ def growths(report: Report, at: Setting) -> None:
     growing.growths(report, at.room)
 
 
-def signing(report: Report, _at: Setting) -> None:
-    timed.try_signing(report)
+def timed(report: Report, _at: Setting) -> None:
+    timed_words.try_timed(report)
 
 
 # Those that take long come first.
 PARTS: list[Callable[[Report, Setting], None]] = [demo, operations, page, query, chaincode, node, tutorial, readme, formats, network, modules,
-                                                  change, reasons, numbers, keys, install, growths, signing, scripts, calling]
+                                                  change, reasons, numbers, keys, install, growths, timed, scripts, calling]

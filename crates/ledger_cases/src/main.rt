@@ -1,9 +1,11 @@
-//! Cases of the WebAssembly crates and of the ledger's as data: a line of the input is a case, and
-//! the line of the output with the same number is its answer.
+//! Calls of the WebAssembly crates and of the ledger's: cases as data, and with words calls that
+//! are timed, as `timed` names them. The exit status is 0 for done, 1 for a failure, which is
+//! printed, and 2 where the words name no task.
 //!
-//! A line is a verb and its words, and may have a note behind ` #`. Lines that are empty or begin
-//! with `#` are printed as they are, and `bad line` stands for what is no case. In HEX bytes are
-//! pieces with blanks between them; a piece with `*N` behind it stands N times.
+//! Without words a line of the input is a case, and the line of the output with the same number is
+//! its answer. A line is a verb and its words, and may have a note behind ` #`. Lines that are empty
+//! or begin with `#` are printed as they are, and `bad line` stands for what is no case. In HEX
+//! bytes are pieces with blanks between them; a piece with `*N` behind it stands N times.
 //!
 //! Of modules. One is read by profile 1, and by profile N where `by N` stands in front of the verb;
 //! one that is refused is answered by `fault NUMBER at OFFSET` or `invalid NUMBER`:
@@ -89,24 +91,48 @@ mod simulations;
 mod steps;
 mod tags;
 mod texts;
+mod timed;
 mod transactions;
 
 use crate::cases::{answer_case, without_note};
-use std::io::{self, BufRead, BufReader};
+use std::env;
+use std::io::{self, BufRead, BufReader, Write};
+use std::process::ExitCode;
 
-/// Answers each line of the input: a comment by itself, a case by what it gives or by its fault.
-fn main(rt: HostRuntime) -> io::Result<()> {
-    let alloc = rt.alloc();
-    for line in BufReader::new(alloc, rt.reader())?.lines(alloc) {
-        let line = line?;
-        if line.is_empty() || line.starts_with('#') {
-            println!(rt; "{line}")?;
-            continue;
+fn main(rt: HostRuntime) -> io::Result<ExitCode> {
+    let words: Vec<String> = env::args(&rt)?.skip(1).collect(rt.alloc())?;
+    if words.is_empty() {
+        answer_lines(&rt)?;
+        return Ok(ExitCode::from(0));
+    }
+    match timed::time(&rt, rt.alloc(), &words) {
+        Ok(done) => {
+            println!(rt; "{done}")?;
+            Ok(ExitCode::from(0))
         }
-        match answer_case(alloc, without_note(&line)) {
-            Ok(answer) => println!(rt; "{answer}")?,
-            Err(fault) => println!(rt; "{fault}")?,
+        Err(failure) => {
+            println!(rt; "{failure}")?;
+            Ok(ExitCode::from(failure.status()))
         }
     }
+}
+
+/// Answers each line of the input.
+fn answer_lines(rt: &HostRuntime) -> io::Result<()> {
+    let alloc = rt.alloc();
+    for line in BufReader::new(alloc, rt.reader())?.lines(alloc) {
+        answer_line(rt, line?.as_str())?;
+    }
     Ok(())
+}
+
+/// Answers a line: a comment by itself, a case by what it gives or by its fault.
+fn answer_line(rt: &HostRuntime, line: &str) -> io::Result<()> {
+    if line.is_empty() || line.starts_with('#') {
+        return println!(rt; "{line}");
+    }
+    match answer_case(rt.alloc(), without_note(line)) {
+        Ok(answer) => println!(rt; "{answer}"),
+        Err(fault) => println!(rt; "{fault}"),
+    }
 }

@@ -2,19 +2,11 @@
 
 ghost use Rattle.std.specs.Prelude.{◌≡◌, ◌+◌, length, IfOk};
 
-use crate::failure::Failure;
-use fab_types::{Block, BlockNumber, Endorsements, Envelope, Flag, Header, Payload};
+use crate::timed::failure::Failure;
+use fab_types::{Block, BlockNumber, Flag, Header};
 use mvcc_validate::flags;
 use std::alloc::Global;
 use world_state::Snapshot;
-
-/// The envelope of a payload, without endorsements.
-pub fn envelope_of(alloc: Global, payload: Payload) -> Envelope {
-    Envelope {
-        payload,
-        endorsements: Endorsements::new(Vec::new(alloc)).unwrap(),
-    }
-}
 
 /// The header of the block that comes next. Its hashes are zeros.
 pub fn next_header(snapshot: &Snapshot) -> Result<Header, Failure>

@@ -4,11 +4,11 @@ ghost use Rattle.std.specs.Prelude.{◌≡◌, map};
 ghost use Rattle.endorsement_policy.specs.Endorsed.{right_orgs};
 ghost use Rattle.endorsement_policy.specs.Judge.{orgs_behind};
 
-use crate::channel::{BATCH, Channel, submit};
-use crate::done::Done;
-use crate::failure::Failure;
-use crate::members::{TagKind, rules, tagged_bytes, transaction};
-use crate::workload::Workload;
+use crate::timed::channel::{BATCH, Channel, submit};
+use crate::timed::done::Done;
+use crate::timed::failure::Failure;
+use crate::timed::members::{TagKind, rules, tagged_bytes, transaction};
+use crate::timed::workload::Workload;
 use block_store::{End, Loaded};
 use endorsement_policy::{
     Gate, Rules, Standing, Workers, check_all, check_with_right_orgs, right_orgs_of_blocks,

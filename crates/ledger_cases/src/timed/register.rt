@@ -2,9 +2,10 @@
 
 ghost use Rattle.std.specs.Prelude.{◌≡◌, ◌+◌, length, IfOk};
 
-use crate::blocks::{envelope_of, extended, judge, next_header};
-use crate::done::Done;
-use crate::failure::Failure;
+use crate::timed::blocks::{extended, judge, next_header};
+use crate::timed::done::Done;
+use crate::timed::failure::Failure;
+use crate::transactions::unendorsed;
 use endorsement_policy::{Installed, ModuleId};
 use fab_types::{Block, BlockData, Call, Flag, Name, Payload, Proposal, Value};
 use simulator::{Book, Chaincode, simulate};
@@ -151,7 +152,7 @@ fn calls_of(
     let mut envelopes = Vec::new(alloc);
     for asset in 0..BATCH {
         let payload = called(alloc, book, snapshot, verb, first.wrapping_add(asset))?;
-        envelopes.push(envelope_of(alloc, payload))?;
+        envelopes.push(unendorsed(alloc, payload))?;
     }
     BlockData::new(envelopes).ok_or(Failure::Limit)
 }

@@ -7,9 +7,19 @@ use std::alloc::{AllocError, AllocFailed};
 use std::fmt::{self, Display, Formatter, Write};
 use wasm_file::ModuleRefusal;
 
+const USAGE: &str = "usage: ledger_cases < CASES
+       ledger_cases simulate|flags MODULE COUNT
+       ledger_cases check|blocks|signed WORKERS COUNT
+       ledger_cases order|commit COUNT
+       ledger_cases plan|valid|state KEYS COUNT
+       ledger_cases read BLOCKS COUNT
+       ledger_cases load STORE";
+
 /// Why nothing was measured.
 #[derive(Clone, Copy)]
 pub enum Failure {
+    /// The words name no task.
+    Usage,
     /// Want of memory.
     Memory,
     /// The file cannot be read.
@@ -30,9 +40,17 @@ pub enum Failure {
     Invalid,
 }
 
+impl Failure {
+    /// The exit status.
+    pub fn status(self) -> u8 {
+        if matches!(self, Failure::Usage) { 2 } else { 1 }
+    }
+}
+
 impl Display for Failure {
     fn fmt<W: Write>(&self, f: &mut Formatter<W>) -> fmt::Result {
         match self {
+            Failure::Usage => f.write_str(USAGE),
             Failure::Memory => write!(f, "refused 9"),
             Failure::File => write!(f, "refused 703"),
             Failure::Clock => write!(f, "no clock"),

@@ -1,8 +1,8 @@
 use Rattle.std.proofs.Common.{◌∙◌, length, ap}
 use Rattle.wire.specs.Ids.{id_of}
 use Rattle.ledger_model.specs.Chain.{history}
-use Rattle.ledger_bench.proofs.Told.{told_length}
-use Rattle.ledger_bench.proofs.blocks.judge.Goals as goal
+use Rattle.ledger_cases.proofs.Told.{told_length}
+use Rattle.ledger_cases.proofs.timed.blocks.judge.Goals as goal
 
 pub returns : goal.returns
 returns c =

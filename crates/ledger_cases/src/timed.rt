@@ -1,8 +1,8 @@
-//! Calls of the ledger, to be timed: `bench/run` says how fast they are.
+//! Calls of the ledger that are timed: `bench/run` says how fast they are.
 //!
-//! - `ledger_bench simulate MODULE COUNT` simulates so many transfers of assets, and `flags MODULE
-//!   COUNT` flags so many in blocks of 500. MODULE is the asset register of `examples/chaincode`;
-//!   the state has 1,000 assets.
+//! - `simulate MODULE COUNT` simulates so many transfers of assets, and `flags MODULE COUNT` flags
+//!   so many in blocks of 500. MODULE is the asset register of `examples/chaincode`; the state has
+//!   1,000 assets.
 //! - `check WORKERS COUNT` checks a batch of 512 envelopes so many times, each with two tags of
 //!   three organisations. `blocks WORKERS COUNT` checks so many blocks of such a batch at once: the
 //!   tags of all of them by the workers, and then each block by what is known of its tags.
@@ -20,9 +20,7 @@
 //!   blocks at most are committed, and prints how many microseconds the reads took.
 //! - `load STORE` reads the store of this name.
 //!
-//! It prints `done` and how many transactions, plans or blocks that were. The exit status is 0 for
-//! done, 1 for a failure, which is printed, and 2 where the words name no task.
-#![tactic(auto)]
+//! Each prints `done` and how many transactions, plans or blocks that were.
 
 mod blocks;
 mod channel;
@@ -37,42 +35,28 @@ mod state;
 mod task;
 mod workload;
 
-use crate::done::Done;
-use crate::failure::Failure;
-use crate::register::{book_of, flag_transfers, simulate_transfers};
-use crate::task::Task;
+use crate::timed::done::Done;
+use crate::timed::failure::Failure;
+use crate::timed::register::{book_of, flag_transfers, simulate_transfers};
+use crate::timed::task::Task;
 use simulator::Book;
 use std::alloc::Global;
-use std::io::{self, Read, Write};
-use std::process::ExitCode;
+use std::fs;
+use std::io::Read;
 use std::rt::Files;
 use std::sync::Wait;
 use std::thread::Threads;
 use std::time::Clock;
-use std::{env, fs};
 
-const USAGE: &str = "usage: ledger_bench simulate|flags MODULE COUNT
-       ledger_bench check|blocks|signed WORKERS COUNT
-       ledger_bench order|commit COUNT
-       ledger_bench plan|valid|state KEYS COUNT
-       ledger_bench read BLOCKS COUNT
-       ledger_bench load STORE";
-
-fn main(rt: HostRuntime) -> io::Result<ExitCode> {
-    let words: Vec<String> = env::args(&rt)?.skip(1).collect(rt.alloc())?;
-    let Some(task) = task::parse(&words) else {
-        println!(rt; "{USAGE}")?;
-        return Ok(ExitCode::from(2));
-    };
-    match carry_out(&rt, rt.alloc(), task) {
-        Ok(done) => {
-            println!(rt; "{done}")?;
-            Ok(ExitCode::from(0))
-        }
-        Err(failure) => {
-            println!(rt; "{failure}")?;
-            Ok(ExitCode::from(1))
-        }
+/// Does what the words name. How much that was.
+pub fn time<R: Files + Threads + Wait + Clock + Sync>(
+    rt: &R,
+    alloc: Global,
+    words: &[String],
+) -> Result<Done, Failure> {
+    match task::parse(words) {
+        Some(task) => carry_out(rt, alloc, task),
+        None => Err(Failure::Usage),
     }
 }
 

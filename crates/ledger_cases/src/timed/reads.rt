@@ -1,10 +1,10 @@
 //! Reads of a seat, with and without commits beside them.
 
-use crate::channel::Channel;
-use crate::done::Done;
-use crate::failure::Failure;
-use crate::members::{TagKind, org, rules};
-use crate::workload::key;
+use crate::timed::channel::Channel;
+use crate::timed::done::Done;
+use crate::timed::failure::Failure;
+use crate::timed::members::{TagKind, org, rules};
+use crate::timed::workload::key;
 use endorsement_policy::{Installed, Rules};
 use fab_types::{Block, Key};
 use ledger_setting::Genesis;

@@ -1,9 +1,10 @@
 //! Blocks committed on a state of many keys.
 
-use crate::blocks::{envelope_of, extended, next_header};
-use crate::done::Done;
-use crate::failure::Failure;
-use crate::workload::Workload;
+use crate::timed::blocks::{extended, next_header};
+use crate::timed::done::Done;
+use crate::timed::failure::Failure;
+use crate::timed::workload::Workload;
+use crate::transactions::unendorsed;
 use fab_types::{Block, BlockData, Envelope};
 use std::alloc::Global;
 use std::time::{Clock, Instant};
@@ -103,7 +104,7 @@ fn writing(
 ) -> Result<Envelope, Failure> {
     let numbers: Vec<u64> = (start..end).collect(alloc)?;
     let payload = workload.writing(alloc, &numbers)?;
-    Ok(envelope_of(alloc, payload))
+    Ok(unendorsed(alloc, payload))
 }
 
 /// The transactions of so many blocks.
@@ -119,7 +120,7 @@ fn batch(alloc: Global, workload: &mut Workload) -> Result<BlockData, Failure> {
     let mut envelopes = Vec::new(alloc);
     for _ in 0..BATCH {
         let payload = workload.blind(alloc)?;
-        envelopes.push(envelope_of(alloc, payload))?;
+        envelopes.push(unendorsed(alloc, payload))?;
     }
     BlockData::new(envelopes).ok_or(Failure::Limit)
 }

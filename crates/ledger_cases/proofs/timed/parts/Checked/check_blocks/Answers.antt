@@ -3,7 +3,7 @@ use Rattle.org_keys.specs.declared.organisation.Organisation.{Organisation}
 use Rattle.endorsement_policy.specs.Judge.{orgs_behind}
 use Rattle.endorsement_policy.specs.Membership.{Standing}
 use Rattle.endorsement_policy.proofs.RightOrgs.{found_in, right_in}
-use Rattle.ledger_bench.proofs.parts.Checked.check_blocks.Goals as goal
+use Rattle.ledger_cases.proofs.timed.parts.Checked.check_blocks.Goals as goal
 
 pub check_each-requires : goal.check_each-requires
 check_each-requires g c =

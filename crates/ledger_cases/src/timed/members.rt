@@ -1,7 +1,7 @@
 //! The organisations A, B and C, of which two have to endorse each transaction: A and B do.
 
-use crate::failure::Failure;
-use crate::workload::{Workload, chaincode};
+use crate::timed::failure::Failure;
+use crate::timed::workload::{Workload, chaincode};
 use ed25519::{public_key, sign};
 use endorsement_policy::{ChaincodePolicy, Installed, Rules};
 use fab_types::{Endorsement, Endorsements, Envelope, OrgName, Payload, Tag};

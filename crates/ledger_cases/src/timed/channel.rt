@@ -1,8 +1,8 @@
 //! An orderer, and a peer that commits each block at once.
 
-use crate::failure::Failure;
-use crate::members::{TagKind, rules, transaction};
-use crate::workload::Workload;
+use crate::timed::failure::Failure;
+use crate::timed::members::{TagKind, rules, transaction};
+use crate::timed::workload::Workload;
 use committer::commit_on;
 use endorsement_policy::{Rules, check_plain};
 use fab_types::{Block, CommittedBlock, Envelope, Flag};

@@ -1,10 +1,10 @@
 //! Blocks of signed transactions that are committed by several workers.
 
-use crate::channel::{BATCH, Channel};
-use crate::done::Done;
-use crate::failure::Failure;
-use crate::members::TagKind;
-use crate::state::done_since;
+use crate::timed::channel::{BATCH, Channel};
+use crate::timed::done::Done;
+use crate::timed::failure::Failure;
+use crate::timed::members::TagKind;
+use crate::timed::state::done_since;
 use endorsement_policy::{Rules, Workers};
 use fab_types::CommittedBlock;
 use std::alloc::Global;

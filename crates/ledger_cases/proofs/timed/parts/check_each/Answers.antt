@@ -1,7 +1,7 @@
 use Rattle.std.proofs.Common.{arith, ◌∙◌}
 use Rattle.endorsement_policy.specs.Judge.{orgs_behind}
 use Rattle.endorsement_policy.proofs.RightOrgs.{found_in, of_block, right_in}
-use Rattle.ledger_bench.proofs.parts.check_each.Goals as goal
+use Rattle.ledger_cases.proofs.timed.parts.check_each.Goals as goal
 
 pub check_with_right_orgs-requires : goal.check_with_right_orgs-requires
 check_with_right_orgs-requires c =

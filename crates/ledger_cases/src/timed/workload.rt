@@ -1,6 +1,6 @@
 //! Transactions whose keys are drawn at random.
 
-use crate::failure::Failure;
+use crate::timed::failure::Failure;
 use fab_types::{
     Call, Key, Name, Payload, PayloadParts, Proposal, Ranges, ReadItem, ReadSet, Value, WriteItem,
     WriteSet,
