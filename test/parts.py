@@ -11,6 +11,7 @@ import explaining
 import growths as growing
 import installing
 import keygen
+import lines as typed_lines
 import modules_files
 import networks
 import operating
@@ -200,6 +201,10 @@ def reasons(report: Report, at: Setting) -> None:
     sentences.try_reasons(report, at.tree, at.room, at.tree / program())
 
 
+def lines(report: Report, at: Setting) -> None:
+    typed_lines.try_lines(report, at.tree, at.room, at.tree / program())
+
+
 def calling(report: Report, at: Setting) -> None:
     find_pieces(report, at.tree, blocks_of(at.tree, "docs/CALLING.md"))
 
@@ -215,4 +220,4 @@ def timed(report: Report, _at: Setting) -> None:
 
 # Those that take long come first.
 PARTS: list[Callable[[Report, Setting], None]] = [demo, operations, page, query, chaincode, node, tutorial, readme, formats, network, modules,
-                                                  change, reasons, numbers, keys, install, growths, timed, scripts, calling]
+                                                  change, lines, reasons, numbers, keys, install, growths, timed, scripts, calling]

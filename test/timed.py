@@ -19,7 +19,7 @@ OF_NOTHING = ("e5564300c360ac729086e2cc806e828a84877f1eb8e5d974d873e065224901555
 OF_ZEROS = ("9de44a3f864f0eb9cb91b673fcc0c99a12c50d9f60064ba20d24f0dcc81775a24b1695c58e25be15b283720e6eec2901af7178a597cfedb733"
             "13895c92306405")
 REGISTER = ROOT / "examples/chaincode/asset_register.wasm"
-STORE = ROOT / "crates/cli_cases/data/signed.store"
+STORE = ROOT / "test/cases/data/signed.store"
 # The words of a call of the ledger, and the line that it prints.
 CALLS = [(f"simulate {REGISTER} 20", "done 20"), (f"flags {REGISTER} 1000", "done 1000"), ("check 1 1", r"done 512 bytes \d+"),
          ("blocks 2 2", r"done 1024 bytes \d+"), ("signed 2 1", r"done 512 micros \d+"), ("order 100", "done 100 bytes 102400"),

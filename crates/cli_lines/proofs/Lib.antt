@@ -1,4 +1,5 @@
 pub mod Answering
+pub mod ByName
 pub mod Changes
 pub mod Found
 pub mod KeyFiles

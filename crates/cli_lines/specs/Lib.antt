@@ -4,3 +4,4 @@ pub mod Texts
 pub mod Sealing
 pub mod Opening
 pub mod Places
+pub mod Memory

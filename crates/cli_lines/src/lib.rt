@@ -1,8 +1,9 @@
 //! What every command of the ledger's program stands on: the files that it is given, the lines that
 //! it prints, and why it ends with a failure.
 //!
-//! [`Files`] is where files are read and written, [`genesis_in`] reads what a system begins with,
-//! [`modules_in`] the modules at hand beside its own, and [`signers_in`] the seeds at hand.
+//! [`Files`] is where files are read and written, [`MemoryFiles`] such files in memory,
+//! [`genesis_in`] reads what a system begins with, [`modules_in`] the modules at hand beside its own,
+//! and [`signers_in`] the seeds at hand.
 //! What [`explain`] and its like say on the standard error stands beside a line that refuses.
 //! [`Printer`] is where lines are printed: contracts see of it how many texts were printed, whether
 //! one could not be, and what its writer holds, where that is known. [`Failure`] says why a command
@@ -16,6 +17,7 @@ mod files;
 mod keys;
 mod lines;
 mod meanings;
+mod memory_files;
 mod opening;
 mod printer;
 mod verdict;
@@ -32,6 +34,7 @@ pub use lines::{
     hex_of, id_of, print_committed, print_line, print_payload, print_simulation, version_of,
 };
 pub use meanings::{TAKE_AGAIN, block_words, flags_words, meaning, simulation_words};
+pub use memory_files::MemoryFiles;
 pub use opening::{genesis_holding, genesis_in, modules_in};
 pub use printer::Printer;
 pub use verdict::print_audit;

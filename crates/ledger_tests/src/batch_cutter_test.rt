@@ -1,5 +1,5 @@
 //! A cutter of at most three messages a batch, 100 bytes preferred and 1,000 at most, and which
-//! batches it cuts. More that is cut is a line of `cli_cases`, `run sizes.json`.
+//! batches it cuts. More that is cut is a line of `test/cases`, `run sizes.json`.
 
 use batch_cutter::{Cause, Cut, Cutter, Weigh};
 use std::test::Fail;

@@ -2,7 +2,7 @@
 //!
 //! What can be said as data (bytes, batches, their order, chains with their flags, chains that do
 //! not fit, calls of the host and of chaincode, with their answers) is a line of `ledger_cases` or
-//! `cli_cases`. What stands here is what no line can say: calls that no line makes, threads and
+//! of `test/cases`. What stands here is what no line can say: calls that no line makes, threads and
 //! devices that fail. It stands above the crates that it tests, since a crate with tests is proved a
 //! second time together with them.
 #![tactic(auto)]
@@ -19,6 +19,8 @@ mod endorsement_policy_test;
 mod fabric_core_test;
 #[cfg(test)]
 mod growths_test;
+#[cfg(test)]
+mod memory_files_test;
 #[cfg(test)]
 mod orderer_test;
 #[cfg(test)]

@@ -1,6 +1,6 @@
 use Rattle.std.proofs.Common.{None, refl, vec_items}
-use Rattle.cli_cases.proofs.ByName.{others_kept}
-use Rattle.cli_cases.proofs.memory_files.MemoryFilesFiles.remove.Goals as goal
+use Rattle.cli_lines.proofs.ByName.{others_kept}
+use Rattle.cli_lines.proofs.memory_files.MemoryFilesFiles.remove.Goals as goal
 
 pub returns : goal.returns
 returns c = record {

@@ -1,48 +1,39 @@
 //! Files in memory, of which every byte is known.
 
-ghost use Rattle.std.specs.Prelude.{◌≡◌, ◌∷◌, [], true, Some, IfOk, OnOk};
+ghost use Rattle.std.specs.Prelude.{◌≡◌, ◌∷◌, ℕ, List, [], true, None, Some, IfOk, OnOk};
+ghost use Rattle.cli_lines.specs.Memory.{bytes_in};
 ghost use Rattle.cli_lines.specs.Places.{ChangesOnly};
-ghost use Rattle.cli_cases.specs.Memory.{bytes_in};
 
-use crate::memory::MemoryFile;
-use cli_lines::{Access, FileFault, Files, Target};
+use crate::files::{Access, FileFault, Files, Target};
 use std::alloc::{AllocError, Global};
 use std::collections::BTreeMap;
-use std::fs;
-use std::io::{self, Cursor, Empty, Read};
+use std::fs::File;
+use std::io::{self, Cursor, Empty};
 use store_replay::Unwatched;
 
-/// Files in memory, by their names. Nobody else has them, and contracts see the bytes of each. No
-/// store is opened there, and the standard input is empty.
+/// Files in memory, by their names. Nobody else has them, and contracts see the bytes of each: what
+/// is said of files whose bytes are known is said of these. No store is opened there, and the
+/// standard input is empty.
 #[derive(Drop)]
-pub(crate) struct MemoryFiles {
-    alloc: Global,
-    by_name: BTreeMap<String, Vec<u8>>,
+pub struct MemoryFiles {
+    /// Where the files take their memory from.
+    pub alloc: Global,
+    pub by_name: BTreeMap<String, Vec<u8>>,
 }
 
 impl MemoryFiles {
     /// No files.
-    pub(crate) fn new(alloc: Global) -> MemoryFiles {
+    pub fn new(alloc: Global) -> MemoryFiles
+        ensures { (name : List ℕ) → bytes_in result name ≡ None }
+    {
         MemoryFiles {
             alloc,
             by_name: BTreeMap::new(alloc),
         }
     }
 
-    /// Copies each file of a machine that has one of these names.
-    pub(crate) fn copy_from(&mut self, machine: &HostRuntime, names: &[String]) -> io::Result<()> {
-        for name in names {
-            if let Ok(mut file) = fs::open(machine, name.as_str()) {
-                let mut bytes = Vec::new(self.alloc);
-                file.read_to_end(&mut bytes)?;
-                self.put(name.as_str(), bytes)?;
-            }
-        }
-        Ok(())
-    }
-
-    /// Gives a file of a name these bytes, in the place of one that has it.
-    fn put(&mut self, name: &str, bytes: Vec<u8>) -> Result<(), AllocError>
+    /// Gives a file of a name these bytes, in the place of one that has it. The error is of memory.
+    pub fn put(&mut self, name: &str, bytes: Vec<u8>) -> Result<(), AllocError>
         ensures put { OnOk result (bytes_in self.new name.now ≡ Some bytes.items) }
         ensures others { ChangesOnly true (name.now ∷ []) (bytes_in self.old) (bytes_in self.new) }
     {
@@ -63,7 +54,7 @@ fn copy_of(alloc: Global, bytes: &[u8]) -> Result<Vec<u8>, AllocError>
 
 impl Files for MemoryFiles {
     ghost use Rattle.std.specs.Prelude.{true, [], Some};
-    ghost use Rattle.cli_cases.specs.Memory.{bytes_in};
+    ghost use Rattle.cli_lines.specs.Memory.{bytes_in};
 
     ghost bytes = { bytes_in };
 
@@ -75,7 +66,7 @@ impl Files for MemoryFiles {
 
     type Writer = Vec<u8>;
 
-    type Store = MemoryFile;
+    type Store = File;
 
     type Input = Empty;
 
@@ -129,7 +120,7 @@ impl Files for MemoryFiles {
         self.by_name.remove(name);
     }
 
-    fn open_store(&mut self, _name: &str) -> Option<MemoryFile> {
+    fn open_store(&mut self, _name: &str) -> Option<File> {
         None
     }
 

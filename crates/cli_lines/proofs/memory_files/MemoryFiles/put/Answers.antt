@@ -1,6 +1,6 @@
 use Rattle.std.proofs.Common.{Some, string_bytes, vec_items}
-use Rattle.cli_cases.proofs.ByName.{others_kept}
-use Rattle.cli_cases.proofs.memory_files.MemoryFiles.put.Goals as goal
+use Rattle.cli_lines.proofs.ByName.{others_kept}
+use Rattle.cli_lines.proofs.memory_files.MemoryFiles.put.Goals as goal
 
 pub returns-clause-others : goal.returns-clause-others
 returns-clause-others c = λ known other apart.

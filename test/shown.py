@@ -1,35 +1,23 @@
-#!/usr/bin/env python3
-"""Compares what `show`, `state`, `marks` and `query` print with what docs/OUTPUT.md says of the same stores, read here.
-
-usage: shown.py PROGRAM [FILE]
-
-Runs the command lines of ../stdin by a built program, in a copy of this folder. What these commands print has to be what is
-worked out here, and all that is printed what ../stdout has. It is written to FILE, if one is named. Lines of `commit`, which
-would write to stores of the folder, are left to cli_cases.
-"""
+"""What `show`, `state`, `marks` and `query` print of the stores of test/cases, worked out from their bytes by docs/OUTPUT.md."""
 import hashlib
 import hmac
 import json
-import pathlib
 import re
-import shutil
-import subprocess
 import sys
-import tempfile
 
-HERE = pathlib.Path(__file__).parent
-sys.path.insert(0, str(HERE.resolve().parents[2] / "python"))
+from tree import ROOT
+
+sys.path.insert(0, str(ROOT / "python"))
 import rfc8032
 
+DATA = ROOT / "test/cases/data"
 VALID, UNENDORSED = 0, 1
-# A sentence that says why a line is refused: it is on the standard error, and in no answer of ../stdout.
-SENTENCE = re.compile(r"ledger: .*\((\d+|bad line|flags differ|usage)\)")
 # Stores whose flags are others by the rules than those that they hold, and genesis files by which no call is endorsed.
 FORGED = {"differs.store", "differs-unlinked.store", "unlinked-differs.store"}
 UNENDORSED_BY = {"older.store", "names.json"}
 # Its chaincode reads, and those of the other genesis files only put.
 REREAD = "get.json"
-PUTS = hashlib.sha256(bytes.fromhex(json.loads((HERE / "put.json").read_text())["chaincodes"][0]["module"])).hexdigest()
+PUTS = hashlib.sha256(bytes.fromhex(json.loads((DATA / "put.json").read_text())["chaincodes"][0]["module"])).hexdigest()
 # The first byte of a proposal that is an amendment, and what the first byte of a definition that is open has more.
 AMENDMENT, OPEN = 0x80, 16
 
@@ -414,16 +402,6 @@ def shown(words, folder, asked):
     return [standing_of(genesis, blocks)] if "--members" in options else entries_of(blocks), 0
 
 
-def ran(program, line, folder):
-    """The lines that the program prints, its remarks but for sentences, and its status. What stands behind ` < ` is its input."""
-    words, _, name = line.partition(" < ")
-    with open(folder / name if name else "/dev/null", "rb") as asked:
-        done = subprocess.run([program, *words.split()], cwd=folder, stdin=asked, capture_output=True, text=True)
-    said = [it for it in done.stderr.splitlines() if it.startswith("ledger: ") and not SENTENCE.fullmatch(it)]
-    remarks = [f"! {it.removeprefix('ledger: ')}" for it in said]
-    return done.stdout.splitlines(), remarks, done.returncode
-
-
 def stated(line, folder):
     """What a command line's lines have to be, and its status."""
     words, _, name = line.partition(" < ")
@@ -432,49 +410,8 @@ def stated(line, folder):
     return [it if isinstance(it, str) else json.dumps(it, separators=(",", ":"), sort_keys=True) for it in lines], status
 
 
-def is_shown(line, lines, status, folder):
-    """Whether the lines of a command line are worked out here: it is carried out, and no file is refused."""
-    words = line.split()
+def is_shown(words, lines, status, folder):
+    """Whether the lines of a command are worked out here: it is carried out, and no file is refused."""
     if words[0] not in ("show", "state", "marks", "query") or status > 1 or not (folder / words[2]).exists():
         return False
     return not lines or not lines[0].startswith(("refused 8", "refused 703"))
-
-
-def answers_of(text):
-    """The lines of a text of cases, each with what stands behind it: the lines that are printed, and the status."""
-    cases = []
-    for line in text.splitlines():
-        if not line or line.startswith(("> ", "#")):
-            cases.append((line, []))
-        else:
-            cases[-1][1].append(line)
-    return cases
-
-
-def main(program, answers=None):
-    wanted, told, compared, wrong = answers_of((HERE / "../stdout").read_text()), [], 0, []
-    with tempfile.TemporaryDirectory() as room:
-        folder = pathlib.Path(room) / "data"
-        shutil.copytree(HERE, folder)
-        for line, answer in wanted:
-            if line.startswith(("> commit ", "#")) or not line:
-                told.append((line, answer))
-                continue
-            line = line.removeprefix("> ")
-            lines, remarks, status = ran(program, line, folder)
-            told.append((f"> {line}", [*remarks, *lines, f"status {status}"]))
-            if is_shown(line, lines, status, folder):
-                compared += 1
-                if (lines, status) != stated(line, folder):
-                    wrong.append(line)
-                    print(f"{line}\n  is   {lines}\n  not  {stated(line, folder)}")
-    # Where a remark stands among the lines is not seen here.
-    others = [was[0] for was, now in zip(wanted, told) if sorted(was[1]) != sorted(now[1])]
-    if answers:
-        pathlib.Path(answers).write_text("".join(f"{it}\n" for line, answer in told for it in (line, *answer)))
-    print(f"{compared} compared, {len(wrong)} wrong; {len(others)} others than in stdout", *others, sep="\n")
-    return int(bool(wrong) or bool(others))
-
-
-if __name__ == "__main__":
-    sys.exit(main(str(pathlib.Path(sys.argv[1]).resolve()), *sys.argv[2:]))
