@@ -32,9 +32,14 @@ pub(crate) fn look_at_bodies(
 
 // The same in a body, at whose first instruction the reader stands.
 fn look_at_body(code: &mut Reader<'_>, module: &Module, function: &Func) -> Result<(), Stop> {
-    let Some(mut typing) = typing_of(code.source, module, function)? else {
-        return Ok(());
-    };
+    match typing_of(code.source, module, function)? {
+        Some(mut typing) => look_at_instructions(code, &mut typing),
+        None => Ok(()),
+    }
+}
+
+// The same by the typing of the body.
+fn look_at_instructions(code: &mut Reader<'_>, typing: &mut Typing<'_>) -> Result<(), Stop> {
     let mut number = 0u32;
     for _ in 0..MODULE_BYTES {
         let offset = code.cursor.offset();
@@ -54,22 +59,20 @@ fn look_at_body(code: &mut Reader<'_>, module: &Module, function: &Func) -> Resu
 
 // The typing of a function's body at its start. None where the function has no type.
 fn typing_of<'m>(
-    source: Source<'_>,
+    source: Source<'m>,
     module: &'m Module,
     function: &Func,
 ) -> Result<Option<Typing<'m>>, Stop> {
     let Some(function_type) = module.types.as_slice().get(function.type_index as usize) else {
         return Ok(None);
     };
-    let alloc = source.alloc;
-    let mut locals = Vec::from_slice(alloc, function_type.params.as_slice())?;
+    let mut locals = Vec::from_slice(source.alloc, function_type.params.as_slice())?;
     locals.extend_from_slice(function.locals.as_slice())?;
     Ok(Some(Typing {
-        alloc,
-        profile: source.profile,
+        source,
         module,
         locals,
         result: function_type.result,
-        operands: Operands::new(alloc, function_type.result),
+        operands: Operands::new(source, function_type.result),
     }))
 }

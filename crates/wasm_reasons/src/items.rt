@@ -9,7 +9,7 @@ use wasm_decode::FaultKind;
 
 /// An import or an export: its name, its kind (0 is a function) and its index, which an import has
 /// as the one of its type.
-#[derive(Drop)]
+#[derive(Clone, Copy)]
 pub(crate) struct External<'a> {
     /// The name of an import's module.
     pub(crate) module: Option<&'a str>,

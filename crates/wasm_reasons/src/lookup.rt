@@ -1,25 +1,30 @@
 //! What a module has at an index, and the fault where it has nothing.
 
+use crate::source::Source;
 use crate::stop::{Stop, invalid};
-use std::alloc::Global;
 use wasm_ast::{FuncType, ImportKind, Module};
 use wasm_typing::ValidateFault;
 
 /// The fault of an index that names nothing, where there are so many.
-pub(crate) fn no_such<T>(alloc: Global, noun: &str, index: u32, count: usize) -> Result<T, Stop> {
+pub(crate) fn no_such<T>(
+    source: Source<'_>,
+    noun: &str,
+    index: u32,
+    count: usize,
+) -> Result<T, Stop> {
     if count == 0 {
         let words = format_args!("it names {noun} {index}, and there is none");
-        return invalid(alloc, ValidateFault::Index, words);
+        return invalid(source, ValidateFault::Index, words);
     }
     let last = count.saturating_sub(1);
     let words = format_args!("it names {noun} {index}, and the last one is {last}");
-    invalid(alloc, ValidateFault::Index, words)
+    invalid(source, ValidateFault::Index, words)
 }
 
 /// The fault of an instruction that needs a table or a memory, where the module has none.
-pub(crate) fn no_part<T>(alloc: Global, noun: &str) -> Result<T, Stop> {
+pub(crate) fn no_part<T>(source: Source<'_>, noun: &str) -> Result<T, Stop> {
     let words = format_args!("it needs a {noun}, and the module has none");
-    invalid(alloc, ValidateFault::Index, words)
+    invalid(source, ValidateFault::Index, words)
 }
 
 /// How many functions a module has, the imported ones first. Its imports are functions.

@@ -2,9 +2,9 @@
 
 use crate::opcodes::IF;
 use crate::place::Numbered;
+use crate::source::Source;
 use crate::stop::{Stop, invalid};
 use crate::types::{Carried, Type};
-use std::alloc::Global;
 use std::fmt::Display;
 use wasm_ast::{BlockType, ValueType};
 use wasm_typing::ValidateFault;
@@ -28,8 +28,8 @@ pub(crate) struct Frame {
 
 /// The operands and the open blocks.
 #[derive(Drop)]
-pub(crate) struct Operands {
-    alloc: Global,
+pub(crate) struct Operands<'a> {
+    source: Source<'a>,
     // The top is last; None is an operand of an unknown type.
     types: Vec<Option<ValueType>>,
     pub(crate) here: Frame,
@@ -37,12 +37,12 @@ pub(crate) struct Operands {
     outer: Vec<Frame>,
 }
 
-impl Operands {
+impl<'a> Operands<'a> {
     /// Those at the start of the body of a function with this result.
-    pub(crate) fn new(alloc: Global, left: BlockType) -> Operands {
+    pub(crate) fn new(source: Source<'a>, left: BlockType) -> Operands<'a> {
         Operands {
-            alloc,
-            types: Vec::new(alloc),
+            source,
+            types: Vec::new(source.alloc),
             here: Frame {
                 opener: None,
                 carried: left,
@@ -51,7 +51,7 @@ impl Operands {
                 is_unreachable: false,
                 lacks_else: false,
             },
-            outer: Vec::new(alloc),
+            outer: Vec::new(source.alloc),
         }
     }
 
@@ -133,7 +133,7 @@ impl Operands {
             Some(found) => Ok(found),
             None => {
                 let words = format_args!("{part} is missing: the block has no operand left");
-                invalid(self.alloc, ValidateFault::TypeMismatch, words)
+                invalid(self.source, ValidateFault::TypeMismatch, words)
             }
         }
     }
@@ -150,12 +150,12 @@ impl Operands {
                 let words = format_args!(
                     "{part} is missing: the block has no operand left, where {needs} is needed"
                 );
-                invalid(self.alloc, ValidateFault::TypeMismatch, words)
+                invalid(self.source, ValidateFault::TypeMismatch, words)
             }
             Some(Some(found)) if found != needed => {
                 let has = Type(found);
                 let words = format_args!("{part} is of type {has}, where {needs} is needed");
-                invalid(self.alloc, ValidateFault::TypeMismatch, words)
+                invalid(self.source, ValidateFault::TypeMismatch, words)
             }
             _ => Ok(()),
         }
@@ -188,7 +188,7 @@ impl Operands {
             let words = format_args!(
                 "operands are left beside its result, which is {result}: {more}"
             );
-            return invalid(self.alloc, ValidateFault::TypeMismatch, words);
+            return invalid(self.source, ValidateFault::TypeMismatch, words);
         }
         Ok(())
     }
@@ -200,7 +200,7 @@ impl Operands {
             Some(result) if self.here.lacks_else => {
                 let leaves = Type(result);
                 let words = format_args!("it has no else, and has to leave {leaves}");
-                invalid(self.alloc, ValidateFault::TypeMismatch, words)
+                invalid(self.source, ValidateFault::TypeMismatch, words)
             }
             _ => Ok(()),
         }

@@ -28,7 +28,7 @@ impl Place {
 
 /// A section, or an item of one by its index, of a function that among all. An import and an export
 /// have their names where these can be read, and a function those of its export.
-#[derive(Drop)]
+#[derive(Clone, Copy)]
 pub(crate) struct Item<'a> {
     pub(crate) section: Section,
     pub(crate) index: Option<usize>,
@@ -58,7 +58,7 @@ impl Display for External<'_> {
 }
 
 /// A place as it is told in front of what is wrong there: nothing where no place is known.
-#[derive(Drop)]
+#[derive(Clone, Copy)]
 pub(crate) struct NamedPlace<'a> {
     pub(crate) item: Option<Item<'a>>,
     /// A spot in the item.

@@ -3,7 +3,7 @@
 use crate::place::Place;
 use crate::section::Section;
 use crate::source::Source;
-use crate::stop::{Fault, Stop};
+use crate::stop::Stop;
 use std::fmt::{self, Display, Formatter, Write};
 use wasm_ast::{BlockType, ValueType};
 use wasm_bytes::{ByteFault, Cursor};
@@ -75,9 +75,8 @@ impl<'a> Reader<'a> {
         offset: usize,
         words: impl Display + Drop,
     ) -> Result<T, Stop> {
-        let refusal = ModuleRefusal::Malformed(kind, offset);
-        let words = String::format(self.source.alloc, words)?;
-        Err(Stop::Fault(Fault { refusal, words }))
+        self.source
+            .stop(ModuleRefusal::Malformed(kind, offset), words)
     }
 
     // The fault of a part that could not be read.

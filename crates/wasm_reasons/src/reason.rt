@@ -7,6 +7,7 @@ use crate::sections::look_at_bytes;
 use crate::source::Source;
 use crate::stop::Stop;
 use std::alloc::{AllocError, Global};
+use std::cell::Cell;
 use wasm_decode::decode_as;
 use wasm_file::ModuleRefusal;
 use wasm_profile::Profile;
@@ -33,10 +34,12 @@ pub fn module_reason(
     bytes: &[u8],
     refusal: &ModuleRefusal,
 ) -> Result<String, AllocError> {
+    let words = Cell::new(String::new(alloc));
     let source = Source {
         alloc,
         profile,
         bytes,
+        words: &words,
     };
     let mut place = Place::NOWHERE;
     let looked = look(source, refusal, &mut place);
@@ -73,16 +76,23 @@ fn found<'a>(
     place: Place,
     looked: Result<(), Stop>,
 ) -> Result<Option<(NamedPlace<'a>, String)>, AllocError> {
-    let fault = match looked {
-        Ok(()) => return Ok(None),
-        Err(Stop::Memory) => return Err(AllocError),
-        Err(Stop::Fault(fault)) => fault,
-    };
-    if fault.refusal != *refusal {
-        return Ok(None);
+    match looked {
+        Ok(()) => Ok(None),
+        Err(Stop::Memory) => Err(AllocError),
+        Err(Stop::Fault(fault)) if fault != *refusal => Ok(None),
+        Err(Stop::Fault(_fault)) => named(source, place),
     }
+}
+
+// A place in words, and the words of the last fault.
+fn named<'a>(
+    source: Source<'a>,
+    place: Place,
+) -> Result<Option<(NamedPlace<'a>, String)>, AllocError> {
+    // A name that cannot be read is a fault too, with words of its own.
+    let words = source.words.replace(String::new(source.alloc));
     match source.named(place) {
-        Ok(place) => Ok(Some((place, fault.words))),
+        Ok(place) => Ok(Some((place, words))),
         Err(Stop::Memory) => Err(AllocError),
         Err(Stop::Fault(_fault)) => Ok(None),
     }

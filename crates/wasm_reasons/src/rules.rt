@@ -7,7 +7,6 @@ use crate::section::Section;
 use crate::source::Source;
 use crate::stop::{Stop, invalid};
 use crate::types::{Signature, Type};
-use std::alloc::Global;
 use wasm_ast::ValueType::I32;
 use wasm_ast::{
     Body, Export, ExternalKind, FuncType, HostCall, Import, ImportKind, Instr, Limits, Module,
@@ -21,9 +20,9 @@ const MAX_PAGES: u32 = 65_536;
 const PAGE_BYTES: u64 = 65_536;
 
 /// A module that is looked at, and where.
-#[derive(Drop)]
+#[derive(Clone, Copy)]
 pub(crate) struct Look<'m> {
-    pub(crate) alloc: Global,
+    pub(crate) source: Source<'m>,
     pub(crate) module: &'m Module,
     pub(crate) place: Place,
 }
@@ -35,7 +34,7 @@ pub(crate) fn look_at_rules(
     place: &mut Place,
 ) -> Result<(), Stop> {
     let mut look = Look {
-        alloc: source.alloc,
+        source,
         module,
         place: Place::NOWHERE,
     };
@@ -77,22 +76,22 @@ impl<'m> Look<'m> {
     fn import(&self, import: &Import) -> Result<(), Stop> {
         let ImportKind::Function(type_index) = import.kind else {
             let words = "it is no function, and only host calls are imported";
-            return invalid(self.alloc, ValidateFault::Import, words);
+            return invalid(self.source, ValidateFault::Import, words);
         };
         let types = self.module.types.as_slice();
         let Some(function_type) = types.get(type_index as usize) else {
-            return no_such(self.alloc, "type", type_index, types.len());
+            return no_such(self.source, "type", type_index, types.len());
         };
         if import.module.as_str() != "fabric" {
             let words = "it is no host call: these are of the module fabric";
-            return invalid(self.alloc, ValidateFault::Import, words);
+            return invalid(self.source, ValidateFault::Import, words);
         }
         match call_named(import.name.as_str()) {
             None => {
                 let words =
                     "it is no host call: these are get_state, put_state, del_state, range_state, \
                      get_arg and set_result";
-                invalid(self.alloc, ValidateFault::Import, words)
+                invalid(self.source, ValidateFault::Import, words)
             }
             Some(call) => self.host_call(function_type, call),
         }
@@ -108,7 +107,7 @@ impl<'m> Look<'m> {
         let words = format_args!(
             "its type is {found}, and the host call takes {count} i32 and leaves one i32"
         );
-        invalid(self.alloc, ValidateFault::Import, words)
+        invalid(self.source, ValidateFault::Import, words)
     }
 
     fn functions(&mut self) -> Result<(), Stop> {
@@ -116,7 +115,7 @@ impl<'m> Look<'m> {
         for (index, function) in self.module.functions.as_slice().iter().enumerate() {
             self.go_to(Section::Function, index);
             if function.type_index as usize >= count {
-                return no_such(self.alloc, "type", function.type_index, count);
+                return no_such(self.source, "type", function.type_index, count);
             }
         }
         Ok(())
@@ -150,7 +149,7 @@ impl<'m> Look<'m> {
         }
         self.go_to(section, 1);
         let words = format_args!("it is the second of {count}, and a module has at most one");
-        invalid(self.alloc, ValidateFault::Limits, words)
+        invalid(self.source, ValidateFault::Limits, words)
     }
 
     fn ordered(&self, limits: &Limits) -> Result<(), Stop> {
@@ -160,7 +159,7 @@ impl<'m> Look<'m> {
                 let words = format_args!(
                     "its least size {least} is above its greatest, {greatest}"
                 );
-                invalid(self.alloc, ValidateFault::Limits, words)
+                invalid(self.source, ValidateFault::Limits, words)
             }
             _ => Ok(()),
         }
@@ -175,7 +174,7 @@ impl<'m> Look<'m> {
         let words = format_args!(
             "its size may reach {most} pages, and a memory has at most {MAX_PAGES}"
         );
-        invalid(self.alloc, ValidateFault::Limits, words)
+        invalid(self.source, ValidateFault::Limits, words)
     }
 
     fn globals(&mut self) -> Result<(), Stop> {
@@ -198,7 +197,7 @@ impl<'m> Look<'m> {
             let words = format_args!(
                 "{part} has {count} instructions, where one {needs}.const is needed"
             );
-            return invalid(self.alloc, ValidateFault::Initializer, words);
+            return invalid(self.source, ValidateFault::Initializer, words);
         };
         match constant_of(instruction) {
             Some((found, word)) if found == needed => Ok(word),
@@ -207,13 +206,13 @@ impl<'m> Look<'m> {
                 let words = format_args!(
                     "{part} is an {found}.const, where one {needs}.const is needed"
                 );
-                invalid(self.alloc, ValidateFault::Initializer, words)
+                invalid(self.source, ValidateFault::Initializer, words)
             }
             None => {
                 let words = format_args!(
                     "{part} is no constant, where one {needs}.const is needed"
                 );
-                invalid(self.alloc, ValidateFault::Initializer, words)
+                invalid(self.source, ValidateFault::Initializer, words)
             }
         }
     }
@@ -234,7 +233,7 @@ impl<'m> Look<'m> {
         for (before, other) in earlier.iter().enumerate() {
             if other.name.as_str() == export.name.as_str() {
                 let words = format_args!("export {before} has the same name");
-                return invalid(self.alloc, ValidateFault::DuplicateExport, words);
+                return invalid(self.source, ValidateFault::DuplicateExport, words);
             }
         }
         Ok(())
@@ -249,7 +248,7 @@ impl<'m> Look<'m> {
             ExternalKind::Global => ("global", self.module.globals.len()),
         };
         if export.index as usize >= count {
-            return no_such(self.alloc, noun, export.index, count);
+            return no_such(self.source, noun, export.index, count);
         }
         Ok(())
     }
@@ -265,7 +264,7 @@ impl<'m> Look<'m> {
         self.place = Place::NOWHERE;
         self.place.section = Some(Section::Export);
         let words = "no function is exported as invoke";
-        invalid(self.alloc, ValidateFault::NoInvoke, words)
+        invalid(self.source, ValidateFault::NoInvoke, words)
     }
 
     fn invoked(&self, function: u32) -> Result<(), Stop> {
@@ -279,7 +278,7 @@ impl<'m> Look<'m> {
         let words = format_args!(
             "function {function} is of type {found}, and invoke is of type [] to [i32]"
         );
-        invalid(self.alloc, ValidateFault::NoInvoke, words)
+        invalid(self.source, ValidateFault::NoInvoke, words)
     }
 
     fn elements(&mut self) -> Result<(), Stop> {
@@ -288,11 +287,11 @@ impl<'m> Look<'m> {
         for (index, segment) in module.elements.as_slice().iter().enumerate() {
             self.go_to(Section::Element, index);
             let Some(limits) = module.tables.as_slice().get(segment.table as usize) else {
-                return no_such(self.alloc, "table", segment.table, module.tables.len());
+                return no_such(self.source, "table", segment.table, module.tables.len());
             };
             for function in segment.functions.as_slice() {
                 if *function as usize >= functions {
-                    return no_such(self.alloc, "function", *function, functions);
+                    return no_such(self.source, "function", *function, functions);
                 }
             }
             let offset = self.constant(&segment.offset, I32, "its offset")?;
@@ -311,7 +310,7 @@ impl<'m> Look<'m> {
         for (index, segment) in module.data.as_slice().iter().enumerate() {
             self.go_to(Section::Data, index);
             let Some(limits) = module.memories.as_slice().get(segment.memory as usize) else {
-                return no_such(self.alloc, "memory", segment.memory, module.memories.len());
+                return no_such(self.source, "memory", segment.memory, module.memories.len());
             };
             let offset = self.constant(&segment.offset, I32, "its offset")?;
             let room = PAGE_BYTES * limits.least as u64;
@@ -329,7 +328,7 @@ impl<'m> Look<'m> {
         let words = format_args!(
             "it reaches from {offset} to {end}, and the {noun} has {room} at its start"
         );
-        invalid(self.alloc, ValidateFault::Segment, words)
+        invalid(self.source, ValidateFault::Segment, words)
     }
 }
 

@@ -1,24 +1,18 @@
 //! What a look at a module ends with, where it finds a fault.
 
-use std::alloc::{AllocError, AllocFailed, Global};
+use crate::source::Source;
+use std::alloc::{AllocError, AllocFailed};
 use std::fmt::Display;
 use wasm_file::ModuleRefusal;
 use wasm_typing::ValidateFault;
 
 /// Why a look at a module went no further.
-#[derive(Drop)]
+#[derive(Clone, Copy)]
 pub(crate) enum Stop {
     /// A growth of memory was refused.
     Memory,
-    /// A fault was found.
-    Fault(Fault),
-}
-
-/// A fault: the refusal that it is, and what is wrong, in words that follow those for its place.
-#[derive(Drop)]
-pub(crate) struct Fault {
-    pub(crate) refusal: ModuleRefusal,
-    pub(crate) words: String,
+    /// A fault was found: the refusal that it is. The source has its words.
+    Fault(ModuleRefusal),
 }
 
 impl From<AllocError> for Stop {
@@ -35,11 +29,9 @@ impl<T: Drop> From<AllocFailed<T>> for Stop {
 
 /// The fault of a module that breaks a rule.
 pub(crate) fn invalid<T>(
-    alloc: Global,
+    source: Source<'_>,
     fault: ValidateFault,
     words: impl Display + Drop,
 ) -> Result<T, Stop> {
-    let refusal = ModuleRefusal::Invalid(fault);
-    let words = String::format(alloc, words)?;
-    Err(Stop::Fault(Fault { refusal, words }))
+    source.stop(ModuleRefusal::Invalid(fault), words)
 }

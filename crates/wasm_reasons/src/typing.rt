@@ -9,26 +9,24 @@ use crate::opcodes::{
 use crate::operands::Operands;
 use crate::place::{Numbered, Spot};
 use crate::shapes::{Shape, shape_of};
+use crate::source::Source;
 use crate::steps::{Immediate, Step};
 use crate::stop::{Stop, invalid};
 use crate::types::{Carried, Type};
-use std::alloc::Global;
 use wasm_ast::ValueType::{I32, I64};
 use wasm_ast::{BlockType, MemoryArgument, Module, ValueType};
 use wasm_operators::{load, store};
-use wasm_profile::Profile;
 use wasm_typing::ValidateFault;
 
 /// A function's body while it is typed.
 #[derive(Drop)]
 pub(crate) struct Typing<'m> {
-    pub(crate) alloc: Global,
-    pub(crate) profile: Profile,
+    pub(crate) source: Source<'m>,
     pub(crate) module: &'m Module,
     /// The types of the parameters and of the other locals.
     pub(crate) locals: Vec<ValueType>,
     pub(crate) result: BlockType,
-    pub(crate) operands: Operands,
+    pub(crate) operands: Operands<'m>,
 }
 
 impl<'m> Typing<'m> {
@@ -64,7 +62,7 @@ impl<'m> Typing<'m> {
 
     fn instruction(&mut self, number: u32, step: &Step) -> Result<(), Stop> {
         let opcode = step.opcode;
-        match shape_of(opcode, self.profile) {
+        match shape_of(opcode, self.source.profile) {
             Some(Shape::One(taken, given)) => return self.one(taken, given),
             Some(Shape::Two(taken, given)) => return self.two(taken, given),
             None => {}
@@ -120,12 +118,12 @@ impl<'m> Typing<'m> {
             return Ok(());
         }
         let words = format_args!("its alignment is 2^{align} bytes, and it moves {width}");
-        invalid(self.alloc, ValidateFault::Alignment, words)
+        invalid(self.source, ValidateFault::Alignment, words)
     }
 
     fn needs_memory(&self) -> Result<(), Stop> {
         if self.module.memories.is_empty() {
-            return no_part(self.alloc, "memory");
+            return no_part(self.source, "memory");
         }
         Ok(())
     }
@@ -172,7 +170,7 @@ impl<'m> Typing<'m> {
                 let words = format_args!(
                     "its operands are of types {one} and {other}, where one type is needed"
                 );
-                invalid(self.alloc, ValidateFault::TypeMismatch, words)
+                invalid(self.source, ValidateFault::TypeMismatch, words)
             }
             (None, _) => self.operands.push(second),
             _ => self.operands.push(first),
@@ -194,7 +192,7 @@ impl<'m> Typing<'m> {
     // A `br` or a `br_if`.
     fn branch(&mut self, opcode: u8, label: u32) -> Result<(), Stop> {
         let Some(carried) = self.operands.label(label) else {
-            return no_such(self.alloc, "label", label, self.operands.labels());
+            return no_such(self.source, "label", label, self.operands.labels());
         };
         if opcode == BR_IF {
             self.operands.pop_as(I32, "its condition")?;
@@ -215,11 +213,11 @@ impl<'m> Typing<'m> {
         };
         let count = self.operands.labels();
         let Some(carried) = self.operands.label(*default) else {
-            return no_such(self.alloc, "label", *default, count);
+            return no_such(self.source, "label", *default, count);
         };
         for label in labels {
             if self.operands.label(*label).is_none() {
-                return no_such(self.alloc, "label", *label, count);
+                return no_such(self.source, "label", *label, count);
             }
         }
         self.operands
@@ -241,7 +239,7 @@ impl<'m> Typing<'m> {
                 let words = format_args!(
                     "its label {label} carries {other}, and its default label {carried}"
                 );
-                invalid(self.alloc, ValidateFault::TypeMismatch, words)
+                invalid(self.source, ValidateFault::TypeMismatch, words)
             }
             _ => Ok(()),
         }
@@ -250,7 +248,7 @@ impl<'m> Typing<'m> {
     fn call(&mut self, function: u32) -> Result<(), Stop> {
         let Some(called) = type_of(self.module, function) else {
             return no_such(
-                self.alloc,
+                self.source,
                 "function",
                 function,
                 function_count(self.module),
@@ -262,11 +260,11 @@ impl<'m> Typing<'m> {
 
     fn call_indirect(&mut self, type_index: u32) -> Result<(), Stop> {
         if self.module.tables.is_empty() {
-            return no_part(self.alloc, "table");
+            return no_part(self.source, "table");
         }
         let types = self.module.types.as_slice();
         let Some(called) = types.get(type_index as usize) else {
-            return no_such(self.alloc, "type", type_index, types.len());
+            return no_such(self.source, "type", type_index, types.len());
         };
         self.operands.pop_as(I32, "its place in the table")?;
         self.operands.pop_arguments(called.params.as_slice())?;
@@ -276,7 +274,7 @@ impl<'m> Typing<'m> {
     // A `local.get`, a `local.set` or a `local.tee`.
     fn local(&mut self, opcode: u8, local: u32) -> Result<(), Stop> {
         let Some(value_type) = self.locals.get(local as usize).copied() else {
-            return no_such(self.alloc, "local", local, self.locals.len());
+            return no_such(self.source, "local", local, self.locals.len());
         };
         if opcode != LOCAL_GET {
             self.operands.pop_as(value_type, "its operand")?;
@@ -291,7 +289,7 @@ impl<'m> Typing<'m> {
     fn global(&mut self, opcode: u8, global: u32) -> Result<(), Stop> {
         let globals = self.module.globals.as_slice();
         let Some(found) = globals.get(global as usize) else {
-            return no_such(self.alloc, "global", global, globals.len());
+            return no_such(self.source, "global", global, globals.len());
         };
         let global_type = found.global_type;
         if opcode == GLOBAL_GET {
@@ -299,7 +297,7 @@ impl<'m> Typing<'m> {
         }
         if !global_type.is_variable {
             let words = format_args!("it writes global {global}, which is constant");
-            return invalid(self.alloc, ValidateFault::ImmutableGlobal, words);
+            return invalid(self.source, ValidateFault::ImmutableGlobal, words);
         }
         self.operands.pop_as(global_type.value_type, "its operand")
     }
