@@ -1,6 +1,6 @@
 use Rattle.std.proofs.Common.{◌≡◌, ℕ, ◌+◌, List, [], ◌∷◌, ◌++◌, take, sym, ap, subst, ◌∙◌}
 use Rattle.std.specs.List.{AllByRecursion, flat_map}
-use Rattle.std.proofs.lemmas.List.{take_more, flat_map_more}
+use Rattle.std.proofs.lemmas.List.{append-nil, take_all, take_more, flat_map_more}
 use Rattle.fab_types.proofs.spelled.write_each.Goals as goal
 
 -- one item more behind the front
@@ -16,6 +16,9 @@ module _ {X : Type 0} (front all : List X) (x : X) (split : all ≡ front ++ x �
   more_within : (P : X → Type 0) → AllByRecursion P front → P x → AllByRecursion P all
   more_within P each here = subst (AllByRecursion P) (sym split) (pushed P front each here)
 
+pub loop-item-init : goal.loop-item-init
+loop-item-init g c = record { spelled = sym (append-nil c.args.out.now.items); within = tt }
+
 pub loop-item-preserved : goal.loop-item-preserved
 loop-item-preserved g c =
     let l = c.loop-item in
@@ -29,3 +32,12 @@ loop-item-preserved g c =
           l.invariant.spelled write.spelled;
       within = more_within (take i items) (take (i + 1) items) x split g.T.Spelled.within l.invariant.within write.within;
     }
+
+pub returns-clause-spelled : goal.returns-clause-spelled
+returns-clause-spelled g c =
+    c.loop-item.invariant.spelled ∙ ap (λ xs. c.args.out.now.items ++ flat_map g.T.Spelled.spelling xs)
+    (take_all c.loop-item.item-index c.args.items.now c.loop-item-test.false)
+
+pub returns-clause-within : goal.returns-clause-within
+returns-clause-within g c =
+    subst (AllByRecursion g.T.Spelled.within) (take_all c.loop-item.item-index c.args.items.now c.loop-item-test.false) c.loop-item.invariant.within
