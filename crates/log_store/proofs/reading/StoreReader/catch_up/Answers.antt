@@ -104,3 +104,47 @@ pieces-preserved g c =
       store = keeps_on (prepend_known old.history.moved (left old.device)) (prepend_known file.history.moved (left file.device))
           (prepend_known moved (left c.read.new.self.device)) c.pieces.invariant.store kept;
     }
+
+pub returns-in_err-records-clause-store : goal.returns-in_err-records-clause-store
+returns-in_err-records-clause-store g c =
+    let old = c.args.self.now.file in
+    let file = c.pieces.self.file in
+    let moved = c.read.new.self.history.moved in
+    let left = g.R.Read.remaining in
+    let kept = keeps_more file.history.moved moved (take c.in_ok-count.count c.read.new.buffer) (left file.device) (left c.read.new.self.device)
+    c.in_ok-count.ensures.once.1 c.in_ok-count.ensures.known.0 in
+    keeps_on (prepend_known old.history.moved (left old.device)) (prepend_known file.history.moved (left file.device))
+    (prepend_known moved (left c.read.new.self.device)) c.pieces.invariant.store kept
+
+pub returns-in_err-follow_all-clause-store : goal.returns-in_err-follow_all-clause-store
+returns-in_err-follow_all-clause-store g c =
+    let old = c.args.self.now.file in
+    let file = c.pieces.self.file in
+    let moved = c.read.new.self.history.moved in
+    let left = g.R.Read.remaining in
+    let kept = keeps_more file.history.moved moved (take c.in_ok-count.count c.read.new.buffer) (left file.device) (left c.read.new.self.device)
+    c.in_ok-count.ensures.once.1 c.in_ok-count.ensures.known.0 in
+    keeps_on (prepend_known old.history.moved (left old.device)) (prepend_known file.history.moved (left file.device))
+    (prepend_known moved (left c.read.new.self.device)) c.pieces.invariant.store kept
+
+pub returns-in_err-check_sound-clause-store : goal.returns-in_err-check_sound-clause-store
+returns-in_err-check_sound-clause-store g c =
+    let old = c.args.self.now.file in
+    let file = c.pieces.self.file in
+    let moved = c.read.new.self.history.moved in
+    let left = g.R.Read.remaining in
+    let kept = keeps_more file.history.moved moved (take c.in_ok-count.count c.read.new.buffer) (left file.device) (left c.read.new.self.device)
+    c.in_ok-count.ensures.once.1 c.in_ok-count.ensures.known.0 in
+    keeps_on (prepend_known old.history.moved (left old.device)) (prepend_known file.history.moved (left file.device))
+    (prepend_known moved (left c.read.new.self.device)) c.pieces.invariant.store kept
+
+pub returns-then-count-eq0-clause-store : goal.returns-then-count-eq0-clause-store
+returns-then-count-eq0-clause-store g c =
+    let old = c.args.self.now.file in
+    let file = c.pieces.self.file in
+    let moved = c.read.new.self.history.moved in
+    let left = g.R.Read.remaining in
+    let kept = keeps_more file.history.moved moved (take c.in_ok-count.count c.read.new.buffer) (left file.device) (left c.read.new.self.device)
+    c.in_ok-count.ensures.once.1 c.in_ok-count.ensures.known.0 in
+    keeps_on (prepend_known old.history.moved (left old.device)) (prepend_known file.history.moved (left file.device))
+    (prepend_known moved (left c.read.new.self.device)) c.pieces.invariant.store kept
