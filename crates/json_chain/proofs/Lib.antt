@@ -1,3 +1,4 @@
 pub mod Depths
+mod Collecting
 mod Written
 mod Stands
