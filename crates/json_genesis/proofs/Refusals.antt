@@ -7,7 +7,11 @@ use Rattle.wasm_profile.specs.declared.profile.Profile.{Profile}
 use Rattle.wasm_profile.specs.declared.profile.Profile.TheVariants.{Core1, SignExtension}
 use Rattle.wasm_ast.specs.declared.module.Module.{Module}
 use Rattle.wasm_decode.specs.ModuleSpelling.{IsModule}
+use Rattle.wasm_decode.proofs.ModuleTheorem.{at_most_one}
 use Rattle.wasm_typing.specs.ModuleRules.{IsValid}
+use Rattle.wasm_file.specs.Modules.{NoModule}
+use Rattle.wasm_file.specs.declared.module.ModuleRefusal.{ModuleRefusal}
+use Rattle.wasm_file.specs.declared.module.ModuleRefusal.TheVariants.{Memory, Malformed, Invalid}
 use Rattle.json_genesis.specs.declared.refusal.GenesisRefusal.{GenesisRefusal}
 use Rattle.json_genesis.specs.Lists.{IsNumber, IsWithin}
 use Rattle.policy_language.specs.Limits.{IsText}
@@ -62,6 +66,13 @@ NoneIs-parts orgs d fuel hex name policy profile r is none = (
 )
 
 -- ---- modules
+
+-- bytes that are refused spell no valid module
+pub NoneIs-valid : (profile : Profile) (bytes : List ℕ) (r : ModuleRefusal) → NoModule profile bytes r → ¬ (r ≡ Memory) → (m : Module)
+    → ¬ (IsModule profile m bytes × IsValid m)
+NoneIs-valid profile bytes Memory none real m is = real refl
+NoneIs-valid profile bytes (Malformed kind offset) none real m is = none.0 m is.0
+NoneIs-valid profile bytes (Invalid fault) none real m is = none.3 (subst IsValid (at_most_one profile bytes m none.0 is.0 none.1) is.1)
 
 -- where an object's hex is of no module by its profile, the object is none
 pub NoneIs-installed : (d : Data) (hex : List ℕ) (profile : Data) (r : GenesisRefusal)

@@ -4,4 +4,5 @@ pub mod Refused
 pub mod Spelling
 pub mod Opening
 pub mod Fields
+pub mod Settings
 pub mod NoGenesis

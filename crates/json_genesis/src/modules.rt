@@ -5,7 +5,7 @@ ghost use Rattle.serde_json.specs.View.{view};
 ghost use Rattle.wasm_ast.specs.declared.module.Module.{Module};
 ghost use Rattle.wasm_decode.specs.ModuleSpelling.{IsModule};
 ghost use Rattle.wasm_typing.specs.ModuleRules.{IsValid};
-ghost use Rattle.wasm_typing.specs.declared.fault.ValidateFault.{ValidateFault};
+ghost use Rattle.wasm_file.specs.declared.module.ModuleRefusal.{ModuleRefusal};
 ghost use Rattle.json_genesis.specs.declared.refusal.GenesisRefusal.TheVariants.{Memory, Json};
 ghost use Rattle.json_genesis.specs.Refused.{NoneIs};
 ghost use Rattle.json_genesis.specs.Spelling.{IsModuleOf, more_ids_of, more_modules_of};
@@ -19,9 +19,9 @@ use endorsement_policy::ModuleId;
 use serde_json::Value;
 use sha2::{Digest, Sha256};
 use std::alloc::{AllocError, Global};
-use wasm_decode::{DecodeFault, decode_as};
+use wasm_file::{ModuleRefusal, valid_module};
 use wasm_profile::Profile;
-use wasm_validate::{ValidModule, ValidateFault, validate};
+use wasm_validate::ValidModule;
 
 /// Reads a module.
 #[derive(Clone, Copy)]
@@ -62,25 +62,21 @@ fn module_in(alloc: Global, bytes: &[u8], profile: Profile) -> Result<ValidModul
     ensures refused { IfErr result
         (λ r. NoneIs (λ (m : Module). IsModule profile m bytes.now × IsValid m) r) }
 {
-    let module = match decode_as(alloc, bytes, profile) {
-        Ok(module) => module,
-        Err(DecodeFault::Memory) => return Err(GenesisRefusal::Memory),
-        Err(DecodeFault::Malformed(..)) => return Err(GenesisRefusal::Module),
-    };
-    match validate(alloc, module) {
+    match valid_module(alloc, bytes, profile) {
         Ok(valid) => Ok(valid),
-        Err(fault) => Err(refusal_of_module(fault)),
+        Err(refusal) => Err(refusal_of_module(refusal)),
     }
 }
 
-/// The refusal of a file whose module is not valid.
-fn refusal_of_module(fault: ValidateFault) -> GenesisRefusal
+/// The refusal of a file whose module is refused so.
+fn refusal_of_module(refusal: ModuleRefusal) -> GenesisRefusal
     ensures read { result ≢ Json }
-    ensures fault { result ≢ Memory → fault ≢ ValidateFault.Memory }
+    ensures refused { result ≢ Memory → refusal ≢ ModuleRefusal.Memory }
 {
-    match fault {
-        ValidateFault::Memory => GenesisRefusal::Memory,
-        _ => GenesisRefusal::Module,
+    match refusal {
+        ModuleRefusal::Memory => GenesisRefusal::Memory,
+        ModuleRefusal::Malformed(..) => GenesisRefusal::Module,
+        ModuleRefusal::Invalid(_) => GenesisRefusal::Module,
     }
 }
 

@@ -1,11 +1,13 @@
 //! The file as a whole.
 
-ghost use Rattle.std.specs.Prelude.{◌≤◌, length, IfOk, IfErr};
+ghost use Rattle.std.specs.Prelude.{◌≤◌, List, length, IfOk, IfErr};
 ghost use Rattle.serde_json.specs.View.{view};
+ghost use Rattle.chaincode_book.specs.declared.book.Held.{Held};
 ghost use Rattle.json_genesis.specs.Fields.{parts_of};
 ghost use Rattle.json_genesis.specs.NoGenesis.{NoGenesis, NoGenesisHolding};
 ghost use Rattle.json_genesis.specs.Opening.{CanOpen};
 ghost use Rattle.json_genesis.specs.Refused.{NoneIs};
+ghost use Rattle.json_genesis.specs.Settings.{IsSetting};
 ghost use Rattle.json_genesis.specs.Spelling.{IsGenesis, IsGenesisOf, Spells, SpellsHolding};
 
 use crate::book::book;
@@ -18,9 +20,11 @@ use crate::peers::PeerReader;
 use crate::refusal::GenesisRefusal;
 use chaincode_book::Held;
 use endorsement_policy::Rules;
+use fab_types::OrgName;
 use fab_types::limits::{MOST_DATA_BYTES, MOST_PEERS, MOST_QUEUED, MOST_SEATS, MOST_TRANSACTIONS};
 use ledger_setting::Genesis;
-use org_keys::Signers;
+use org_keys::{Organisation, Signers};
+use policy_language::Policy;
 use serde_json::Value;
 use serde_json::error::Category;
 use std::alloc::Global;
@@ -80,6 +84,34 @@ fn genesis_from(
     ensures ok { IfOk result (λ g. IsGenesis held.items (parts_of fields.now) g) }
     ensures refused { IfErr result (λ r. NoneIs (IsGenesis held.items (parts_of fields.now)) r) }
 {
+    match setting_of(alloc, fields) {
+        Ok(setting) => genesis_with(alloc, fields, setting, held),
+        Err(refusal) => Err(refusal),
+    }
+}
+
+/// What the fields spell but for the book.
+#[derive(Drop)]
+struct Setting {
+    seats: usize,
+    queue: usize,
+    count: usize,
+    preferred: usize,
+    absolute: usize,
+    reorder: bool,
+    organisations: Vec<Organisation>,
+    /// The names of the organisations.
+    orgs: Vec<OrgName>,
+    peers: Vec<OrgName>,
+    upgrade: Policy,
+}
+
+/// What the fields spell but for the book, whatever modules are at hand.
+fn setting_of(alloc: Global, fields: &GenesisFields<'_>) -> Result<Setting, GenesisRefusal>
+    ensures ok { IfOk result (λ s. IsSetting (parts_of fields.now) s) }
+    ensures refused { IfErr result
+        (λ r. (held : List Held) → NoneIs (IsGenesis held (parts_of fields.now)) r) }
+{
     let seats = size_within(fields.seats, 1, MOST_SEATS)?;
     let queue = size_within(fields.queue, 1, MOST_QUEUED)?;
     let count = size_within(fields.count, 1, MOST_TRANSACTIONS)?;
@@ -90,6 +122,43 @@ fn genesis_from(
     let reader = PeerReader { orgs: &orgs };
     let peers = read_list(alloc, &reader, fields.peers, 1, MOST_PEERS)?;
     let upgrade = upgrade_policy(alloc, fields.upgrade, &orgs)?;
+    Ok(Setting {
+        seats,
+        queue,
+        count,
+        preferred,
+        absolute,
+        reorder,
+        organisations,
+        orgs,
+        peers,
+        upgrade,
+    })
+}
+
+/// The genesis of what the fields spell, with the book that they spell and these modules at hand.
+fn genesis_with(
+    alloc: Global,
+    fields: &GenesisFields<'_>,
+    setting: Setting,
+    held: Vec<Held>,
+) -> Result<Genesis, GenesisRefusal>
+    requires spelled { IsSetting (parts_of fields.now) setting }
+    ensures ok { IfOk result (λ g. IsGenesis held.items (parts_of fields.now) g) }
+    ensures refused { IfErr result (λ r. NoneIs (IsGenesis held.items (parts_of fields.now)) r) }
+{
+    let Setting {
+        seats,
+        queue,
+        count,
+        preferred,
+        absolute,
+        reorder,
+        organisations,
+        orgs,
+        peers,
+        upgrade,
+    } = setting;
     let (book, policies) = book(alloc, fields.chaincodes, fields.modules, orgs, held)?;
     let installed = book.installed().clone()?;
     let Some(rules) = Rules::new(organisations, policies, upgrade, installed) else {
