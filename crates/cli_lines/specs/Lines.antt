@@ -50,6 +50,10 @@ put_text (Some value) = codes " put " ++ (hex_text value ++ codes "\n")
 abbrev pub write_text : WriteItem → List ℕ
 write_text w = codes "write " ++ (hex_text w.key ++ put_text w.value)
 
+-- a transaction's id and its result
+abbrev pub head_text : Payload → List ℕ
+head_text p = (codes "tx " ++ (id_text p ++ codes "\n")) ++ (codes "result " ++ (hex_text p.result ++ codes "\n"))
+
 -- a transaction: its id, its result, and all that it read and writes
 abbrev pub payload_text : Payload → List ℕ
 payload_text p =

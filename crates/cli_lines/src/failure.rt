@@ -16,7 +16,7 @@ use std::io::{self, ErrorKind};
 use wasm_file::ModuleRefusal;
 
 /// Why a task was not done, or ended with a difference.
-#[derive(Clone, Copy, Debug, PartialEq, Eq)]
+#[derive(Clone, Copy)]
 pub enum Failure {
     /// The words name no task.
     Usage,

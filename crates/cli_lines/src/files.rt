@@ -123,7 +123,7 @@ pub trait Files {
 }
 
 /// What a file is used for.
-#[derive(Clone, Copy, Debug, PartialEq, Eq)]
+#[derive(Clone, Copy, PartialEq, Eq)]
 pub enum Access {
     Read,
     /// To be written by this process alone.
@@ -142,7 +142,7 @@ pub enum Target {
 }
 
 /// Why a file was not opened, read or written.
-#[derive(Clone, Copy, Debug, PartialEq, Eq)]
+#[derive(Clone, Copy)]
 pub enum FileFault {
     Memory,
     /// It could not be opened, read or written.

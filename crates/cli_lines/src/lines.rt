@@ -3,7 +3,7 @@
 ghost use Rattle.std.specs.Prelude.{◌≡◌, ◌<◌, true, IfErr, IfOk, OnErr, OnOk, string_bytes};
 ghost use Rattle.std.specs.Io.KnownBytes.{Appends};
 ghost use Rattle.std.specs.List.{flat_map};
-ghost use Rattle.cli_lines.specs.Lines.{committed_text, hex_text, id_text, payload_text, range_text, read_text, simulation_line, version_text, write_text};
+ghost use Rattle.cli_lines.specs.Lines.{committed_text, head_text, hex_text, id_text, payload_text, range_text, read_text, simulation_line, version_text, write_text};
 ghost use Rattle.cli_lines.specs.Texts.{line};
 ghost use Rattle.cli_lines.specs.Told.{IsBrokenOff, Prints, PrintsNothing, PrintsPart, Tells};
 
@@ -158,6 +158,23 @@ fn print_writes<W: Write>(
     Ok(())
 }
 
+/// Prints a transaction's id and result.
+fn print_head<W: Write>(
+    alloc: Global,
+    payload: &Payload,
+    out: &mut Printer<'_, W>,
+) -> Result<(), Failure>
+    ensures tells { Tells out.old out.new result }
+    ensures lost { IfErr result IsBrokenOff }
+    ensures prints { OnOk result (Prints out.old out.new (head_text payload.now)) }
+    ensures part { OnErr result (PrintsPart out.old out.new (head_text payload.now)) }
+{
+    let id = id_of(alloc, payload)?;
+    let result = hex_of(alloc, payload.result().as_slice())?;
+    writeln!(out, "tx {id}")?;
+    writeln!(out, "result {result}")
+}
+
 /// Prints a transaction's id and result, and all that it read and writes.
 pub fn print_payload<W: Write>(
     alloc: Global,
@@ -169,10 +186,7 @@ pub fn print_payload<W: Write>(
     ensures prints { OnOk result (Prints out.old out.new (payload_text payload.now)) }
     ensures part { OnErr result (PrintsPart out.old out.new (payload_text payload.now)) }
 {
-    let id = id_of(alloc, payload)?;
-    let result = hex_of(alloc, payload.result().as_slice())?;
-    writeln!(out, "tx {id}")?;
-    writeln!(out, "result {result}")?;
+    print_head(alloc, payload, out)?;
     print_reads(alloc, payload.reads().as_slice(), out)?;
     print_ranges(alloc, payload.ranges().as_slice(), out)?;
     print_writes(alloc, payload.writes().as_slice(), out)

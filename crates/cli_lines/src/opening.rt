@@ -32,7 +32,14 @@ pub fn genesis_holding(alloc: Global, bytes: &[u8], held: Vec<Held>) -> Result<G
     ensures silent { IfErr result IsSilent }
     ensures refused { IfErr result (IsNoGenesis bytes.now held.items) }
 {
-    Ok(read_genesis_holding(alloc, text_of(bytes)?, held)?)
+    match text_of(bytes) {
+        Ok(text) => Ok(read_genesis_holding(alloc, text, held)?),
+        // An end at which modules are dropped unsaid is dear to prove.
+        Err(failure) => {
+            drop(held);
+            Err(failure)
+        }
+    }
 }
 
 /// The modules of a modules file, by its bytes.
