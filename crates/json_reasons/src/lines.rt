@@ -15,23 +15,31 @@ use std::alloc::{AllocError, Global};
 /// Why a line of an events file asks for nothing: one sentence with the field, the reason and what
 /// is possible there. A line of one of the forms uses a name that no finish gave.
 pub fn event_reason(alloc: Global, line: &[u8]) -> Result<String, AllocError> {
-    let value = match read_json(alloc, line, false)? {
-        Read::Json(value) => value,
-        Read::None(words) => return Ok(words),
-    };
-    match by_word(alloc, &EVENTS, &value)? {
+    match read_json(alloc, line, false)? {
+        Read::Json(value) => event_fault(alloc, &value),
+        Read::None(words) => Ok(words),
+    }
+}
+
+/// The same of the value that a line is.
+fn event_fault(alloc: Global, value: &Value) -> Result<String, AllocError> {
+    match by_word(alloc, &EVENTS, value)? {
         Some(words) => Ok(words),
-        None => unbound(alloc, &value),
+        None => unbound(alloc, value),
     }
 }
 
 /// Why a line is no proposal, in a sentence as of `event_reason`.
 pub fn proposal_reason(alloc: Global, line: &[u8]) -> Result<String, AllocError> {
-    let value = match read_json(alloc, line, false)? {
-        Read::Json(value) => value,
-        Read::None(words) => return Ok(words),
-    };
-    match fault_of(alloc, PROPOSAL, &value)? {
+    match read_json(alloc, line, false)? {
+        Read::Json(value) => proposal_fault(alloc, &value),
+        Read::None(words) => Ok(words),
+    }
+}
+
+/// The same of the value that a line is.
+fn proposal_fault(alloc: Global, value: &Value) -> Result<String, AllocError> {
+    match fault_of(alloc, PROPOSAL, value)? {
         Some(words) => Ok(words),
         None => String::from_str(alloc, "it is none of the forms of a proposal"),
     }
@@ -39,11 +47,15 @@ pub fn proposal_reason(alloc: Global, line: &[u8]) -> Result<String, AllocError>
 
 /// Why a line is no question, in a sentence as of `event_reason`.
 pub fn question_reason(alloc: Global, line: &[u8]) -> Result<String, AllocError> {
-    let value = match read_json(alloc, line, false)? {
-        Read::Json(value) => value,
-        Read::None(words) => return Ok(words),
-    };
-    match by_word(alloc, &QUESTIONS, &value)? {
+    match read_json(alloc, line, false)? {
+        Read::Json(value) => question_fault(alloc, &value),
+        Read::None(words) => Ok(words),
+    }
+}
+
+/// The same of the value that a line is.
+fn question_fault(alloc: Global, value: &Value) -> Result<String, AllocError> {
+    match by_word(alloc, &QUESTIONS, value)? {
         Some(words) => Ok(words),
         None => String::from_str(alloc, "it is none of the forms of a question"),
     }
@@ -59,7 +71,8 @@ fn by_word(alloc: Global, words: &Words, value: &Value) -> Result<Option<String>
             return fault_of(alloc, action.forms, value);
         }
     }
-    Ok(Some(unknown_word(alloc, words, word)?))
+    let known = known_words(alloc, words)?;
+    Ok(Some(unknown_word(alloc, words.noun, word, &known)?))
 }
 
 /// That a line has no word in this field.
@@ -74,17 +87,27 @@ fn no_word(alloc: Global, field: &'static str, value: &Value) -> Result<String, 
     }
 }
 
-/// That a word is none of these.
-fn unknown_word(alloc: Global, words: &Words, word: &str) -> Result<String, AllocError> {
+/// The words by which lines ask.
+fn known_words(alloc: Global, words: &Words) -> Result<Vec<&'static str>, AllocError> {
     let mut known = Vec::new(alloc);
     for action in words.actions {
         known.push(action.word)?;
     }
-    let (noun, shown) = (words.noun, front(word));
-    if let Some(meant) = nearest(alloc, word, &known)? {
+    Ok(known)
+}
+
+/// That a word is none of these.
+fn unknown_word(
+    alloc: Global,
+    noun: &str,
+    word: &str,
+    known: &[&'static str],
+) -> Result<String, AllocError> {
+    let shown = front(word);
+    if let Some(meant) = nearest(alloc, word, known)? {
         return format!(in alloc; "unknown {noun} {shown:?}; did you mean \"{meant}\"?");
     }
-    let there = listed(alloc, &known)?;
+    let there = listed(alloc, known)?;
     format!(in alloc; "unknown {noun} {shown:?}; there are {there}")
 }
 
@@ -108,7 +131,7 @@ fn out_of_order(alloc: Global, value: &Value) -> Result<Option<String>, AllocErr
         let name = text_of(member, "name");
         if last.is_some() && name <= last {
             let item = Item::new("members", index, member);
-            return Ok(Some(format!(in alloc; "{item}: the names have to ascend, each once")?));
+            return format!(in alloc; "{item}: the names have to ascend, each once").map(Some);
         }
         last = name;
     }

@@ -45,10 +45,19 @@ fn reason_of(alloc: Global, value: &Value) -> Result<Option<String>, AllocError>
     let Ok(bytes) = hex::decode(alloc, text) else {
         return Ok(None);
     };
-    match valid_module(alloc, &bytes, profile) {
-        Ok(_) => Ok(None),
-        Err(ModuleRefusal::Memory) => Err(AllocError),
-        Err(refusal) => Ok(Some(module_reason(alloc, profile, &bytes, &refusal)?)),
+    reason_of_bytes(alloc, profile, &bytes)
+}
+
+/// Why bytes give no valid module, in words. None where they give one.
+fn reason_of_bytes(
+    alloc: Global,
+    profile: Profile,
+    bytes: &[u8],
+) -> Result<Option<String>, AllocError> {
+    match valid_module(alloc, bytes, profile).err() {
+        None => Ok(None),
+        Some(ModuleRefusal::Memory) => Err(AllocError),
+        Some(refusal) => Ok(Some(module_reason(alloc, profile, bytes, &refusal)?)),
     }
 }
 

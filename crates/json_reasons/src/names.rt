@@ -76,18 +76,26 @@ fn first_with(items: &[Value], field: &'static str, text: &str) -> Option<usize>
     })
 }
 
-/// The first peer whose organisation is not there, in words.
+/// That a peer's organisation is not there, in words.
 fn unknown_peer(alloc: Global, file: &Value) -> Result<Option<String>, AllocError> {
     let names = org_names(alloc, file)?;
+    let Some((index, name)) = first_unknown(file, &names) else {
+        return Ok(None);
+    };
+    let (name, there) = (front(name), listed(alloc, &names)?);
+    Ok(Some(format!(in alloc;
+        "peers[{index}]: no organisation has the name {name:?}; there are {there}"
+    )?))
+}
+
+/// The first peer that is of none of these organisations, and its place.
+fn first_unknown<'a>(file: &'a Value, names: &[&str]) -> Option<(usize, &'a str)> {
     for (index, peer) in items_of(file, "peers").iter().enumerate() {
         if let Value::String(name) = peer
-            && !names.contains(&name.as_str())
+            && !(&*names).contains(&name.as_str())
         {
-            let (name, there) = (front(name.as_str()), listed(alloc, &names)?);
-            return Ok(Some(format!(in alloc;
-                "peers[{index}]: no organisation has the name {name:?}; there are {there}"
-            )?));
+            return Some((index, name.as_str()));
         }
     }
-    Ok(None)
+    None
 }

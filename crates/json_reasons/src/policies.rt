@@ -25,15 +25,24 @@ pub(crate) fn policies_reason(alloc: Global, file: &Value) -> Result<Option<Stri
         texts: &texts,
         names: &names,
     };
+    first_refused(alloc, file, &known)
+}
+
+/// The same over these organisations.
+fn first_refused(
+    alloc: Global,
+    file: &Value,
+    known: &Known<'_>,
+) -> Result<Option<String>, AllocError> {
     if let Some(text) = text_of(file, "upgrade")
-        && let Some(found) = reason_of(alloc, Place::Field("upgrade"), text, &known)?
+        && let Some(found) = reason_of(alloc, Place::Field("upgrade"), text, known)?
     {
         return Ok(Some(found));
     }
     for (index, value) in items_of(file, "chaincodes").iter().enumerate() {
         let place = Place::ItemField(Item::new("chaincodes", index, value), "policy");
         if let Some(text) = text_of(value, "policy")
-            && let Some(found) = reason_of(alloc, place, text, &known)?
+            && let Some(found) = reason_of(alloc, place, text, known)?
         {
             return Ok(Some(found));
         }
@@ -59,12 +68,13 @@ fn reason_of(
     text: &str,
     known: &Known<'_>,
 ) -> Result<Option<String>, AllocError> {
-    let fault = match parse(alloc, text, known.names) {
-        Ok(_) => return Ok(None),
-        Err(PolicyFault::Memory) => return Err(AllocError),
-        Err(fault) => fault,
-    };
-    let words = fault_words(alloc, text, fault, known.texts)?;
-    let number = fault.number();
-    Ok(Some(format!(in alloc; "{place}{words} ({number})")?))
+    match parse(alloc, text, known.names).err() {
+        None => Ok(None),
+        Some(PolicyFault::Memory) => Err(AllocError),
+        Some(fault) => {
+            let words = fault_words(alloc, text, fault, known.texts)?;
+            let number = fault.number();
+            Ok(Some(format!(in alloc; "{place}{words} ({number})")?))
+        }
+    }
 }

@@ -66,15 +66,25 @@ fn count_of(bytes: &[u8], byte: u8) -> usize {
     bytes.iter().filter(|each| **each == byte).count()
 }
 
-/// The first name in a text that no organisation has.
+/// That a name in a text is of no organisation.
 fn unknown_words(alloc: Global, text: &str, orgs: &[&str]) -> Result<String, AllocError> {
     let there = listed(alloc, orgs)?;
+    match first_unknown(text, orgs) {
+        Some(name) => {
+            format!(in alloc; "no organisation has the name {name:?}; there are {there}")
+        }
+        None => format!(in alloc; "a name is of no organisation; there are {there}"),
+    }
+}
+
+/// The first name in a text that no organisation has.
+fn first_unknown<'a>(text: &'a str, orgs: &[&str]) -> Option<&'a str> {
     for (place, name) in text.split('\'').enumerate() {
         if place % 2 == 1 && !(&*orgs).contains(&name) {
-            return format!(in alloc; "no organisation has the name {name:?}; there are {there}");
+            return Some(name);
         }
     }
-    format!(in alloc; "a name is of no organisation; there are {there}")
+    None
 }
 
 /// The first threshold in a text that its parts cannot come to.
@@ -100,18 +110,19 @@ fn bad_threshold(alloc: Global, inside: &[u8]) -> Result<Option<String>, AllocEr
     )?))
 }
 
-/// The first number in some bytes.
+/// The first number in some bytes; 0 where there is none.
 fn threshold_of(bytes: &[u8]) -> usize {
-    let mut number = 0usize;
-    let digits = bytes
-        .iter()
-        .skip_while(|byte| !byte.is_ascii_digit())
-        .take_while(|byte| byte.is_ascii_digit());
-    for digit in digits {
-        let value = (*digit).saturating_sub(b'0');
-        number = number.saturating_mul(10).saturating_add(value as usize);
+    let mut number = None;
+    for byte in bytes {
+        if byte.is_ascii_digit() {
+            let digit = (*byte).saturating_sub(b'0') as usize;
+            let before = number.unwrap_or(0usize);
+            number = Some(before.saturating_mul(10).saturating_add(digit));
+        } else if number.is_some() {
+            break;
+        }
     }
-    number
+    number.unwrap_or(0)
 }
 
 /// How many commas stand in the first brackets, and not in brackets in them.
