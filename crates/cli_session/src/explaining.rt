@@ -99,23 +99,53 @@ fn action_of(alloc: Global, line: &[u8]) -> Option<Action> {
 
 /// Why a line is a bad one: it is no event, or names what no finish gave a name.
 fn bad_reason(alloc: Global, line: &[u8], bindings: &Bindings) -> Result<String, AllocError> {
-    if let Some(Action::SubmitEndorsed(names)) = action_of(alloc, line) {
-        for index in 0..names.len() {
-            if bindings.resolve(&names[index..index + 1])?.is_none() {
-                let name = &names[index];
-                return format!(in alloc; "no finish before it gave the name {name:?}");
-            }
+    match unbound_reason(alloc, line, bindings)? {
+        Some(reason) => Ok(reason),
+        None => event_reason(alloc, line),
+    }
+}
+
+/// Which name of a line no finish gave, if it uses one.
+fn unbound_reason(
+    alloc: Global,
+    line: &[u8],
+    bindings: &Bindings,
+) -> Result<Option<String>, AllocError> {
+    let action = action_of(alloc, line);
+    unbound_in(alloc, used_in(&action), bindings)
+}
+
+/// The names that an action uses.
+fn used_in(action: &Option<Action>) -> &[String] {
+    match action {
+        Some(Action::SubmitEndorsed(names)) => names,
+        _ => &[],
+    }
+}
+
+/// The first of these names that no finish gave, in words.
+fn unbound_in(
+    alloc: Global,
+    names: &[String],
+    bindings: &Bindings,
+) -> Result<Option<String>, AllocError> {
+    for index in 0..names.len() {
+        if !is_bound(&names[index..index + 1], bindings)? {
+            let name = &names[index];
+            return format!(in alloc; "no finish before it gave the name {name:?}").map(Some);
         }
     }
-    event_reason(alloc, line)
+    Ok(None)
+}
+
+/// Whether names stand for an envelope.
+fn is_bound(names: &[String], bindings: &Bindings) -> Result<bool, AllocError> {
+    Ok(bindings.resolve(names)?.is_some())
 }
 
 /// What was refused, and why, in words that end with the number.
 fn refused_words(alloc: Global, line: &[u8], refused: Refused) -> Result<String, AllocError> {
-    let verb = match action_of(alloc, line) {
-        Some(action) => verb_of(&action),
-        None => "it",
-    };
+    let verb = verb_in(alloc, line);
     match refused {
         Refused::Simulated(refusal) => {
             let words = simulation_words(alloc, &refusal)?;
@@ -125,6 +155,14 @@ fn refused_words(alloc: Global, line: &[u8], refused: Refused) -> Result<String,
             let meaning = meaning(number);
             format!(in alloc; "{verb} is refused: {meaning} ({number})")
         }
+    }
+}
+
+/// The word by which a line asks for its action, if it spells one.
+fn verb_in(alloc: Global, line: &[u8]) -> &'static str {
+    match &action_of(alloc, line) {
+        Some(action) => verb_of(action),
+        None => "it",
     }
 }
 

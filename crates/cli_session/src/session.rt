@@ -454,7 +454,12 @@ impl<T: Threads + Sync> Session<'_, T> {
     {
         match reply {
             Reply::Endorsed(payload, endorsement) => self.bind(name, payload, endorsement, out),
-            reply => print_reply(&reply, out),
+            reply => {
+                let told = print_reply(&reply, out);
+                // An end at which a reply is dropped unsaid is dear to prove.
+                drop(reply);
+                told
+            }
         }
     }
 
