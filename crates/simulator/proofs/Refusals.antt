@@ -160,7 +160,7 @@ module _ (make : Parts → Payload) (book : Book) (valid : AreValid book) (chain
 
   module _ (h : Answers (done_or_refusal comes_to.ending (parts_of after comes_to.seen)) executed) (result : Result Payload SimRefusal)
       (is : map_ok make executed ≡ result) where
-    then_answers : Answers (done_or_refusal comes_to.ending (make (parts_of after comes_to.seen))) result
+    pub then_answers : Answers (done_or_refusal comes_to.ending (make (parts_of after comes_to.seen))) result
     then_answers =
         subst (Answers (done_or_refusal comes_to.ending (make (parts_of after comes_to.seen)))) is
         (answers_made make comes_to.ending (parts_of after comes_to.seen) executed h)

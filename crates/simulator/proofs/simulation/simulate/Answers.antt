@@ -3,11 +3,23 @@ use Rattle.std.proofs.lemmas.Result.{err_from_is_err_and}
 use Rattle.fab_types.specs.Payloads.{Payload}
 use Rattle.fab_types.specs.declared.proposal.Proposal.{Proposal}
 use Rattle.host_api.specs.declared.recorder.Parts.{Parts}
-use Rattle.simulator.proofs.Refusals.{then_unknown, then_not_installed, then_bad_policy, then_bad_membership}
+use Rattle.simulator.proofs.Refusals.{then_answers, then_unknown, then_not_installed, then_bad_policy, then_bad_membership}
 use Rattle.simulator.proofs.simulation.simulate.Goals as goal
 
 abbrev made : Proposal → Parts → Payload
 made p parts = record { proposal = p; result = parts.result; reads = parts.reads; ranges = parts.ranges; writes = parts.writes }
+
+pub returns-in_err-parts-clause-answer : goal.returns-in_err-parts-clause-answer
+returns-in_err-parts-clause-answer c =
+    let p = err_from_is_err_and c.from_residual.result c.from_residual.ensures.1 in
+    then_answers (made c.args.proposal.now) c.args.book.now c.chaincodes-valid.ensures.valid c.args.snapshot.now c.args.proposal.now
+    (Err c.in_err-parts.field-0.0) c.in_err-parts.ensures c.from_residual.result (sym (p.1 ∙ ap Err p.2))
+
+pub returns-clause-answer : goal.returns-clause-answer
+returns-clause-answer c =
+    let copy = ap (λ (p : Proposal). Ok (made p c.in_ok-parts.parts)) (sym c.in_ok-clone.ensures.cases) in
+    then_answers (made c.args.proposal.now) c.args.book.now c.chaincodes-valid.ensures.valid c.args.snapshot.now c.args.proposal.now
+    (Ok c.in_ok-parts.parts) c.in_ok-parts.ensures _ (copy ∙ sym (ap Ok c.in_ok-new.ensures))
 
 pub returns-in_err-parts-clause-unknown : goal.returns-in_err-parts-clause-unknown
 returns-in_err-parts-clause-unknown c =
