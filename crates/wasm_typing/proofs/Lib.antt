@@ -5,6 +5,7 @@ pub mod Stands
 pub mod Sound
 pub mod Complete
 pub mod Instructions
+pub mod Constants
 pub mod Untyped
 pub mod Fronts
 pub mod Parts

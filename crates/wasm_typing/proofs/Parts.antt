@@ -1,5 +1,5 @@
 -- What refuses a part of a block, of an `if` or of a body refuses the whole.
-use Rattle.std.proofs.Common.{◌≡◌, ◌≤◌, inl, inr, ℕ, List, sym, ap, ◌∙◌, subst, Option, Some, length, drop}
+use Rattle.std.proofs.Common.{◌≡◌, ◌≤◌, inl, inr, ℕ, List, refl, sym, ap, ◌∙◌, subst, Option, Some, length, drop}
 use Rattle.std.specs.Prelude.{◌⊎◌, IsSome}
 use Rattle.std.proofs.lemmas.List.{drop_all}
 use Rattle.wasm_ast.specs.declared.types.ValueType.TheVariants.{I32}
@@ -68,6 +68,11 @@ mistyped_no TypeMismatch c t a b s typed h = inr (inr (typed, h))
 mistyped_no _ c t a b s typed h = tt
 
 -- the end of a body, all of whose instructions are accepted
+pub whole_ok : (c : Context) (t : BlockType) (body : Code) (i : ℕ) (is : List Instr) (s s' : Operands) → length is ≤ i →
+    check c (code_of (drop i is)) s ≡ check c body no_operands → finish t s ≡ Some s' → IsSome (whole_body c t body)
+whole_ok c t body i is s s' le checked h =
+    subst (λ o. IsSome (then o (finish t))) (sym (ap (λ xs. check c (code_of xs) s) (drop_all i is le)) ∙ checked) (rw h refl)
+
 module _ (c : Context) (t : BlockType) (body : Code) (i : ℕ) (is : List Instr) (s : Operands) (f : ValidateFault) (le : length is ≤ i) where
   pub refused_end : check c (code_of (drop i is)) s ≡ check c body no_operands → Refused f ⊥ (finish t s) →
       Refused f (BreaksIn f c body) (whole_body c t body)

@@ -1,6 +1,8 @@
-use Rattle.std.proofs.Common.{◌≡◌, List, ◌∷◌, ap, ◌∙◌, subst, drop, Some, arith, rules}
+use Rattle.std.proofs.Common.{◌≡◌, List, ◌∷◌, ap, ◌∙◌, subst, drop, length, Option, Some, arith, rules}
 use Rattle.std.specs.Prelude.{◌⊎◌}
+use Rattle.std.proofs.lemmas.List.{length-append}
 use Rattle.std.proofs.lemmas.Result.{err_from_is_err_and}
+use Rattle.wasm_ast.specs.declared.types.ValueType.{ValueType}
 use Rattle.wasm_ast.specs.declared.types.ValueType.TheVariants.{I32}
 use Rattle.wasm_ast.specs.Code.{BlockType, code_size, End}
 use Rattle.wasm_typing.specs.Typing.{Context, under}
@@ -9,12 +11,13 @@ use Rattle.wasm_typing.specs.Operands.{then, pop_as, push_result, no_operands}
 use Rattle.wasm_typing.specs.Algorithm.{check, whole_body, instruction}
 use Rattle.wasm_typing.specs.Breaks.{BreaksIn, BreaksInstr}
 use Rattle.wasm_typing.specs.Refused.{Refused}
+use Rattle.wasm_typing.specs.declared.operands.Outer.{Outer}
 use Rattle.wasm_typing.specs.Inside.{context_of}
 use Rattle.wasm_typing.proofs.PlainInstructions.{plain_unless}
 use Rattle.wasm_typing.proofs.Instructions.{item_size, check_next, refused_next}
 use Rattle.wasm_typing.specs.Mistyped.{Mismatch, Mistyped, MistypedFirst}
 use Rattle.wasm_typing.proofs.Fronts.{mistyped_next, mistyped_refused}
-use Rattle.wasm_typing.proofs.Parts.{refused_before, refused_yes, refused_no, refused_end}
+use Rattle.wasm_typing.proofs.Parts.{whole_ok, refused_before, refused_yes, refused_no, refused_end}
 use Rattle.wasm_typing.proofs.Parts.{mistyped_operand, mistyped_yes, mistyped_no, mistyped_whole}
 use Rattle.wasm_typing.proofs.code.+check.Goals as goal
 
@@ -169,3 +172,20 @@ check_if-returns-in_err-check_body-2-clause-mistyped t c =
     c.in_ok-check_body.ensures.labels c.in_err-check_body-2.ensures.mistyped in
     rw (p.1, p.2) (mistyped_no fault (context_of c.args.scope.now c.args.labels.now) choice.result choice.yes choice.no c.args.stack.now.here
     c.in_ok-check_body.ensures.ok mistyped)
+
+pub check_body-exit-requires : goal.check_body-exit-requires
+check_body-exit-requires t c =
+    let height = ap (λ (o : Outer). o.height) c.enter-outer.ensures.outer in
+    let lower = ap (λ (ts : List (Option ValueType)). length ts)
+    (c.in_ok-finish.ensures.lower ∙ c.loop-instr.invariant.lower ∙ c.enter-outer.ensures.lower) in
+    omega (arith, height, lower, length-append c.args.stack.now.here.types c.args.stack.now.lower)
+
+pub check_body-returns-clause-ok : goal.check_body-returns-clause-ok
+check_body-returns-clause-ok t c =
+    let e : c.enter.new.self ≡ c.args.carried ∷ c.args.labels.now = c.in_ok-enter.ensures.ok in
+    let items = c.items-instr-items.result.now in
+    let checked = subst (λ ls.
+    check (context_of c.args.scope.now ls) (code_of (drop c.loop-instr.instr-index items)) c.loop-instr.stack.here ≡
+    check (context_of c.args.scope.now ls) c.args.body.now no_operands) e c.loop-instr.invariant.checked in
+    whole_ok (context_of c.args.scope.now (c.args.carried ∷ c.args.labels.now)) c.args.left c.args.body.now c.loop-instr.instr-index items
+    c.loop-instr.stack.here _ c.loop-instr-test.false checked c.in_ok-finish.ensures.ok
