@@ -1,5 +1,6 @@
 -- The first entries of a range are what an item of a payload may hold.
-use Rattle.std.proofs.Common.{◌≡◌, ℕ, zero, suc, ◌≤◌, Bool, true, false, cond, T, ◌&&◌, List, [], ◌∷◌, map, take, length, refl, arith}
+use Rattle.std.proofs.Common.{◌≡◌, ℕ, zero, suc, ◌≤◌, Bool, true, false, cond, T, ◌&&◌, List, [], ◌∷◌, map, take, length, refl, ap, arith}
+use Rattle.std.proofs.lemmas.List.{length-map}
 use Rattle.std.specs.List.{list_all}
 use Rattle.std.specs.FinMap.{entries, entries_sorted, is_sorted}
 use Rattle.std.specs.FinMap.Entries.{below_all}
@@ -43,6 +44,10 @@ length-first : (n : ℕ) (es : List Entry) → length (map entry_of (take n es))
 length-first zero es = omega arith
 length-first (suc n) [] = omega arith
 length-first (suc n) (e ∷ es) = let i = length-first n es in omega (arith, i)
+
+-- what is made of each item is the first entries
+pub few_first : {A : Type 0} (f : A → Entry) (xs : List A) (n : ℕ) (es : List Entry) → map f xs ≡ take n es → length xs ≤ n
+few_first f xs n es e = omega (arith, length-map xs f, length-map (take n es) entry_of, ap (λ (es : List Entry). length es) e, length-first n es)
 
 held-filter : (start end : Bytes) (n : ℕ) (es : List Entry) →
     list_all (λ (e : RangeEntry). is_within start end e.key) (map entry_of (take n (entries_within start end es))) ≡ true

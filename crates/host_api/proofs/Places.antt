@@ -1,6 +1,6 @@
 -- An item takes its place among items in key order: it replaces the item of its key, or stands before the first greater key.
-use Rattle.std.proofs.Common.{◌≡◌, ℕ, zero, suc, ◌+◌, ◌<◌, ◌≤◌, Bool, true, false, cond, ◌&&◌, List, [], ◌∷◌, length, map, Option, Some, Ok, Err, refl, sym, ap}
-use Rattle.std.proofs.Common.{◌∙◌, subst, arith, is_eq, length-set}
+use Rattle.std.proofs.Common.{◌≡◌, ℕ, zero, suc, ◌+◌, ◌<◌, ◌≤◌, Bool, true, false, cond, ◌&&◌, List, [], ◌∷◌, length, map, Option, Some, Result, Ok, Err}
+use Rattle.std.proofs.Common.{refl, sym, ap, ◌∙◌, subst, arith, is_eq, length-set}
 use Rattle.std.specs.Prelude.{slice_get, slice_set}
 use Rattle.std.specs.List.{insert, list_all}
 use Rattle.std.specs.Ordering.{is_lt, ordering_reverse}
@@ -190,3 +190,18 @@ all_with_item key_of test x (y ∷ ys) h all =
       | Equal ↦ join _ _ h parts.1
       | Greater ↦ join _ _ h all
     ]
+
+-- the item at the place where one with the key would stand has this key, or another
+module _ {X : Type 0} (key_of : X → Bytes) (key : Bytes) (xs : List X) (n : ℕ) (x : X) (at : n ≡ place_of key_of key xs) (there : slice_get xs n ≡ Some x) where
+  abbrev found : Bool → ℕ → Result ℕ ℕ
+  found b k = cond b (Ok k) (Err k)
+
+  found_by : (b : Bool) → b ≡ is_eq (key_cmp (key_of x) key) → found b n ≡ found_at key_of key xs
+  found_by b is =
+      ap (λ c. found c n) (is ∙ ap (has_key key_of key) (sym there)) ∙ ap (λ k. found (has_key key_of key (slice_get xs k)) k) at
+
+  pub found_there : true ≡ is_eq (key_cmp (key_of x) key) → Ok n ≡ found_at key_of key xs
+  found_there is = found_by true is
+
+  pub found_other : false ≡ is_eq (key_cmp (key_of x) key) → Err n ≡ found_at key_of key xs
+  found_other is = found_by false is

@@ -1,11 +1,12 @@
 use Rattle.std.proofs.Common.{◌≡◌, ◌++◌, ◌∷◌, [], ℕ, List, map, sym, ap, ◌∙◌, subst, arith}
 use Rattle.std.specs.Map.Iter.{deref_pair}
+use Rattle.std.specs.FinMap.{entries}
 use Rattle.fab_types.specs.Sets.{Range, IsRange}
-use Rattle.ledger_model.specs.Views.{values_of}
+use Rattle.ledger_model.specs.Views.{values_of, entries_within}
 use Rattle.host_api.specs.Recorded.{Asked}
 use Rattle.host_api.specs.HostStep.{ask_range, replies, reply_range_bytes}
 use Rattle.host_api.specs.Recording.{Recording, version_entry, key_and_value, recorded_of, range_of}
-use Rattle.host_api.proofs.Firsts.{is_range}
+use Rattle.host_api.proofs.Firsts.{few_first, is_range}
 use Rattle.host_api.proofs.Items.{told, ask_new, items_asked}
 use Rattle.host_api.proofs.recorder.Recorder.ask.Goals as goal
 
@@ -52,3 +53,9 @@ returns-clause-answer g c =
     replies (reply_range_bytes (map key_and_value (map deref_pair c.in_ok-entries.entries.items))) target capacity memory after) c.self.view_is
     (ask_new m c.self.inside.reads.items c.self.inside.ranges.items c.self.inside.result c.self.inside.writes.items c.self.invariant asked _ new
     (λ e. c.if-len-eq-MOST_RANGES.false (omega (arith, e, c.len.ensures))) (map deref_pair c.in_ok-entries.entries.items) c.in_ok-entries.ensures))
+
+pub returns-clause-count : goal.returns-clause-count
+returns-clause-count g c =
+    let within = entries_within c.in_ok-start.start c.in_ok-end.end (entries (g.V.View.state c.self.inside.view.now)) in
+    let few = few_first deref_pair c.in_ok-entries.entries.items c.args.limit within c.in_ok-entries.ensures in
+    omega (arith, few, c.requires.greatest)
