@@ -11,3 +11,6 @@ pub mod Executing
 pub mod Plain
 pub mod Stepped
 pub mod Naming
+pub mod CallSteps
+pub mod Outward
+pub mod Pushing

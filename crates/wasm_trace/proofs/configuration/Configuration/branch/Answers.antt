@@ -1,6 +1,8 @@
-use Rattle.std.proofs.Common.{◌-◌, ap, arith}
+use Rattle.std.proofs.Common.{◌-◌, ◌+◌, ap, ◌∙◌, arith}
+use Rattle.wasm_trace.specs.declared.configuration.Configuration.{Configuration}
 use Rattle.wasm_trace.specs.View.{layer_of}
 use Rattle.wasm_trace.proofs.Leaving.{frame_broken, label_missing, label_landed, loop_landed}
+use Rattle.wasm_trace.proofs.Outward.{breaks_label}
 use Rattle.wasm_trace.proofs.configuration.Configuration.branch.Goals as goal
 
 pub returns-in-Frame-clause-goes : goal.returns-in-Frame-clause-goes
@@ -29,3 +31,11 @@ pub returns-clause-goes : goal.returns-clause-goes
 returns-clause-goes g c = λ records.
     loop_landed c.args.self.now c.loop-i.self c.pop-2.new.self.items c.in-Some-pop.level _ _ c.args.k (c.args.k - c.loop-i._i) c.in-Loop.before.items records
     c.loop-i.invariant.0 c.loop-i.invariant.1 (omega (arith, c.loop-i-test.false)) c.in-Some-pop.ensures.items (ap layer_of c.in-Loop.is)
+
+pub loop-i-preserved : goal.loop-i-preserved
+loop-i-preserved g c = (
+  ap (λ (m : Configuration). record m { levels = c.pop.new.self }) c.loop-i.invariant.0,
+  λ f s loc w. c.loop-i.invariant.1 f s loc w ∙
+      breaks_label c.loop-i.self.levels.items c.pop.new.self.items c.in-Some.level c.in_default.not-Frame c.in-Some.ensures.items f s loc w
+      (c.args.k - c.loop-i._i) (c.args.k - (c.loop-i._i + 1)) (omega (arith, c.loop-i-test.true)),
+)
