@@ -16,3 +16,4 @@ pub mod Sequence
 pub mod ModuleLaws
 pub mod ModuleTheorem
 pub mod FaultLaws
+pub mod SectionSteps
