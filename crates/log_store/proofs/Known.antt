@@ -9,6 +9,7 @@ use Rattle.block_store.specs.Store.{Loads}
 use Rattle.block_store.specs.declared.end.End.TheVariants.{Damaged}
 use Rattle.block_store.proofs.Reading.{reads_on}
 use Rattle.store_devices.specs.History.{fresh}
+use Rattle.store_devices.specs.declared.Counted.{Counted}
 use Rattle.store_devices.specs.declared.history.History.{History}
 
 known_same : (known : Option (List ℕ)) → prepend_known [] known ≡ known
@@ -22,7 +23,7 @@ nothing_read {D} left file device history same new =
     ap₂ (λ (h : History) (d : D). prepend_known h.moved (left d)) new same ∙ known_same (left file)
 
 -- a piece more keeps what is known
-pub keeps_more : (moved later piece : List ℕ) (left less : Option (List ℕ)) → later ≡ moved ++ piece → Consumes left less piece →
+keeps_more : (moved later piece : List ℕ) (left less : Option (List ℕ)) → later ≡ moved ++ piece → Consumes left less piece →
     Keeps (prepend_known moved left) (prepend_known later less)
 keeps_more moved later piece None less e h = tt
 keeps_more moved later piece (Some xs) None e h = absurd h
@@ -30,11 +31,21 @@ keeps_more moved later piece (Some xs) (Some ys) e h =
     ap (λ (t : List ℕ). t ++ ys) e ∙ append_assoc moved piece ys ∙ ap (λ (t : List ℕ). moved ++ t) (sym h)
 
 -- and so do two calls
-pub keeps_on : (a b c : Option (List ℕ)) → Keeps a b → Keeps b c → Keeps a c
+keeps_on : (a b c : Option (List ℕ)) → Keeps a b → Keeps b c → Keeps a c
 keeps_on None b c h k = tt
 keeps_on (Some xs) None c h k = absurd h
 keeps_on (Some xs) (Some ys) None h k = absurd k
 keeps_on (Some xs) (Some ys) (Some zs) h k = k ∙ h
+
+-- a piece more keeps what is known of a file since `first`
+pub store_kept : {D : Type 0} (left : D → Option (List ℕ)) (first file later : Counted D) (piece : List ℕ) →
+    Keeps (prepend_known first.history.moved (left first.device)) (prepend_known file.history.moved (left file.device)) →
+    later.history.moved ≡ file.history.moved ++ piece → Consumes (left file.device) (left later.device) piece →
+    Keeps (prepend_known first.history.moved (left first.device)) (prepend_known later.history.moved (left later.device))
+store_kept left first file later piece kept e h =
+    keeps_on (prepend_known first.history.moved (left first.device)) (prepend_known file.history.moved (left file.device))
+    (prepend_known later.history.moved (left later.device)) kept
+    (keeps_more file.history.moved later.history.moved piece (left file.device) (left later.device) e h)
 
 -- what was read grows by a piece
 pub longer_on : (old moved later piece : List ℕ) → length old ≤ length moved → later ≡ moved ++ piece → length old ≤ length later

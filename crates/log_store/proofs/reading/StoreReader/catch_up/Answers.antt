@@ -1,5 +1,4 @@
 use Rattle.std.proofs.Common.{rules, ◌≡◌, ℕ, ◌<◌, ◌++◌, [], length, take, subst, sym, ap, arith}
-use Rattle.std.specs.Io.KnownBytes.{prepend_known}
 use Rattle.std.proofs.lemmas.List.{length-take}
 use Rattle.ledger_model.specs.Chain.{Chain}
 use Rattle.ledger_setting.specs.Rule.{table_of}
@@ -10,7 +9,7 @@ use Rattle.block_store.proofs.Reading.{left_falls, reads_small}
 use Rattle.store_replay.specs.Lawful.{AreLawful, IsRecommitRefused}
 use Rattle.store_replay.proofs.Lawful.{lawful_joined, refused_behind}
 use Rattle.log_roles.specs.Following.{followed_chain}
-use Rattle.log_store.proofs.Known.{damaged_loads, grows_on, keeps_more, keeps_on, longer_on, next_small, piece_read, shown_same}
+use Rattle.log_store.proofs.Known.{damaged_loads, grows_on, longer_on, next_small, piece_read, shown_same, store_kept}
 use Rattle.log_store.proofs.reading.StoreReader.catch_up.Goals as goal
 
 pub returns-in_err-follow_all-clause-refused : goal.returns-in_err-follow_all-clause-refused
@@ -88,9 +87,6 @@ pieces-preserved g c =
     let old = c.args.self.now.file in
     let file = c.pieces.self.file in
     let piece = take c.in_ok-count.count buffer in
-    let left = g.R.Read.remaining in
-    let kept = keeps_more file.history.moved moved piece (left file.device) (left c.read.new.self.device) c.in_ok-count.ensures.once.1
-    c.in_ok-count.ensures.known.0 in
     record {
       read = (
         subst (λ (chain : Chain). Reads 1 moved chain q) (sym all) read,
@@ -101,50 +97,26 @@ pieces-preserved g c =
       longer = longer_on old.history.moved file.history.moved moved piece c.pieces.invariant.longer c.in_ok-count.ensures.once.1;
       grows = grows_on old.history.moved file.history.moved moved piece c.pieces.invariant.grows c.in_ok-count.ensures.once.1;
       failures = search rules;
-      store = keeps_on (prepend_known old.history.moved (left old.device)) (prepend_known file.history.moved (left file.device))
-          (prepend_known moved (left c.read.new.self.device)) c.pieces.invariant.store kept;
+      store = store_kept g.R.Read.remaining old file c.read.new.self piece c.pieces.invariant.store c.in_ok-count.ensures.once.1
+          c.in_ok-count.ensures.known.0;
     }
 
 pub returns-in_err-records-clause-store : goal.returns-in_err-records-clause-store
 returns-in_err-records-clause-store g c =
-    let old = c.args.self.now.file in
-    let file = c.pieces.self.file in
-    let moved = c.read.new.self.history.moved in
-    let left = g.R.Read.remaining in
-    let kept = keeps_more file.history.moved moved (take c.in_ok-count.count c.read.new.buffer) (left file.device) (left c.read.new.self.device)
-    c.in_ok-count.ensures.once.1 c.in_ok-count.ensures.known.0 in
-    keeps_on (prepend_known old.history.moved (left old.device)) (prepend_known file.history.moved (left file.device))
-    (prepend_known moved (left c.read.new.self.device)) c.pieces.invariant.store kept
+    store_kept g.R.Read.remaining c.args.self.now.file c.pieces.self.file c.read.new.self (take c.in_ok-count.count c.read.new.buffer)
+    c.pieces.invariant.store c.in_ok-count.ensures.once.1 c.in_ok-count.ensures.known.0
 
 pub returns-in_err-follow_all-clause-store : goal.returns-in_err-follow_all-clause-store
 returns-in_err-follow_all-clause-store g c =
-    let old = c.args.self.now.file in
-    let file = c.pieces.self.file in
-    let moved = c.read.new.self.history.moved in
-    let left = g.R.Read.remaining in
-    let kept = keeps_more file.history.moved moved (take c.in_ok-count.count c.read.new.buffer) (left file.device) (left c.read.new.self.device)
-    c.in_ok-count.ensures.once.1 c.in_ok-count.ensures.known.0 in
-    keeps_on (prepend_known old.history.moved (left old.device)) (prepend_known file.history.moved (left file.device))
-    (prepend_known moved (left c.read.new.self.device)) c.pieces.invariant.store kept
+    store_kept g.R.Read.remaining c.args.self.now.file c.pieces.self.file c.read.new.self (take c.in_ok-count.count c.read.new.buffer)
+    c.pieces.invariant.store c.in_ok-count.ensures.once.1 c.in_ok-count.ensures.known.0
 
 pub returns-in_err-check_sound-clause-store : goal.returns-in_err-check_sound-clause-store
 returns-in_err-check_sound-clause-store g c =
-    let old = c.args.self.now.file in
-    let file = c.pieces.self.file in
-    let moved = c.read.new.self.history.moved in
-    let left = g.R.Read.remaining in
-    let kept = keeps_more file.history.moved moved (take c.in_ok-count.count c.read.new.buffer) (left file.device) (left c.read.new.self.device)
-    c.in_ok-count.ensures.once.1 c.in_ok-count.ensures.known.0 in
-    keeps_on (prepend_known old.history.moved (left old.device)) (prepend_known file.history.moved (left file.device))
-    (prepend_known moved (left c.read.new.self.device)) c.pieces.invariant.store kept
+    store_kept g.R.Read.remaining c.args.self.now.file c.pieces.self.file c.read.new.self (take c.in_ok-count.count c.read.new.buffer)
+    c.pieces.invariant.store c.in_ok-count.ensures.once.1 c.in_ok-count.ensures.known.0
 
 pub returns-then-count-eq0-clause-store : goal.returns-then-count-eq0-clause-store
 returns-then-count-eq0-clause-store g c =
-    let old = c.args.self.now.file in
-    let file = c.pieces.self.file in
-    let moved = c.read.new.self.history.moved in
-    let left = g.R.Read.remaining in
-    let kept = keeps_more file.history.moved moved (take c.in_ok-count.count c.read.new.buffer) (left file.device) (left c.read.new.self.device)
-    c.in_ok-count.ensures.once.1 c.in_ok-count.ensures.known.0 in
-    keeps_on (prepend_known old.history.moved (left old.device)) (prepend_known file.history.moved (left file.device))
-    (prepend_known moved (left c.read.new.self.device)) c.pieces.invariant.store kept
+    store_kept g.R.Read.remaining c.args.self.now.file c.pieces.self.file c.read.new.self (take c.in_ok-count.count c.read.new.buffer)
+    c.pieces.invariant.store c.in_ok-count.ensures.once.1 c.in_ok-count.ensures.known.0
