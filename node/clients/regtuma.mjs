@@ -19,6 +19,8 @@ const PAUSE = 200, SILENCE = 45_000;
 export const hex = bytes => Array.from(bytes, it => it.toString(16).padStart(2, "0")).join("");
 export const bytes = hex => Uint8Array.from(hex.match(/../g) ?? [], it => parseInt(it, 16));
 export const text = bytes => new TextDecoder().decode(bytes);
+/** Whether no other node is to be asked: one has refused, and not for now alone. */
+const isFinal = error => error instanceof NotValid && error.status !== 503;
 const pause = milliseconds => new Promise(resolve => setTimeout(resolve, milliseconds));
 
 /** The call is in no block, or is there and not VALID: `said` has the flag, or the number of a refusal, and why. */
@@ -98,30 +100,37 @@ export class Client {
   }
 
   /** What became of a transaction, for which it waits so many seconds; `pending` where it is in no block. */
-  status(id, wait = 0) {
-    return this.ask("GET", `/transactions/${id}?wait=${wait}`, undefined, [404]);
+  async status(id, wait = 0) {
+    for (const until = Date.now() + 1000 * wait; ;) {
+      const left = Math.max(0, until - Date.now()) / 1000, part = Math.min(left, this.#patience).toFixed(3);
+      const said = await this.ask("GET", `/transactions/${encodeURIComponent(id)}?wait=${part}`, undefined, [404]);
+      if (!said.pending || !left) return said;
+    }
   }
 
-  /** Whether a node is well: `ok`, and `wrong`, a list of sentences. */
+  /** Whether a node is well: `ok`, and `wrong` and `warnings`, lists of sentences. */
   health() {
     return this.ask("GET", "/healthz", undefined, [503]);
   }
 
   /**
    * Blocks from a number on, by default those that are still to come, for ever. Where a node ends the next one goes on; one that
-   * refuses ends it by `NotValid`.
+   * refuses ends it by `NotValid`, and `NoAnswer` does where no node has answered for `seconds`.
    */
   async *blocks({ from } = {}) {
-    for (;;) {
+    for (let until = 0; ;) {
       try {
-        for await (const line of this.#lines(`/events${from ? `?from=${from}` : ""}`)) {
+        for await (const line of this.#lines(`/events${from == null ? "" : `?from=${from}`}`)) {
+          until = 0;
           if (!line.startsWith("data: ")) continue;
           const block = JSON.parse(line.slice(6));
           from = block.block + 1;
           yield block;
         }
       } catch (failure) {
-        if (failure instanceof NotValid && failure.status !== 503) throw failure;
+        const error = failure instanceof NotValid ? failure : new NoAnswer(this.nodes, failure);
+        until ||= Date.now() + 1000 * this.seconds;
+        if (isFinal(error) || Date.now() > until) throw error;
       }
       this.turn++;
       await pause(PAUSE);
@@ -141,7 +150,7 @@ export class Client {
       } catch (failure) {
         error = new NoAnswer(this.nodes, failure);
       }
-      if (error instanceof NotValid && error.status !== 503 || Date.now() > until) throw error;
+      if (isFinal(error) || Date.now() > until) throw error;
       this.turn++;
       await pause(PAUSE);
     }
@@ -152,9 +161,14 @@ export class Client {
     return this.nodes[this.turn % this.nodes.length];
   }
 
-  /** Where calls are posted: a node answers before the client takes it for dead. */
+  /** How many seconds a node may wait before it answers: the client does not take it for dead yet. */
+  get #patience() {
+    return Math.max(1, this.seconds - 5);
+  }
+
+  /** Where calls are posted. */
   get #transactions() {
-    return `/transactions?wait=${Math.max(1, this.seconds - 5)}`;
+    return `/transactions?wait=${this.#patience}`;
   }
 
   /** The lines of an answer, as they come. One that is silent too long is ended. */
@@ -183,8 +197,10 @@ export async function fromEnvironment(options) {
   const { readFileSync } = await import("node:fs"), { env } = await import("node:process");
   const names = ["REGTUMA_NODES", "REGTUMA_CERT", "REGTUMA_KEY", "REGTUMA_CA"], missing = names.filter(it => !env[it]);
   if (missing.length) throw new Error(`the environment has no ${missing.join(" and no ")}`);
+  const nodes = env.REGTUMA_NODES.split(","), wrong = nodes.find(it => !/^https:\/\/[^/\s]+:\d+\/?$/.test(it));
+  if (wrong !== undefined) throw new Error(`${wrong} is no URL of a node with its port, as https://10.0.0.1:7051`);
   const [cert, key, ca] = names.slice(1).map(it => readFileSync(env[it]));
-  return new Client(env.REGTUMA_NODES.split(","), await tlsFetch({ cert, key, ca }), options);
+  return new Client(nodes.map(it => it.replace(/\/$/, "")), await tlsFetch({ cert, key, ca }), options);
 }
 
 /** A fetch with a client's certificate, for Node.js, whose own has none. `options` has `cert`, `key` and `ca`, in PEM. */

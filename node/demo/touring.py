@@ -16,10 +16,10 @@ JSON = {"Content-Type": "application/json"}
 SEVERAL = 4
 
 
-def submit(world: World, org: str, *words: str, name: str = "alice", nodes: tuple[str, ...] = (), orgs: list[str] | None = None) -> dict:
+def submit(world: World, org: str, *words: str, orgs: list[str] | None = None) -> dict:
     """What becomes of a call of the register, refused or not."""
     try:
-        return world.client(org, name, nodes).submit("assets", *words, organisations=orgs)
+        return world.client(org).submit("assets", *words, organisations=orgs)
     except Failed as failed:
         return {"why": str(failed), **failed.said}
 
@@ -46,7 +46,7 @@ def command_line(world: World) -> str:
         status, said = world.regtuma(MAKER, *words)
         expect(f"regtuma {words[0]}, which says {said}", (status, told in said), (0, True))
     expect("no such key", world.regtuma(MAKER, "get", "none"), (1, "the state has no key none"))
-    expect("what was agreed to", world.regtuma(MAKER, "agreed", name="operator"), (0, ""))
+    expect("what was agreed to", world.regtuma(MAKER, "agreed", name="operator"), (0, "nothing was agreed to"))
     return "each task of the command line answers"
 
 

@@ -131,7 +131,9 @@ class World:
         genesis = json.loads((ROOT / "examples" / "assets" / "genesis.json").read_text())
         text = json.dumps({**genesis, "count": self.block, "orgs": [self.entry(org) for org in ORGS]})
         for org in (*ORGS, DEPOT):
-            (self.room(org) / "genesis.json").write_text(text)
+            file = self.room(org) / "genesis.json"
+            file.touch(mode=0o600)
+            file.write_text(text)
         for org in ORGS:
             self.configure(org)
 
@@ -308,18 +310,18 @@ class World:
         env = self.client_env(org, name, nodes)
         return Client(env["REGTUMA_NODES"].split(","), env["REGTUMA_CERT"], env["REGTUMA_KEY"], env["REGTUMA_CA"], seconds)
 
-    def regtuma(self, org: str, *words: object, name: str = "alice", nodes: tuple[str, ...] = ()) -> tuple[int, str]:
+    def regtuma(self, org: str, *words: object, name: str = "alice") -> tuple[int, str]:
         """The status of the command line, and what it prints."""
-        return self.run_client([NODE / "bin" / "regtuma", *words], org, name, nodes)
+        return self.run_client([NODE / "bin" / "regtuma", *words], org, name)
 
-    def run_client(self, words: list, org: str, name: str = "alice", nodes: tuple[str, ...] = ()) -> tuple[int, str]:
-        env = {**os.environ, **self.client_env(org, name, nodes)}
+    def run_client(self, words: list, org: str, name: str = "alice") -> tuple[int, str]:
+        env = {**os.environ, **self.client_env(org, name)}
         ran = subprocess.run([str(it) for it in words], env=env, text=True, stdout=subprocess.PIPE, stderr=subprocess.STDOUT)
         return ran.returncode, ran.stdout.strip()
 
-    def tls(self, org: str, name: str = "alice") -> ssl.SSLContext:
+    def tls(self, org: str) -> ssl.SSLContext:
         made = ssl.create_default_context(cafile=str(self.folder / "ca.pem"))
-        made.load_cert_chain(self.room(org) / f"{name}.pem", self.room(org) / f"{name}.key")
+        made.load_cert_chain(self.room(org) / "alice.pem", self.room(org) / "alice.key")
         return made
 
     def ledger(self, *words: object, given: str | None = None) -> tuple[int, str]:

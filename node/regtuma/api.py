@@ -82,7 +82,7 @@ class Api:
         if awaited.since and now - awaited.since > STUCK + self.config.ticks.seconds(awaited.number, now) and not chain.is_full:
             wrong.append("envelopes wait, and no tick comes: etcd may have no majority")
         if (unled := time.monotonic() - chain.led) > UNLED:
-            wrong.append(f"no majority of etcd was seen for {unled:.0f} s")
+            wrong.append(f"no majority of etcd was seen for {unled:.0f} s: {chain.log.why}")
         if (unread := chain.given - chain.read) > BEHIND:
             wrong.append(f"{unread} lines of the log are unread")
         if chain.is_full:
@@ -104,8 +104,11 @@ class Api:
         first = number_of(request.query.get("from", str(newest)), "from", 1, ticks.LAST_BLOCK)
         setting, _ = await self.chain.query.text_of("setting")
         blocks = [await self.chain.block(it) for it in range(first, min(first + MOST_BLOCKS, self.chain.height + 1))]
-        template = pathlib.Path(self.config.ledger.template).read_text(encoding="utf-8")
-        text, policy = page.live(template, [setting, *blocks], self.config.organisation)
+        try:
+            template = pathlib.Path(self.config.ledger.template).read_text(encoding="utf-8")
+            text, policy = page.live(template, [setting, *blocks], self.config.organisation)
+        except (OSError, ValueError) as error:
+            raise Refused(503, {"why": f"there is no page: {error}"}) from None
         headers = {"Content-Security-Policy": policy, "X-Content-Type-Options": "nosniff", "Cache-Control": "no-store"}
         return web.Response(text=text, content_type="text/html", headers=headers)
 

@@ -9,16 +9,16 @@
     regtuma history KEY                    prints each write to a key
     regtuma status ID [--wait SECONDS]     says what became of a transaction
     regtuma watch [--from N]               prints a line for each transaction, as blocks come
-    regtuma block N                        prints a block, as `ledger show` does
+    regtuma block N                        prints a block as JSON
     regtuma height                         prints how many blocks the node has
-    regtuma health                         says whether a node is well, and what is wrong
+    regtuma health                         says whether a node is well, what is wrong, and what it warns of
     regtuma members                        prints who the members are, their keys and the policy for changes
     regtuma agree FILE         lets the node endorse the change in FILE, and prints the id that it will have
     regtuma agreed                         prints the ids of the changes that the node may endorse
     regtuma change FILE --orgs NAME,..
                                has the change in FILE committed, by organisations that have agreed: an upgrade or an amendment
 
-With --json what the node answers is printed as it is; --seconds N (40) is how long an answer may take. Nodes and certificates are
+With --json the same is printed as JSON; --seconds N (40) is how long an answer may take. Nodes and certificates are
 those of the environment's REGTUMA_NODES (URLs with commas between, asked in turn), REGTUMA_CERT, REGTUMA_KEY and REGTUMA_CA
 (files). The status is 0 where it was done; 1 where it was refused, is not VALID, is not there or is not well; 2 where the words
 name no task; 3 where no node answers.
@@ -49,7 +49,7 @@ def text_of(hex_: str) -> str:
 
 
 def say(words: argparse.Namespace, said: dict | list, text: str) -> None:
-    """Prints what a node answered, or the same in words."""
+    """Prints JSON, where that is asked for, or the same in words."""
     print(json.dumps(said) if words.json else text, flush=True)
 
 
@@ -125,7 +125,7 @@ def call(tx: dict) -> str:
     """What a transaction of a block asks for."""
     if "arg" in tx:
         return f"{tx['chaincode']} {text_of(tx['arg'])}"
-    return f"upgrade of {tx['upgrade']}" if "upgrade" in tx else "amendment of the members"
+    return f"upgrade of {tx['chaincode']}" if "upgrade" in tx else "amendment of the members"
 
 
 def block(ledger: Client, words: argparse.Namespace) -> int:
@@ -140,7 +140,8 @@ def height(ledger: Client, words: argparse.Namespace) -> int:
 
 def health(ledger: Client, words: argparse.Namespace) -> int:
     said = ledger.health()
-    say(words, said, "\n".join([f"{said['organisation']} has {said['height']} blocks", *(f"wrong: {it}" for it in said["wrong"])]))
+    told = [f"wrong: {shown(it)}" for it in said["wrong"]] + [f"warning: {shown(it)}" for it in said["warnings"]]
+    say(words, said, "\n".join([f"{said['organisation']} has {said['height']} blocks", *told]))
     return DONE if said["ok"] else NOT_DONE
 
 
@@ -164,13 +165,14 @@ def proposal_in(file: str) -> dict:
 
 
 def agree(ledger: Client, words: argparse.Namespace) -> int:
-    print(ledger.agree(proposal_in(words.file)))
+    id_ = ledger.agree(proposal_in(words.file))
+    say(words, {"id": id_}, id_)
     return DONE
 
 
 def agreed(ledger: Client, words: argparse.Namespace) -> int:
-    for id_ in ledger.ask("GET", "/agreed")["agreed"]:
-        print(id_)
+    ids = ledger.ask("GET", "/agreed")["agreed"]
+    say(words, ids, "\n".join(ids) if ids else "nothing was agreed to")
     return DONE
 
 
@@ -183,6 +185,14 @@ def change(ledger: Client, words: argparse.Namespace) -> int:
 # ---------------------------------------------------------------- the words
 
 
+def seconds(word: str) -> float:
+    """A time of a day at most. argparse says so where a word is none."""
+    found = float(word)
+    if not 0 <= found <= 86400:
+        raise ValueError(word)
+    return found
+
+
 def words_of(words: list[str]) -> argparse.Namespace:
     reader = argparse.ArgumentParser(prog="regtuma", description=__doc__, formatter_class=argparse.RawDescriptionHelpFormatter,
                                      allow_abbrev=False)
@@ -192,7 +202,7 @@ def words_of(words: list[str]) -> argparse.Namespace:
         made = tasks.add_parser(do.__name__, allow_abbrev=False)
         made.set_defaults(do=do)
         made.add_argument("--json", action="store_true")
-        made.add_argument("--seconds", type=float, default=40.0, metavar="N")
+        made.add_argument("--seconds", type=seconds, default=40.0, metavar="N")
         for place, count in places.items():
             made.add_argument(place, nargs=count or None, **({"default": ""} if count == "?" else {}))
         return made
@@ -205,7 +215,7 @@ def words_of(words: list[str]) -> argparse.Namespace:
     task(get, key="")
     task(state, start="?", end="?").add_argument("--limit", type=int, default=64, metavar="N")
     task(history, key="")
-    task(status, id="").add_argument("--wait", type=float, default=0, metavar="SECONDS")
+    task(status, id="").add_argument("--wait", type=seconds, default=0.0, metavar="SECONDS")
     task(watch).add_argument("--from", dest="first", type=int, metavar="N")
     task(block).add_argument("number", type=int)
     for do in (height, health, members, agreed):
@@ -217,6 +227,9 @@ def words_of(words: list[str]) -> argparse.Namespace:
 
 def main(words: list[str]) -> int:
     asked = words_of(words)
+    if any("\udc80" <= it <= "\udcff" for word in words for it in word):
+        print("regtuma: a word is not UTF-8", file=sys.stderr)
+        return NO_TASK
     try:
         return asked.do(from_environment(asked.seconds), asked)
     except Failed as failed:

@@ -25,6 +25,7 @@ import time
 from collections.abc import Iterable, Iterator
 from urllib.parse import quote, urlencode, urlsplit
 
+from .fields import url
 from .wire import id_of
 
 # What is tried again: flags of a conflict and of a phantom, and the orderer's answers to a batch that has no legal order.
@@ -33,6 +34,8 @@ CONFLICTS, ABORTED = (2, 3), (441, 442)
 PAUSE = 0.2
 # How long a stream of blocks may be silent: a node says something each 15 seconds.
 SILENCE = 45.0
+# What there is where a node gives no answer, or none that a node gives.
+FAILURES = (OSError, http.client.HTTPException, ValueError)
 # The environment's names of the nodes' URLs, with commas between, and of the files of certificate, key and authorities.
 SETTINGS = ("REGTUMA_NODES", "REGTUMA_CERT", "REGTUMA_KEY", "REGTUMA_CA")
 
@@ -89,6 +92,9 @@ class Client:
     def __init__(self, nodes: list[str], certificate: str, key: str, authorities: str, seconds: float = 40.0):
         """`nodes` are URLs, asked in turn; files are in PEM. After `seconds` without an answer a call fails."""
         self.nodes, self.seconds = nodes, seconds
+        for it in nodes:
+            if not url(it):
+                raise Failed(f"{it} is no URL of a node with its port, as https://10.0.0.1:7051")
         try:
             self.tls = ssl.create_default_context(cafile=authorities)
             self.tls.load_cert_chain(certificate, key)
@@ -148,7 +154,13 @@ class Client:
 
     def status(self, id: str, wait: float = 0) -> dict:
         """What became of a transaction, for which it waits so many seconds; `pending` where it is in no block."""
-        return self.ask("GET", f"/transactions/{id}?wait={wait:g}", accept=(404,))
+        until = time.monotonic() + wait
+        while True:
+            left = max(0.0, until - time.monotonic())
+            path = f"/transactions/{quote(id, safe='')}?wait={min(left, self._patience):.3f}"
+            said = self.ask("GET", path, accept=(404,))
+            if not said.get("pending") or not left:
+                return said
 
     def members(self) -> dict:
         """The membership that stands: `serial`, `members` and `policy`."""
@@ -172,25 +184,26 @@ class Client:
         return self.ask("GET", f"/blocks/{number}")
 
     def health(self) -> dict:
-        """Whether a node is well: `ok`, and `wrong`, a list of sentences."""
+        """Whether a node is well: `ok`, and `wrong` and `warnings`, lists of sentences."""
         return self.ask("GET", "/healthz", accept=(503,))
 
     def blocks(self, first: int | None = None) -> Iterator[dict]:
         """Blocks from a number on, by default those that are still to come, for ever. Where a node ends the next one goes on; one
-        that refuses ends it by `Refused`."""
-        link = Link(self, self._link().turn)
+        that refuses ends it by `Refused`, and `NoAnswer` does where no node has answered for `seconds`."""
+        link, until = Link(self, self._link().turn), 0.0
         while True:
             try:
-                answer = link.begin("GET", "/events" + (f"?from={first}" if first else ""), None, SILENCE)
-                if answer.status not in (200, 503):
+                answer = link.begin("GET", "/events" + ("" if first is None else f"?from={first}"), None, SILENCE)
+                if answer.status != 200:
                     raise Refused(answer.status, json.loads(answer.read()))
-                for line in answer:
-                    if line.startswith(b"data: "):
-                        block = json.loads(line[6:])
-                        first = block["block"] + 1
-                        yield block
-            except (OSError, http.client.HTTPException, ValueError):
-                pass
+                until = 0.0
+                for block in blocks_in(answer):
+                    first = block["block"] + 1
+                    yield block
+            except (Refused, *FAILURES) as error:
+                why, until = self._why(error), until or time.monotonic() + self.seconds
+                if is_final(why) or time.monotonic() > until:
+                    raise why from None
             finally:
                 link.leave()
             time.sleep(PAUSE)
@@ -205,18 +218,29 @@ class Client:
                 if answer.status < 400 or answer.status in accept:
                     return said
                 why: Failed = Refused(answer.status, said)
-                if answer.status != 503:
+                if is_final(why):
                     raise why
-            except (OSError, http.client.HTTPException, ValueError) as error:
-                why = NoAnswer(f"no node answers, of {', '.join(self.nodes)}: {str(error) or type(error).__name__}")
+            except FAILURES as error:
+                why = self._why(error)
             link.leave()
             if time.monotonic() > until:
                 raise why
             time.sleep(PAUSE)
 
+    def _why(self, error: Exception) -> Failed:
+        """What a node refused, or that no node answers."""
+        if isinstance(error, Refused):
+            return error
+        return NoAnswer(f"no node answers, of {', '.join(self.nodes)}: {str(error) or type(error).__name__}")
+
+    @property
+    def _patience(self) -> float:
+        """How long a node may wait before it answers: the client does not take it for dead yet."""
+        return max(1.0, self.seconds - 5)
+
     def _transactions(self) -> str:
-        """Where calls are posted: a node answers before the client takes it for dead."""
-        return f"/transactions?wait={max(1.0, self.seconds - 5):g}"
+        """Where calls are posted."""
+        return f"/transactions?wait={self._patience:g}"
 
     def _link(self) -> Link:
         """This thread's connection."""
@@ -231,6 +255,16 @@ def call_of(chaincode: str, args: Iterable[str] = (), arg: bytes | None = None, 
     data = " ".join(args).encode() if arg is None else arg
     call = {"chaincode": chaincode, "arg": data.hex(), "nonce": nonce or secrets.token_hex(16)}
     return {**call, "organisations": organisations} if organisations else call
+
+
+def blocks_in(answer: Iterable[bytes]) -> Iterator[dict]:
+    """The blocks of a stream's lines."""
+    return (json.loads(line[6:]) for line in answer if line.startswith(b"data: "))
+
+
+def is_final(why: Failed) -> bool:
+    """Whether no other node is to be asked: one has refused, and not for now alone."""
+    return isinstance(why, Refused) and why.status != 503
 
 
 def failure(said: dict) -> Failed:

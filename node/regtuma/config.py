@@ -12,10 +12,15 @@ from .fields import OF_ORGANISATIONS, ORGANISATION, TABLES, Field
 from .ticks import Ticks
 
 CERTIFICATE = re.compile("-----BEGIN CERTIFICATE-----.+?-----END CERTIFICATE-----", re.DOTALL)
+# A seed, or a password as OPERATIONS.md makes it; and what a genesis file with a shared key has.
+SECRET, SHARED_KEY = re.compile("[0-9A-Fa-f]{32,}"), re.compile(rb'"key"\s*:')
 
 
 class Mistake(Exception):
-    """What is wrong with the configuration, in one sentence."""
+    """What is wrong with the configuration, in one sentence. What may be a secret is not told."""
+
+    def __init__(self, why: str):
+        super().__init__(SECRET.sub("..", why))
 
 
 @dataclasses.dataclass
@@ -175,6 +180,16 @@ class Reader:
                 file = values[name]
                 raise self.mistake(table, name, f"names {file}, which others than its owner may read: chmod 600 {file}")
 
+    def check_genesis(self, ledger: dict) -> None:
+        """One with a shared key is a file with secrets."""
+        file = ledger["genesis"]
+        try:
+            is_secret = SHARED_KEY.search(pathlib.Path(file).read_bytes())
+        except OSError as error:
+            raise self.mistake("ledger", "genesis", f"names {file}, which cannot be read: {error.strerror}") from None
+        if is_secret:
+            self.secret("ledger", ledger, "genesis")
+
 
 def read(file: str) -> Config:
     """The configuration of a file. Names of files in it are taken from where it stands."""
@@ -185,6 +200,7 @@ def read(file: str) -> Config:
     etcd = reader.near("etcd", reader.table("etcd"), "certificate", "key", "password_file")
     for table, values in (("ledger", ledger), ("tls", tls), ("etcd", etcd)):
         reader.secret(table, values, *(["keys"] if table == "ledger" else ["key", "password_file"]))
+    reader.check_genesis(ledger)
     if ("user" in etcd) != ("password_file" in etcd):
         raise reader.mistake("etcd", "user", "and password_file go together: name both, or none")
     given = reader.table("authorities")

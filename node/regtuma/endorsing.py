@@ -15,8 +15,8 @@ from .wire import id_of
 # What an endorser ends by where its organisation has no place in the ledger, as it may have later.
 NO_PLACE = {"refused 806": "the organisation is no member: not yet, or no more",
             "refused 808": "the key file has not the seed of the key by which the organisation stands"}
-# After how many seconds it is begun again then, and how long one endorsement of a change may take.
-PAUSE, CHANGE_SECONDS = 5.0, 60.0
+# After how many seconds it is begun again then, and how long one endorsement of a change may take, and an answer of the approver.
+PAUSE, CHANGE_SECONDS, APPROVAL_SECONDS = 5.0, 60.0, 30.0
 
 
 class Agreed:
@@ -44,6 +44,16 @@ class Approver(Asked):
     def is_last(self, _line: str) -> bool:
         """Any line is an answer, also one that begins as a refusal of the program does."""
         return False
+
+    async def _hand_on(self) -> None:
+        """One that is asked and says nothing has ended: its answers would be taken for those to other questions."""
+        is_asked = bool(self.waiting)
+        try:
+            async with asyncio.timeout(APPROVAL_SECONDS):
+                await super()._hand_on()
+        except TimeoutError:
+            if is_asked:
+                raise FilterEnded(f"{self.name} has given no answer for {APPROVAL_SECONDS:g} s") from None
 
 
 class Endorsing:
@@ -78,13 +88,18 @@ class Endorsing:
             except FilterEnded as ended:
                 if (why := out_of_place(ended)) is None:
                     raise
-                if self.out_of_place is None:
+                if self.out_of_place != why:
                     self.chain.say(f"nothing is endorsed: {why}")
                 self.out_of_place = why
             await asyncio.sleep(PAUSE)
             while not await self.chain.at_least(height + 1, 60.0):
                 pass
             await endorser.start()
+            endorser.ask(f"seen {self.chain.height}").add_done_callback(self.find_place)
+
+    def find_place(self, said: asyncio.Future[str]) -> None:
+        """The organisation has a place again, where an endorser that was begun again has answered."""
+        if said.exception() is None:
             self.out_of_place = None
 
     # ---------------------------------------------------------------- endorsements

@@ -59,7 +59,7 @@ class Filter:
         *lines, rest = (self.begun + piece).split(b"\n")
         too_long = TooLong(f"{self.name} has an answer of more than {LONGEST >> 20} MiB: ask for less")
         for line in lines:
-            self.unread.append(too_long if self.is_cut or len(line) > LONGEST else line.decode())
+            self.unread.append(too_long if self.is_cut or len(line) > LONGEST else line.decode(errors="replace"))
             self.is_cut = False
         self.is_cut = self.is_cut or len(rest) > LONGEST
         self.begun = b"" if self.is_cut else rest

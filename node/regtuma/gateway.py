@@ -8,6 +8,7 @@ from .chain import FULL, Chain
 from .config import Config
 from .endorsing import Endorsing
 from .etcd import LogError
+from .filters import FilterEnded
 from .links import Batches, Link
 from .proposals import Refused, call_of, check, checked, organisations_of
 from .wire import envelope, id_of
@@ -239,4 +240,8 @@ class Own(Batches):
         self.endorsing, self.caller = endorsing, caller
 
     async def answers(self, proposals: list[dict], height: int) -> list[dict] | None:
-        return await self.endorsing.answers(self.caller, proposals, height)
+        try:
+            return await self.endorsing.answers(self.caller, proposals, height)
+        except FilterEnded:
+            # The approver has ended, of which the node tells where it ends for it.
+            return None

@@ -119,7 +119,7 @@ def main(words: list[str]) -> int:
         said = asyncio.run(work(configuration.read(file), task))
         sys.stdout.buffer.write(said if isinstance(said, bytes) else f"{said}\n".encode())
         return 0
-    except (Mistake, NotDone, LogError, OSError) as error:
+    except (Mistake, NotDone, LogError, OSError, ValueError) as error:
         print(f"regtuma-log: {error}", file=sys.stderr)
         return 1
 

@@ -134,13 +134,13 @@ def main(words: list[str]) -> int:
         return 2
     try:
         config = configuration.read(words[0])
-        # What etcd, keys and certificates are is read here, so that a bad one is told before anything is begun.
-        config.server_tls(), config.etcd_tls()
+        # Certificates, keys and the password are read here, so that a bad one is told before anything is begun.
+        config.server_tls(), config.etcd_tls(), config.password()
     except Mistake as mistake:
         print(f"regtuma-node: {mistake}", file=sys.stderr)
         return 2
     except (OSError, ValueError) as error:
-        print(f"regtuma-node: a certificate or key of {words[0]} is not read: {error}", file=sys.stderr)
+        print(f"regtuma-node: a certificate, key or password of {words[0]} is not read: {error}", file=sys.stderr)
         return 2
     return asyncio.run(serve(config))
 

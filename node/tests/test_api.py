@@ -184,6 +184,10 @@ class Reads(Case):
         self.chain.query.answers["setting"] = {"ledger": "</script><b>"}
         status, text = await self.get("/")
         self.assertEqual((status, "new EventSource(" in text, "</script><b>" in text, "\\u003c/script>" in text), (200, True, False, True))
+        for template, told in [(support.ROOT / "VERSION", "the template of the page is none"), (support.ROOT / "none", "No such file")]:
+            self.config.ledger.template = str(template)
+            status, said = await self.get("/")
+            self.assertEqual((status, told in said["why"]), (503, True))
         self.config.ledger.template = ""
         self.assertEqual((await self.get("/"))[0], 404)
 
@@ -209,6 +213,10 @@ class Health(Case):
                     changed.enter_context(mock.patch.object(self.chain, name, value))
                 status, said = await self.get("/healthz")
                 self.assertEqual((status, said["ok"], said["wrong"][0][:len(told)]), (503, False, told))
+
+    async def test_why_etcd_has_no_majority(self):
+        self.chain.led = -1e6
+        self.assertRegex((await self.get("/healthz"))[1]["wrong"][0], r"^no majority of etcd was seen for \d+ s: no leader$")
 
     async def test_what_people_should_know(self):
         self.chain.height, self.api.endorsing.out_of_place = LAST_BLOCK - 9, "refused 806"

@@ -6,7 +6,7 @@ from unittest import mock
 
 import support
 from regtuma import chain as chains
-from regtuma import config, filters, gateway
+from regtuma import config, endorsing, filters, gateway
 from regtuma.chain import Asking, Awaited, Chain
 from regtuma.endorsing import Agreed, Approver, Endorsing
 from regtuma.etcd import LogError
@@ -43,7 +43,7 @@ class FakeLog:
     """Takes entries, or fails."""
 
     def __init__(self, failure: str = ""):
-        self.failure, self.entries = failure, {}
+        self.failure, self.entries, self.why = failure, {}, "no leader"
 
     async def append(self, name: str, marks: list[str], _patience: float = 0) -> bool:
         if self.failure:
@@ -242,6 +242,29 @@ class Endorsements(Case):
         self.assertEqual(said, [{"payload": "aa", "endorsement": "01", "height": 0}, {"denied": "not today", "height": 0}])
         self.assertEqual(json.loads(self.endorsing.approver.given[0]), {"asker": "Shop/node", **CALL})
 
+    async def test_who_has_no_place_is_told_once(self):
+        endorser = self.endorsing.endorsers[0]
+        endorser.command = ["sh", "-c", "echo refused 806; exit 1"]
+        await endorser.start()
+        with mock.patch.object(endorsing, "PAUSE", 0.0):
+            work = asyncio.ensure_future(self.endorsing.follow(endorser))
+            for number in range(1, 4):
+                if number == 3:
+                    endorser.command = ["cat"]
+                while not endorser.ended:
+                    await asyncio.sleep(0.01)
+                self.assertIsNotNone(self.endorsing.out_of_place)
+                before = endorser.process
+                await self.chain.committed(number)
+                while endorser.process is before:
+                    await asyncio.sleep(0.01)
+            while self.endorsing.out_of_place:
+                await asyncio.sleep(0.01)
+        work.cancel()
+        await asyncio.gather(work, return_exceptions=True)
+        await endorser.close()
+        self.assertEqual(self.said, ["nothing is endorsed: the organisation is no member: not yet, or no more"])
+
     async def test_what_an_endorser_answers(self):
         self.endorsing.endorsers = [Says("endorsed aa 01", "refused 404 status 2", "bad line 3")]
         self.assertEqual(await self.endorsed(CALL, CALL, CALL, CALL), [
@@ -323,6 +346,10 @@ class Calls(Case):
         self.assertEqual(len(self.asked), 6)
         self.answer(Maker=[ENDORSED] * 3, Carrier=[{**no_module, "height": 2}, no_module, ENDORSED])
         self.assertEqual(await self.gateway.endorsed("Maker/alice", CALL, None), "aa020101")
+
+    async def test_an_approver_that_has_ended_gives_no_answer(self):
+        self.endorsing.approver = Says()
+        self.assertEqual(await self.refusal(["Maker"]), (503, "no answer of Maker"))
 
     async def test_an_unknown_organisation(self):
         self.assertEqual(await self.refusal(["Nobody"]), (422, "no node of Nobody is known here"))
@@ -421,12 +448,26 @@ class Filters(unittest.IsolatedAsyncioTestCase):
         await asked.close()
 
     async def test_any_line_of_an_approver_is_an_answer(self):
-        approver = Approver("cat", ["cat"])
+        approver = Approver("cat", ["sh", "-c", "read it; printf '\\377\\n'; cat"])
         await approver.start()
         work = asyncio.ensure_future(approver.follow())
+        self.assertEqual(await approver.ask("{}"), "\ufffd")
         self.assertEqual(await approver.ask("refused by the board"), "refused by the board")
         work.cancel()
         await asyncio.gather(work, return_exceptions=True)
+        await approver.close()
+
+    async def test_an_approver_that_is_asked_and_says_nothing_has_ended(self):
+        approver = Approver("the approver", ["sh", "-c", "cat > /dev/null"])
+        await approver.start()
+        with mock.patch.object(endorsing, "APPROVAL_SECONDS", 0.1):
+            work = asyncio.ensure_future(approver.follow())
+            await asyncio.sleep(0.3)
+            self.assertFalse(work.done())
+            with self.assertRaisesRegex(FilterEnded, "^the approver has given no answer for 0.1 s$"):
+                await approver.ask("{}")
+            with self.assertRaises(FilterEnded):
+                await work
         await approver.close()
 
     async def test_one_that_is_begun_again_answers_those_who_ask_then(self):

@@ -1,12 +1,31 @@
 """The client and its command line: what is printed, and how a stream of blocks goes on and ends."""
+import contextlib
 import io
+import json
+import os
+import re
+import shutil
+import subprocess
 import threading
+import time
 import unittest
 from unittest import mock
 
 import support
 from regtuma import cli, client as clients
-from regtuma.client import Client, Link, Refused
+from regtuma.client import Client, Failed, Link, NoAnswer, Refused
+
+TXS = [{"id": "ab", "flag": 0, "chaincode": "assets", "arg": "61"}, {"id": "cd", "flag": 0, "chaincode": "assets", "upgrade": {"fuel": 1}},
+       {"id": "ef", "flag": 2, "amend": {}}]
+WELL = {"ok": True, "organisation": "Maker", "height": 4, "wrong": [], "warnings": ["the chain has 9 blocks left\x1b"]}
+# A client in JavaScript over a node that does not answer, and one that knows no transaction, and answers when it is told to.
+DEAD = 'const dead = new Client(["https://1:1"], async () => { throw new Error("no way"); }, { seconds: 0.3 });'
+SLOW = """
+const asked = [], slow = new Client(["https://1:1"], async url => {
+  asked.push(url);
+  await new Promise(resolve => setTimeout(resolve, 1000 * url.split("=")[1]));
+  return new Response('{"pending":true}', { status: 404 });
+});"""
 
 
 class Answer(io.BytesIO):
@@ -22,6 +41,49 @@ def client_of(*nodes: str) -> Client:
     client = Client.__new__(Client)
     client.nodes, client.own, client.seconds = list(nodes), threading.local(), 1.0
     return client
+
+
+def told(*words: str, given: str = "", **answers) -> tuple[int, str]:
+    """The status of the command line, and what it prints, over a client that answers so."""
+    out, ledger = io.StringIO(), mock.Mock(**{f"{name}.return_value": it for name, it in answers.items()})
+    changed = (mock.patch.object(cli, "from_environment", return_value=ledger), mock.patch("sys.stdin", io.StringIO(given)),
+               contextlib.redirect_stdout(out), contextlib.redirect_stderr(out))
+    with contextlib.ExitStack() as stack:
+        for it in changed:
+            stack.enter_context(it)
+        return cli.main(list(words)), out.getvalue()
+
+
+class CommandLine(unittest.TestCase):
+    def test_each_transaction_has_a_line(self):
+        blocks = [{"block": 4, "txs": TXS}]
+        lines = ["4.0 assets a, flag 0, id ab", "4.1 upgrade of assets, flag 0, id cd", "4.2 amendment of the members, flag 2, id ef"]
+        self.assertEqual(told("watch", blocks=blocks), (0, "".join(f"{it}\n" for it in lines)))
+        status, said = told("watch", "--json", blocks=blocks)
+        self.assertEqual([json.loads(it) for it in said.splitlines()], [{"block": 4, "place": place, **tx} for place, tx in enumerate(TXS)])
+
+    def test_health_tells_what_is_wrong_and_what_it_warns_of(self):
+        self.assertEqual(told("health", health=WELL), (0, "Maker has 4 blocks\nwarning: the chain has 9 blocks left\\x1b\n"))
+        wrong = {**WELL, "ok": False, "wrong": ["forked"], "warnings": []}
+        self.assertEqual(told("health", health=wrong), (1, "Maker has 4 blocks\nwrong: forked\n"))
+
+    def test_agreements(self):
+        self.assertEqual(told("agree", "-", given='{"members":[]}', agree="ab"), (0, "ab\n"))
+        self.assertEqual(told("agree", "-", "--json", given='{"members":[]}', agree="ab"), (0, '{"id": "ab"}\n'))
+        for ids, words, said in [(["ab", "cd"], [], "ab\ncd\n"), ([], [], "nothing was agreed to\n"), (["ab"], ["--json"], '["ab"]\n')]:
+            self.assertEqual(told("agreed", *words, ask={"agreed": ids}), (0, said))
+
+    def test_words_that_are_none(self):
+        self.assertEqual(told("get", "\udcff"), (2, "regtuma: a word is not UTF-8\n"))
+        for it in ("nan", "-1", "1e12", "x"):
+            with self.subTest(it=it), self.assertRaises(SystemExit) as raised:
+                told("status", "ab", f"--wait={it}")
+            self.assertEqual(raised.exception.code, 2)
+
+    def test_a_stream_that_no_node_gives(self):
+        ledger = mock.Mock(blocks=mock.Mock(side_effect=NoAnswer("no node answers")))
+        with mock.patch.object(cli, "from_environment", return_value=ledger), contextlib.redirect_stdout(io.StringIO()) as out:
+            self.assertEqual((cli.main(["watch"]), out.getvalue()), (3, "no node answers\n"))
 
 
 class Clients(unittest.TestCase):
@@ -50,10 +112,67 @@ class Clients(unittest.TestCase):
             blocks.close()
         self.assertEqual(asked, [("/events?from=1", 0), ("/height", 0), ("/events?from=2", 1)])
 
+    def test_a_stream_ends_where_no_node_answers(self):
+        client = client_of("https://1:1", "https://2:1")
+        client.seconds = 0.2
+        for answer, failure, why in [(ConnectionRefusedError("no way"), NoAnswer, "^no node answers, of https://1:1, https://2:1: no way$"),
+                                     (lambda *_: Answer(503, b'{"why":"not now"}'), Refused, "^not now$")]:
+            with self.subTest(why=why), mock.patch.object(Link, "begin", side_effect=answer), mock.patch.object(clients, "PAUSE", 0.05):
+                with self.assertRaisesRegex(failure, why):
+                    next(client.blocks())
+
+    def test_a_stream_begins_where_it_is_asked_to(self):
+        with mock.patch.object(Link, "begin", return_value=Answer(400, b'{"why":"from is a number"}')) as begin:
+            for first, path in ((None, "/events"), (0, "/events?from=0")):
+                with self.assertRaises(Refused):
+                    next(client_of("https://1:1").blocks(first))
+                self.assertEqual(begin.call_args.args[1], path)
+                begin.return_value = Answer(400, b'{"why":"from is a number"}')
+
+    def test_a_transaction_is_waited_for_in_parts(self):
+        asked = []
+
+        def begin(_link: Link, _method: str, path: str, _body: None, _seconds: float) -> Answer:
+            asked.append(path)
+            time.sleep(float(path.rpartition("=")[2]))
+            return Answer(404, b'{"pending":true}')
+        with mock.patch.object(Link, "begin", begin), mock.patch.object(Client, "_patience", 0.1):
+            self.assertEqual(client_of("https://1:1").status("a b/c", 0.15), {"pending": True})
+        self.assertEqual((asked[0], asked[-1]), ("/transactions/a%20b%2Fc?wait=0.100", "/transactions/a%20b%2Fc?wait=0.000"))
+
+    def test_a_node_has_a_url(self):
+        for it in ("10.0.0.1:7051", "http://10.0.0.1:7051", "https://10.0.0.1", "https://[::1", ""):
+            with self.subTest(it=it), self.assertRaisesRegex(Failed, f"^{re.escape(it)} is no URL of a node with its port, as https://10.0.0.1:7051$"):
+                Client([it], "none.pem", "none.key", "none.pem")
+
     def test_a_call_is_made_once_at_least(self):
         client = client_of()
         client.outcome = lambda call: {"valid": True, "arg": call["arg"]}
         self.assertEqual(client.submit("assets", "x", tries=0)["arg"], b"x".hex())
+
+
+@unittest.skipUnless(shutil.which("node"), "no Node.js")
+class InJavascript(unittest.TestCase):
+    def said(self, script: str, **env: str) -> str:
+        """What a script over the client prints."""
+        module = json.dumps((support.ROOT / "node" / "clients" / "regtuma.mjs").as_uri())
+        text = f"import {{ Client, fromEnvironment }} from {module};\n{script}"
+        ran = subprocess.run(["node", "--input-type=module", "-e", text], env={**os.environ, **env}, capture_output=True, text=True, timeout=60)
+        return ran.stdout + (ran.stderr if ran.returncode else "")
+
+    def test_a_stream_ends_where_no_node_answers(self):
+        said = self.said(DEAD + "try { await dead.blocks().next(); } catch (error) { console.log(`${error.name}: ${error.message}`); }")
+        self.assertEqual(said, "NoAnswer: no node answers, of https://1:1: no way\n")
+
+    def test_a_transaction_is_waited_for_in_parts(self):
+        said = self.said(SLOW + "slow.seconds = 6; console.log(await slow.status('a b/c', 1.2), asked[0], asked.at(-1));")
+        path = "https://1:1/transactions/a%20b%2Fc"
+        self.assertEqual(said, f"{{ pending: true }} {path}?wait=1.000 {path}?wait=0.000\n")
+
+    def test_a_node_has_a_url(self):
+        env = {it: "none" for it in clients.SETTINGS}
+        said = self.said("await fromEnvironment().catch(error => console.log(error.message));", **env)
+        self.assertEqual(said, "none is no URL of a node with its port, as https://10.0.0.1:7051\n")
 
 
 if __name__ == "__main__":

@@ -1,5 +1,7 @@
 """Each mistake of a configuration is told in one sentence, with its place."""
+import pathlib
 import unittest
+from unittest import mock
 
 import support
 from regtuma import config
@@ -23,6 +25,8 @@ MISTAKES = [
     ('keys = "maker.key"', 'seen = 1.5', "[ledger] seen has to be a whole number from 1 to 65535, and is 1.5"),
     ('keys = "maker.key"', 'approver = "yes"', "[ledger] approver has to be a command, as a list of words"),
     ('keys = "maker.key"', 'past_forks = "no"', "[ledger] past_forks has to be true or false"),
+    ('keys = "maker.key"', f'keys = "{32 * "5e"}"', "line 9: [ledger] keys names "),
+    ('"etcd.password"', f'"{16 * "5e"}"', "line 22: [etcd] password_file names "),
     ('[tls]\ncertificate = "node.pem"\n', '[tls]\n', "line 11: [tls] certificate is missing"),
     ('Carrier = "carrier.ca.pem"\n', '', "line 15: [authorities] Carrier is missing: name the file with its authority's certificate"),
     ('Carrier = "carrier.ca.pem"', 'Carrier = "maker.ca.pem"', "line 17: [authorities] Carrier names "),
@@ -63,6 +67,8 @@ class Mistakes(unittest.TestCase):
                 said = str(raised.exception)
                 self.assertIn(told, said)
                 self.assertNotIn("\n", said)
+                # No secret is told that stands in the place of a file's name.
+                self.assertNotIn("5e5e", said)
                 self.assertIn("node.toml", said)
 
     def test_secrets_are_the_owners_alone(self):
@@ -72,6 +78,20 @@ class Mistakes(unittest.TestCase):
                 with self.assertRaisesRegex(config.Mistake, f"{name}, which others than its owner may read: chmod 600 "):
                     self.folder.config()
                 (self.folder.path / name).chmod(0o600)
+
+    def test_a_genesis_file_with_a_shared_key_is_the_owners_alone(self):
+        genesis = self.folder.path / "genesis.json"
+        genesis.chmod(0o644)
+        genesis.write_text('{"orgs":[{"name":"key","public":"00"}]}')
+        self.folder.config()
+        genesis.write_text('{"orgs":[{"name":"A","key" : "00"}]}')
+        with self.assertRaisesRegex(config.Mistake, r"genesis names .*genesis.json, which others than its owner may read: chmod 600 "):
+            self.folder.config()
+        genesis.chmod(0o600)
+        self.folder.config()
+        refused = mock.patch.object(pathlib.Path, "read_bytes", side_effect=PermissionError(13, "Permission denied"))
+        with refused, self.assertRaisesRegex(config.Mistake, r"genesis names .*genesis.json, which cannot be read: Permission denied$"):
+            self.folder.config()
 
     def test_no_table_is_left_out_by_another_kind(self):
         text = support.CONFIGURATION.replace("[ticks]\nwait = 0.5\n", "")

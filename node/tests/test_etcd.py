@@ -121,6 +121,7 @@ class Failures(unittest.IsolatedAsyncioTestCase):
         node = Node(*[NO_LEADER] * 50)
         log = await self.log(node)
         self.assertFalse(await log.is_led())
+        self.assertEqual(log.why, "etcdserver: no leader")
         with self.assertRaisesRegex(LogError, "^no node of etcd did it in 0.2 s: etcdserver: no leader$"):
             await log.append("Maker/a", ["x"], 0.2)
 

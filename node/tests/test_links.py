@@ -1,6 +1,8 @@
 """Another organisation's node, which answers in time, late, or not at all; and what is put into the log by hand."""
 import asyncio
+import contextlib
 import hashlib
+import io
 import unittest
 from unittest import mock
 
@@ -90,9 +92,9 @@ class Links(unittest.IsolatedAsyncioTestCase):
 
 class ByHand(unittest.IsolatedAsyncioTestCase):
     async def asyncSetUp(self):
-        folder = support.Folder()
-        self.addCleanup(folder.close)
-        self.config = folder.config()
+        self.folder = support.Folder()
+        self.addCleanup(self.folder.close)
+        self.config = self.folder.config()
 
     async def log(self, *answered) -> Log:
         self.node = await self.enterAsyncContext(Node(*answered))
@@ -122,6 +124,14 @@ class ByHand(unittest.IsolatedAsyncioTestCase):
         self.config.ledger.program = "false"
         with self.assertRaisesRegex(log.NotDone, "^`false marks a b` answers: status 1$"):
             log.asked(self.config, "marks", "a", "b")
+
+    async def test_a_password_that_is_no_text_is_told(self):
+        file = self.folder.path / "etcd.password"
+        file.write_bytes(b"\xff")
+        said = io.StringIO()
+        with contextlib.redirect_stderr(said):
+            status = await asyncio.to_thread(log.main, [self.config.file, "begin"])
+        self.assertEqual((status, said.getvalue().startswith("regtuma-log: 'utf-8' codec can't decode ")), (1, True))
 
 
 if __name__ == "__main__":

@@ -6,7 +6,7 @@ import unittest
 from unittest import mock
 
 import support
-from regtuma import node
+from regtuma import config, node
 from regtuma.filters import FilterEnded
 
 
@@ -35,7 +35,13 @@ class Starts(unittest.TestCase):
 
     def test_a_certificate_that_is_none(self):
         status, said = self.told(self.folder.write(support.CONFIGURATION))
-        self.assertEqual((status, "a certificate or key of " in said, "Traceback" in said), (2, True, False))
+        self.assertEqual((status, "a certificate, key or password of " in said, "Traceback" in said), (2, True, False))
+
+    def test_a_password_that_cannot_be_read(self):
+        file, refused = self.folder.write(support.CONFIGURATION), PermissionError(13, "Permission denied", "etcd.password")
+        with mock.patch.multiple(config.Config, server_tls=mock.Mock(), etcd_tls=mock.Mock(), password=mock.Mock(side_effect=refused)):
+            told = f"regtuma-node: a certificate, key or password of {file} is not read: [Errno 13] Permission denied: 'etcd.password'\n"
+            self.assertEqual(self.told(file), (2, told))
 
     def test_a_program_of_other_lines_is_refused(self):
         for script, told in [("echo '{\"lines\":2}'", "speaks lines of number 2, and this node those of number 1"),
