@@ -75,7 +75,3 @@ def dist() -> pathlib.Path:
         made.write_bytes(pack(tree, name))
     (OUT / DIGESTS).write_text(f"{digest(made)}  {made.name}\n", encoding="ascii")
     return made
-
-
-if __name__ == "__main__":
-    print(__doc__)

@@ -50,15 +50,15 @@ def rows(page: str) -> Iterator[Row]:
             yield Row(first, rest[0], rest[1] if len(rest) > 1 else "", f"docs/{page}.md, {heading}")
 
 
-def has(row: Row, number: int) -> bool:
-    return str(number) in NUMBERS.fullmatch(row.cell)[1].split(", ")
+def has(row: Row, number: str) -> bool:
+    return number in NUMBERS.fullmatch(row.cell)[1].split(", ")
 
 
 def explained(number: str) -> str:
     """The rows of a number."""
     if not number.isdecimal():
         raise NoNumber(f"a number is asked for, such as 703, and this is none: {number}")
-    found = [row.text() for page in PAGES for row in rows(page) if has(row, int(number))]
+    found = [row.text() for page in PAGES for row in rows(page) if has(row, number)]
     if not found:
-        raise NoNumber(f"the program tells no number {int(number)}: docs/FORMATS.md lists them")
+        raise NoNumber(f"the program tells no number {number}: docs/FORMATS.md lists them")
     return "\n".join(found)

@@ -151,11 +151,11 @@ def hint(name: str) -> str:
     return OF_THE_FILE if name in FIELDS else ""
 
 
-def genesis_file(file: str, program: str | None = None) -> str:
-    """The text of the genesis file. The program, by default the one that ./ledger runs, reads keys and the text."""
+def genesis_file(file: str) -> str:
+    """The text of the genesis file. The program that ./ledger runs reads keys and the text."""
     network = Table(pathlib.Path(file).absolute().parent, quoted(file), parsed(file))
     orgs, rest = described(network)
-    program = program or str(find())
+    program = str(find())
     genesis = {"orgs": with_public_keys(network, orgs, program), **rest}
     number = refusal(program, genesis)
     if number:
