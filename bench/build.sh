@@ -1,7 +1,13 @@
 #!/bin/sh
 # Builds the kernels that bench/run times, each of 9 to 10 million instructions. Needs Debian's packages clang, lld and
-# wabt.
+# wabt. usage: bench/build.sh
 set -eu
+usage() { sed -n '2,/^set/{/^#/s/^# \{0,1\}//p}' "$0"; }
+case "$*" in
+    "") ;;
+    --help | -h) usage; exit 0 ;;
+    *) usage >&2; exit 2 ;;
+esac
 cd -- "$(dirname -- "$0")"
 
 # build NAME SOURCE [OPTION..]: the module of a C file.

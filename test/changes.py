@@ -4,15 +4,14 @@ import pathlib
 import re
 import sys
 
-from report import Ran, Report, run
-from tree import ABOUT_THE_PROGRAM
+from networks import NO_POINT, SMALL_ORDER
+from report import Ran, Report
+from tree import run_ledger
 
 # How long a command may take, in seconds.
 SECONDS = 120
 TWO_OF_ALL = "OutOf(2,'Carrier','Depot','Maker','Shop')"
 KEPT = [{"name": "Carrier"}, {"name": "Maker"}, {"name": "Shop"}]
-# A point of small order, and what is no point.
-SMALL_ORDER, NO_POINT = "01" + 31 * "00", "02" + 31 * "00"
 # Words, and what is told of what they make.
 MISTAKES = [
     ((), "that is what stands already"),
@@ -64,10 +63,7 @@ class Changes:
             (self.room / f"{name}.json").write_text(json.dumps(value))
 
     def run(self, *command: object) -> Ran:
-        """Runs a command. What it says about the program is left out."""
-        ran = run(list(command), self.room, SECONDS, self.env)
-        said = [it for it in ran.err.splitlines(keepends=True) if not it.startswith(ABOUT_THE_PROGRAM)]
-        return Ran(ran.status, ran.out, "".join(said))
+        return run_ledger(list(command), self.room, SECONDS, self.env)
 
     def members(self, *words: str) -> Ran:
         return self.run(sys.executable, self.tree / "node/change.py", "members", self.genesis, "empty.store", *words)

@@ -29,8 +29,12 @@ def try_explain(report: Report, tree: pathlib.Path, env: dict[str, str]) -> None
         ran = explain(str(number))
         is_told = ran.status == 0 and str(number) in ran.out and "docs/" in ran.out and not ran.err
         report.case(f"{number} is explained", is_told, ran.out + ran.err)
-    for word in ("505", "x"):
+    for word in ("505", "x", "9" * 5000):
         ran = explain(word)
-        report.case(f"{word} is not explained", ran.status == 1 and not ran.out and ran.err.count("\n") == 1, ran.out + ran.err)
+        is_told = ran.status == 1 and not ran.out and ran.err.count("\n") == 1 and ran.err.startswith("ledger: ")
+        report.case(f"{word[:9]} is not explained", is_told, ran.out + ran.err)
     for words in ((), ("9", "9"), ("--no",)):
         report.case(f"explain {' '.join(words)}: usage", explain(*words).status == 2)
+    ran = run(["bash", "-c", "./ledger explain 703 > /dev/full"], tree, SECONDS, env)
+    is_told = ran.status == 1 and ran.err == "ledger: the output: No space left on device\n"
+    report.case("an output that takes nothing is told of", is_told, ran.err)

@@ -5,7 +5,7 @@ import stat
 import subprocess
 
 from report import Ran, Report, run
-from tree import PROVED, ROOT, UNPROVED
+from tree import PROVED, ROOT, program
 
 # How long a command may take, in seconds.
 SECONDS = 120
@@ -34,8 +34,7 @@ class Installing:
 
 def try_installing(report: Report, tree: pathlib.Path, room: pathlib.Path, env: dict[str, str]) -> None:
     at = Installing(report, tree, room, env)
-    program = next(it for it in (PROVED, UNPROVED) if (ROOT / it).exists())
-    ran = at.run("make", "-C", tree, "install", f"DESTDIR={at.root}", f"LEDGER={program}")
+    ran = at.run("make", "-C", tree, "install", f"DESTDIR={at.root}", f"LEDGER={program()}")
     if at.case("make install", ran.status == 0, ran):
         try_installed(at)
         try_units(at)

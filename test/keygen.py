@@ -4,7 +4,7 @@ import pathlib
 import re
 
 from report import Ran, Report, run
-from tree import ABOUT_THE_PROGRAM
+from tree import run_ledger
 
 # How long a command may take, in seconds.
 SECONDS = 60
@@ -27,10 +27,8 @@ class Keygen:
         self.room.mkdir()
 
     def ledger(self, *words: str) -> Ran:
-        """Runs a command in the folder of the keys. What it says about the program is left out."""
-        ran = run([self.tree / "ledger", *words], self.room, SECONDS, self.env)
-        said = [it for it in ran.err.splitlines(keepends=True) if not it.startswith(ABOUT_THE_PROGRAM)]
-        return Ran(ran.status, ran.out, "".join(said))
+        """Runs a command in the folder of the keys."""
+        return run_ledger([self.tree / "ledger", *words], self.room, SECONDS, self.env)
 
     def openssl(self, words: str, out: str) -> None:
         ran = run(["openssl", *words.split(), "-out", out], self.room, SECONDS, self.env)

@@ -13,7 +13,7 @@ import subprocess
 from collections.abc import Iterator
 
 import shown
-from report import Report
+from report import Ran, Report
 
 # How long a command may take, in seconds.
 SECONDS = 60
@@ -23,14 +23,6 @@ CUT = re.compile(r"(.+):(\d+)")
 REFUSAL = re.compile(r"refused (\d+).*|(bad line) \d+|(flags differ) \d+|(usage): .*")
 # How a sentence on the standard error ends, and how each of its lines begins.
 SENTENCE, SAID = re.compile(r"ledger: .*\((\d+|bad line|flags differ|usage)\)"), "ledger: "
-
-
-@dataclasses.dataclass
-class Ran:
-    """What a program printed, on the standard output and the standard error, and its status."""
-    out: str
-    err: str
-    status: int
 
 
 @dataclasses.dataclass
@@ -48,7 +40,7 @@ class Case:
 def ran(program: pathlib.Path, words: list[str], folder: pathlib.Path, given: bytes = b"") -> Ran:
     """What the program prints on words in a folder."""
     done = subprocess.run([program, *words], cwd=folder, input=given, capture_output=True, timeout=SECONDS)
-    return Ran(done.stdout.decode(errors="replace"), done.stderr.decode(errors="replace"), done.returncode)
+    return Ran(done.returncode, done.stdout.decode(errors="replace"), done.stderr.decode(errors="replace"))
 
 
 def cases_of(text: str) -> Iterator[Case]:

@@ -2,8 +2,9 @@
 import json
 import pathlib
 
-from networks import ABOUT_THE_PROGRAM, EXTEND, SECONDS
-from report import Ran, Report, run
+from networks import EXTEND, SECONDS
+from report import Ran, Report
+from tree import run_ledger
 
 # Words, and the modules of the file that is printed: by their files and profiles.
 MADE = [
@@ -36,10 +37,7 @@ def try_modules(report: Report, tree: pathlib.Path, room: pathlib.Path, env: dic
     (at / "text.wasm").write_text("no module")
 
     def ledger(*words: object) -> Ran:
-        """Runs a command. What it says about the program is left out."""
-        ran = run([tree / "ledger", *words], at, SECONDS, env)
-        said = [it for it in ran.err.splitlines(keepends=True) if not it.startswith(ABOUT_THE_PROGRAM)]
-        return Ran(ran.status, ran.out, "".join(said))
+        return run_ledger([tree / "ledger", *words], at, SECONDS, env)
 
     for words, entries in MADE:
         what = f"modules {' '.join(words)[:80]}"

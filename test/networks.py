@@ -3,8 +3,8 @@ it refuses."""
 import json
 import pathlib
 
-from report import Ran, Report, run
-from tree import ABOUT_THE_PROGRAM
+from report import Ran, Report
+from tree import run_ledger
 
 # How long a command may take, in seconds.
 SECONDS = 60
@@ -112,10 +112,8 @@ class Networks:
         (self.room / "both.key").write_text("".join(self.seeds))
 
     def ledger(self, *words: object, folder: pathlib.Path | None = None) -> Ran:
-        """Runs a command, by default in the folder of the networks. What it says about the program is left out."""
-        ran = run([self.tree / "ledger", *words], folder or self.room, SECONDS, self.env)
-        said = [it for it in ran.err.splitlines(keepends=True) if not it.startswith(ABOUT_THE_PROGRAM)]
-        return Ran(ran.status, ran.out, "".join(said))
+        """Runs a command, by default in the folder of the networks."""
+        return run_ledger([self.tree / "ledger", *words], folder or self.room, SECONDS, self.env)
 
     def write(self, text: str) -> None:
         (self.room / "network.toml").write_text(text)

@@ -13,7 +13,7 @@ from collections.abc import Callable
 from pages import Block, Typist
 from report import Report, run
 from seeing import see_page
-from tree import PROVED, ROOT, UNPROVED
+from tree import program
 from units import laid, process_of, stop
 
 # How long something may take to come about, in seconds.
@@ -40,9 +40,8 @@ class Machine:
             it.chmod(0o755)
         self.env = {**env, "PATH": f"{shims}:{self.root}/usr/local/bin:{env['PATH']}"}
         self.typist = Typist(tree, self.root / "typed")
-        program = next(it for it in (PROVED, UNPROVED) if (ROOT / it).exists())
         # Folders of a test lie below /tmp, which is a reader's there.
-        self.instead = {"/tmp/": "/tmp/", "make install": f"make -C {tree} install DESTDIR={self.root} LEDGER={program}",
+        self.instead = {"/tmp/": "/tmp/", "make install": f"make -C {tree} install DESTDIR={self.root} LEDGER={program()}",
                         "make users": f"make -C {tree} users"}
 
     def own(self, text: str) -> str:

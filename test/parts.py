@@ -1,6 +1,5 @@
 """The parts of the test: each types what some documents say, or runs what they send people to."""
 import hashlib
-import os
 import pathlib
 import re
 import sys
@@ -20,15 +19,24 @@ import reasons as sentences
 import timed as timed_words
 from calling import find_pieces
 from pages import Block, Typist, blocks_of
-from report import Report, run
-from tree import ENVIRONMENT, ROOT, program
+from report import Ran, Report, end, run, start
+from seeing import comes_to_be
+from tree import ENVIRONMENT, program
 
 # How long a script may take to say how it is used, and how long tests may take, in seconds.
 SHORT, LONG = 30, 550
-# The folders whose scripts people run, and those of which they import modules.
-SCRIPTS = ["ledger", "docs/definitions", "docs/stands-on", "bench/hostile", "test/documents", "examples/chaincode/build.sh",
-           "examples/assets/*.py", "examples/page/*.py", "examples/page/test", "examples/roles/plain", "node/bin/*", "node/certs.sh",
-           "node/change.py", "node/demo/run", "node/demo/demo.py", "node/demo/traffic.py", "bench/node"]
+# The scripts that people run.
+SCRIPTS = ["ledger", "docs/definitions", "docs/stands-on", "test/documents", "test/questions.py", "examples/chaincode/build.sh",
+           "examples/assets/*.py", "examples/page/make.py", "examples/page/seal.py", "examples/page/test", "examples/roles/plain",
+           "bench/*.py", "bench/build.sh", "bench/compare", "bench/gate", "bench/hostile", "bench/instructions", "bench/node",
+           "bench/plants", "bench/plot", "bench/roles", "bench/run", "bench/state", "bench/threads", "bench/untuned/build.sh",
+           "node/bin/*", "node/certs.sh", "node/change.py", "node/demo/run", "node/demo/demo.py", "node/demo/traffic.py"]
+# Scripts that say whether a file is as they would write it; and those that write, with the files.
+CHECKS = ["docs/definitions --check", "docs/stands-on --check", "examples/page/seal.py --check"]
+WRITTEN = {"examples/assets/make.py": ["examples/assets/*.json*", "examples/assets/example_keys/*.key"], "bench/plot": ["bench/*.svg"]}
+# The example in a copy of the repository, and the words by which ./ledger runs it.
+EXAMPLE = pathlib.Path("examples/assets")
+RUN = ["run", EXAMPLE / "genesis.json", EXAMPLE / "events.jsonl", "--keys", EXAMPLE / "example_keys/all.key"]
 # A C source of which clang copies a struct and fills one with zeros.
 STRUCTS = """
 #include "fabric.h"
@@ -53,8 +61,9 @@ class Setting:
         self.env = {**ENVIRONMENT, "TMPDIR": str(room / "tmp")}
         self.typist = Typist(tree, room / "typed")
 
-    def type(self, report: Report, blocks: list[Block], **more: dict) -> None:
-        self.typist.type(report, blocks, env=self.env, **more)
+    def type(self, report: Report, blocks: list[Block], folders: dict[str, pathlib.Path] | None = None,
+             instead: dict[str, str] | None = None) -> None:
+        self.typist.type(report, blocks, folders, instead, self.env)
 
     def run(self, report: Report, name: str, command: list, seconds: float = LONG) -> str:
         """Runs a command, which has to end with status 0. What it prints."""
@@ -72,28 +81,66 @@ def readme(report: Report, at: Setting) -> None:
 
 def tutorial(report: Report, at: Setting) -> None:
     at.type(report, blocks_of(at.tree, "docs/TUTORIAL.md"))
+    follow(report, at)
+
+
+def follow(report: Report, at: Setting) -> None:
+    """A replica that follows a log commits what comes into it later, until its store is that of which the marks are."""
+    genesis, whole, store, log = EXAMPLE / "genesis.json", at.room / "whole.store", at.room / "followed.store", at.room / "log"
+    at.run(report, "a store whose marks are followed", ["./ledger", *RUN, "--store", whole])
+    marks = at.run(report, "its marks", ["./ledger", "marks", genesis, whole]).splitlines()
+    lines = [f"{number} {mark}\n" for number, mark in enumerate(marks, 1)]
+    first = lines.index(next(it for it in lines if it.endswith("tick\n"))) + 1
+    log.write_text("".join(lines[:first]))
+    replica = start(["examples/roles/plain", genesis, log, store, "--follow"], at.tree, at.env)
+    is_begun = comes_to_be(lambda: store.exists() and store.stat().st_size > 0)
+    with log.open("a") as more:
+        more.writelines(lines[first:])
+    is_whole = is_begun and comes_to_be(lambda: store.read_bytes() == whole.read_bytes())
+    report.case("examples/roles/plain --follow", is_whole, "\n".join(end(replica)))
 
 
 def formats(report: Report, at: Setting) -> None:
-    example, store = "examples/assets", "formats.store"
-    genesis, keys = f"{example}/genesis.json", f"{example}/example_keys/all.key"
-    made = ["./ledger", "run", genesis, f"{example}/events.jsonl", "--keys", keys, "--store", store]
-    at.run(report, "a store to show", made)
-    at.type(report, blocks_of(at.tree, "docs/OUTPUT.md"), instead={"GENESIS": genesis, "STORE": store})
+    store = "formats.store"
+    at.run(report, "a store to show", ["./ledger", *RUN, "--store", store])
+    at.type(report, blocks_of(at.tree, "docs/OUTPUT.md"), instead={"GENESIS": str(EXAMPLE / "genesis.json"), "STORE": store})
 
 
 def scripts(report: Report, at: Setting) -> None:
-    """Each script says how it is used, from any folder, and does nothing else."""
-    for pattern in SCRIPTS:
-        for script in sorted(at.tree.glob(pattern)):
-            is_python = script.read_bytes().startswith((b'"""', b"#!/usr/bin/env python3"))
-            command = [sys.executable, script] if is_python else [script]
-            ran = run([*command, "--help"], pathlib.Path("/"), SHORT)
-            is_said = ran.status == 0 and ran.out.strip() != "" and "Traceback" not in ran.out + ran.err
-            report.case(f"{script.relative_to(at.tree)} --help", is_said, f"status {ran.status}\n{ran.out}{ran.err}"[-800:])
+    """Each script says how it is used, from any folder, and does nothing else. Beside those of the node none takes another word."""
+    for script in (it for pattern in SCRIPTS for it in sorted(at.tree.glob(pattern))):
+        name, ran = script.relative_to(at.tree), run_script(at, script, "--help")
+        is_said = ran.status == 0 and ran.out.strip() != "" and "Traceback" not in ran.out + ran.err
+        report.case(f"{name} --help", is_said, f"status {ran.status}\n{ran.out}{ran.err}"[-800:])
+        if name.parts[0] != "node":
+            ran = run_script(at, script, "no-such-word")
+            is_refused = ran.status in (1, 2) and ran.err.strip() != "" and "Traceback" not in ran.out + ran.err
+            report.case(f"{name} no-such-word", is_refused, f"status {ran.status}\n{ran.out}{ran.err}"[-800:])
     # A command without its words prints the program's own usage.
     said, asked = [run([at.tree / "ledger", word], at.tree, LONG, at.env).out for word in ("check", "--help")]
     report.case("ledger --help begins with the program's usage", said.startswith("usage:") and asked.startswith(said), said + asked)
+    for word in ("prove", "dist"):
+        ran = run([at.tree / "ledger", word, "0"], at.tree, SHORT, at.env)
+        report.case(f"ledger {word} 0: its usage", ran.status == 2 and ran.err.startswith(f"usage: ./ledger {word}"), ran.out + ran.err)
+
+
+def run_script(at: Setting, script: pathlib.Path, word: str) -> Ran:
+    """Runs a script with a word, in another folder."""
+    is_python = script.read_bytes().startswith((b'"""', b"#!/usr/bin/env python3"))
+    return run([*([sys.executable] if is_python else []), script, word], pathlib.Path("/"), SHORT, at.env)
+
+
+def made(report: Report, at: Setting) -> None:
+    """What scripts write is what is kept."""
+    for command in CHECKS:
+        at.run(report, command, command.split())
+    for script, patterns in WRITTEN.items():
+        kept = {it: it.read_bytes() for pattern in patterns for it in at.tree.glob(pattern)}
+        for file in kept:
+            file.unlink()
+        at.run(report, script, [sys.executable, script])
+        for file, before in kept.items():
+            report.case(f"{file.name} is what {script} writes", file.exists() and file.read_bytes() == before)
 
 
 def chaincode(report: Report, at: Setting) -> None:
@@ -218,6 +265,7 @@ def timed(report: Report, _at: Setting) -> None:
     timed_words.try_timed(report)
 
 
+Part = Callable[[Report, Setting], None]
 # Those that take long come first.
-PARTS: list[Callable[[Report, Setting], None]] = [demo, operations, page, query, chaincode, node, tutorial, readme, formats, network, modules,
-                                                  change, lines, reasons, numbers, keys, install, growths, timed, scripts, calling]
+PARTS: list[Part] = [demo, operations, page, query, chaincode, node, tutorial, readme, formats, network, modules, change, lines, reasons, made,
+                     numbers, keys, install, growths, timed, scripts, calling]

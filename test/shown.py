@@ -2,8 +2,11 @@
 import hashlib
 import hmac
 import json
+import pathlib
 import re
 import sys
+from collections.abc import Callable, Iterator
+from typing import TypeVar
 
 from tree import ROOT
 
@@ -20,74 +23,77 @@ REREAD = "get.json"
 PUTS = hashlib.sha256(bytes.fromhex(json.loads((DATA / "put.json").read_text())["chaincodes"][0]["module"])).hexdigest()
 # The first byte of a proposal that is an amendment, and what the first byte of a definition that is open has more.
 AMENDMENT, OPEN = 0x80, 16
+Item = TypeVar("Item")
+# The modules at hand, by digests and profiles.
+Modules = set[tuple[str, int]]
 
 
 class Bytes:
     """Bytes that are read from the front."""
 
-    def __init__(self, data):
+    def __init__(self, data: bytes):
         self.data, self.at = data, 0
 
-    def take(self, count):
+    def take(self, count: int) -> bytes:
         self.at += count
         return self.data[self.at - count : self.at]
 
-    def number(self, size):
+    def number(self, size: int) -> int:
         return int.from_bytes(self.take(size), "big")
 
-    def hex(self, size):
+    def hex(self, size: int) -> str:
         return self.take(self.number(size)).hex()
 
-    def name(self):
+    def name(self) -> str:
         return self.take(self.number(1)).decode()
 
-    def list(self, size, item):
+    def list(self, size: int, item: Callable[[], Item]) -> list[Item]:
         return [item() for _ in range(self.number(size))]
 
-    def option(self, item):
+    def option(self, item: Callable[[], Item]) -> Item | None:
         return item() if self.number(1) else None
 
-    def version(self):
+    def version(self) -> str:
         return f"{self.number(4)}.{self.number(4)}"
 
-    def key_with(self, field, item):
+    def key_with(self, field: str, item: Callable[[], object]) -> dict:
         return {"key": self.hex(1), field: item()}
 
-    def range(self):
+    def range(self) -> dict:
         start, end, limit = self.hex(1), self.hex(1), self.number(1)
         entries = self.list(1, lambda: self.key_with("version", self.version))
         return {"start": start, "end": end, "limit": limit, "entries": entries}
 
-    def definition(self):
+    def definition(self) -> dict:
         profile, module, fuel = self.number(1), self.take(32).hex(), self.number(4)
         return {"profile": profile, "module": module, "fuel": fuel, "policy": self.take(self.number(2)).decode()}
 
-    def member(self):
+    def member(self) -> dict:
         name, public = self.name(), self.option(lambda: self.take(32).hex())
         return {"name": name} if public is None else {"name": name, "public": public}
 
-    def membership(self):
+    def membership(self) -> dict:
         self.take(1)
         serial, members = self.number(4), self.list(1, self.member)
         return {"serial": serial, "members": members, "policy": self.take(self.number(2)).decode()}
 
-    def proposed(self):
+    def proposed(self) -> dict:
         if self.data[self.at] == AMENDMENT:
             self.take(1)
             return {"amend": self.membership()}
         name = self.name()
         return {"chaincode": name, "arg": self.hex(2)} if name else {"chaincode": self.name(), "upgrade": self.definition()}
 
-    def proposal(self):
+    def proposal(self) -> dict:
         return {**self.proposed(), "nonce": self.take(16).hex()}
 
-    def endorsement(self):
+    def endorsement(self) -> dict:
         org = self.name()
         if not org:
             return {"org": self.name(), "tag": self.take(64).hex()}
         return {"org": org, "tag": self.take(32).hex()}
 
-    def envelope(self, keys):
+    def envelope(self, keys: dict[str, dict]) -> dict:
         begin = self.at
         tx = self.proposal()
         tx["id"] = hashlib.sha256(self.data[begin : self.at]).hexdigest()
@@ -102,14 +108,14 @@ class Bytes:
         return tx
 
 
-def is_right(org, payload, tag):
+def is_right(org: dict, payload: bytes, tag: bytes) -> bool:
     """Whether a tag is right under the key of an organisation, as a genesis file lists it."""
     if "public" in org:
         return len(tag) == 64 and rfc8032.verify(bytes.fromhex(org["public"]), payload, tag)
     return hmac.digest(bytes.fromhex(org["key"]), payload, "sha256") == tag
 
 
-def block_of(record, keys):
+def block_of(record: bytes, keys: dict[str, dict]) -> tuple[dict, bool, list[int]]:
     """A block as it is shown by who stands before it, whether its data have the hash in its header, and its stored flags."""
     data = Bytes(record)
     header = data.take(68)
@@ -121,9 +127,10 @@ def block_of(record, keys):
     return {"block": int.from_bytes(header[:4], "big"), **hashes, "txs": txs}, is_whole, list(data.take(len(txs)))
 
 
-def records(store):
+def records(store: bytes) -> tuple[list[bytes], str]:
     """The records of a store, and how it ends."""
-    data, found = Bytes(store), []
+    data = Bytes(store)
+    found: list[bytes] = []
     while data.at < len(store):
         begin = data.at
         block = data.take(data.number(4))
@@ -137,20 +144,20 @@ def records(store):
     return found, "clean"
 
 
-def flags_by_rule(stored, genesis_name, store_name):
+def flags_by_rule(stored: list[int], genesis_name: str, store_name: str) -> list[int]:
     """The flags of a block by the rules."""
     if {genesis_name, store_name} & UNENDORSED_BY:
         return [UNENDORSED] * len(stored)
     return [VALID] * len(stored) if store_name in FORGED else stored
 
 
-def amended(blocks):
+def amended(blocks: list[dict]) -> dict | None:
     """The membership that the last VALID amendment puts."""
     txs = [tx for block in blocks for tx in block["txs"] if tx["flag"] == VALID and "amend" in tx]
     return txs[-1]["amend"] if txs else None
 
 
-def keys_behind(blocks, listed):
+def keys_behind(blocks: list[dict], listed: dict[str, dict]) -> dict[str, dict]:
     """The keys of who stands behind blocks, as a genesis file lists them: a member without a key of its own keeps its key."""
     membership = amended(blocks)
     if membership is None:
@@ -158,14 +165,14 @@ def keys_behind(blocks, listed):
     return {it["name"]: it if "public" in it else listed[it["name"]] for it in membership["members"]}
 
 
-def lacks_module(tx, at_hand):
-    """Whether a rerun of the chain needs a module for this transaction that is not among these, by digests and profiles."""
+def lacks_module(tx: dict, at_hand: Modules) -> bool:
+    """Whether a rerun of the chain needs a module for this transaction that is not among these."""
     if tx["flag"] != VALID or "upgrade" not in tx:
         return False
     return (tx["upgrade"]["module"], tx["upgrade"]["profile"] % OPEN) not in at_hand
 
 
-def rerun_of(blocks, genesis_name, store_name, at_hand):
+def rerun_of(blocks: list[dict], genesis_name: str, store_name: str, at_hand: Modules) -> str:
     """What is found of a chain with the flags of the rules, where it is run again with these modules at hand."""
     for block in blocks:
         if any(lacks_module(tx, at_hand) for tx in block["txs"]):
@@ -173,10 +180,11 @@ def rerun_of(blocks, genesis_name, store_name, at_hand):
     return "differs 1.0" if genesis_name == REREAD and store_name == "whole.store" else "agrees"
 
 
-def chain_of(store, genesis_name, store_name, listed, at_hand):
+def chain_of(store: bytes, genesis_name: str, store_name: str, listed: dict[str, dict], at_hand: Modules) -> tuple[list[dict], dict]:
     """The blocks of a store that fit, and what is found of it."""
     stored, end = records(store)
-    blocks, link, audit = [], bytes(32).hex(), None
+    blocks: list[dict] = []
+    link, audit = bytes(32).hex(), ""
     for record in stored:
         block, is_whole, flags = block_of(record, keys_behind(blocks, listed))
         if block["previous"] != link or not is_whole:
@@ -194,12 +202,12 @@ def chain_of(store, genesis_name, store_name, listed, at_hand):
     return blocks, {"audit": audit, "rerun": rerun, "blocks": len(blocks), "end": end}
 
 
-def installed(it):
+def installed(it: dict) -> dict:
     """A module of a genesis file or of a modules file as it is shown."""
     return {"module": hashlib.sha256(bytes.fromhex(it["module"])).hexdigest(), "profile": it["profile"]}
 
 
-def setting_of(genesis):
+def setting_of(genesis: dict) -> dict:
     """What a genesis file sets; its policies have no spaces within names."""
     chaincodes = [
         {"name": it["name"], "policy": it["policy"].replace(" ", ""), "fuel": it["fuel"], **installed(it)}
@@ -212,7 +220,7 @@ def setting_of(genesis):
     return {"ledger": 1, "orgs": orgs, "chaincodes": chaincodes, "modules": modules, "upgrade": upgrade, **limits}
 
 
-def placed_writes(blocks):
+def placed_writes(blocks: list[dict]) -> Iterator[dict]:
     """Each write of a VALID transaction, with its place."""
     for block in blocks:
         for place, tx in enumerate(block["txs"]):
@@ -220,15 +228,13 @@ def placed_writes(blocks):
                 yield {**write, "block": block["block"], "place": place, "id": tx["id"]}
 
 
-def entries_of(blocks):
-    state = {}
-    for it in placed_writes(blocks):
-        state[it["key"]] = it
+def entries_of(blocks: list[dict]) -> list[dict]:
+    state = {it["key"]: it for it in placed_writes(blocks)}
     kept = [state[key] for key in sorted(state) if state[key]["value"] is not None]
     return [{"key": it["key"], "value": it["value"], "version": f"{it['block']}.{it['place']}"} for it in kept]
 
 
-def standing_of(genesis, blocks):
+def standing_of(genesis: dict, blocks: list[dict]) -> dict:
     """Who stands behind blocks, and by which policy."""
     if membership := amended(blocks):
         return membership
@@ -236,7 +242,7 @@ def standing_of(genesis, blocks):
     return {"members": members, "policy": genesis["upgrade"].replace(" ", ""), "serial": 0}
 
 
-def marks_of(record):
+def marks_of(record: bytes) -> list[str]:
     """The marks of a block: its envelopes, and a tick."""
     data = Bytes(record)
     data.take(68)
@@ -247,7 +253,7 @@ def marks_of(record):
 ENDS = {"status": "404 status -7", "trap": "402 trap 1", "zero": "402 trap 2"}
 
 
-def definition_of(name, genesis, blocks):
+def definition_of(name: str, genesis: dict, blocks: list[dict]) -> tuple[dict, str | None] | None:
     """The definition of a chaincode behind blocks, as an upgrade shows it, and the version of its key. None where there is
     none."""
     key = "00" + name.encode().hex()
@@ -255,10 +261,10 @@ def definition_of(name, genesis, blocks):
     if entry:
         return Bytes(bytes.fromhex(entry["value"])).definition(), entry["version"]
     listed = next((it for it in setting_of(genesis)["chaincodes"] if it["name"] == name), None)
-    return listed and (listed, None)
+    return (listed, None) if listed else None
 
 
-def outcome(name, genesis, blocks, at_hand):
+def outcome(name: str, genesis: dict, blocks: list[dict], at_hand: Modules) -> dict:
     """What a call of a chaincode comes to."""
     found = definition_of(name, genesis, blocks)
     if found is None:
@@ -275,26 +281,26 @@ def outcome(name, genesis, blocks, at_hand):
     return {"ranges": [], "reads": reads, "result": "", "writes": [{"key": "61", "value": "31"}]}
 
 
-def is_satisfied(policy, orgs):
+def is_satisfied(policy: str, orgs: list[str]) -> bool:
     """Whether these organisations satisfy a policy."""
     text = re.sub(r"'(\w+)'", lambda it: str(it[1] in orgs), policy)
     functions = {"AND": lambda *of: all(of), "OR": lambda *of: any(of), "OutOf": lambda n, *of: sum(of) >= n}
     return eval(text, functions)
 
 
-def is_hex(text, least, most):
+def is_hex(text: object, least: int, most: int) -> bool:
     return isinstance(text, str) and re.fullmatch("([0-9a-fA-F]{2})*", text) is not None and least <= len(text) // 2 <= most
 
 
-def is_bound(text):
+def is_bound(text: object) -> bool:
     return is_hex(text, 0, 64)
 
 
-def is_number(number, most):
+def is_number(number: object, most: int) -> bool:
     return isinstance(number, int) and 1 <= number <= most
 
 
-def are_names(names):
+def are_names(names: object) -> bool:
     return isinstance(names, list) and len(names) <= 32 and all(re.fullmatch(r"\w{1,32}", it, re.ASCII) for it in names)
 
 
@@ -312,7 +318,7 @@ QUESTIONS = {
 }
 
 
-def question_of(line):
+def question_of(line: str) -> dict | None:
     """The question that a line spells. None where it spells none."""
     try:
         it = json.loads(line)
@@ -324,7 +330,7 @@ def question_of(line):
     return it if {*it} == {"ask", *fields} and all(fits(it[name]) for name, fits in fields.items()) else None
 
 
-def answer(it, genesis, blocks, at_hand):
+def answer(it: dict, genesis: dict, blocks: list[dict], at_hand: Modules) -> object:
     """The answer to a question behind blocks."""
     match it["ask"]:
         case "setting":
@@ -351,7 +357,7 @@ def answer(it, genesis, blocks, at_hand):
             return outcome(it["chaincode"], genesis, blocks, at_hand)
 
 
-def answers(lines, genesis, blocks, at_hand):
+def answers(lines: list[str], genesis: dict, blocks: list[dict], at_hand: Modules) -> Iterator[str | dict]:
     """The lines of `query`."""
     for number, line in enumerate(lines, 1):
         question = question_of(line)
@@ -361,12 +367,12 @@ def answers(lines, genesis, blocks, at_hand):
             yield {"answer": answer(question, genesis, blocks, at_hand), "height": len(blocks)}
 
 
-def options_of(words):
+def options_of(words: list[str]) -> dict[str, str]:
     """The options of a command line; of one without a value it is that it is there."""
     return {word: value for word, value in zip(words, [*words[1:], ""]) if word.startswith("--")}
 
 
-def shown(words, folder, asked):
+def shown(words: list[str], folder: pathlib.Path, asked: list[str]) -> tuple[list, int]:
     """The lines that a command prints, as values; and its status."""
     command, genesis_name, store_name, *rest = words
     options = options_of(rest)
@@ -402,7 +408,7 @@ def shown(words, folder, asked):
     return [standing_of(genesis, blocks)] if "--members" in options else entries_of(blocks), 0
 
 
-def stated(line, folder):
+def stated(line: str, folder: pathlib.Path) -> tuple[list[str], int]:
     """What a command line's lines have to be, and its status."""
     words, _, name = line.partition(" < ")
     asked = (folder / name).read_text(errors="replace").split("\n")[:-1] if name else []
@@ -410,7 +416,7 @@ def stated(line, folder):
     return [it if isinstance(it, str) else json.dumps(it, separators=(",", ":"), sort_keys=True) for it in lines], status
 
 
-def is_shown(words, lines, status, folder):
+def is_shown(words: list[str], lines: list[str], status: int, folder: pathlib.Path) -> bool:
     """Whether the lines of a command are worked out here: it is carried out, and no file is refused."""
     if words[0] not in ("show", "state", "marks", "query") or status > 1 or not (folder / words[2]).exists():
         return False

@@ -5,7 +5,7 @@ import pathlib
 import shutil
 import sys
 
-from report import run
+from report import Ran, run
 
 ROOT = pathlib.Path(__file__).resolve().parent.parent
 BUILT = pathlib.Path("crates", "ledger_cli", "out")
@@ -61,6 +61,13 @@ def program() -> pathlib.Path | None:
     if ran.status:
         print(ran.out + ran.err, file=sys.stderr)
     return UNPROVED if ran.status == 0 else None
+
+
+def run_ledger(words: list, folder: pathlib.Path, seconds: float, env: dict[str, str]) -> Ran:
+    """Runs ./ledger, or what runs it. What it says of the program is left out."""
+    ran = run(words, folder, seconds, env)
+    said = [it for it in ran.err.splitlines(keepends=True) if not it.startswith(ABOUT_THE_PROGRAM)]
+    return Ran(ran.status, ran.out, "".join(said))
 
 
 def copy_to(tree: pathlib.Path) -> None:

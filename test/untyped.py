@@ -13,7 +13,7 @@ REASONS = {
     ("bench/README.md", "bench/build.sh"): "makes what bench/run measures",
     ("bench/README.md", "bench/untuned/build.sh"): "makes what bench/run measures",
     ("bench/README.md", "bench/compare"): MEASURES,
-    ("bench/README.md", "bench/plot"): "draws figures",
+    ("bench/README.md", "bench/plot"): "draws figures, which the part made compares",
     ("bench/README.md", "bench/state"): MEASURES,
     ("bench/README.md", "bench/threads"): MEASURES,
     ("bench/README.md", "bench/roles"): MEASURES,

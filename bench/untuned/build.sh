@@ -3,6 +3,12 @@
 # compiled for this machine and by wasm-interp: 0, if it comes to what it expects. Ends with status 1 if one does not.
 # Needs Debian's packages clang, lld and wabt. usage: bench/untuned/build.sh
 set -eu
+usage() { sed -n '2,/^set/{/^#/s/^# \{0,1\}//p}' "$0"; }
+case "$*" in
+    "") ;;
+    --help | -h) usage; exit 0 ;;
+    *) usage >&2; exit 2 ;;
+esac
 cd -- "$(dirname -- "$0")"
 scratch=$(mktemp -d)
 trap 'rm -rf "$scratch"' EXIT

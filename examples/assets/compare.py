@@ -16,23 +16,25 @@ HERE = pathlib.Path(__file__).resolve().parent
 LEDGER = HERE.parent.parent / "ledger"
 
 
-def run(genesis):
+def run(genesis: pathlib.Path) -> list[str]:
     """The lines that the events print with this genesis file."""
     command = [LEDGER, "run", genesis, HERE / "events.jsonl", "--keys", HERE / "example_keys" / "all.key"]
     return subprocess.run(command, stdout=subprocess.PIPE, text=True).stdout.splitlines()
 
 
-def main(words):
-    if words in (["--help"], ["-h"]):
-        print(__doc__)
-        return 0
-    if len(words) not in (1, 2):
-        print(__doc__, file=sys.stderr)
-        return 2
+def main(words: list[str]) -> int:
+    if not words or words[0] in ("--help", "-h") or words[1:] not in ([], ["1"], ["2"]):
+        is_help = words in (["--help"], ["-h"])
+        print(__doc__, file=sys.stdout if is_help else sys.stderr)
+        return 0 if is_help else 2
     genesis = json.loads((HERE / "genesis.json").read_text())
     chaincode = genesis["chaincodes"][0]
-    chaincode["module"] = pathlib.Path(words[0]).read_bytes().hex()
-    if len(words) == 2:
+    try:
+        chaincode["module"] = pathlib.Path(words[0]).read_bytes().hex()
+    except OSError as error:
+        print(f"compare.py: {words[0]} cannot be read: {error.strerror}", file=sys.stderr)
+        return 1
+    if words[1:]:
         chaincode["profile"] = int(words[1])
     with tempfile.TemporaryDirectory() as room:
         other = pathlib.Path(room) / "genesis.json"

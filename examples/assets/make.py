@@ -25,16 +25,18 @@ FIRST, SECOND = ((HERE / f"../chaincode/{name}.wasm").read_bytes() for name in (
 TWO_OF_THREE = "OutOf(2, 'Maker', 'Carrier', 'Shop')"
 FUEL = 100000
 PROFILE = 1
+# A proposal that peers have begun: its name, these peers, and the seat of each.
+Begun = tuple[str, list[int], int]
 
-lines = []
+lines: list[str] = []
 proposals = 0
 
 
-def line(do, **fields):
+def line(do: str, **fields: object) -> None:
     lines.append(json.dumps({"do": do, **fields}, separators=(",", ":")))
 
 
-def begin(name, peers, **proposal):
+def begin(name: str, peers: list[int], **proposal: object) -> Begun:
     """Begins one proposal at these peers, each at a seat of its own, and answers what finishes it."""
     global proposals
     proposals += 1
@@ -44,16 +46,16 @@ def begin(name, peers, **proposal):
     return name, peers, seat
 
 
-def call(name, peers, argument):
+def call(name: str, peers: list[int], argument: str) -> Begun:
     return begin(name, peers, chaincode=CHAINCODE, arg=argument.encode().hex())
 
 
-def upgrade(name, peers, module):
+def upgrade(name: str, peers: list[int], module: bytes) -> Begun:
     digest = hashlib.sha256(module).hexdigest()
     return begin(name, peers, upgrade=CHAINCODE, module=digest, fuel=FUEL, policy=TWO_OF_THREE, profile=PROFILE)
 
 
-def finish(begun):
+def finish(begun: Begun) -> None:
     """Finishes a proposal at its peers and submits what they endorsed as one envelope."""
     name, peers, seat = begun
     names = [f"{name}-{PEERS[peer].lower()}" for peer in peers]
@@ -62,7 +64,7 @@ def finish(begun):
     line("submit", use=names)
 
 
-def commit(envelopes):
+def commit(envelopes: int) -> None:
     """Orders so many envelopes, and commits the block at each peer."""
     for _ in range(envelopes):
         line("take")
@@ -70,15 +72,15 @@ def commit(envelopes):
         line("commit", peer=peer)
 
 
-def short(data):
+def short(data: bytes) -> bytes:
     return bytes([len(data)]) + data
 
 
-def value(data):
+def value(data: bytes) -> bytes:
     return struct.pack(">H", len(data)) + data
 
 
-def forged():
+def forged() -> bytes:
     """A transfer of pallet-8 that no peer has seen, with tags that nobody made."""
     key = b"asset/pallet-8"
     proposal = short(CHAINCODE.encode()) + value(b"transfer pallet-8 Thief") + bytes.fromhex("%032x" % 99)
@@ -89,7 +91,7 @@ def forged():
     return payload + bytes([len(tags)]) + b"".join(tags)
 
 
-def create_pallets():
+def create_pallets() -> None:
     """Two pallets are created, each endorsed by two of the three organisations."""
     first = call("create-7", [MAKER, CARRIER], "create pallet-7 Maker")
     second = call("create-8", [MAKER, SHOP], "create pallet-8 Maker")
@@ -98,7 +100,7 @@ def create_pallets():
     commit(2)
 
 
-def race():
+def race() -> None:
     """Two transfers of one pallet race: both read the same version, and the second in the block is a conflict."""
     to_carrier = call("to-carrier", [MAKER, CARRIER], "transfer pallet-7 Carrier")
     to_shop = call("to-shop", [MAKER, SHOP], "transfer pallet-7 Shop")
@@ -107,7 +109,7 @@ def race():
     commit(2)
 
 
-def list_beside_a_creation():
+def list_beside_a_creation() -> None:
     """A list is made before a new pallet comes in, and ordered behind it: its range has a phantom."""
     create = call("create-9", [CARRIER, SHOP], "create pallet-9 Carrier")
     listed = call("list", [MAKER, CARRIER], "list")
@@ -116,14 +118,14 @@ def list_beside_a_creation():
     commit(2)
 
 
-def fail_the_policy():
+def fail_the_policy() -> None:
     """A forged transfer does not satisfy the policy, nor does one that a single organisation endorsed."""
     line("submit", hex=forged().hex())
     finish(call("alone", [CARRIER], "transfer pallet-9 Carrier"))
     commit(2)
 
 
-def upgrade_behind_a_race():
+def upgrade_behind_a_race() -> None:
     """The second version of the register takes the first's place: two organisations endorse it, as the genesis asks for. A
     transfer that was simulated by the first version, and is ordered behind the upgrade, is a conflict."""
     second_version = upgrade("upgrade", [MAKER, SHOP], SECOND)
@@ -133,7 +135,7 @@ def upgrade_behind_a_race():
     commit(2)
 
 
-def use_the_second_version():
+def use_the_second_version() -> None:
     """The second version makes the transfer, and an inspection of a pallet that the first wrote, which the first could not do."""
     again = call("again", [CARRIER, SHOP], "transfer pallet-9 Shop")
     inspect = call("inspect", [MAKER, CARRIER], "inspect pallet-7 Shop 2026-11-25")
@@ -142,7 +144,7 @@ def use_the_second_version():
     commit(2)
 
 
-def genesis():
+def genesis() -> dict[str, object]:
     """Three organisations with one chaincode, the second version of which is installed."""
     return {
         "orgs": [{"name": name, "public": rfc8032.secret_to_public(seed).hex()} for name, seed in SEEDS.items()],
@@ -167,18 +169,19 @@ def genesis():
     }
 
 
-def write_keys(folder):
+def write_keys(folder: pathlib.Path) -> None:
     """Writes a key file of each organisation, and one that has all three."""
     folder.mkdir(exist_ok=True)
-    lines = {name: seed.hex() + "\n" for name, seed in SEEDS.items()}
-    for name, text in [*lines.items(), ("all", "".join(lines.values()))]:
+    texts = {name: seed.hex() + "\n" for name, seed in SEEDS.items()}
+    for name, text in [*texts.items(), ("all", "".join(texts.values()))]:
         (folder / f"{name.lower()}.key").write_text(text)
 
 
-def main(words):
-    if words in (["--help"], ["-h"]):
-        print(__doc__)
-        return 0
+def main(words: list[str]) -> int:
+    if words:
+        is_help = words in (["--help"], ["-h"])
+        print(__doc__, file=sys.stdout if is_help else sys.stderr)
+        return 0 if is_help else 2
     create_pallets()
     race()
     list_beside_a_creation()

@@ -1,9 +1,12 @@
 #!/bin/sh
 # Builds each example beside its source. Needs Debian's packages clang, lld and wabt, and for the
-# one in Rust rustc and libstd-rust-dev-wasm32. RUSTC names another rustc.
+# one in Rust rustc and libstd-rust-dev-wasm32. RUSTC names another rustc. usage: examples/chaincode/build.sh
 set -eu
-case "${1:-}" in
-    --help | -h) sed -n '2,/^set/{/^#/s/^# \{0,1\}//p}' "$0"; exit 0 ;;
+usage() { sed -n '2,/^set/{/^#/s/^# \{0,1\}//p}' "$0"; }
+case "$*" in
+    "") ;;
+    --help | -h) usage; exit 0 ;;
+    *) usage >&2; exit 2 ;;
 esac
 cd -- "$(dirname -- "$0")"
 room=$(mktemp -d)

@@ -10,8 +10,10 @@ import hashlib
 import json
 import pathlib
 import random
+import re
 import struct
 import sys
+from collections.abc import Callable, Iterable, Iterator
 
 sys.path.insert(0, str(pathlib.Path(__file__).resolve().parents[2] / "python"))
 import rfc8032
@@ -19,7 +21,7 @@ import rfc8032
 ORGS = ["Maker", "Carrier", "Shop"]
 
 
-def two_of(names):
+def two_of(names: list[str]) -> str:
     return f"OutOf(2,{','.join(repr(name) for name in names)})"
 
 
@@ -35,54 +37,57 @@ CLOSED, OPEN = 1, 17
 # 32 bytes that are no public key, and others that are one of small order.
 NO_POINT, SMALL_ORDER = "5a" * 32, "01" + 31 * "00"
 VALID, NOT_ENDORSED, CONFLICT, PHANTOM, DUPLICATE = range(5)
+# A range that is read: its start, its end and its limit; and a key with the value that it gets, if any.
+Range = tuple[bytes, bytes, int]
+Write = tuple[bytes, bytes | None]
 HOSTILE = b"</script><img src=x onerror=\"document.title='escaped'\">"
 
 
-def digest(data):
+def digest(data: bytes) -> str:
     return hashlib.sha256(data).hexdigest()
 
 
-def short(data):
+def short(data: bytes) -> bytes:
     return bytes([len(data)]) + data
 
 
-def long(data):
+def long(data: bytes) -> bytes:
     return struct.pack(">H", len(data)) + data
 
 
-def version_bytes(version):
+def version_bytes(version: str) -> bytes:
     return struct.pack(">II", *map(int, version.split(".")))
 
 
-def optional(data, spell):
+def optional(data: str | None, spell: Callable[[str], bytes]) -> bytes:
     return b"\0" if data is None else b"\1" + spell(data)
 
 
-def many(items, spell):
+def many(items: list[dict], spell: Callable[[dict], bytes]) -> bytes:
     return struct.pack(">H", len(items)) + b"".join(map(spell, items))
 
 
-def few(items, spell):
+def few(items: list[dict], spell: Callable[[dict], bytes]) -> bytes:
     return bytes([len(items)]) + b"".join(map(spell, items))
 
 
-def field(item, name):
+def field(item: dict, name: str) -> bytes:
     return bytes.fromhex(item[name])
 
 
-def definition_bytes(it):
+def definition_bytes(it: dict) -> bytes:
     return bytes([it["profile"]]) + field(it, "module") + struct.pack(">I", it["fuel"]) + long(it["policy"].encode())
 
 
-def member_bytes(it):
+def member_bytes(it: dict) -> bytes:
     return short(it["name"].encode()) + optional(it.get("public"), bytes.fromhex)
 
 
-def membership_bytes(it):
+def membership_bytes(it: dict) -> bytes:
     return b"\1" + struct.pack(">I", it["serial"]) + few(it["members"], member_bytes) + long(it["policy"].encode())
 
 
-def proposal_bytes(tx):
+def proposal_bytes(tx: dict) -> bytes:
     if "amend" in tx:
         return b"\x80" + membership_bytes(tx["amend"]) + field(tx, "nonce")
     if "upgrade" in tx:
@@ -90,65 +95,71 @@ def proposal_bytes(tx):
     return short(tx["chaincode"].encode()) + long(field(tx, "arg")) + field(tx, "nonce")
 
 
-def read_bytes(it):
+def read_bytes(it: dict) -> bytes:
     return short(field(it, "key")) + optional(it["version"], version_bytes)
 
 
-def entry_bytes(it):
+def entry_bytes(it: dict) -> bytes:
     return short(field(it, "key")) + version_bytes(it["version"])
 
 
-def range_bytes(it):
+def range_bytes(it: dict) -> bytes:
     return short(field(it, "start")) + short(field(it, "end")) + bytes([it["limit"]]) + few(it["entries"], entry_bytes)
 
 
-def write_bytes(it):
+def write_bytes(it: dict) -> bytes:
     return short(field(it, "key")) + optional(it["value"], lambda value: long(bytes.fromhex(value)))
 
 
-def endorsement_bytes(it):
+def endorsement_bytes(it: dict) -> bytes:
     tag = field(it, "tag")
     return (b"\0" if len(tag) == 64 else b"") + short(it["org"].encode()) + tag
 
 
-def envelope_bytes(tx):
+def envelope_bytes(tx: dict) -> bytes:
     sets = many(tx["reads"], read_bytes) + many(tx["ranges"], range_bytes) + many(tx["writes"], write_bytes)
     return proposal_bytes(tx) + long(field(tx, "result")) + sets + few(tx["endorsements"], endorsement_bytes)
 
 
-def data_bytes(txs):
+def data_bytes(txs: list[dict]) -> bytes:
     return many(txs, lambda tx: struct.pack(">I", len(envelope_bytes(tx))) + envelope_bytes(tx))
 
 
-def header_hash(block):
+def header_hash(block: dict) -> str:
     return digest(struct.pack(">I", block["block"]) + field(block, "previous") + field(block, "data"))
 
 
-def public_of(seed):
+def public_of(seed: bytes) -> str:
     return rfc8032.secret_to_public(seed).hex()
 
 
 class Chain:
     """Blocks of transactions whose flags are worked out as they are added. Two tags are wanted of each."""
 
-    def __init__(self):
-        self.blocks, self.state, self.ids, self.made = [], {}, set(), 0
+    def __init__(self) -> None:
+        self.blocks: list[dict] = []
+        # The version and the value of each key.
+        self.state: dict[bytes, tuple[str, str]] = {}
+        self.ids: set[str] = set()
+        self.made = self.serial = 0
         # Who stands: each member's public key, or None for its shared one. Under which key each tag that is right was made.
-        self.members, self.serial, self.keys_of_tags = dict.fromkeys(ORGS), 0, {}
+        self.members: dict[str, str | None] = dict.fromkeys(ORGS)
+        self.keys_of_tags: dict[str, str | None] = {}
         # Whose calls count: the organisations that the policy of the definition names.
         self.callers = ORGS
         # The seeds of those who sign.
-        self.seeds = {}
+        self.seeds: dict[str, bytes] = {}
 
-    def version(self, key):
+    def version(self, key: bytes) -> str | None:
         return self.state[key][0] if key in self.state else None
 
-    def transaction(self, reads=(), ranges=(), writes=(), orgs=ORGS[:2], argument=b""):
+    def transaction(self, reads: Iterable[bytes] = (), ranges: Iterable[Range] = (), writes: Iterable[Write] = (),
+                    orgs: list[str] = ORGS[:2], argument: bytes = b"") -> dict:
         """A call of this moment, with tags of these organisations; those behind a ! are wrong."""
         call = {"chaincode": CHAINCODE, "arg": argument.hex()}
         return self.proposed(call, {DEFINITION_KEY, *reads}, ranges, writes, orgs)
 
-    def proposed(self, what, reads, ranges, writes, orgs):
+    def proposed(self, what: dict, reads: Iterable[bytes], ranges: Iterable[Range], writes: Iterable[Write], orgs: list[str]) -> dict:
         """The same of a call, an upgrade or an amendment, with all that it reads."""
         self.made += 1
         tx = {"id": "", "flag": 0, **what, "nonce": "%032x" % self.made, "result": "",
@@ -160,33 +171,33 @@ class Chain:
         tx["endorsements"] = [{"org": org.lstrip("!"), "tag": self.tag(org, envelope_bytes(tx)[:-1])} for org in orgs]
         return tx
 
-    def tag(self, org, payload):
+    def tag(self, org: str, payload: bytes) -> str:
         """A signature where the organisation has a seed; else one that nobody can judge, which is wrong behind a !."""
         seed = self.seeds.get(org)
         tag = rfc8032.sign(seed, payload).hex() if seed else digest(f"{org} {self.made}".encode())
         if not org.startswith("!"):
-            self.keys_of_tags[tag] = seed and public_of(seed)
+            self.keys_of_tags[tag] = public_of(seed) if seed else None
         return tag
 
-    def is_right(self, org, tag):
+    def is_right(self, org: str, tag: str) -> bool:
         return org in self.members and tag in self.keys_of_tags and self.keys_of_tags[tag] == self.members[org]
 
-    def upgrade(self, module, policy=POLICY, orgs=ORGS[:2], profile=CLOSED):
+    def upgrade(self, module: bytes, policy: str = POLICY, orgs: list[str] = ORGS[:2], profile: int = CLOSED) -> dict:
         upgrade = {"profile": profile, "module": module.hex(), "fuel": 100000, "policy": policy}
         what, write = {"chaincode": CHAINCODE, "upgrade": upgrade}, (DEFINITION_KEY, definition_bytes(upgrade))
         return self.proposed(what, [DEFINITION_KEY], [], [write], orgs)
 
-    def amendment(self, members, policy=None, orgs=ORGS, serial=None):
+    def amendment(self, members: list[dict], policy: str | None = None, orgs: list[str] = ORGS, serial: int | None = None) -> dict:
         """By default the next one, to the policy of two of the members."""
         names = [it["name"] for it in members]
         amend = {"serial": self.serial + 1 if serial is None else serial, "members": members, "policy": policy or two_of(names)}
         return self.proposed({"amend": amend}, [MEMBERSHIP_KEY], [], [(MEMBERSHIP_KEY, membership_bytes(amend))], orgs)
 
-    def entries(self, start, end, limit):
+    def entries(self, start: bytes, end: bytes, limit: int) -> list[dict]:
         keys = sorted(key for key in self.state if key[0] and start <= key and (not end or key < end))
         return [{"key": key.hex(), "version": self.version(key)} for key in keys[:limit]]
 
-    def flag(self, tx):
+    def flag(self, tx: dict) -> int:
         if tx["id"] in self.ids:
             return DUPLICATE
         right = {it["org"] for it in tx["endorsements"] if it["right"]}
@@ -198,7 +209,7 @@ class Chain:
             return PHANTOM
         return VALID
 
-    def is_usable(self, tx):
+    def is_usable(self, tx: dict) -> bool:
         """Whether it is a call, or proposes a definition or the next membership that can be used."""
         if "amend" in tx:
             return tx["amend"]["serial"] == self.serial + 1 and self.is_usable_membership(tx["amend"])
@@ -209,14 +220,14 @@ class Chain:
             return field(tx["upgrade"], "module") in MODULES and policy == POLICY
         return any(policy == two_of(names) and set(names) <= set(self.members) for names in (ORGS, LATER_ORGS))
 
-    def is_usable_membership(self, amend):
+    def is_usable_membership(self, amend: dict) -> bool:
         """Public keys are those of seeds that are known here, and one that is none."""
         names, publics = [it["name"] for it in amend["members"]], [it["public"] for it in amend["members"] if "public" in it]
         have_keys = all("public" in it or it["name"] in ORGS for it in amend["members"])
         are_keys = not {NO_POINT, SMALL_ORDER} & set(publics) and len(set(publics)) == len(publics)
         return have_keys and are_keys and len(names) > 1 and amend["policy"] == two_of(names)
 
-    def follow(self, block):
+    def follow(self, block: dict) -> None:
         """Takes up what the VALID transactions of a block changed for those behind it."""
         for tx in block["txs"]:
             if tx["flag"] == VALID and "amend" in tx:
@@ -225,10 +236,11 @@ class Chain:
             if tx["flag"] == VALID and "upgrade" in tx:
                 self.callers = next(names for names in (ORGS, LATER_ORGS) if tx["upgrade"]["policy"] == two_of(names))
 
-    def add(self, *txs):
+    def add(self, *proposed: dict) -> None:
         """Puts transactions into the next block."""
         number = len(self.blocks) + 1
-        txs = [{**tx, "endorsements": [{**it, "right": self.is_right(it["org"], it["tag"])} for it in tx["endorsements"]]} for tx in txs]
+        txs = [{**tx, "endorsements": [{**it, "right": self.is_right(it["org"], it["tag"])} for it in tx["endorsements"]]}
+               for tx in proposed]
         for place, tx in enumerate(txs):
             tx["flag"] = self.flag(tx)
             self.ids.add(tx["id"])
@@ -242,12 +254,12 @@ class Chain:
         self.blocks.append(block)
         self.follow(block)
 
-    def flags(self):
+    def flags(self) -> list[int]:
         """How many transactions have each flag."""
         flags = [tx["flag"] for block in self.blocks for tx in block["txs"]]
         return [flags.count(flag) for flag in range(5)]
 
-    def lines(self):
+    def lines(self) -> Iterator[dict]:
         modules = [{"profile": 1, "module": module.hex()} for module in MODULES]
         chaincode = {"name": CHAINCODE, "policy": POLICY, "fuel": 100000, **modules[0]}
         yield {"ledger": 1, "orgs": ORGS, "peers": ORGS, "chaincodes": [chaincode], "modules": modules, "upgrade": POLICY,
@@ -256,20 +268,20 @@ class Chain:
         yield {"audit": "agrees", "rerun": self.flags()[VALID], "blocks": len(self.blocks), "end": "clean"}
 
 
-def text_of(lines):
+def text_of(lines: Iterable[dict]) -> str:
     return "".join(json.dumps(line, separators=(",", ":")) + "\n" for line in lines)
 
 
-def key_of(number):
+def key_of(number: int) -> bytes:
     return b"asset/%04d" % number
 
 
-def kept(names):
+def kept(names: list[str]) -> list[dict]:
     """Members that keep their keys."""
     return [{"name": name} for name in sorted(names)]
 
 
-def some_transaction(chain, chance, before):
+def some_transaction(chain: Chain, chance: random.Random, before: list[dict]) -> dict:
     """One of several kinds: mostly a transfer; some are made stale by those of `before`, which are put in front of it."""
     key, kind = key_of(chance.randrange(400)), chance.random()
     value = chance.choice(ORGS).encode() + b" %d" % chance.randrange(10**6)
@@ -291,9 +303,10 @@ def some_transaction(chain, chance, before):
     return chain.transaction(reads=[key, other], writes=[(key, value)], argument=b"transfer " + key + b" " + value)
 
 
-def made_up(blocks, seed=1):
+def made_up(blocks: int) -> Chain:
     """A chain of so many blocks, of all flags."""
-    chain, chance, before = Chain(), random.Random(seed), []
+    chain, chance = Chain(), random.Random(1)
+    before: list[dict] = []
     for _ in range(blocks):
         txs = [some_transaction(chain, chance, before) for _ in range(chance.randrange(1, 7))]
         chain.add(*txs)
@@ -301,7 +314,7 @@ def made_up(blocks, seed=1):
     return chain
 
 
-def hostile():
+def hostile() -> Chain:
     """A chain with markup wherever a chain can hold text."""
     chain = Chain()
     chain.add(chain.transaction(reads=[b"<b>key"], writes=[(b"<b>key", HOSTILE)], argument=HOSTILE))
@@ -310,7 +323,7 @@ def hostile():
     return chain
 
 
-def later():
+def later() -> Chain:
     """A chain of code that the genesis file does not have: an open upgrade and a call behind it, and upgrades and an amendment
     that are not endorsed."""
     chain = Chain()
@@ -324,7 +337,7 @@ def later():
     return chain
 
 
-def amended():
+def amended() -> Chain:
     """A chain whose members change: Depot joins, its key is replaced and the Carrier gets a public one, and Depot and the Shop
     leave; before and behind each what no longer counts, or does not yet, and what no amendment may be."""
     chain, seeds = Chain(), [bytes([number]) * 32 for number in range(3)]
@@ -360,7 +373,7 @@ def amended():
     return chain
 
 
-def linked(lines):
+def linked(lines: list[dict]) -> list[dict]:
     """The lines of a chain with the hashes that its blocks have."""
     lines, previous = json.loads(json.dumps(lines)), "00" * 32
     for block in lines[1:-1]:
@@ -369,7 +382,7 @@ def linked(lines):
     return lines
 
 
-def tampered(lines):
+def tampered(lines: list[dict]) -> tuple[list[dict], list[str]]:
     """The lines of the example's chain with six lies, and what the page is to find: the kind of each, and where."""
     lines = json.loads(json.dumps(lines))
     first, second, third, fourth = lines[1:5]
@@ -385,13 +398,11 @@ def tampered(lines):
     return lines, found
 
 
-def main(words):
-    if words in (["--help"], ["-h"]):
-        print(__doc__)
-        return 0
-    if len(words) != 1 or not words[0].isdecimal():
-        print(__doc__, file=sys.stderr)
-        return 2
+def main(words: list[str]) -> int:
+    if len(words) != 1 or not re.fullmatch("[0-9]{1,9}", words[0]):
+        is_help = words in (["--help"], ["-h"])
+        print(__doc__, file=sys.stdout if is_help else sys.stderr)
+        return 0 if is_help else 2
     sys.stdout.write(text_of(made_up(int(words[0])).lines()))
     return 0
 

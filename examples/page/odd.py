@@ -48,13 +48,17 @@ NO_POLICIES = [
 class Odd:
     """Envelopes that are made up on a state."""
 
-    def __init__(self, seed):
-        self.chance, self.made, self.state, self.earlier = random.Random(seed), 0, {}, []
+    def __init__(self, seed: int):
+        self.chance, self.made = random.Random(seed), 0
+        # The version of each key, and the envelopes so far.
+        self.state: dict[bytes, str] = {}
+        self.earlier: list[dict] = []
         # What amendments would put, by its bytes, and what stands.
         self.memberships: dict[bytes, dict] = {}
-        self.serial, self.members = 0, {org["name"]: None for org in GENESIS["orgs"]}
+        self.serial = 0
+        self.members: dict[str, str | None] = dict.fromkeys(ORGS)
 
-    def follow(self, entries):
+    def follow(self, entries: list[list[str]]) -> None:
         """Takes up the state that was printed: each key, its version and its value."""
         self.state = {bytes.fromhex(key): version for key, version, _ in entries}
         for key, _, value in entries:
@@ -62,19 +66,19 @@ class Odd:
                 amend = self.memberships[bytes.fromhex(value)]
                 self.serial, self.members = amend["serial"], {it["name"]: it.get("public") for it in amend["members"]}
 
-    def often(self, share=0.85):
+    def often(self, share: float = 0.85) -> bool:
         return self.chance.random() < share
 
-    def name(self):
+    def name(self) -> str:
         return self.chance.choices(NAMES, weights=[8, 3, 1])[0]
 
-    def version(self, key):
+    def version(self, key: bytes) -> str | None:
         """The key's version, or now and then another."""
         if self.often(0.95):
             return self.state.get(key)
         return self.chance.choice([None, "1.0", "1.1", *self.state.values()])
 
-    def ranges(self):
+    def ranges(self) -> list[dict]:
         ranges = []
         for _ in range(self.chance.choice([0, 0, 0, 1, 1, 2])):
             start = self.chance.choice([b"", b"\0", b"a", b"\0zz", b"ab", b"c"])
@@ -87,12 +91,12 @@ class Odd:
             ranges.append({"start": start.hex(), "end": end.hex(), "limit": limit, "entries": entries})
         return ranges
 
-    def writes(self, keys):
+    def writes(self, keys: set[bytes]) -> list[dict]:
         values = [None, b"", b"1", b"\xff\xfe", "é".encode(), make.HOSTILE]
         chosen = [(key, self.chance.choice(values)) for key in sorted(keys)]
         return [{"key": key.hex(), "value": None if value is None else value.hex()} for key, value in chosen]
 
-    def tag(self, org, payload):
+    def tag(self, org: str, payload: bytes) -> bytes:
         """An organisation's tag, or now and then one that is wrong, by its bytes or by its kind, or by a key of before."""
         if self.often(0.95):
             return self.tag_under(org, self.members.get(org), payload)
@@ -102,12 +106,12 @@ class Odd:
             self.tag_under(org, None, payload), hmac.digest(rfc8032.secret_to_public(seed), payload, "sha256"),
             self.tag_under(org, self.members.get(org), payload + b"\0")])
 
-    def tag_under(self, org, public, payload):
+    def tag_under(self, org: str, public: str | None, payload: bytes) -> bytes:
         """A tag under a public key of later, or under the genesis file's key."""
-        seed = LATER.get(public) or SEEDS.get(org)
+        seed = LATER.get(public or "") or SEEDS.get(org)
         return rfc8032.sign(seed, payload) if seed else hmac.digest(SHARED_KEY, payload, "sha256")
 
-    def endorsed(self, tx):
+    def endorsed(self, tx: dict) -> dict:
         """The transaction with tags, of which some are wrong, of nobody or there twice."""
         payload = make.envelope_bytes({**tx, "endorsements": []})[:-1]
         tags, count = [], self.chance.choice([0, 1, 2, 3, 3, 4, 5, 6]) if "arg" in tx else 8
@@ -117,7 +121,7 @@ class Odd:
         self.made += 1
         return {**tx, "endorsements": tags}
 
-    def call(self):
+    def call(self) -> dict:
         name = self.name()
         own = b"\0" + name.encode()
         reads = {*self.chance.sample(SHOWN, self.chance.randrange(3)), *([own] if self.often(0.95) else [])}
@@ -128,7 +132,7 @@ class Odd:
                 "reads": [{"key": key.hex(), "version": self.version(key)} for key in sorted(reads)],
                 "ranges": self.ranges(), "writes": self.writes(writes)}
 
-    def upgrade(self):
+    def upgrade(self) -> dict:
         name = self.name()
         own = b"\0" + name.encode()
         module = self.chance.choice(DIGESTS) if self.often(0.9) else "ab" * 32
@@ -145,7 +149,7 @@ class Odd:
             tx["writes"].append({"key": b"b".hex(), "value": "00"})
         return tx
 
-    def key(self, name):
+    def key(self, name: str) -> str | None:
         """A key for a member: that of the genesis file, one of its own, or none that can be."""
         if name in ORGS and self.often(0.4):
             return None
@@ -153,7 +157,7 @@ class Odd:
             return self.chance.choice([*LATER, *LATER, *PUBLICS.values()])
         return self.chance.choice([None, self.chance.randbytes(32).hex(), *NO_KEYS])
 
-    def next_members(self):
+    def next_members(self) -> dict[str, str | None]:
         """Those who stand, with a change or two; or any others."""
         if not self.often(0.9):
             return {name: self.key(name) for name in self.chance.sample(MEMBERS, self.chance.randrange(1, 5))}
@@ -166,7 +170,7 @@ class Odd:
                 members[name] = self.key(name)
         return members
 
-    def amendment(self):
+    def amendment(self) -> dict:
         members = dict(sorted(self.next_members().items()))
         least = self.chance.choice([1, 1, 2])
         good = f"OutOf({least},{','.join(repr(name) for name in members)})"
@@ -183,7 +187,7 @@ class Odd:
             tx["writes"].append({"key": b"b".hex(), "value": "00"})
         return tx
 
-    def envelope(self):
+    def envelope(self) -> dict:
         if self.earlier and not self.often(0.96):
             return self.chance.choice(self.earlier)
         propose = self.chance.choices([self.call, self.upgrade, self.amendment], weights=[15, 4, 3])[0]
@@ -192,7 +196,7 @@ class Odd:
         return tx
 
 
-def run(room, lines, store):
+def run(room: pathlib.Path, lines: list[dict], store: pathlib.Path) -> list[str]:
     """What `./ledger run` prints on these lines."""
     events = room / "odd.jsonl"
     events.write_text("".join(json.dumps(line) + "\n" for line in lines))
@@ -200,9 +204,11 @@ def run(room, lines, store):
     return subprocess.run(command, stdout=subprocess.PIPE, stderr=subprocess.DEVNULL, text=True).stdout.splitlines()
 
 
-def odd_chain(room, rounds, seed):
+def odd_chain(room: pathlib.Path, rounds: int, seed: int) -> list[str]:
     """Writes a genesis file and a store into a folder. Returns what `run` printed."""
-    odd, lines, printed = Odd(seed), [], []
+    odd = Odd(seed)
+    lines: list[dict] = []
+    printed: list[str] = []
     (room / "odd_genesis.json").write_text(json.dumps(GENESIS))
     for _ in range(rounds):
         for _ in range(GENESIS["count"]):
@@ -211,7 +217,3 @@ def odd_chain(room, rounds, seed):
         printed = run(room, lines, room / "odd.store")
         odd.follow([line.split()[1:] for line in printed if line.startswith("state ")])
     return printed
-
-
-if __name__ == "__main__":
-    print(__doc__)

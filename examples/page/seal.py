@@ -14,7 +14,7 @@ import sys
 TEMPLATE = pathlib.Path(__file__).resolve().parent / "template.html"
 
 
-def sealed(page):
+def sealed(page: str) -> str:
     """The page with the hashes of what stands in it."""
     for name in ("style", "script"):
         content = re.search(rf"<{name}>(.*?)</{name}>", page, re.DOTALL)[1]
@@ -23,12 +23,13 @@ def sealed(page):
     return page
 
 
-def main(words):
-    if words in (["--help"], ["-h"]):
-        print(__doc__)
-        return 0
+def main(words: list[str]) -> int:
+    if words not in ([], ["--check"]):
+        is_help = words in (["--help"], ["-h"])
+        print(__doc__, file=sys.stdout if is_help else sys.stderr)
+        return 0 if is_help else 2
     page = TEMPLATE.read_text(encoding="utf-8")
-    if words == ["--check"]:
+    if words:
         return 0 if sealed(page) == page else 1
     TEMPLATE.write_text(sealed(page), encoding="utf-8")
     return 0
