@@ -1,9 +1,11 @@
 //! One peer: its snapshot and its seats.
 
-ghost use Rattle.std.specs.Prelude.{◌≡◌, ℕ, List, [], ◌∷◌, ◌++◌, ◌+◌, ◌<◌, length, Ok, IfOk, OnErr, None, replicate};
+ghost use Rattle.std.specs.Prelude.{◌≡◌, ℕ, List, [], ◌∷◌, ◌++◌, ◌+◌, ◌<◌, length, slice_get, Ok, IfOk, IfSome, OnErr, None, Some, if◌then◌else◌};
 ghost use Rattle.ledger_model.specs.Chain.{Chain, history};
 ghost use Rattle.ledger_model.specs.State.{state};
 ghost use Rattle.ledger_model.specs.Views.{values_of};
+ghost use Rattle.fab_types.specs.declared.proposal.Proposal.{Proposal};
+ghost use Rattle.mvcc_validate.specs.Current.{is_current};
 ghost use Rattle.committer.specs.Fits.{Fits, blocks_of};
 ghost use Rattle.ledger_model.specs.Judged.{judge};
 ghost use Rattle.ledger_setting.specs.Judging.{IsJudged};
@@ -19,7 +21,7 @@ use crate::event::Reply;
 use chaincode_book::Book;
 use endorsement_policy::Rules;
 use endorser::{recheck, seal};
-use fab_types::{Block, Flag, OrgName, Payload, Proposal};
+use fab_types::{Block, Endorsement, Flag, OrgName, Payload, Proposal};
 use ledger_setting::judge_checked;
 use org_keys::Signers;
 use seq::Seq;
@@ -106,20 +108,62 @@ impl Peer {
             IsPeerRight chain self.new }
         ensures unchanged { OnErr result (self.new ≡ self.old) }
     {
+        if let Some(refused) = self.not_free(seat) {
+            drop(proposal);
+            return Ok(refused);
+        }
+        let Ok(snapshot) = self.snapshot.clone() else {
+            drop(proposal);
+            return Err(AllocError);
+        };
+        let height = snapshot.height();
+        self.seats[seat] = Some(Begun { proposal, snapshot });
+        Ok(Reply::Begun(height))
+    }
+
+    /// The reply where nothing can begin at a seat. None where it is free.
+    fn not_free(&self, seat: usize) -> Option<Reply>
+        ensures refused { IfSome result
+            (λ reply. (proposal : Proposal) →
+            begin (peer_of self.now) seat proposal ≡ (reply, peer_of self.now)) }
+        ensures free { result ≡ None → slice_get self.now.seats.items seat ≡ Some None }
+    {
         match self.seats.get(seat) {
-            None => Ok(Reply::NoSuchSeat),
-            Some(Some(_)) => Ok(Reply::SeatBusy),
-            Some(None) => {
-                let snapshot = self.snapshot.clone()?;
-                let height = snapshot.height();
-                self.seats[seat] = Some(Begun { proposal, snapshot });
-                Ok(Reply::Begun(height))
-            }
+            None => Some(Reply::NoSuchSeat),
+            Some(Some(_)) => Some(Reply::SeatBusy),
+            Some(None) => None,
         }
     }
 
-    /// The reply with a payload: with the tag of the peer's organisation, by the key that it has in
-    /// the newest state, or that it is stale.
+    /// The endorsement of a payload: the tag of the peer's organisation, by the key that it has in
+    /// the newest state. None where the payload is stale there.
+    fn endorsement(
+        &self,
+        alloc: Global,
+        rules: &Rules,
+        signers: &Signers,
+        payload: &Payload,
+    ) -> Result<Option<Endorsement>, AllocError>
+        ensures { IfOk result
+            (λ endorsement. endorsement
+            ≡ (if is_current (state (history self.now.snapshot.value)) payload.now
+            then Some (seal_of rules.now signers.now
+            (values_of (state (history self.now.snapshot.value))) self.now.org payload.now)
+            else None)) }
+    {
+        let newest: &Snapshot = &self.snapshot;
+        match recheck(alloc, payload, newest) {
+            Ok(()) => {
+                let endorsement = seal(alloc, rules, signers, newest, &self.org, payload)?;
+                Ok(Some(endorsement))
+            }
+            Err(SimRefusal::Stale) => Ok(None),
+            // Of memory: there is no other refusal.
+            Err(_) => Err(AllocError),
+        }
+    }
+
+    /// The reply with a payload: with its endorsement, or that it is stale.
     fn endorsed(
         &self,
         alloc: Global,
@@ -133,15 +177,16 @@ impl Peer {
             (seal_of rules.now signers.now (values_of (state (history self.now.snapshot.value)))
             self.now.org) (Ok payload)) }
     {
-        let newest: &Snapshot = &self.snapshot;
-        match recheck(alloc, &payload, newest) {
-            Ok(()) => {
-                let endorsement = seal(alloc, rules, signers, newest, &self.org, &payload)?;
-                Ok(Reply::Endorsed(payload, endorsement))
+        let Ok(sealed) = self.endorsement(alloc, rules, signers, &payload) else {
+            drop(payload);
+            return Err(AllocError);
+        };
+        match sealed {
+            Some(endorsement) => Ok(Reply::Endorsed(payload, endorsement)),
+            None => {
+                drop(payload);
+                Ok(Reply::Refused(SimRefusal::Stale))
             }
-            Err(SimRefusal::Stale) => Ok(Reply::Refused(SimRefusal::Stale)),
-            // Of memory: there is no other refusal.
-            Err(_) => Err(AllocError),
         }
     }
 
@@ -209,7 +254,10 @@ impl Peer {
         ensures unchanged { OnErr result (self.new ≡ self.old) }
     {
         let newest: &Snapshot = &self.snapshot;
-        let (judged, flags) = judged(checks, alloc, rules, newest, &block)?;
+        let Ok((judged, flags)) = judged(checks, alloc, rules, newest, &block) else {
+            drop(block);
+            return Err(AllocError);
+        };
         let snapshot = newest.followed_by(alloc, block, judged)?;
         let flags = Seq::new(flags);
         let height = snapshot.height();

@@ -87,7 +87,11 @@ fn timed_out(orderer: &mut Orderer) -> Result<Option<BatchReport>, OrderCause>
 {
     match orderer.tick() {
         Ok(report) => Ok(report),
-        Err(refusal) => Err(refusal.cause),
+        Err(refusal) => {
+            let cause = refusal.cause;
+            drop(refusal);
+            Err(cause)
+        }
     }
 }
 
@@ -135,6 +139,7 @@ impl System {
         ensures unchanged { OnErr result (self.new ≡ self.old) }
     {
         if peer >= self.peers.len() {
+            drop(proposal);
             return Ok(Reply::NoSuchPeer);
         }
         self.peers[peer].begin(seat, proposal)
@@ -159,6 +164,7 @@ impl System {
         ensures unchanged { OnErr result (self.new ≡ self.old) }
     {
         if self.queue.len() >= self.capacity {
+            drop(envelope);
             return Ok(Reply::QueueFull);
         }
         self.queue.push_back(envelope)?;
