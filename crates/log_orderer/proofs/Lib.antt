@@ -11,3 +11,4 @@ mod Recut
 mod Fresh
 mod Recutting
 mod Handing
+mod Batches

@@ -116,7 +116,10 @@ impl LeanOrderer {
             &mut self.chain,
             &cut,
         ) {
-            Ok(made) => Ok(made),
+            Ok(made) => {
+                drop(cut);
+                Ok(made)
+            }
             Err(cause) => Err(OrderRefusal {
                 envelope: Some(self.cutter.undo(cut)),
                 cause,
@@ -147,7 +150,10 @@ impl LeanOrderer {
             &mut self.chain,
             &batch,
         ) {
-            Ok(made) => Ok(Some(made)),
+            Ok(made) => {
+                drop(batch);
+                Ok(Some(made))
+            }
             Err(cause) => {
                 self.cutter.put_back(batch);
                 Err(OrderRefusal {
@@ -226,19 +232,45 @@ fn make_each(
         IsCutRefused (arranges_by reorder) cause chain (batches cut.now)) }
 {
     let mut all = Vec::new(alloc);
+    put_each(alloc, reorder, tip, cut, &mut all)?;
+    Ok(all)
+}
+
+/// Puts what the batches of a cut become behind a tip, one after another, in an empty list.
+fn put_each(
+    alloc: Global,
+    reorder: bool,
+    tip: Tip,
+    cut: &Cut<Envelope>,
+    all: &mut Vec<Made>,
+) -> Result<(), OrderCause>
+    requires height { tip.height ≤ LAST_BLOCK }
+    requires batches { AllByRecursion IsBlockData (batches cut.now) }
+    requires empty { all.old.items ≡ [] }
+    ensures made { OnOk result ((chain : List Block) → tip ≡ tip_of chain →
+        AddsEach (arranges_by reorder) chain (batches cut.now) (reports_made all.new.items)
+        (chain ++ blocks_made all.new.items)) }
+    ensures own { OnOk result (AreOwn all.new.items) }
+    ensures two { OnOk result (length all.new.items ≤ 2) }
+    ensures number { OnOk result
+        (tip.height + length (blocks_made all.new.items) ≤ LAST_BLOCK) }
+    ensures refused { IfErr result (λ cause. (chain : List Block) → tip ≡ tip_of chain →
+        IsCutRefused (arranges_by reorder) cause chain (batches cut.now)) }
+{
     match cut {
-        Cut::Nothing => {}
+        Cut::Nothing => Ok(()),
         Cut::One(batch) => {
             all.push(make_block(alloc, reorder, tip, batch)?)?;
+            Ok(())
         }
         Cut::Two(first, second) => {
             let made = make_block(alloc, reorder, tip, first)?;
             let next = tip_after(tip, &made);
             all.push(made)?;
             all.push(make_block(alloc, reorder, next, second)?)?;
+            Ok(())
         }
     }
-    Ok(all)
 }
 
 /// Keeps the hashes of the headers of blocks.

@@ -135,14 +135,25 @@ impl Replica {
             (λ report. HandsOut report self.old.chain self.new.chain) }
         ensures unchanged { OnErr result (self.new ≡ self.old) }
     {
-        let (id, room) = prepared(self.alloc, &mut self.waiting, &envelope.payload)?;
+        let (id, room) = match prepared(self.alloc, &mut self.waiting, &envelope.payload) {
+            Ok(parts) => parts,
+            Err(error) => {
+                drop(envelope);
+                return Err(error);
+            }
+        };
         match self.orderer.accept(envelope) {
             Ok(made) => {
                 self.waiting.push(id).unwrap();
                 let batches = cut_each(self.alloc, &mut self.waiting, made, room);
                 Ok(LineReport::Accepted { id, batches })
             }
-            Err(refusal) => skipped(refusal.cause),
+            Err(refusal) => {
+                let cause = refusal.cause;
+                drop(refusal);
+                drop(room);
+                skipped(cause)
+            }
         }
     }
 
@@ -163,7 +174,12 @@ impl Replica {
                 let batch = cut(&mut self.waiting, made, room);
                 Ok(LineReport::Ticked(Some(batch)))
             }
-            Err(refusal) => skipped(refusal.cause),
+            Err(refusal) => {
+                let cause = refusal.cause;
+                drop(refusal);
+                drop(room);
+                skipped(cause)
+            }
         }
     }
 

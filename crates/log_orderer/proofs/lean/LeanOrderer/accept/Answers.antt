@@ -4,7 +4,6 @@ use Rattle.batch_cutter.specs.Offers.{batches}
 use Rattle.orderer.specs.Ordering.{Ordering, AreLimits}
 use Rattle.orderer.proofs.Cutting.{offered_fit}
 use Rattle.orderer.proofs.Refusing.{mark_refused}
-use Rattle.log_orderer.proofs.lean.LeanOrderer.accept.Goals.{in-One-1, in-Two-1, in-Nothing-1}
 use Rattle.log_orderer.proofs.lean.LeanOrderer.accept.Goals as goal
 
 pub add_cut-requires-clause-batches : goal.add_cut-requires-clause-batches
@@ -21,39 +20,16 @@ invariant_of-self-in-Ok-add_cut c = (
   c.add_cut.ensures.hashes,
 )
 
-pub invariant_of-self-in-Ok-add_cut-2 : goal.invariant_of-self-in-Ok-add_cut-2
-invariant_of-self-in-Ok-add_cut-2 c = (
-  subst AreLimits (sym c.in-Ok.ensures.cut.limits) c.self.invariant.0,
-  c.in-Ok-add_cut.ensures.number,
-  c.add_cut.ensures.hashes,
-)
-
 pub returns-in-Ok-add_cut-clause-taken : goal.returns-in-Ok-add_cut-clause-taken
 returns-in-Ok-add_cut-clause-taken c =
     let offers = c.in-Ok.ensures.cut in
-    elim c.match-cut.branch [
-      | in-One-1 w ↦ rw (w.self-is, ← c.self.view_is) (record {
-        batches = batches c.in-Ok.cut;
-        cut = offers.divides;
-        added = c.in-Ok-add_cut.ensures.added;
-        limits = offers.limits;
-        reorder = refl;
-      })
-      | in-Two-1 w ↦ rw (w.self-is, ← c.self.view_is) (record {
-        batches = batches c.in-Ok.cut;
-        cut = offers.divides;
-        added = c.in-Ok-add_cut.ensures.added;
-        limits = offers.limits;
-        reorder = refl;
-      })
-      | in-Nothing-1 w ↦ rw (w.self-is, ← c.self.view_is) (record {
-        batches = batches c.in-Ok.cut;
-        cut = offers.divides;
-        added = c.in-Ok-add_cut.ensures.added;
-        limits = offers.limits;
-        reorder = refl;
-      })
-    ]
+    rw (← c.self.view_is) (record {
+      batches = batches c.in-Ok.cut;
+      cut = offers.divides;
+      added = c.in-Ok-add_cut.ensures.added;
+      limits = offers.limits;
+      reorder = refl;
+    })
 
 pub returns-in-Err-add_cut-clause-refused : goal.returns-in-Err-add_cut-clause-refused
 returns-in-Err-add_cut-clause-refused c =

@@ -19,8 +19,8 @@ add_batch-requires-clause-batch c =
     subst IsBlockData (sym c.deref.ensures.value)
     (timed_fit cutter.limits cutter.pending (c.in-Some.batch.items ∷ []) pending c.self.invariant.0 c.timeout.ensures.waited cut).0
 
-pub invariant_of-self-in-Ok-1 : goal.invariant_of-self-in-Ok-1
-invariant_of-self-in-Ok-1 c = (
+pub invariant_of-self-in-Ok : goal.invariant_of-self-in-Ok
+invariant_of-self-in-Ok c = (
   subst AreLimits (sym c.timeout.ensures.limits) c.self.invariant.0,
   c.in-Ok.ensures.number,
   c.add_batch.ensures.hashes,
