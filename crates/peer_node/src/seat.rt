@@ -86,8 +86,13 @@ impl Seat {
             (peer_of self.new ≡ peer_of self.old) }
     {
         let payload = self.endorser.simulate(first, proposal)?;
-        let endorsement = self.endorse_newest(&payload)?;
-        Ok((payload, endorsement))
+        match self.endorse_newest(&payload) {
+            Ok(endorsement) => Ok((payload, endorsement)),
+            Err(refusal) => {
+                drop(payload);
+                Err(refusal)
+            }
+        }
     }
 
     /// Endorses a payload of which all that was read is as it was on the newest snapshot, which is

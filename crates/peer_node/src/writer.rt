@@ -188,7 +188,13 @@ impl PeerWriter {
     {
         let newest = self.cell.newest();
         let workers = Workers::new(rt, WORKERS);
-        let judged = judge_by_workers(&workers, self.alloc, &self.rules, newest, &block)?;
+        let judged = match judge_by_workers(&workers, self.alloc, &self.rules, newest, &block) {
+            Ok(judged) => judged,
+            Err(refusal) => {
+                drop(block);
+                return Err(refusal);
+            }
+        };
         let next = newest.followed_by(self.alloc, block, judged)?;
         Ok(self.cell.publish(rt, next)?)
     }
