@@ -1,6 +1,6 @@
 -- The organisations whose tags are right: how many they are, where they are known, and of blocks side by side.
 use Rattle.std.proofs.Common.{◌≡◌, ℕ, ◌+◌, ◌<◌, ◌≤◌, Bool, List, [], ◌∷◌, ◌++◌, length, map, take, drop, get_or, Option, Some, None, IfSome, sym, ap, ap₂, ◌∙◌}
-use Rattle.std.proofs.Common.{Bor, Vec, Global, length-append, append_assoc, arith}
+use Rattle.std.proofs.Common.{Bor, Vec, Global, Result, Ok, Err, IfOk, length-append, append_assoc, subst, arith}
 use Rattle.std.specs.Prelude.{filter}
 use Rattle.std.specs.Slice.{IsItemAt}
 use Rattle.std.proofs.lemmas.List.{append-nil, length-map, map-append, map_push, drop_more, drop_all, get_or-map, get_or-take, take_all}
@@ -58,6 +58,14 @@ pub both_halves : {A C : Type 0} (f : A → C) (low high all : List C) (front ba
     xs ≡ front ++ back → all ≡ map f xs
 both_halves f low high all front back xs first second made parts =
     made ∙ ap₂ ◌++◌ first second ∙ sym (map-append f front back) ∙ sym (ap (map f) parts)
+
+-- what two workers came to, put together, where neither ran out of memory
+pub joined : {X E : Type 0} (P Q R : X → Type 0) (made : X → X → X → Type 0) (low high all : Result X E) →
+    ((front back both : X) → P front → Q back → made front back both → R both) → IfOk low P → IfOk high Q →
+    IfOk all (λ both. (front : X) × (back : X) × (low ≡ Ok front) × (high ≡ Ok back) × made front back both) → IfOk all R
+joined P Q R made low high (Err e) f first second h = tt
+joined {X} {E} P Q R made low high (Ok both) f first second h =
+    f h.0 h.1 both (subst (λ (r : Result X E). IfOk r P) h.2 first) (subst (λ (r : Result X E). IfOk r Q) h.3 second) h.4
 
 -- and of blocks
 pub both_parts : {A B C : Type 0} (g : B → C) (f : A → C) (low high all : List B) (front back blocks : List A) → map g low ≡ map f front →

@@ -48,7 +48,7 @@ pub found_in : (r : Listed) (m : Plain) (names : Names) (value : Option Bytes) (
 found_in r m names value found names_are value_is is = is ∙ ap₂ usable_membership names_are value_is
 
 -- a membership is read, and then tested
-abbrev tested : Names → Membership → Option Membership
+abbrev pub tested : Names → Membership → Option Membership
 tested names s = cond (is_usable names s) (Some s) None
 
 read_first : (names : Names) (value : Option Bytes) → usable_membership names value ≡ ((value >>= whole_at membership_at) >>= tested names)

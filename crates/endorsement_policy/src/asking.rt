@@ -9,7 +9,7 @@ use crate::evaluate::satisfied;
 use crate::rules::Rules;
 use crate::source::Source;
 use fab_types::Name;
-use policy_language::OrgSet;
+use policy_language::{OrgSet, Policy};
 use std::alloc::{AllocError, Global};
 use world_state::Snapshot;
 
@@ -28,8 +28,18 @@ pub fn satisfies(
         (policy_in rules.now (plain_after snapshot.now) chaincode.now)) }
 {
     let source = Source::of(alloc, rules, snapshot, chaincode)?;
-    match source.policy() {
-        Some(policy) => Ok(Some(satisfied(policy, orgs))),
-        None => Ok(None),
+    let answer = satisfied_where(source.policy(), orgs);
+    drop(source);
+    Ok(answer)
+}
+
+/// Whether the organisations satisfy the policy, where there is one.
+fn satisfied_where(policy: Option<&Policy>, orgs: &OrgSet) -> Option<bool>
+    ensures { result
+        ≡ option_map (λ p. is_satisfied p orgs.now) (option_map (λ p. p.now) policy.entry) }
+{
+    match policy {
+        Some(policy) => Some(satisfied(policy, orgs)),
+        None => None,
     }
 }

@@ -32,7 +32,9 @@ pub fn is_endorsed(
         (λ b. b ≡ is_endorsed rules.now (values_of (state (history snapshot.now))) envelope.now) }
 {
     let judge = Judge::new(alloc, rules, snapshot, &[])?;
-    judge.is_endorsed(alloc, envelope, None)
+    let answer = judge.is_endorsed(alloc, envelope, None);
+    drop(judge);
+    answer
 }
 
 /// For each envelope whether it is endorsed, by one thread. The text of a chaincode's policy is
@@ -84,7 +86,9 @@ fn check_with_first(
         envelopes.now) }
 {
     let judge = Judge::new(alloc, rules, snapshot, envelopes)?;
-    check_each(alloc, &judge, envelopes, right)
+    let answers = check_each(alloc, &judge, envelopes, right);
+    drop(judge);
+    answers
 }
 
 /// For each envelope whether it is endorsed, as the judge says.

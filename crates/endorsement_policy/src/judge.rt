@@ -73,10 +73,23 @@ impl<'a> Judge<'a> {
             snapshot,
             known,
         };
-        for envelope in envelopes {
-            judge.meet(alloc, envelope.payload.proposal())?;
+        match judge.meet_each(alloc, envelopes) {
+            Ok(()) => Ok(judge),
+            Err(error) => {
+                drop(judge);
+                Err(error)
+            }
         }
-        Ok(judge)
+    }
+
+    /// Looks up the policy of each chaincode that these envelopes call.
+    fn meet_each(&mut self, alloc: Global, envelopes: &'a [Envelope]) -> Result<(), AllocError>
+        ensures { self.new ≡ self.old }
+    {
+        for envelope in envelopes {
+            self.meet(alloc, envelope.payload.proposal())?;
+        }
+        Ok(())
     }
 
     /// Looks up the policy of a chaincode that is called, if that is not yet done.
@@ -146,10 +159,28 @@ impl<'a> Judge<'a> {
         if !reads_own(&envelope.payload) || !names_no_other(&envelope.payload) {
             return Ok(false);
         }
-        if let Some(source) = self.known(&call.chaincode) {
-            return is_met_by(alloc, &self.standing, source.policy(), envelope, right);
+        match self.known(&call.chaincode) {
+            Some(source) => is_met_by(alloc, &self.standing, source.policy(), envelope, right),
+            None => self.is_met_in_state(alloc, &call.chaincode, envelope, right),
         }
-        let source = Source::of(alloc, self.rules, self.snapshot, &call.chaincode)?;
+    }
+
+    /// Whether the organisations of which the envelope carries a right tag satisfy the policy that
+    /// a chaincode has in the state.
+    fn is_met_in_state(
+        &self,
+        alloc: Global,
+        chaincode: &Name,
+        envelope: &Envelope,
+        right: Option<&OrgSet>,
+    ) -> Result<bool, AllocError>
+        requires { IfSome right
+            (λ orgs. orgs.now ≡ right_orgs self.now.listed.orgs envelope.now) }
+        ensures { IfOk result (λ b. b
+            ≡ is_met_by (right_orgs self.now.listed.orgs envelope.now)
+            (judged_policy self.now chaincode.now)) }
+    {
+        let source = Source::of(alloc, self.rules, self.snapshot, chaincode)?;
         is_met_by(alloc, &self.standing, source.policy(), envelope, right)
     }
 

@@ -110,7 +110,10 @@ pub fn is_usable(
     if !have_known_keys(names, members) || !have_own_keys(members) {
         return Ok(false);
     }
-    Ok(membership_policy(alloc, membership)?.is_some())
+    let policy = membership_policy(alloc, membership)?;
+    let is_policy = policy.is_some();
+    drop(policy);
+    Ok(is_policy)
 }
 
 /// Whether each key that is kept is that of one of these names, and each member's own is to be

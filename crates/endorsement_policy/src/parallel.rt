@@ -42,9 +42,12 @@ pub fn check_all<R: Threads + Sync, G: Gate>(
         ≡ map (is_endorsed rules.now (values_of (state (history snapshot.now))))
         envelopes.now) }
 {
-    let judge = Judge::new(alloc, rules, snapshot, envelopes)?;
+    let rt = workers.rt();
     let count = workers.count().min(envelopes.len().max(1));
-    check_by(workers.rt(), alloc, &judge, envelopes, count, gate)
+    let judge = Judge::new(alloc, rules, snapshot, envelopes)?;
+    let answers = check_by(rt, alloc, &judge, envelopes, count, gate);
+    drop(judge);
+    answers
 }
 
 /// The same with a judge whom the workers share.

@@ -1,6 +1,6 @@
 //! Who the organisations are before a block.
 
-ghost use Rattle.std.specs.Prelude.{◌≡◌, [], Some, None, IfOk, option_map};
+ghost use Rattle.std.specs.Prelude.{◌≡◌, ◌||◌, [], Some, None, IfOk, not, option_and_then, option_map, if◌then◌else◌};
 ghost use Rattle.std.specs.List.{find, list_all};
 ghost use Rattle.endorsement_policy.specs.Endorsed.{is_org, org_names};
 ghost use Rattle.endorsement_policy.specs.Judge.{plain_after};
@@ -54,14 +54,10 @@ impl<'a> Standing<'a> {
     ) -> Result<Standing<'a>, AllocError>
         ensures { IfOk result (λ s. s ≡ standing_in rules.now (plain_after snapshot.now)) }
     {
-        let Some(membership) = spelled_membership(alloc, membership_value(snapshot))? else {
-            return Ok(Standing::by_genesis(rules));
-        };
-        let (standing, is_usable) = Standing::by_membership(alloc, rules, &membership)?;
-        if !is_usable {
-            return Ok(Standing::by_genesis(rules));
-        }
-        Ok(standing)
+        let spelled = spelled_membership(alloc, membership_value(snapshot))?;
+        let standing = Standing::by_membership(alloc, rules, spelled.as_ref(), true);
+        drop(spelled);
+        standing
     }
 
     /// Those of a membership, or of the genesis where there is none. The only error is want of
@@ -74,11 +70,7 @@ impl<'a> Standing<'a> {
         ensures { IfOk result
             (λ s. s ≡ standing_by rules.now (option_map (λ m. m.now) membership.entry)) }
     {
-        let Some(membership) = membership else {
-            return Ok(Standing::by_genesis(rules));
-        };
-        let (standing, _) = Standing::by_membership(alloc, rules, membership)?;
-        Ok(standing)
+        Standing::by_membership(alloc, rules, membership, false)
     }
 
     /// Those of the genesis.
@@ -91,28 +83,41 @@ impl<'a> Standing<'a> {
         }
     }
 
-    /// Those of a membership, and whether it can be used: each key and the policy's text are read
-    /// once. The only error is want of memory.
+    /// Those of a membership, or of the genesis where there is none, or it is tested and cannot be
+    /// used. Each key and the policy's text are read once. The only error is want of memory.
     fn by_membership(
         alloc: Global,
         rules: &'a Rules,
-        membership: &Membership,
-    ) -> Result<(Standing<'a>, bool), AllocError>
-        ensures standing { IfOk result (λ s. s.0 ≡ standing_by rules.now (Some membership.now)) }
-        ensures usable { IfOk result
-            (λ s. s.1 ≡ is_usable rules.now.installed.orgs membership.now) }
+        membership: Option<&Membership>,
+        is_tested: bool,
+    ) -> Result<Standing<'a>, AllocError>
+        ensures { IfOk result
+            (λ s. s ≡ standing_by rules.now (option_and_then
+            (λ m. if (not is_tested || is_usable rules.now.installed.orgs m) then Some m else None)
+            (option_map (λ m. m.now) membership.entry))) }
     {
-        let Some(upgrade) = membership_policy(alloc, membership)? else {
-            return Ok((Standing::by_genesis(rules), false));
+        let Some(membership) = membership else {
+            return Ok(Standing::by_genesis(rules));
         };
         let members = membership.members.as_slice();
-        let (organisations, are_known) = organisations_by(alloc, rules, members)?;
+        let are_own = have_own_keys(members);
+        let Some(upgrade) = membership_policy(alloc, membership)? else {
+            return Ok(Standing::by_genesis(rules));
+        };
+        let Ok((organisations, are_known)) = organisations_by(alloc, rules, members) else {
+            drop(upgrade);
+            return Err(AllocError);
+        };
+        if is_tested & !(are_known & are_own) {
+            drop(organisations);
+            drop(upgrade);
+            return Ok(Standing::by_genesis(rules));
+        }
         let amended = Some(Amended {
             organisations,
             upgrade,
         });
-        let standing = Standing { rules, amended };
-        Ok((standing, are_known && have_own_keys(members)))
+        Ok(Standing { rules, amended })
     }
 
     /// The organisations.

@@ -1,6 +1,6 @@
 //! Whose tags on envelopes are right.
 
-ghost use Rattle.std.specs.Prelude.{◌≡◌, ◌≤◌, [], ◌∷◌, IfOk, map};
+ghost use Rattle.std.specs.Prelude.{◌≡◌, ◌≤◌, [], ◌∷◌, ◌++◌, IfOk, Ok, map};
 ghost use Rattle.std.specs.Thread.{IsSync};
 ghost use Rattle.endorsement_policy.specs.Endorsed.{right_orgs};
 
@@ -64,6 +64,22 @@ fn right_orgs_in_turn(
     Ok(all)
 }
 
+/// What two workers found, the one's behind the other's.
+fn joined<T: Drop>(
+    low: Result<Vec<T>, AllocError>,
+    high: Result<Vec<T>, AllocError>,
+) -> Result<Vec<T>, AllocError>
+    ensures { IfOk result (λ all. (front : _) × (back : _) × (low ≡ Ok front) × (high ≡ Ok back)
+        × (all.items ≡ front.items ++ back.items)) }
+{
+    let mut all = low?;
+    let mut rest = high?;
+    let appended = all.append(&mut rest);
+    drop(rest);
+    appended?;
+    Ok(all)
+}
+
 /// The same of each envelope of one block, by 1 to 16 workers at once. Each takes a part of the
 /// envelopes, one as large as another.
 #[cycle(parts)]
@@ -96,10 +112,7 @@ fn right_orgs_by_parts<R: Threads + Sync>(
             (λ v. v.items ≡ map (right_orgs organisations.entry.now) back.entry.now) }
     { right_orgs_by_parts(rt, alloc, organisations, back, back_workers) };
     let (low, high) = join(rt, front_part, back_part);
-    let mut all = low?;
-    let mut rest = high?;
-    all.append(&mut rest)?;
-    Ok(all)
+    joined(low, high)
 }
 
 /// The same of the one block there is.
@@ -157,10 +170,7 @@ fn right_orgs_by_shares<R: Threads + Sync>(
             ≡ map (λ block. map (right_orgs organisations.entry.now) block.now) back.entry.now) }
     { right_orgs_by_shares(rt, alloc, organisations, back, back_workers) };
     let (low, high) = join(rt, front_share, back_share);
-    let mut all = low?;
-    let mut rest = high?;
-    all.append(&mut rest)?;
-    Ok(all)
+    joined(low, high)
 }
 
 /// For each envelope of each block those of these organisations of which it carries a right tag, by

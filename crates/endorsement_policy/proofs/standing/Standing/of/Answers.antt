@@ -1,29 +1,17 @@
-use Rattle.std.proofs.Common.{◌≡◌, true, false, Some, None, refl, sym, ◌∙◌}
+use Rattle.std.proofs.Common.{◌≡◌, IfOk, Option, refl, sym, subst}
+use Rattle.std.specs.Prelude.{option_and_then}
+use Rattle.fab_types.specs.declared.membership.Membership.{Membership}
 use Rattle.endorsement_policy.specs.Judge.{plain_after}
-use Rattle.endorsement_policy.specs.Membership.{is_usable}
-use Rattle.endorsement_policy.proofs.Stands.{stands_by}
+use Rattle.endorsement_policy.specs.Membership.{Standing, standing_by}
+use Rattle.endorsement_policy.proofs.Stands.{stands_by, tested}
 use Rattle.endorsement_policy.proofs.standing.Standing.of.Goals as goal
-
-pub returns-in_default : goal.returns-in_default
-returns-in_default c =
-    let state = plain_after c.args.snapshot.now in
-    let spelled = sym c.in_default.is ∙ c.in_ok-membership.ensures in
-    c.by_genesis.ensures ∙ sym (stands_by c.args.rules.now state _ None c.membership_value.ensures spelled None refl)
-
-pub returns-then-not-is_usable : goal.returns-then-not-is_usable
-returns-then-not-is_usable c =
-    let r = c.args.rules.now in
-    let state = plain_after c.args.snapshot.now in
-    let membership = c.in-Some.membership in
-    let spelled = sym c.in-Some.is ∙ c.in_ok-membership.ensures in
-    let wrong : is_usable r.installed.orgs membership ≡ false = sym c.in_ok-standing.ensures.usable ∙ c.if-not-is_usable.true in
-    c.by_genesis-then-not-is_usable.ensures ∙ sym (stands_by r state _ (Some membership) c.membership_value.ensures spelled None (rw wrong refl))
 
 pub returns : goal.returns
 returns c =
     let r = c.args.rules.now in
-    let state = plain_after c.args.snapshot.now in
-    let membership = c.in-Some.membership in
-    let spelled = sym c.in-Some.is ∙ c.in_ok-membership.ensures in
-    let right : is_usable r.installed.orgs membership ≡ true = sym c.in_ok-standing.ensures.usable ∙ c.if-not-is_usable.false in
-    c.in_ok-standing.ensures.standing ∙ sym (stands_by r state _ (Some membership) c.membership_value.ensures spelled (Some membership) (rw right refl))
+    let found = c.in_ok-spelled.spelled in
+    let usable : Option Membership → Option Membership = option_and_then (tested r.installed.orgs) in
+    let stands = stands_by r (plain_after c.args.snapshot.now) _ found c.membership_value.ensures c.in_ok-spelled.ensures (usable found) refl in
+    let made = c.by_membership-standing in
+    subst (λ (s : Standing). IfOk made.result (λ t. t ≡ s)) (sym stands)
+    (subst (λ (o : Option Membership). IfOk made.result (λ t. t ≡ standing_by r (usable o))) c.as_ref.ensures.value made.ensures)
