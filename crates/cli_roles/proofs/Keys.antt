@@ -13,17 +13,15 @@ use Rattle.cli_roles.specs.Endorsing.{LacksKey, NeedsKey, can_tag_behind, is_str
 use Rattle.cli_roles.specs.Seeds.{can_tag}
 
 -- by who stands behind the chain
-pub able : (g : Genesis) (org : Bytes) (chain : Chain) (s : Standing) (r b : Bool) → s ≡ standing_in g.rules.value (plain_after chain)
-    → r ≡ (can_tag g.signers.value g.rules.value.orgs org || can_tag g.signers.value s.orgs org) → r ≡ b → can_tag_behind g org chain ≡ b
-able g org chain s r b same has is =
-    let seeds = g.signers.value in
-    ap (λ (x : Standing). can_tag seeds g.rules.value.orgs org || can_tag seeds x.orgs org) (sym same) ∙ (sym has ∙ is)
+pub able : (g : Genesis) (org : Bytes) (chain : Chain) (s : Standing) (r : Bool) → s ≡ standing_in g.rules.value (plain_after chain)
+    → r ≡ (can_tag g.signers.value g.rules.value.orgs org || can_tag g.signers.value s.orgs org) → r ≡ can_tag_behind g org chain
+able g org chain s r same has =
+    let seeds = g.signers.value in has ∙ ap (λ (x : Standing). can_tag seeds g.rules.value.orgs org || can_tag seeds x.orgs org) same
 
-pub unknown : (g : Genesis) (org : Bytes) (chain : Chain) (s : Standing) (r b : Bool) → s ≡ standing_in g.rules.value (plain_after chain)
-    → r ≡ not (is_some (find (is_org org) g.rules.value.orgs) || is_some (find (is_org org) s.orgs)) → r ≡ b
-    → is_stranger g.rules.value chain org ≡ b
-unknown g org chain s r b same has is =
-    ap (λ (x : Standing). not (is_some (find (is_org org) g.rules.value.orgs) || is_some (find (is_org org) x.orgs))) (sym same) ∙ (sym has ∙ is)
+pub unknown : (g : Genesis) (org : Bytes) (chain : Chain) (s : Standing) (r : Bool) → s ≡ standing_in g.rules.value (plain_after chain)
+    → r ≡ not (is_some (find (is_org org) g.rules.value.orgs) || is_some (find (is_org org) s.orgs)) → r ≡ is_stranger g.rules.value chain org
+unknown g org chain s r same has =
+    has ∙ ap (λ (x : Standing). not (is_some (find (is_org org) g.rules.value.orgs) || is_some (find (is_org org) x.orgs))) same
 
 pub can : {A : Type 0} (g : Genesis) (org : Bytes) (chain : Chain) (t : Told) (a : A) → can_tag_behind g org chain ≡ true
     → Answers (NeedsKey g org chain) t t (Ok a)

@@ -8,12 +8,13 @@ ghost use Rattle.ledger_model.specs.Chain.{Chain};
 ghost use Rattle.log_store.specs.Storing.{IsStored, rules_of, stored_chain};
 ghost use Rattle.cli_lines.specs.Lines.{committed_text};
 ghost use Rattle.cli_lines.specs.Places.{ChangesOnly};
-ghost use Rattle.cli_lines.specs.Told.{Answers, Begins, IsBrokenOff, Prints, PrintsNothing, PrintsPart, Tells};
+ghost use Rattle.cli_lines.specs.Texts.{refused};
+ghost use Rattle.cli_lines.specs.Told.{Answers, Begins, IsBrokenOff, IsMore, Prints, PrintsNothing, PrintsPart, Says, Tells};
 ghost use Rattle.cli_roles.specs.Committing.{BeginsLine, BeginsText, Commits, CommitsBegin, CommitsLines, CommitsOpened, LinesBegin, OpenedBegins};
 ghost use Rattle.cli_roles.specs.Committing.{DoesHex, DoesReceive, TakesLine, TakesText, TellsFork};
 ghost use Rattle.cli_roles.specs.Committing.{EndsHex, EndsReceive, IsBlockHex, IsNoBlock, IsNoBlockHex};
 ghost use Rattle.cli_roles.specs.Committing.{block_digits, cut_text, fork_text, opened_text};
-ghost use Rattle.cli_roles.specs.Filters.{ComesTo, DoesOrEnds, PrintsSo};
+ghost use Rattle.cli_roles.specs.Filters.{ComesTo, DoesOrEnds, IsEndedBy, PrintsSo};
 ghost use Rattle.cli_roles.specs.Seen.{has_hash, is_fork};
 
 use crate::explaining::{explain_block, explain_cut, explain_store};
@@ -126,10 +127,7 @@ fn commit_to<
     );
     drop(watch);
     match opened {
-        Ok((mut chain, cut)) => {
-            explain_cut(peer.alloc, files, peer.store, chain.height(), cut);
-            commit_behind(files, peer, &mut chain, cut, lines, out)
-        }
+        Ok((mut chain, cut)) => commit_behind(files, peer, &mut chain, cut, lines, out),
         Err(refusal) => {
             explain_store(peer.alloc, files, peer.store, Access::Write, &refusal);
             Err(end(refusal, out))
@@ -162,7 +160,9 @@ fn commit_behind<
         lines.old.left) out.old out.new result }
     ensures kept { F.bytes files.new ≡ F.bytes files.old }
 {
-    print_opened(chain.height(), cut, out)?;
+    let height = chain.height();
+    explain_cut(peer.alloc, files, peer.store, height, cut);
+    print_opened(height, cut, out)?;
     commit_lines(files, peer, chain, lines, out)
 }
 
@@ -311,11 +311,27 @@ fn take_block<T: Threads + Sync, F: Files, D: Read + Write + Seek + OpenFile + D
 {
     match block_of(peer.alloc, digits)? {
         Ok(block) => receive(files, peer, chain, block, line, out),
-        Err(number) => {
-            explain_number(peer.alloc, files, &Location::input(line), number);
-            writeln!(out, "refused {number}")?;
-            Err(Failure::Printed)
-        }
+        Err(number) => Err(end_by_number(peer.alloc, files, line, number, out)),
+    }
+}
+
+/// Prints the number of the reason why a line's hex stands for no block, which ends it.
+fn end_by_number<F: Files, W: Write>(
+    alloc: Global,
+    files: &mut F,
+    line: u64,
+    number: u16,
+    out: &mut Printer<'_, W>,
+) -> Failure
+    ensures more { IsMore out.old out.new }
+    ensures says { Says out.old out.new result }
+    ensures ends { IsEndedBy (refused number) out.old out.new result }
+    ensures kept { F.bytes files.new ≡ F.bytes files.old }
+{
+    explain_number(alloc, files, &Location::input(line), number);
+    match writeln!(out, "refused {number}") {
+        Ok(()) => Failure::Printed,
+        Err(failure) => failure,
     }
 }
 

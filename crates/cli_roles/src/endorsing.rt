@@ -9,6 +9,7 @@ ghost use Rattle.cli_lines.specs.Told.{Answers, Begins, BreaksOff, IsBrokenOff, 
 ghost use Rattle.cli_roles.specs.Asking.{IsAsked};
 ghost use Rattle.cli_roles.specs.Endorsing.{BehindBegins, Endorses, EndorsesBegin, EndorsesBehind, EndorsesLines, LinesBegin};
 ghost use Rattle.cli_roles.specs.Endorsing.{IsAnswered, IsOther, LineComesTo, NeedsKey, SpellsIn, TakesLine};
+ghost use Rattle.cli_roles.specs.Endorsing.{can_tag_behind, is_stranger as is_stranger_behind};
 ghost use Rattle.cli_roles.specs.Endorsing.{answer_text, endorsed_text, endorser, endorses_by as endorses_for, is_passed_over, said_text, seen_text};
 ghost use Rattle.cli_roles.specs.Filters.{PrintsSo};
 ghost use Rattle.cli_roles.specs.Seeds.{can_tag};
@@ -129,7 +130,7 @@ fn endorse_after<T: Threads + Sync, V: Watch, F: Files, S: Read + Drop, R: Read 
         (S.remaining file) lines.old.left) out.old out.new result }
     ensures kept { F.bytes files.new ≡ F.bytes files.old }
 {
-    let mut follower = follower_of(member.alloc, &member.log.genesis, member.org.clone()?, file)?;
+    let mut follower = follower_of(member.alloc, &member.log.genesis, member.org, file)?;
     endorse_behind(files, member, &mut follower, lines, out)
 }
 
@@ -240,17 +241,35 @@ fn need_keys<F: Files, S: Read + Drop, W: Write>(
     ensures tells { Tells out.old out.new result }
     ensures kept { F.bytes files.new ≡ F.bytes files.old }
 {
-    let standing = follower.standing()?;
-    if can_endorse(genesis, &standing, org) {
+    let (is_able, is_strange) = keys_of(genesis, org, follower)?;
+    if is_able {
         return Ok(());
     }
-    if is_stranger(genesis, &standing, org) {
+    if is_strange {
         explain_stranger(alloc, files, org);
         writeln!(out, "refused 806")?;
         return Err(Failure::Printed);
     }
     explain_no_seed(alloc, files, org);
     Err(Failure::NoSecret)
+}
+
+/// Whether an organisation can endorse behind the store, and whether it is a stranger there.
+fn keys_of<S: Read + Drop>(
+    genesis: &Genesis,
+    org: &OrgName,
+    follower: &StoreFollower<S>,
+) -> Result<(bool, bool), AllocError>
+    requires { (endorses_by follower.now).listed ≡ genesis.now.rules.value }
+    ensures able { IfOk result
+        (λ keys. keys.0 ≡ can_tag_behind genesis.now org.now (read_chain follower.now)) }
+    ensures strange { IfOk result
+        (λ keys. keys.1
+        ≡ is_stranger_behind genesis.now.rules.value (read_chain follower.now) org.now) }
+{
+    let standing = follower.standing()?;
+    let is_able = can_endorse(genesis, &standing, org);
+    Ok((is_able, is_stranger(genesis, &standing, org)))
 }
 
 /// Whether a seed is at hand of a key that an organisation has, by the genesis or as it stands.
@@ -301,15 +320,16 @@ fn can_tag(signers: &Signers, organisation: Option<&Organisation>) -> bool
 fn follower_of<S: Read + Drop>(
     alloc: Global,
     genesis: &Genesis,
-    org: OrgName,
+    org: &OrgName,
     file: S,
 ) -> Result<StoreFollower<S>, AllocError>
     ensures followed { IfOk result (λ f. IsFollowed f) }
-    ensures by { IfOk result (λ f. endorses_by f ≡ endorses_for genesis.now org) }
+    ensures by { IfOk result (λ f. endorses_by f ≡ endorses_for genesis.now org.now) }
     ensures fresh { IfOk result (λ f. bytes_read f ≡ []) }
     ensures store { IfOk result
         (λ f. store_bytes (S.remaining f.reader.file.device) f ≡ S.remaining file) }
 {
+    let org = org.clone()?;
     let rules = genesis.rules.clone()?;
     let signers = genesis.signers.clone()?;
     StoreFollower::new(alloc, genesis.book.clone()?, rules, signers, org, file)

@@ -113,3 +113,9 @@ returns-clause-begins g c =
     begins_lines (DoesLine by c.args.peer.now.log.now.digest) (EndsLine by) {A = Unit {0}} c.args.lines.now.left c.loop-number.lines.left
     (stored_chain c.args.chain.now) c.loop-number.number (stored_chain c.loop-number.chain) c.args.out.now t t (Err failure.File)
     c.loop-number.invariant.done (nothing_same t)
+
+pub returns-then-not-there-clause-kept : goal.returns-then-not-there-clause-kept
+returns-then-not-there-clause-kept g c = c.next_line.ensures.kept ∙ c.loop-number.invariant.kept
+
+pub returns-clause-kept : goal.returns-clause-kept
+returns-clause-kept g c = c.loop-number.invariant.kept

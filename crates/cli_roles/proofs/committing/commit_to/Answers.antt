@@ -60,3 +60,9 @@ returns-in-Ok-clause-begins g c =
 pub returns-in-Err-clause-begins : goal.returns-in-Err-clause-begins
 returns-in-Err-clause-begins g c =
     begins_ended (Unit {0}) _ c.args.out.now c.end.new.out c.end.result (store_text c.in-Err.refusal) c.end.ensures.ends
+
+pub returns-in-Ok-clause-kept : goal.returns-in-Ok-clause-kept
+returns-in-Ok-clause-kept g c = c.commit_behind.ensures.kept
+
+pub returns-in-Err-clause-kept : goal.returns-in-Err-clause-kept
+returns-in-Err-clause-kept g c = c.explain_store.ensures.kept

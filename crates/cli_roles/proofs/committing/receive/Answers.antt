@@ -66,3 +66,6 @@ returns-in-Err-clause-begins g c =
 pub returns-in-Ok-Known-clause-stored : goal.returns-in-Ok-Known-clause-stored
 returns-in-Ok-Known-clause-stored g c =
     printed_on_ok c.writeln.result _ (IsStored c.receive.new.self) (λ prints. c.in-Ok-Known.ensures.stored) c.writeln.ensures.prints
+
+pub returns-in-Err-clause-kept : goal.returns-in-Err-clause-kept
+returns-in-Err-clause-kept g c = c.explain_block.ensures.kept

@@ -43,3 +43,6 @@ returns-in-Ok-clause-begins g c =
     let Ended = EndsLine rules c.args.number old l in
     begins_by (ComesTo Does Ends) (ComesTo Done Ended) t u r (comes_more Does Ends Done Ended (λ text does. inl (utf8, does)) (λ text ends. (utf8, ends)))
     (subst (λ (s : Bytes). BeginsText rules digest old s (block_digits s) new t u r) c.in-Ok.ensures.cases.0 c.take_text.ensures.begins)
+
+pub returns-in-Ok-clause-kept : goal.returns-in-Ok-clause-kept
+returns-in-Ok-clause-kept g c = c.take_text.ensures.kept

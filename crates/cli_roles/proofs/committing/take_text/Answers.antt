@@ -36,3 +36,6 @@ returns-in-None-clause-begins g c = begins_still _ c.args.out.now c.print_fork.n
 pub returns-in-None-clause-stored : goal.returns-in-None-clause-stored
 returns-in-None-clause-stored g c =
     printed_on_ok c.print_fork.result _ (IsStored c.args.chain.now) (λ so. c.requires.stored) c.print_fork.ensures.prints
+
+pub returns-in-Some-clause-kept : goal.returns-in-Some-clause-kept
+returns-in-Some-clause-kept g c = c.take_block.ensures.kept

@@ -36,3 +36,9 @@ returns-in-Err-clause-prints g c =
     let w = c.print_refused in
     subst (λ (over : Bool). OnOk w.result (Prints t w.new.out (answer_text over wanted))) (sym no)
     (refused_said (λ (text : List ℕ). Prints t w.new.out text) wanted c.in-Err.refusal w.result c.in-Err.ensures w.ensures.memory w.ensures.prints)
+
+pub returns-then-is_passed_over-clause-kept : goal.returns-then-is_passed_over-clause-kept
+returns-then-is_passed_over-clause-kept g c = c.explain_number.ensures.kept
+
+pub returns-in-Err-clause-kept : goal.returns-in-Err-clause-kept
+returns-in-Err-clause-kept g c = c.print_refused.ensures.kept

@@ -30,3 +30,6 @@ returns-in-None-clause-prints g c =
     let t = c.args.out.now in
     so_behind (IsOther e n chain l) (IsAnswered e n chain l) t t c.answer_other.new.out c.answer_other.result (prints_none t)
     (λ text is. (None, c.in-None.ensures, is)) c.answer_other.ensures.prints
+
+pub returns-in-None-clause-kept : goal.returns-in-None-clause-kept
+returns-in-None-clause-kept g c = c.answer_other.ensures.kept

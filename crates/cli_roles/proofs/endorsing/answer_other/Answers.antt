@@ -32,3 +32,9 @@ returns-in-Err-NoForm-clause-prints g c =
     let none = rw c.in-Err-NoForm.field-0-is at c.in-Err-NoForm.ensures.refused in
     prints_so (IsOther e n (read_chain c.args.follower.now) c.args.line.now) c.args.out.now w.new.self w.result (line (codes "bad line " ++ decimal n))
     w.ensures.prints (inr ((λ p spells. none other p spells), refl))
+
+pub returns-in-Ok-clause-kept : goal.returns-in-Ok-clause-kept
+returns-in-Ok-clause-kept g c = c.answer.ensures.kept
+
+pub returns-in-Err-NoForm-clause-kept : goal.returns-in-Err-NoForm-clause-kept
+returns-in-Err-NoForm-clause-kept g c = c.explain_proposal.ensures.kept

@@ -29,3 +29,6 @@ returns-in-Err-clause-ends g c =
     record { cause = cause; new = bytes_read new; refused = r.refused; prints = refl } in
     let first = first_of (store_bytes (left old.reader.file.device) old) (left new.reader.file.device) (bytes_read new) r.store in
     (store_text cause, (stops, first), c.end.ensures.ends)
+
+pub returns-in-Err-clause-kept : goal.returns-in-Err-clause-kept
+returns-in-Err-clause-kept g c = c.explain_store.ensures.kept

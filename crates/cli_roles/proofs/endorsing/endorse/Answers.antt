@@ -44,3 +44,12 @@ returns-clause-begins g c =
     let left = c.in_ok-lines.ensures.whole ∙ c.input.ensures.read ∙ c.in-Some.ensures.input in
     subst (λ (held : Option (List ℕ)). Begins (EndorsesBegin e held (g.F.Files.input_bytes c.args.files.now)) t u r) c.in-Some.ensures.read
     (subst (λ (input : Option (List ℕ)). Begins (EndorsesBegin e (g.F.Reader.Read.remaining c.in-Some.file) input) t u r) left c.endorse_after.ensures.begins)
+
+pub returns-in_default-clause-kept : goal.returns-in_default-clause-kept
+returns-in_default-clause-kept g c = c.explain_trouble.ensures.kept ∙ c.open.ensures.kept
+
+pub returns-in_err-lines-clause-kept : goal.returns-in_err-lines-clause-kept
+returns-in_err-lines-clause-kept g c = c.input.ensures.kept ∙ c.open.ensures.kept
+
+pub returns-clause-kept : goal.returns-clause-kept
+returns-clause-kept g c = c.endorse_after.ensures.kept ∙ c.watch-watch.ensures.kept ∙ c.input.ensures.kept ∙ c.open.ensures.kept

@@ -20,3 +20,6 @@ returns-clause-begins g c =
     let last = c.endorse_behind in
     subst (λ (held : Option (List ℕ)). Begins (EndorsesBegin e held c.args.lines.now.left) c.args.out.now last.new.out last.result) f.store
     (last.ensures.begins f.fresh)
+
+pub returns-clause-kept : goal.returns-clause-kept
+returns-clause-kept g c = c.endorse_behind.ensures.kept

@@ -1,4 +1,4 @@
-use Rattle.std.proofs.Common.{[], Err, inl, inr, ap, subst}
+use Rattle.std.proofs.Common.{[], Err, inl, inr, ap, subst, ◌∙◌}
 use Rattle.std.proofs.lemmas.Result.{err_from_is_err_and}
 use Rattle.endorsement_policy.specs.Endorsed.{Listed}
 use Rattle.endorser.specs.Endorsing.{Endorsing}
@@ -80,3 +80,9 @@ returns-in_err-catch_up-clause-begins g c = λ fresh.
     let ends = c.in_err-catch_up.ensures.ends in
     rw (p.1, p.2) (begins_ended (Unit {0}) (EndorsesBegin e held c.args.lines.now.left) c.args.out.now c.catch_up.new.out c.in_err-catch_up.field-0.0
     ends.0 ends.2)
+
+pub returns-in_err-catch_up-clause-kept : goal.returns-in_err-catch_up-clause-kept
+returns-in_err-catch_up-clause-kept g c = c.catch_up.ensures.kept
+
+pub returns-clause-kept : goal.returns-clause-kept
+returns-clause-kept g c = c.endorse_known.ensures.kept ∙ c.catch_up.ensures.kept

@@ -1,4 +1,4 @@
-use Rattle.std.proofs.Common.{Err, ap, inl, inr, refl, rules, subst}
+use Rattle.std.proofs.Common.{Err, ap, inl, inr, refl, rules, subst, ◌∙◌}
 use Rattle.std.proofs.lemmas.Result.{err_from_is_err_and}
 use Rattle.endorser.specs.Endorsing.{Endorsing}
 use Rattle.log_store.specs.Following.{bytes_read, read_chain, store_bytes}
@@ -61,3 +61,9 @@ pub returns-in_err-need_keys-clause-begins : goal.returns-in_err-need_keys-claus
 returns-in_err-need_keys-clause-begins g c =
     let p = err_from_is_err_and c.from_residual.result c.from_residual.ensures.1 in
     rw (p.1, p.2) (λ broken. inl (c.in_err-need_keys.ensures.nothing broken))
+
+pub returns-in_err-need_keys-clause-kept : goal.returns-in_err-need_keys-clause-kept
+returns-in_err-need_keys-clause-kept g c = c.need_keys.ensures.kept
+
+pub returns-clause-kept : goal.returns-clause-kept
+returns-clause-kept g c = c.endorse_lines.ensures.kept ∙ c.need_keys.ensures.kept

@@ -142,3 +142,12 @@ returns-clause-begins g c =
     let r : Result (Unit {0}) Failure = Err failure.File in
     begins_lines (DoesLine e held) (EndsLine e held) c.args.lines.now.left c.loop-number.lines.left (bytes_read f) c.loop-number.number
     (bytes_read c.loop-number.follower) c.args.out.now t t r c.loop-number.invariant.done (nothing_same t)
+
+pub returns-then-not-there-clause-kept : goal.returns-then-not-there-clause-kept
+returns-then-not-there-clause-kept g c = c.next_line.ensures.kept ∙ c.loop-number.invariant.kept
+
+pub returns-in_err-there-clause-kept : goal.returns-in_err-there-clause-kept
+returns-in_err-there-clause-kept g c = c.next_line.ensures.kept ∙ c.loop-number.invariant.kept
+
+pub returns-clause-kept : goal.returns-clause-kept
+returns-clause-kept g c = c.loop-number.invariant.kept

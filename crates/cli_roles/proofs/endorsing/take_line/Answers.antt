@@ -1,4 +1,4 @@
-use Rattle.std.proofs.Common.{ap, subst}
+use Rattle.std.proofs.Common.{ap, subst, ◌∙◌}
 use Rattle.std.proofs.lemmas.Result.{err_from_is_err_and}
 use Rattle.endorsement_policy.specs.Endorsed.{Listed}
 use Rattle.endorser.specs.Endorsing.{Endorsing}
@@ -78,3 +78,9 @@ returns-clause-tells g c =
 pub returns-clause-followed : goal.returns-clause-followed
 returns-clause-followed g c =
     printed_on_ok c.answer_line.result _ (IsFollowed c.catch_up.new.follower) (λ so. c.in_ok-catch_up.ensures.followed) c.answer_line.ensures.prints
+
+pub returns-in_err-catch_up-clause-kept : goal.returns-in_err-catch_up-clause-kept
+returns-in_err-catch_up-clause-kept g c = c.catch_up.ensures.kept
+
+pub returns-clause-kept : goal.returns-clause-kept
+returns-clause-kept g c = c.answer_line.ensures.kept ∙ c.catch_up.ensures.kept

@@ -33,3 +33,6 @@ returns-clause-part g c =
 pub returns-clause-tells : goal.returns-clause-tells
 returns-clause-tells g c =
     tells_silent c.args.out.now c.hand_on.new.out c.read_explained.result c.in_ok-hand_on.ensures.tells c.read_explained.ensures.silent
+
+pub returns-clause-kept : goal.returns-clause-kept
+returns-clause-kept g c = c.read_explained.ensures.kept

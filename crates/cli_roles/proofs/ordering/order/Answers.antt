@@ -21,3 +21,6 @@ returns-clause-begins g c =
     orders_begin_by c.read_lines.result c.args.log.now.genesis c.args.log.now.digest c.deref.result.now by.rules.value by.replica c.in_ok-lines.lines.left
     (g.F.Files.input_bytes c.args.files.now) c.args.out.now c.read_lines.new.out (c.deref.ensures ∙ c.in_ok-digest.ensures) c.in_ok-ordering.ensures.1
     c.in_ok-ordering.ensures.0 (c.in_ok-lines.ensures.whole ∙ c.input.ensures.read) c.read_lines.ensures.begins
+
+pub returns-clause-kept : goal.returns-clause-kept
+returns-clause-kept g c = c.read_lines.ensures.kept ∙ c.input.ensures.kept

@@ -73,3 +73,9 @@ returns-in-Ticked-None-clause-mark g c = marked_ticked c.args.report.now None c.
 
 pub returns-in_ok-print_batch-in-Ticked-Some-clause-mark : goal.returns-in_ok-print_batch-in-Ticked-Some-clause-mark
 returns-in_ok-print_batch-in-Ticked-Some-clause-mark g c = marked_ticked c.args.report.now (Some c.in-Ticked-Some.batch) c.args.text.now (search rules)
+
+pub returns-in_ok-writeln-in-Skipped-clause-kept : goal.returns-in_ok-writeln-in-Skipped-clause-kept
+returns-in_ok-writeln-in-Skipped-clause-kept g c = c.explain_skip.ensures.kept
+
+pub returns-in_err-writeln-in-Skipped-clause-kept : goal.returns-in_err-writeln-in-Skipped-clause-kept
+returns-in_err-writeln-in-Skipped-clause-kept g c = c.explain_skip.ensures.kept

@@ -115,3 +115,12 @@ returns-clause-begins g c =
     let t = c.loop-number.out in
     begins_lines (OrdersLine old.rules.value c.args.digest.now) (EndsOrders c.args.digest.now) {A = Unit {0}} c.args.lines.now.left c.loop-number.lines.left
     old.replica c.loop-number.number c.loop-number.self.replica c.args.out.now t t (Err failure.File) c.loop-number.invariant.done (nothing_same t)
+
+pub returns-then-not-branch-clause-kept : goal.returns-then-not-branch-clause-kept
+returns-then-not-branch-clause-kept g c = c.next_line.ensures.kept ∙ c.loop-number.invariant.kept
+
+pub returns-in_err-next_line-clause-kept : goal.returns-in_err-next_line-clause-kept
+returns-in_err-next_line-clause-kept g c = c.next_line.ensures.kept ∙ c.loop-number.invariant.kept
+
+pub returns-clause-kept : goal.returns-clause-kept
+returns-clause-kept g c = c.loop-number.invariant.kept

@@ -77,3 +77,18 @@ returns-clause-begins g c =
 pub returns-clause-tells : goal.returns-clause-tells
 returns-clause-tells g c =
     tells_behind c.args.out.now c.take_text.new.out c.print_read.new.out c.print_read.result c.in_ok-is_mark.ensures.tells c.print_read.ensures.tells
+
+pub returns-then-names_another_genesis-clause-kept : goal.returns-then-names_another_genesis-clause-kept
+returns-then-names_another_genesis-clause-kept g c = c.end_by_genesis.ensures.kept
+
+pub returns-then-names_another_genesis-clause-tells : goal.returns-then-names_another_genesis-clause-tells
+returns-then-names_another_genesis-clause-tells g c = (c.end_by_genesis.ensures.more, c.end_by_genesis.ensures.says)
+
+pub returns-in_err-is_mark-clause-kept : goal.returns-in_err-is_mark-clause-kept
+returns-in_err-is_mark-clause-kept g c = c.take_text.ensures.kept
+
+pub returns-in_err-is_mark-clause-rules : goal.returns-in_err-is_mark-clause-rules
+returns-in_err-is_mark-clause-rules g c = c.take_text.ensures.rules
+
+pub returns-clause-rules : goal.returns-clause-rules
+returns-clause-rules g c = c.take_text.ensures.rules

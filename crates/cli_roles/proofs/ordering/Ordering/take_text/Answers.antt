@@ -35,3 +35,6 @@ returns-clause-begins g c =
     begins_by (TellsReport old.rules.value new.chain index said report) (λ told. IsTaken old.rules.value old.replica index said told new) c.args.out.now
     c.print_report.new.out c.print_report.result
     (λ told tells. record { report = report; reads = r.read; ids = r.ids; blocks = r.blocks; why = r.why; tells = tells }) c.print_report.ensures.begins
+
+pub returns-clause-kept : goal.returns-clause-kept
+returns-clause-kept g c = c.print_report.ensures.kept
