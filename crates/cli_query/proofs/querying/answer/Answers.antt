@@ -13,3 +13,9 @@ returns-clause-prints g c =
 
 pub returns-in_err-text-clause-nothing : goal.returns-in_err-text-clause-nothing
 returns-in_err-text-clause-nothing g c = on_err c.from_residual.result _ (nothing_same c.args.out.now)
+
+pub returns-in_err-text-clause-kept : goal.returns-in_err-text-clause-kept
+returns-in_err-text-clause-kept g c = refl
+
+pub returns-clause-kept : goal.returns-clause-kept
+returns-clause-kept g c = c.explain_said.ensures.kept

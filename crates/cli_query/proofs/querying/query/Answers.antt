@@ -48,3 +48,12 @@ returns-clause-begins g c =
     subst (λ (h : Option (List ℕ)). Begins (QueriesBegin genesis h input) t u r) {y = held} c.in-Some.ensures.read
     (subst (λ (i : Option (List ℕ)). Begins (QueriesBegin genesis (g.F.Reader.Read.remaining c.in-Some.file) i) t u r) {y = input} left
     c.query_after.ensures.begins)
+
+pub returns-in_default-clause-kept : goal.returns-in_default-clause-kept
+returns-in_default-clause-kept g c = c.explain_trouble.ensures.kept ∙ c.open.ensures.kept
+
+pub returns-in_err-lines-clause-kept : goal.returns-in_err-lines-clause-kept
+returns-in_err-lines-clause-kept g c = c.input.ensures.kept ∙ c.open.ensures.kept
+
+pub returns-clause-kept : goal.returns-clause-kept
+returns-clause-kept g c = c.query_after.ensures.kept ∙ c.watch-watch.ensures.kept ∙ c.input.ensures.kept ∙ c.open.ensures.kept

@@ -1,4 +1,4 @@
-use Rattle.std.proofs.Common.{[], List, Option, rules, subst, ℕ}
+use Rattle.std.proofs.Common.{[], List, Option, refl, rules, subst, ℕ}
 use Rattle.log_store.specs.Reading.{IsReadBy, store_bytes}
 use Rattle.cli_lines.specs.Told.{Answers, Begins}
 use Rattle.cli_lines.proofs.Answering.{begins_nothing}
@@ -41,3 +41,9 @@ returns-clause-begins g c =
     let held = store_bytes (g.F.Reader.Read.remaining c.in_ok-reader.reader.file.device) c.in_ok-reader.reader in
     subst (λ (h : Option (List ℕ)). Begins (QueriesBegin genesis h input) t u r) {y = g.F.Reader.Read.remaining c.args.file} fresh.store
     (subst (λ (old : List ℕ). Begins (LinesBegin genesis held old input) t u r) {y = []} fresh.chain.1 c.query_lines.ensures.begins)
+
+pub returns-in_err-reader-clause-kept : goal.returns-in_err-reader-clause-kept
+returns-in_err-reader-clause-kept g c = refl
+
+pub returns-clause-kept : goal.returns-clause-kept
+returns-clause-kept g c = c.query_lines.ensures.kept

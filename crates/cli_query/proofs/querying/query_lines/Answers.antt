@@ -151,3 +151,12 @@ returns-clause-begins g c =
     let u = c.loop-number.out in
     begins_lines (DoesLine genesis held) (EndsLine genesis held) {A = Unit {0}} c.args.lines.now.left c.loop-number.lines.left (bytes_read first)
     c.loop-number.number (bytes_read c.loop-number.reader) c.args.out.now u u (Err failure.File) inv.done (nothing_same u)
+
+pub returns-then-not-there-clause-kept : goal.returns-then-not-there-clause-kept
+returns-then-not-there-clause-kept g c = c.next_line.ensures.kept ∙ c.loop-number.invariant.kept
+
+pub returns-in_err-there-clause-kept : goal.returns-in_err-there-clause-kept
+returns-in_err-there-clause-kept g c = c.next_line.ensures.kept ∙ c.loop-number.invariant.kept
+
+pub returns-clause-kept : goal.returns-clause-kept
+returns-clause-kept g c = c.loop-number.invariant.kept

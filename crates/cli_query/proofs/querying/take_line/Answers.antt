@@ -78,3 +78,9 @@ returns-in-Ok-clause-nothing g c = broken_err c.answer.result (PrintsNothing c.a
 
 pub returns-in-Err-clause-nothing : goal.returns-in-Err-clause-nothing
 returns-in-Err-clause-nothing g c = ended_nothing (store_text c.in-Err.refusal) c.args.out.now c.end.new.out c.end.result c.end.ensures.ends
+
+pub returns-in-Ok-clause-kept : goal.returns-in-Ok-clause-kept
+returns-in-Ok-clause-kept g c = c.answer.ensures.kept
+
+pub returns-in-Err-clause-kept : goal.returns-in-Err-clause-kept
+returns-in-Err-clause-kept g c = c.explain_store.ensures.kept
