@@ -32,6 +32,10 @@ pub placed_at : (known : Bool) (target : Target) (path : List ℕ) (a b : FilesH
     ChangesOnly known (store_names path) a b → ChangesPlaced known target a b
 placed_at known target path a b same change = λ name leads. subst (λ (n : List ℕ). ChangesOnly known (store_names n) a b) (same name leads) change
 
+-- what is there is not none
+pub some_none : {A : Type 0} (o : Option A) (x : A) (P : Type 0) → o ≡ Some x → o ≡ None → P
+some_none o x P is none = absurd (cc (is, none))
+
 -- files that stay, whatever the place
 pub placed_kept : (known : Bool) (place : Option (Bor Target)) (a b : FilesHeld) → b ≡ a → IfSome place (λ t. ChangesPlaced known t.now a b)
 placed_kept known None a b same = tt

@@ -71,3 +71,18 @@ returns-clause-begins g c =
     begins_by (LinesBegin genesis held) (RunBegins genesis held) c.args.out.now c.run_read.new.out c.run_read.result (λ text is. (none, is))
     (subst (λ (o : Option (List ℕ)). Begins (LinesBegin genesis o) c.args.out.now c.run_read.new.out c.run_read.result)
     (fresh_reader _ _ _ held r.capacity r.empty same) c.run_read.ensures.begins)
+
+pub returns-in_default-clause-kept : goal.returns-in_default-clause-kept
+returns-in_default-clause-kept g c = λ none. c.explain_trouble.ensures.kept ∙ c.open.ensures.kept ∙ c.need_secrets.ensures.kept
+
+pub returns-in_err-lines-clause-kept : goal.returns-in_err-lines-clause-kept
+returns-in_err-lines-clause-kept g c = λ none. c.open.ensures.kept ∙ c.need_secrets.ensures.kept
+
+pub returns-clause-kept : goal.returns-clause-kept
+returns-clause-kept g c = λ none. c.run_read.ensures.kept none ∙ c.open.ensures.kept ∙ c.need_secrets.ensures.kept
+
+pub returns-clause-tells : goal.returns-clause-tells
+returns-clause-tells g c = c.run_read.ensures.tells
+
+pub returns-clause-differs : goal.returns-clause-differs
+returns-clause-differs g c = c.run_read.ensures.differs

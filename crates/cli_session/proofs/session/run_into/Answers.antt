@@ -31,3 +31,18 @@ returns-clause-begins g c =
     let start : Stage = record { system = c.in_ok-system.system; names = c.new-bindings.result } in
     begins_by (BeginsFrom (exec_of genesis.book.value) held start) (LinesBegin genesis held) c.args.out.now c.run_to_end.new.out c.run_to_end.result
     (λ text from. (start, record { system = c.in_ok-system.ensures; names = c.new-bindings.ensures }, from)) c.run_to_end.ensures.begins
+
+pub returns-in_err-system-clause-kept : goal.returns-in_err-system-clause-kept
+returns-in_err-system-clause-kept g c = λ none. refl
+
+pub returns-clause-kept : goal.returns-clause-kept
+returns-clause-kept g c = c.run_to_end.ensures.kept
+
+pub returns-clause-others : goal.returns-clause-others
+returns-clause-others g c = c.run_to_end.ensures.others
+
+pub returns-clause-tells : goal.returns-clause-tells
+returns-clause-tells g c = c.run_to_end.ensures.tells
+
+pub returns-clause-differs : goal.returns-clause-differs
+returns-clause-differs g c = c.run_to_end.ensures.differs

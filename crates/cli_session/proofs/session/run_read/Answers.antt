@@ -1,11 +1,11 @@
-use Rattle.std.proofs.Common.{Some, None, inl, option_map, sym, subst, ◌∙◌}
+use Rattle.std.proofs.Common.{Some, None, inl, option_map, sym, subst, refl}
 use Rattle.std.proofs.lemmas.Result.{err_from_is_err_and}
 use Rattle.cli_lines.proofs.Printing.{nothing_same}
 use Rattle.cli_lines.proofs.Silence.{no_less, tells_by}
 use Rattle.cli_lines.specs.Told.{Answers}
 use Rattle.cli_session.specs.Stored.{HoldsAsked, HoldsPlaced}
 use Rattle.cli_session.specs.Whole.{LinesComeTo}
-use Rattle.cli_session.proofs.Stored.{asked_by, asked_kept, asked_none}
+use Rattle.cli_session.proofs.Stored.{asked_by, asked_kept, asked_none, some_none}
 use Rattle.cli_session.proofs.Whole.{asked_of_place, stored_by}
 use Rattle.cli_session.proofs.session.run_read.Goals as goal
 
@@ -17,7 +17,7 @@ returns-in_err-place-in-Some g c =
       differs = tt;
       comes = inl c.in_err-place-in-Some.ensures.lost;
       begins = λ broken. inl (nothing_same c.args.out.now);
-      kept = λ none. absurd (cc (sym c.in-Some.is ∙ none));
+      kept = some_none c.args.names.now.store c.in-Some.store _ c.in-Some.is;
       others =
           asked_kept g.F.Files.is_known c.args.names.now.store (g.F.Files.bytes c.args.files.now) (g.F.Files.bytes c.place_of.new.files)
           c.in_err-place-in-Some.ensures.kept;
@@ -59,3 +59,27 @@ returns-in-None-clause-comes g c =
     (sym c.in-None.is)
     (stored_by genesis held (HoldsPlaced known bytes None) (HoldsAsked known bytes None) (λ chain stored. tt) c.args.out.now r.new.out r.result
     r.ensures.comes)
+
+pub returns-in_ok-place-in-Some-clause-kept : goal.returns-in_ok-place-in-Some-clause-kept
+returns-in_ok-place-in-Some-clause-kept g c = some_none c.args.names.now.store c.in-Some.store _ c.in-Some.is
+
+pub returns-in-None-clause-kept : goal.returns-in-None-clause-kept
+returns-in-None-clause-kept g c = λ none. c.run_into-in-None.ensures.kept refl
+
+pub returns-in_ok-place-in-Some-clause-tells : goal.returns-in_ok-place-in-Some-clause-tells
+returns-in_ok-place-in-Some-clause-tells g c = c.run_into.ensures.tells
+
+pub returns-in_ok-place-in-Some-clause-differs : goal.returns-in_ok-place-in-Some-clause-differs
+returns-in_ok-place-in-Some-clause-differs g c = c.run_into.ensures.differs
+
+pub returns-in_ok-place-in-Some-clause-begins : goal.returns-in_ok-place-in-Some-clause-begins
+returns-in_ok-place-in-Some-clause-begins g c = c.run_into.ensures.begins
+
+pub returns-in-None-clause-tells : goal.returns-in-None-clause-tells
+returns-in-None-clause-tells g c = c.run_into-in-None.ensures.tells
+
+pub returns-in-None-clause-differs : goal.returns-in-None-clause-differs
+returns-in-None-clause-differs g c = c.run_into-in-None.ensures.differs
+
+pub returns-in-None-clause-begins : goal.returns-in-None-clause-begins
+returns-in-None-clause-begins g c = c.run_into-in-None.ensures.begins

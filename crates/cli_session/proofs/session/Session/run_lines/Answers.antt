@@ -108,3 +108,15 @@ returns-clause-first g c =
     does_first (g.B.Read.remaining c.args.lines.now) (g.B.Read.remaining c.loop-number.lines) all.0
     (stage_at c.args.self.now.system c.args.self.now.bindings) (stage_at c.loop-number.self.system c.loop-number.self.bindings)
     c.args.out.now c.loop-number.out c.loop-number.out all.2 all.3 (nothing_same c.loop-number.out)
+
+pub returns-in-End-clause-kept : goal.returns-in-End-clause-kept
+returns-in-End-clause-kept g c = c.next_explained.ensures.kept ∙ c.loop-number.invariant.4
+
+pub returns-in-TooLong-clause-kept : goal.returns-in-TooLong-clause-kept
+returns-in-TooLong-clause-kept g c = c.next_explained.ensures.kept ∙ c.loop-number.invariant.4
+
+pub returns-in_err-take_explained-in-Line-clause-kept : goal.returns-in_err-take_explained-in-Line-clause-kept
+returns-in_err-take_explained-in-Line-clause-kept g c = c.take_explained.ensures.kept ∙ c.next_explained.ensures.kept ∙ c.loop-number.invariant.4
+
+pub returns-clause-kept : goal.returns-clause-kept
+returns-clause-kept g c = c.loop-number.invariant.4
