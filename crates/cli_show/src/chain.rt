@@ -1,19 +1,22 @@
 //! The lines of a chain.
 
-ghost use Rattle.std.specs.Prelude.{◌≡◌, None, IfErr, OnErr, OnOk};
+ghost use Rattle.std.specs.Prelude.{◌≡◌, None, Some, IfErr, IfOk, OnErr, OnOk, option_map, string_bytes};
 ghost use Rattle.cli_lines.specs.Told.{IsBrokenOff, Tells};
 ghost use Rattle.world_state.specs.Shared.{blocks_in};
+ghost use Rattle.endorsement_policy.specs.Membership.{standing_by};
+ghost use Rattle.json_chain.specs.Blocks.{block_json};
 ghost use Rattle.json_chain.specs.Standing.{blocks_json, membership_behind};
+ghost use Rattle.serde_json.specs.Read.{read};
 ghost use Rattle.cli_show.specs.Lines.{HasLines, PrintsFirst, chain_json};
 ghost use Rattle.cli_show.specs.Spans.{before, within};
 
 use crate::span::Span;
 use cli_lines::{Failure, Printer, print_line};
 use endorsement_policy::{Rules, Standing};
-use fab_types::CommittedBlock;
+use fab_types::{CommittedBlock, Membership};
 use json_chain::{amended_by, block_line, genesis_line, membership_behind};
 use ledger_setting::Genesis;
-use std::alloc::Global;
+use std::alloc::{AllocError, Global};
 use std::io::Write;
 use std::sync::Arc;
 use world_state::Snapshot;
@@ -79,10 +82,25 @@ fn print_blocks<W: Write>(
 {
     let mut membership = membership_behind(earlier);
     for committed in blocks {
-        let standing = Standing::after(alloc, rules, membership)?;
-        let line = block_line(alloc, standing.organisations(), committed)?;
+        let line = line_behind(alloc, rules, membership, committed)?;
         print_line(&line, out)?;
         membership = amended_by(membership, committed);
     }
     Ok(())
+}
+
+/// The line of a block, before which this membership stands, or the genesis' where there is none.
+fn line_behind(
+    alloc: Global,
+    rules: &Rules,
+    membership: Option<&Membership>,
+    committed: &CommittedBlock,
+) -> Result<String, AllocError>
+    ensures { IfOk result
+        (λ s. read (string_bytes s)
+        ≡ Some (block_json (standing_by rules.now (option_map (λ m. m.now) membership.entry)).orgs
+        committed.now)) }
+{
+    let standing = Standing::after(alloc, rules, membership)?;
+    block_line(alloc, standing.organisations(), committed)
 }

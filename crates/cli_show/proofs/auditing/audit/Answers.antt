@@ -1,4 +1,4 @@
-use Rattle.std.proofs.Common.{inl}
+use Rattle.std.proofs.Common.{inl, ◌∙◌}
 use Rattle.std.proofs.lemmas.Result.{err_from_is_err_and}
 use Rattle.cli_lines.proofs.Answering.{answers_by, begins_by}
 use Rattle.cli_lines.proofs.Printing.{nothing_same}
@@ -32,3 +32,9 @@ returns-clause-begins g c =
     let last = c.print_replayed in
     begins_by (IsTextOf (AuditsReplay genesis r)) (IsTextOf (Audits genesis (g.F.Files.bytes c.args.files.now c.args.store.now))) c.args.out.now
     last.new.out last.result (λ text h. (h.0, (r, c.in_ok-replayed.ensures.replayed, h.1))) last.ensures.begins
+
+pub returns-clause-kept : goal.returns-clause-kept
+returns-clause-kept g c = c.explain_findings.ensures.kept ∙ c.in_ok-replayed.ensures.kept
+
+pub returns-clause-tells : goal.returns-clause-tells
+returns-clause-tells g c = c.print_replayed.ensures.tells

@@ -4,8 +4,7 @@ use Rattle.std.specs.declared.sync.Arc.{Arc}
 use Rattle.std.specs.declared.alloc.Global.{Global}
 use Rattle.fab_types.specs.Committed.{Committed}
 use Rattle.fab_types.specs.declared.membership.Membership.{Membership}
-use Rattle.org_keys.specs.declared.organisation.Organisation.{Organisation}
-use Rattle.endorsement_policy.specs.Membership.{Standing, standing_by}
+use Rattle.endorsement_policy.specs.Membership.{standing_by}
 use Rattle.world_state.specs.Shared.{blocks_in}
 use Rattle.serde_json.specs.Data.{Data}
 use Rattle.serde_json.specs.Read.{read}
@@ -44,12 +43,9 @@ loop-committed-preserved g c =
     let here : drop k xs ≡ x ∷ drop (k + 1) xs =
     drop_more xs k x (omega (arith, c.loop-committed-test.true)) ∙ ap (λ (a : Arc Committed Global). a ∷ drop (k + 1) xs) (sym c.committed-item.is) in
     let split : drop k all ≡ json ∷ rest = inv.left ∙ ap (λ (ys : List (Arc Committed Global)). blocks_json r was (blocks_in ys)) here in
-    let orgs : c.organisations.result.now ≡ (standing_by r was).orgs =
-    c.organisations.ensures ∙ ap (λ (s : Standing). s.orgs) c.in_ok-standing.ensures in
     let text = string_bytes c.in_ok-line.line in
     let reads : read text ≡ Some json =
-    c.in_ok-line.ensures ∙ ap (λ (b : Committed). Some (block_json c.organisations.result.now b)) c.deref.ensures
-    ∙ ap (λ (os : List Organisation). Some (block_json os x.value)) orgs in
+    c.in_ok-line.ensures ∙ ap (λ (b : Committed). Some (block_json (standing_by r was).orgs b)) c.deref.ensures in
     let next : option_map (λ s. s.now) c.amended_by-membership.result ≡ behind =
     c.amended_by-membership.ensures ∙ ap (λ (b : Committed). amended_by was b.block.envelopes b.flags) c.deref-in-loop-committed.ensures in
     record {
@@ -76,20 +72,12 @@ returns-clause-lines g c =
     ∙ ap (λ (ys : List (Arc Committed Global)). blocks_json r was (blocks_in ys)) (drop_all k xs (omega (arith, c.loop-committed-test.false))) in
     subst (λ (ds : List Data). HasLines ds c.args.out.now.bytes c.loop-committed.out.bytes) (taken_all k all none) inv.lines
 
-pub returns-in_err-standing-clause-first : goal.returns-in_err-standing-clause-first
-returns-in_err-standing-clause-first g c =
-    let i = c.loop-committed.invariant in
-    let k = c.loop-committed.committed-index in
-    let all = blocks_json c.args.rules.now (membership_behind None (blocks_in c.args.earlier.now)) (blocks_in c.args.blocks.now) in
-    on_err c.from_residual.result _ (first_left all (take k all) (drop k all) c.args.out.now c.loop-committed.out c.loop-committed.out
-    (sym (take-append-drop k all)) i.more i.failed i.lines (nothing_same c.loop-committed.out))
-
 pub returns-in_err-line-clause-first : goal.returns-in_err-line-clause-first
 returns-in_err-line-clause-first g c =
     let i = c.loop-committed.invariant in
     let k = c.loop-committed.committed-index in
     let all = blocks_json c.args.rules.now (membership_behind None (blocks_in c.args.earlier.now)) (blocks_in c.args.blocks.now) in
-    on_err c.from_residual-in_err-line.result _ (first_left all (take k all) (drop k all) c.args.out.now c.loop-committed.out c.loop-committed.out
+    on_err c.from_residual.result _ (first_left all (take k all) (drop k all) c.args.out.now c.loop-committed.out c.loop-committed.out
     (sym (take-append-drop k all)) i.more i.failed i.lines (nothing_same c.loop-committed.out))
 
 pub returns-in_err-print_line-clause-first : goal.returns-in_err-print_line-clause-first

@@ -1,4 +1,4 @@
-use Rattle.std.proofs.Common.{◌≡◌, ℕ, ap, inl, arith, length, subst}
+use Rattle.std.proofs.Common.{◌≡◌, ℕ, ap, inl, arith, length, subst, ◌∙◌}
 use Rattle.std.proofs.lemmas.Result.{err_from_is_err_and}
 use Rattle.ledger_model.specs.Chain.{Bytes}
 use Rattle.wasm_file.specs.Modules.{IsDefinedBy, NoModule}
@@ -47,3 +47,9 @@ returns-clause-answers g c =
 
 pub returns-in_err-functions-clause-nothing : goal.returns-in_err-functions-clause-nothing
 returns-in_err-functions-clause-nothing g c = on_err c.from_residual-in_err-functions.result _ (nothing_same c.args.out.now)
+
+pub returns-in_err-functions-clause-kept : goal.returns-in_err-functions-clause-kept
+returns-in_err-functions-clause-kept g c = c.in_err-functions.ensures.kept ∙ c.in_ok-bytes.ensures.kept
+
+pub returns-clause-kept : goal.returns-clause-kept
+returns-clause-kept g c = c.in_ok-functions.ensures.kept ∙ c.in_ok-bytes.ensures.kept

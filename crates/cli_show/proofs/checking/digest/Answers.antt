@@ -63,3 +63,9 @@ returns-clause-answers g c =
 
 pub returns-in_err-functions_explained-clause-nothing : goal.returns-in_err-functions_explained-clause-nothing
 returns-in_err-functions_explained-clause-nothing g c = on_err c.from_residual-in_err-functions_explained.result _ (nothing_same c.args.out.now)
+
+pub returns-in_err-functions_explained-clause-kept : goal.returns-in_err-functions_explained-clause-kept
+returns-in_err-functions_explained-clause-kept g c = c.in_err-functions_explained.ensures.kept ∙ c.in_ok-bytes.ensures.kept
+
+pub returns-clause-kept : goal.returns-clause-kept
+returns-clause-kept g c = c.in_ok-functions_explained.ensures.kept ∙ c.in_ok-bytes.ensures.kept

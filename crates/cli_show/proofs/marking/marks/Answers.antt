@@ -1,4 +1,4 @@
-use Rattle.std.proofs.Common.{inl}
+use Rattle.std.proofs.Common.{inl, ◌∙◌}
 use Rattle.std.proofs.lemmas.Result.{err_from_is_err_and}
 use Rattle.cli_lines.proofs.Printing.{nothing_same}
 use Rattle.cli_lines.proofs.Silence.{no_less, tells_by}
@@ -26,3 +26,9 @@ returns-clause-begins g c =
     let told = c.print_marks.ensures in
     store_begun c.args.genesis.now (g.F.Files.bytes c.args.files.now c.args.store.now) c.in_ok-replayed.replayed c.args.out.now c.print_marks.new.out
     c.print_marks.result c.in_ok-replayed.ensures.replayed told.refused told.part
+
+pub returns-clause-kept : goal.returns-clause-kept
+returns-clause-kept g c = c.explain_fault.ensures.kept ∙ c.in_ok-replayed.ensures.kept
+
+pub returns-clause-tells : goal.returns-clause-tells
+returns-clause-tells g c = c.print_marks.ensures.tells

@@ -1,4 +1,4 @@
-use Rattle.std.proofs.Common.{inl}
+use Rattle.std.proofs.Common.{inl, ◌∙◌}
 use Rattle.std.proofs.lemmas.Result.{err_from_is_err_and}
 use Rattle.cli_lines.proofs.Answering.{answers_by, begins_by}
 use Rattle.cli_lines.proofs.Printing.{nothing_same}
@@ -36,3 +36,9 @@ returns-clause-begins g c =
     begins_by (AreFirstLines (chain_json genesis span.from span.to r.snapshot))
     (ShowBegins genesis span.from span.to (g.F.Files.bytes c.args.files.now c.args.shown.now.store.now)) c.args.out.now last.new.out last.result
     (λ text h. (r, c.in_ok-replayed.ensures.replayed, h)) last.ensures.begins
+
+pub returns-clause-kept : goal.returns-clause-kept
+returns-clause-kept g c = c.explain_findings.ensures.kept ∙ c.in_ok-replayed.ensures.kept
+
+pub returns-clause-tells : goal.returns-clause-tells
+returns-clause-tells g c = c.print_shown.ensures.tells

@@ -1,4 +1,4 @@
-use Rattle.std.proofs.Common.{OnErr, OnOk, inl, subst}
+use Rattle.std.proofs.Common.{OnErr, OnOk, inl, subst, ◌∙◌}
 use Rattle.std.proofs.lemmas.Result.{err_from_is_err_and}
 use Rattle.cli_lines.proofs.Printing.{nothing_same}
 use Rattle.cli_lines.proofs.Silence.{no_less, tells_by}
@@ -37,3 +37,9 @@ returns-clause-begins g c =
     c.deref.ensures last.ensures.first in
     state_begun c.args.genesis.now asked.part asked.at (g.F.Files.bytes c.args.files.now asked.store.now) r c.args.out.now last.new.out last.result
     c.in_ok-replayed.ensures.replayed last.ensures.refused first
+
+pub returns-clause-kept : goal.returns-clause-kept
+returns-clause-kept g c = c.explain_fault.ensures.kept ∙ c.in_ok-replayed.ensures.kept
+
+pub returns-clause-tells : goal.returns-clause-tells
+returns-clause-tells g c = c.print_asked.ensures.tells

@@ -1,4 +1,4 @@
-use Rattle.std.proofs.Common.{Some, inl, subst}
+use Rattle.std.proofs.Common.{Some, inl, subst, ◌∙◌, refl}
 use Rattle.std.proofs.lemmas.Result.{err_from_is_err_and}
 use Rattle.ledger_model.specs.Chain.{Chain}
 use Rattle.cli_lines.proofs.Answering.{answers_by, begins_by}
@@ -52,3 +52,15 @@ returns-in_ok-replayed-in-Some-clause-begins g c =
     rw c.in-Some.is (begins_by (IsTextOf (UnlessFault (block_fault r.refused r.end) (SimulatesOn genesis p r.snapshot)))
     (IsTextOf (Simulates genesis p (Some (g.F.Files.bytes c.args.files.now c.in-Some.name.now)))) c.args.out.now last.new.out last.result
     (λ text h. (h.0, (r, c.in_ok-replayed-in-Some.ensures.replayed, h.1))) last.ensures.begins)
+
+pub returns-in_ok-replayed-in-Some-clause-kept : goal.returns-in_ok-replayed-in-Some-clause-kept
+returns-in_ok-replayed-in-Some-clause-kept g c = c.explain_chain.ensures.kept ∙ c.in_ok-replayed-in-Some.ensures.kept
+
+pub returns-in-None-clause-kept : goal.returns-in-None-clause-kept
+returns-in-None-clause-kept g c = refl
+
+pub returns-in-None-clause-tells : goal.returns-in-None-clause-tells
+returns-in-None-clause-tells g c = c.print_call.ensures.tells
+
+pub returns-in_ok-replayed-in-Some-clause-tells : goal.returns-in_ok-replayed-in-Some-clause-tells
+returns-in_ok-replayed-in-Some-clause-tells g c = c.print_call_after.ensures.tells
