@@ -1,7 +1,7 @@
 -- The operands of a block and those below it, as parts of one list that has the top last.
-use Rattle.std.proofs.Common.{◌≡◌, ◌<◌, ℕ, List, [], ◌∷◌, ◌++◌, refl, sym, ap, ◌∙◌, length, reverse, take, drop, arith}
+use Rattle.std.proofs.Common.{◌≡◌, ◌<◌, ◌≤◌, ℕ, List, [], ◌∷◌, ◌++◌, refl, sym, ap, ◌∙◌, length, reverse, take, drop, arith}
 use Rattle.std.specs.Prelude.{Bool, false}
-use Rattle.std.proofs.lemmas.List.{reverse-append, reverse-reverse, take-append-drop, length-reverse, length-drop}
+use Rattle.std.proofs.lemmas.List.{reverse-append, reverse-reverse, take-append-drop, length-reverse, length-drop, drop_all}
 use Rattle.std.proofs.Math.Seq.{take-length, take-append_seam, drop-append_seam}
 use Rattle.std.specs.Prelude.{Option, Some, None}
 use Rattle.wasm_ast.specs.Code.{BlockType}
@@ -40,6 +40,12 @@ pub finish_over : (l : BlockType) (s s' : Operands) (h : ℕ) (os : List (Option
 finish_over l s s' h os e v lt =
     let over : is_none s'.types ≡ false = ap is_none (sym v) ∙ not_none (reverse (drop h os)) (omega (arith, length-reverse (drop h os), length-drop h os)) in
     ap (λ o. then o (λ s. if_true (is_none s.types) s)) e ∙ ap (λ b. if_true b s') over
+
+-- where none is above the height, the body ends well
+pub finish_even : (l : BlockType) (s s' : Operands) (h : ℕ) (os : List (Option ValueType)) → pop_result l s ≡ Some s' → reverse (drop h os) ≡ s'.types →
+    length os ≤ h → finish l s ≡ Some s'
+finish_even l s s' h os e v le =
+    ap (λ o. then o (λ s. if_true (is_none s.types) s)) e ∙ ap (λ ts. if_true (is_none ts) s') (sym v ∙ ap reverse (drop_all h os le))
 
 abbrev frames : List (Option ValueType) → Bool → List (Option ValueType) → Frames
 frames types unreachable lower = record { here = record { types = types; unreachable = unreachable }; lower = lower }

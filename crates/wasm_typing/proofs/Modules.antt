@@ -25,10 +25,10 @@ use Rattle.wasm_typing.specs.Broken as broken
 use Rattle.wasm_typing.proofs.Lists.{at_below, at_either, at_map_back, next_item}
 use Rattle.wasm_typing.proofs.Untyped.{broken_is_untyped}
 
-none_some : {A : Type 0} (o : Option A) (a : A) → o ≡ None → o ≡ Some a → ⊥
+pub none_some : {A : Type 0} (o : Option A) (a : A) → o ≡ None → o ≡ Some a → ⊥
 none_some o a e h = cc
 
-some_same : {A : Type 0} (o : Option A) (a b : A) → o ≡ Some a → o ≡ Some b → a ≡ b
+pub some_same : {A : Type 0} (o : Option A) (a b : A) → o ≡ Some a → o ≡ Some b → a ≡ b
 some_same o a b e h = cc
 
 same_type_index : (k : ImportKind) (t u : ℕ) → k ≡ kind.Function t → k ≡ kind.Function u → t ≡ u

@@ -1,7 +1,7 @@
 use Rattle.std.proofs.Common.{◌≡◌, List, ◌∷◌, ap, ◌∙◌, subst, drop, length, Option, Some, arith, rules}
 use Rattle.std.specs.Prelude.{◌⊎◌}
 use Rattle.std.proofs.lemmas.List.{length-append}
-use Rattle.std.proofs.lemmas.Result.{err_from_is_err_and}
+use Rattle.std.proofs.lemmas.Result.{MatchResult-weaker, err_from_is_err_and}
 use Rattle.wasm_ast.specs.declared.types.ValueType.{ValueType}
 use Rattle.wasm_ast.specs.declared.types.ValueType.TheVariants.{I32}
 use Rattle.wasm_ast.specs.Code.{BlockType, code_size, End}
@@ -189,3 +189,25 @@ check_body-returns-clause-ok t c =
     check (context_of c.args.scope.now ls) c.args.body.now no_operands) e c.loop-instr.invariant.checked in
     whole_ok (context_of c.args.scope.now (c.args.carried ∷ c.args.labels.now)) c.args.left c.args.body.now c.loop-instr.instr-index items
     c.loop-instr.stack.here _ c.loop-instr-test.false checked c.in_ok-finish.ensures.ok
+
+pub check_body-returns-in_err-enter-clause-refused : goal.check_body-returns-in_err-enter-clause-refused
+check_body-returns-in_err-enter-clause-refused t c =
+    let p = err_from_is_err_and c.from_residual.result c.from_residual.ensures.1 in
+    rw (p.1, p.2, c.in_err-enter.ensures.refused) tt
+
+pub check_body-returns-in_err-enter-clause-mistyped : goal.check_body-returns-in_err-enter-clause-mistyped
+check_body-returns-in_err-enter-clause-mistyped t c =
+    let p = err_from_is_err_and c.from_residual.result c.from_residual.ensures.1 in
+    rw (p.1, p.2, c.in_err-enter.ensures.refused) tt
+
+pub check_block-returns-clause-refused : goal.check_block-returns-clause-refused
+check_block-returns-clause-refused t c = MatchResult-weaker c.push_result.result c.push_result.ensures.refused (λ x k. k) (λ e is. rw is tt)
+
+pub check_block-returns-clause-mistyped : goal.check_block-returns-clause-mistyped
+check_block-returns-clause-mistyped t c = MatchResult-weaker c.push_result.result c.push_result.ensures.refused (λ x k. k) (λ e is. rw is tt)
+
+pub check_if-returns-clause-refused : goal.check_if-returns-clause-refused
+check_if-returns-clause-refused t c = MatchResult-weaker c.push_result.result c.push_result.ensures.refused (λ x k. k) (λ e is. rw is tt)
+
+pub check_if-returns-clause-mistyped : goal.check_if-returns-clause-mistyped
+check_if-returns-clause-mistyped t c = MatchResult-weaker c.push_result.result c.push_result.ensures.refused (λ x k. k) (λ e is. rw is tt)

@@ -4,7 +4,7 @@ use Rattle.wasm_ast.specs.declared.module.Export.{Export}
 use Rattle.wasm_typing.specs.Typing.{at}
 use Rattle.wasm_typing.specs.ModuleRules.{count_of}
 use Rattle.wasm_typing.specs.Broken.{Exported}
-use Rattle.wasm_typing.proofs.Lists.{item_in, one_more, at_take, take_at, at_unique}
+use Rattle.wasm_typing.proofs.Lists.{item_in, one_more, each_item, at_take, take_at, at_unique}
 use Rattle.wasm_typing.proofs.Modules.{names_apart}
 use Rattle.wasm_typing.proofs.exports.check_exports.Goals as goal
 
@@ -56,3 +56,15 @@ pub returns-clause-names : goal.returns-clause-names
 returns-clause-names c =
     let exports = c.as_slice-exports in
     names_apart c.args.given.now.exports c.loop-i.i (omega (arith, ap length exports.ensures)) c.loop-i.invariant.names
+
+pub loop-i-init : goal.loop-i-init
+loop-i-init c = record {
+  exports = λ k lt e at. absurd (omega (arith, lt));
+  names = λ j k d e lt hj hk same below. absurd (omega (arith, lt));
+}
+
+pub returns-clause-exports : goal.returns-clause-exports
+returns-clause-exports c =
+    let exports = c.as_slice-exports in
+    each_item (λ (e : Export). e.index < count_of c.args.given.now e.kind) exports.result.now c.args.given.now.exports c.loop-i.i exports.ensures
+    (omega arith) c.loop-i.invariant.exports

@@ -1,4 +1,5 @@
 use Rattle.std.proofs.Common.{◌<◌, ◌+◌, ◌++◌, ◌∙◌, ap, map, drop, length, arith}
+use Rattle.std.proofs.lemmas.Result.{err_from_is_err_and}
 use Rattle.wasm_ast.specs.declared.module.Func.{Func}
 use Rattle.wasm_typing.specs.Broken.{FunctionType}
 use Rattle.wasm_typing.proofs.Lists.{at_none, item_in, one_more, each_item, mapped_next}
@@ -33,3 +34,14 @@ returns-clause-known c =
     known_types c.args.given.now c.requires
     (each_item (λ (f : Func). f.type_index < length c.args.given.now.types) items.result.now c.args.given.now.functions c.loop-function.function-index
     items.ensures.same c.loop-function-test.false c.loop-function.invariant.known)
+
+pub returns-in_err-indices-clause-broken : goal.returns-in_err-indices-clause-broken
+returns-in_err-indices-clause-broken c =
+    let p = err_from_is_err_and c.from_residual.result c.from_residual.ensures.1 in
+    rw (p.1, p.2, c.in_err-indices.ensures.fault) tt
+
+pub loop-function-init : goal.loop-function-init
+loop-function-init c = record {
+  indices = ap (λ is. is ++ map (λ (f : Func). f.type_index) c.args.given.now.functions) c.in_ok-indices.ensures.indices;
+  known = λ k lt f e. absurd (omega (arith, lt));
+}

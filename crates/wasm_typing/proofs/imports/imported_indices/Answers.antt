@@ -1,4 +1,6 @@
-use Rattle.std.proofs.Common.{◌+◌, ◌++◌, ◌∙◌, ap, ℕ, List, drop, Vec, Global}
+use Rattle.std.proofs.Common.{◌+◌, ◌++◌, ◌∙◌, refl, ap, sym, ℕ, List, drop, length, Vec, Global, arith}
+use Rattle.std.proofs.lemmas.List.{append-nil, at_drop_all}
+use Rattle.std.proofs.lemmas.Result.{err_from_is_err_and}
 use Rattle.wasm_typing.specs.ModuleRules.{imported_functions}
 use Rattle.wasm_typing.proofs.Modules.{indices_next, indices_skip}
 use Rattle.wasm_typing.proofs.imports.imported_indices.Goals.{in-Function+in_ok-push, in_default}
@@ -20,3 +22,16 @@ loop-import-preserved c =
           (indices_skip items.result.now imports index import items.ensures c.loop-import-test.true c.import-item.is w.in_default.not-Function) ∙
           c.loop-import.invariant
     ]
+
+pub returns-in_err-push-clause-fault : goal.returns-in_err-push-clause-fault
+returns-in_err-push-clause-fault c =
+    let p = err_from_is_err_and c.from_residual.result c.from_residual.ensures.1 in
+    rw (p.1, p.2) refl
+
+pub returns-clause-indices : goal.returns-clause-indices
+returns-clause-indices c =
+    let items = c.as_slice-import-items in
+    let indices = c.loop-import.indices.items in
+    let none = at_drop_all imported_functions c.args.given.now.imports c.loop-import.import-index
+    (omega (arith, c.loop-import-test.false, ap length items.ensures)) in
+    sym (append-nil indices) ∙ ap (λ is. indices ++ is) (sym none) ∙ c.loop-import.invariant

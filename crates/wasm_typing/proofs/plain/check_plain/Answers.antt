@@ -1,4 +1,5 @@
 use Rattle.std.proofs.Common.{◌∙◌, ap, sym, true≢false}
+use Rattle.std.proofs.lemmas.Result.{MatchResult-weaker}
 use Rattle.wasm_typing.specs.Inside.{context_of}
 use Rattle.wasm_typing.specs.Plain.{is_plain}
 use Rattle.wasm_typing.proofs.PlainInstructions.{keeps_all, plain_keeps, plain_refused}
@@ -137,3 +138,11 @@ pub returns-in-Convert-clause-refused : goal.returns-in-Convert-clause-refused
 returns-in-Convert-clause-refused c =
     plain_refused (context_of c.args.scope.now c.args.labels.now) c.args.instr.now _ c.args.stack.now.here c.check_convert.result c.in-Convert.is
     c.check_convert.ensures.refused
+
+pub returns-in-I32Const-clause-refused : goal.returns-in-I32Const-clause-refused
+returns-in-I32Const-clause-refused c =
+    MatchResult-weaker c.check_constant.result c.check_constant.ensures.refused (λ x k. k) (λ e is. rw is tt)
+
+pub returns-in-I64Const-clause-refused : goal.returns-in-I64Const-clause-refused
+returns-in-I64Const-clause-refused c =
+    MatchResult-weaker c.check_constant-in-I64Const.result c.check_constant-in-I64Const.ensures.refused (λ x k. k) (λ e is. rw is tt)
