@@ -1,0 +1,9 @@
+use Rattle.std.proofs.Common.{◌≡◌}
+use Rattle.std.proofs.lemmas.List.Elements.{same_from_all_zip}
+use Rattle.fab_types.proofs.read_set.ReadSetClone.clone.Goals as goal
+
+pub invariant_of-result : goal.invariant_of-result
+invariant_of-result c =
+    let items : c.in_ok-clone.field-0.items ≡ c.self.inside.items.items =
+    same_from_all_zip _ c.self.inside.items.items _ c.in_ok-clone.ensures.cases.0 (λ x y same. same) in
+    rw items c.self.invariant
