@@ -5,7 +5,7 @@ ghost use Rattle.wasm_typing.specs.HostCalls.{arity};
 
 use crate::bytes::{bytes_of, split_word};
 use crate::fault::CaseFault;
-use crate::texts::{write_hex, write_ranges, write_reads, write_result, write_writes};
+use crate::texts::{separate, write_hex, write_ranges, write_reads, write_result, write_writes};
 use crate::transactions::write_item;
 use fab_types::Value;
 use host_api::{Parts, PlainMap, Recorder};
@@ -28,8 +28,8 @@ pub fn call_host(alloc: Global, text: &str) -> Result<String, CaseFault> {
     let case = case_of(text).ok_or(CaseFault::BadLine)?;
     let argument = argument_of(alloc, case.argument)?;
     let memory = bytes_of(alloc, case.memory)?;
-    let state = state_of(alloc, case.state)?;
-    record_calls(alloc, &state, &argument, &memory, case.calls)
+    let mut state = PlainMap::empty(alloc);
+    record_calls(alloc, &mut state, &argument, &memory, case)
 }
 
 fn case_of(text: &str) -> Option<Case<'_>> {
@@ -48,13 +48,7 @@ fn argument_of(alloc: Global, pieces: &str) -> Result<Value, CaseFault> {
     Value::new(bytes_of(alloc, pieces)?).ok_or(CaseFault::BadLine)
 }
 
-/// The state that the writes leave.
-fn state_of(alloc: Global, writes: &str) -> Result<PlainMap, CaseFault> {
-    let mut state = PlainMap::empty(alloc);
-    write_each(alloc, &mut state, writes)?;
-    Ok(state)
-}
-
+/// Puts on a state what the writes leave.
 fn write_each(alloc: Global, state: &mut PlainMap, writes: &str) -> Result<(), CaseFault> {
     for word in writes.split_whitespace() {
         state.write(&write_item(alloc, word)?)?;
@@ -62,17 +56,19 @@ fn write_each(alloc: Global, state: &mut PlainMap, writes: &str) -> Result<(), C
     Ok(())
 }
 
+/// What the host answers to the calls of a case on the state that its writes leave.
 fn record_calls(
     alloc: Global,
-    state: &PlainMap,
+    state: &mut PlainMap,
     argument: &Value,
     memory: &[u8],
-    calls: &str,
+    case: Case<'_>,
 ) -> Result<String, CaseFault> {
+    write_each(alloc, state, case.state)?;
     let mut changed = Memory::new(alloc, memory.len())?;
     changed.write(0, memory);
     let mut host = Recorder::new(alloc, state, argument);
-    let answers = answers(alloc, &mut host, &mut changed, memory, calls);
+    let answers = answers(alloc, &mut host, &mut changed, memory, case.calls);
     with_parts(answers, &host.into_parts())
 }
 
@@ -98,9 +94,7 @@ fn call_each(
 ) -> Result<String, CaseFault> {
     let mut answer = String::new(alloc);
     for call in calls.split(" | ") {
-        if !answer.is_empty() {
-            answer.push(' ')?;
-        }
+        separate(&mut answer, " ")?;
         write_answer(&mut answer, call_once(alloc, host, memory, call)?)?;
     }
     Ok(answer)
@@ -118,12 +112,16 @@ fn write_change(answer: &mut String, before: &[u8], memory: &[u8]) -> Result<(),
 /// The answers, and behind them what was recorded.
 fn with_parts(answers: Result<String, CaseFault>, parts: &Parts) -> Result<String, CaseFault> {
     let mut answer = answers?;
-    answer.push_str(", recorded")?;
-    write_result(&mut answer, &parts.result)?;
-    write_reads(&mut answer, parts.reads.as_slice())?;
-    write_ranges(&mut answer, parts.ranges.as_slice())?;
-    write_writes(&mut answer, parts.writes.as_slice())?;
+    write_parts(&mut answer, parts)?;
     Ok(answer)
+}
+
+fn write_parts(answer: &mut String, parts: &Parts) -> Result<(), AllocError> {
+    answer.push_str(", recorded")?;
+    write_result(answer, &parts.result)?;
+    write_reads(answer, parts.reads.as_slice())?;
+    write_ranges(answer, parts.ranges.as_slice())?;
+    write_writes(answer, parts.writes.as_slice())
 }
 
 /// A word as a signed number.

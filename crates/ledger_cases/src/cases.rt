@@ -2,11 +2,8 @@
 
 use crate::bytes::{split_fuel, split_word};
 use crate::calls::call_host;
-use crate::chains::{show_flags, show_key, show_range, show_state};
-use crate::decoding::{
-    show_block, show_definition, show_envelope, show_hashes, show_id, show_membership,
-    show_payload, show_tag,
-};
+use crate::chains::{judge_chain, show_key, show_range, show_state};
+use crate::decoding::{show_tag, show_value};
 use crate::event_lines::event_line;
 use crate::fault::CaseFault;
 use crate::genesis_files::{genesis_file, modules_file};
@@ -19,6 +16,7 @@ use crate::runs::Question;
 use crate::simulations::simulate_calls;
 use std::alloc::Global;
 use wasm_profile::Profile;
+use world_state::Snapshot;
 
 /// The case of a line, without the note behind it.
 pub fn without_note(line: &str) -> &str {
@@ -31,38 +29,64 @@ pub fn without_note(line: &str) -> &str {
 /// What a case gives, by its verb.
 pub fn answer_case(alloc: Global, line: &str) -> Result<String, CaseFault> {
     let (verb, rest) = split_word(line);
+    if begins_empty(verb) {
+        return answer_on_state(alloc, &mut Snapshot::empty(alloc), verb, rest);
+    }
     match verb {
         "policy" => show_policy(alloc, rest),
         "satisfied" => show_satisfied(alloc, rest),
-        "endorsed" => show_endorsed(alloc, rest),
         "event" => Ok(event_line(alloc, rest)?),
         "genesis" => Ok(genesis_file(alloc, rest)?),
         "modules" => Ok(modules_file(alloc, rest)?),
-        "flags" => show_flags(alloc, rest),
-        "state" => show_state(alloc, rest),
-        "get" => show_key(alloc, rest),
-        "range" => show_range(alloc, rest),
         "call" => call_host(alloc, rest),
-        "simulate" => simulate_calls(alloc, rest, Profile::Core1),
-        "simulate2" => simulate_calls(alloc, rest, Profile::SignExtension),
         "by" => answer_by(alloc, rest),
         _ => answer_bytes(alloc, verb, rest),
     }
 }
 
+/// Whether a case of this verb begins with a state without keys.
+fn begins_empty(verb: &str) -> bool {
+    matches!(
+        verb,
+        "endorsed" | "flags" | "state" | "get" | "range" | "simulate" | "simulate2"
+    )
+}
+
+/// What such a case gives on that state, by its verb.
+fn answer_on_state(
+    alloc: Global,
+    snapshot: &mut Snapshot,
+    verb: &str,
+    rest: &str,
+) -> Result<String, CaseFault> {
+    match verb {
+        "endorsed" => show_endorsed(alloc, snapshot, rest),
+        "flags" => judge_chain(alloc, snapshot, rest),
+        "state" => show_state(alloc, snapshot, rest),
+        "get" => show_key(alloc, snapshot, rest),
+        "range" => show_range(alloc, snapshot, rest),
+        "simulate" => simulate_calls(alloc, snapshot, rest, Profile::Core1),
+        _ => simulate_calls(alloc, snapshot, rest, Profile::SignExtension),
+    }
+}
+
 /// What a case of the ledger's bytes gives, by its verb, and else one of modules by profile 1.
 fn answer_bytes(alloc: Global, verb: &str, pieces: &str) -> Result<String, CaseFault> {
+    if is_of_value(verb) {
+        return show_value(alloc, verb, pieces);
+    }
     match verb {
-        "payload" => show_payload(alloc, pieces),
-        "envelope" => show_envelope(alloc, pieces),
-        "block" => show_block(alloc, pieces),
-        "definition" => show_definition(alloc, pieces),
-        "membership" => show_membership(alloc, pieces),
-        "tx_id" => show_id(alloc, pieces),
-        "hashes" => show_hashes(alloc, pieces),
         "tag" => show_tag(alloc, pieces),
         _ => answer_module(alloc, Profile::Core1, verb, pieces),
     }
+}
+
+/// Whether a case of this verb has the bytes of a value.
+fn is_of_value(verb: &str) -> bool {
+    matches!(
+        verb,
+        "payload" | "envelope" | "block" | "definition" | "membership" | "tx_id" | "hashes"
+    )
 }
 
 /// What a case of modules gives behind the number of a profile.
@@ -92,12 +116,15 @@ fn answer_module(
         "position" => show_position(alloc, rest),
         "decode" => show_module(alloc, Look::Counts, profile, rest),
         "show" => show_module(alloc, Look::Whole, profile, rest),
-        "validate" | "run" | "trace" | "compare" | "answer" => {
-            let (question, pieces) = question_of(verb, rest)?;
-            ask_module(alloc, question, profile, pieces)
-        }
+        "validate" | "run" | "trace" | "compare" | "answer" => ask(alloc, profile, verb, rest),
         _ => apply_operator(alloc, verb, rest),
     }
+}
+
+/// The answer to what a verb asks about a valid module.
+fn ask(alloc: Global, profile: Profile, verb: &str, rest: &str) -> Result<String, CaseFault> {
+    let (question, pieces) = question_of(verb, rest)?;
+    ask_module(alloc, question, profile, pieces)
 }
 
 /// What a verb asks about a valid module, and the bytes behind its words.

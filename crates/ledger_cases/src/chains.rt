@@ -4,48 +4,28 @@ ghost use Rattle.std.specs.Prelude.{◌≡◌, ◌↔◌, ◌+◌, IsTrue, lengt
 
 use crate::bytes::split_word;
 use crate::fault::CaseFault;
-use crate::texts::{write_pair, write_version};
-use crate::transactions::{asked_range, is_endorsed, key_of, payload_of, unendorsed};
+use crate::texts::{separate, write_pair, write_version};
+use crate::transactions::{Asked, asked_range, is_endorsed, key_of, payload_of, unendorsed};
 use fab_types::{Block, BlockData, BlockNumber, Envelope, Flag, Header, Key, Value, Version};
 use mvcc_validate::flags;
 use std::alloc::{AllocError, Global};
 use std::fmt::Write;
 use world_state::Snapshot;
 
-/// The flags of each block of a chain.
-pub fn show_flags(alloc: Global, chain: &str) -> Result<String, CaseFault> {
-    judge_chain(alloc, &mut Snapshot::empty(alloc), chain)
-}
-
 /// Each key of the state after a chain, with its value and version.
-pub fn show_state(alloc: Global, chain: &str) -> Result<String, CaseFault> {
-    state_after(alloc, &mut Snapshot::empty(alloc), chain)
-}
-
-/// What the state after a chain has at the key that the first word is.
-pub fn show_key(alloc: Global, text: &str) -> Result<String, CaseFault> {
-    let (key, chain) = split_word(text);
-    key_after(alloc, &mut Snapshot::empty(alloc), chain, key)
-}
-
-/// The first entries of the range that the first word is, in the state after a chain.
-pub fn show_range(alloc: Global, text: &str) -> Result<String, CaseFault> {
-    let (asked, chain) = split_word(text);
-    range_after(alloc, &mut Snapshot::empty(alloc), chain, asked)
-}
-
-fn state_after(alloc: Global, snapshot: &mut Snapshot, chain: &str) -> Result<String, CaseFault> {
+pub fn show_state(
+    alloc: Global,
+    snapshot: &mut Snapshot,
+    chain: &str,
+) -> Result<String, CaseFault> {
     judge_chain(alloc, snapshot, chain)?;
     let entries = snapshot.entries(alloc)?;
     Ok(entries_text(alloc, &entries)?)
 }
 
-fn key_after(
-    alloc: Global,
-    snapshot: &mut Snapshot,
-    chain: &str,
-    key: &str,
-) -> Result<String, CaseFault> {
+/// What the state after a chain has at the key that the first word is.
+pub fn show_key(alloc: Global, snapshot: &mut Snapshot, text: &str) -> Result<String, CaseFault> {
+    let (key, chain) = split_word(text);
     judge_chain(alloc, snapshot, chain)?;
     let key = key_of(alloc, key)?;
     let mut answer = String::new(alloc);
@@ -56,14 +36,14 @@ fn key_after(
     Ok(answer)
 }
 
-fn range_after(
-    alloc: Global,
-    snapshot: &mut Snapshot,
-    chain: &str,
-    asked: &str,
-) -> Result<String, CaseFault> {
+/// The first entries of the range that the first word is, in the state after a chain.
+pub fn show_range(alloc: Global, snapshot: &mut Snapshot, text: &str) -> Result<String, CaseFault> {
+    let (asked, chain) = split_word(text);
     judge_chain(alloc, snapshot, chain)?;
-    let asked = asked_range(alloc, asked)?;
+    range_text(alloc, snapshot, &asked_range(alloc, asked)?)
+}
+
+fn range_text(alloc: Global, snapshot: &Snapshot, asked: &Asked) -> Result<String, CaseFault> {
     let limit = usize::from(asked.limit);
     let entries = snapshot.range(alloc, &asked.start, &asked.end, limit)?;
     Ok(entries_text(alloc, &entries)?)
@@ -132,9 +112,7 @@ fn judged(
         return Err(CaseFault::BadLine);
     }
     let flags = flags(alloc, snapshot, block, endorsed)?;
-    if !answer.is_empty() {
-        answer.push_str(" /")?;
-    }
+    separate(answer, " /")?;
     write_flags(answer, &flags)?;
     Ok(flags)
 }
@@ -142,9 +120,7 @@ fn judged(
 /// The numbers of flags, with blanks between them.
 fn write_flags(answer: &mut String, flags: &[Flag]) -> Result<(), AllocError> {
     for flag in flags {
-        if !answer.is_empty() {
-            answer.push(' ')?;
-        }
+        separate(answer, " ")?;
         write!(answer, "{flag}")?;
     }
     Ok(())

@@ -15,109 +15,134 @@ use wire::{
     header_hash, tx_id,
 };
 
-/// The payload that the bytes spell.
-pub fn show_payload(alloc: Global, pieces: &str) -> Result<String, CaseFault> {
+/// What a case of a value gives, by its verb.
+pub fn show_value(alloc: Global, verb: &str, pieces: &str) -> Result<String, CaseFault> {
     let bytes = bytes_of(alloc, pieces)?;
-    let payload = decode_payload(alloc, &bytes)?;
-    payload_text(alloc, &bytes, &payload)
+    let mut answer = String::new(alloc);
+    write_value(alloc, &mut answer, verb, &bytes)?;
+    Ok(answer)
+}
+
+fn write_value(
+    alloc: Global,
+    answer: &mut String,
+    verb: &str,
+    bytes: &[u8],
+) -> Result<(), CaseFault> {
+    match verb {
+        "payload" => show_payload(alloc, answer, bytes),
+        "envelope" => show_envelope(alloc, answer, bytes),
+        "block" => show_block(alloc, answer, bytes),
+        "definition" => show_definition(alloc, answer, bytes),
+        "membership" => show_membership(alloc, answer, bytes),
+        "tx_id" => show_id(alloc, answer, bytes),
+        _ => show_hashes(alloc, answer, bytes),
+    }
+}
+
+/// The payload that the bytes spell.
+fn show_payload(alloc: Global, answer: &mut String, bytes: &[u8]) -> Result<(), CaseFault> {
+    let payload = decode_payload(alloc, bytes)?;
+    compare_payload(alloc, answer, bytes, &payload)
 }
 
 /// The envelope that the bytes spell.
-pub fn show_envelope(alloc: Global, pieces: &str) -> Result<String, CaseFault> {
-    let bytes = bytes_of(alloc, pieces)?;
-    let envelope = decode_envelope(alloc, &bytes)?;
-    envelope_text(alloc, &bytes, &envelope)
+fn show_envelope(alloc: Global, answer: &mut String, bytes: &[u8]) -> Result<(), CaseFault> {
+    let envelope = decode_envelope(alloc, bytes)?;
+    compare_envelope(alloc, answer, bytes, &envelope)
 }
 
 /// The block that the bytes spell.
-pub fn show_block(alloc: Global, pieces: &str) -> Result<String, CaseFault> {
-    let bytes = bytes_of(alloc, pieces)?;
-    let block = decode_block(alloc, &bytes)?;
-    block_text(alloc, &bytes, &block)
+fn show_block(alloc: Global, answer: &mut String, bytes: &[u8]) -> Result<(), CaseFault> {
+    let block = decode_block(alloc, bytes)?;
+    compare_block(alloc, answer, bytes, &block)
 }
 
 /// The definition that the bytes spell.
-pub fn show_definition(alloc: Global, pieces: &str) -> Result<String, CaseFault> {
-    let bytes = bytes_of(alloc, pieces)?;
-    let definition = decode_definition(alloc, &bytes)?;
-    definition_text(alloc, &bytes, &definition)
+fn show_definition(alloc: Global, answer: &mut String, bytes: &[u8]) -> Result<(), CaseFault> {
+    let definition = decode_definition(alloc, bytes)?;
+    compare_definition(alloc, answer, bytes, &definition)
 }
 
 /// The membership that the bytes spell.
-pub fn show_membership(alloc: Global, pieces: &str) -> Result<String, CaseFault> {
-    let bytes = bytes_of(alloc, pieces)?;
-    let membership = decode_membership(alloc, &bytes)?;
-    membership_text(alloc, &bytes, &membership)
+fn show_membership(alloc: Global, answer: &mut String, bytes: &[u8]) -> Result<(), CaseFault> {
+    let membership = decode_membership(alloc, bytes)?;
+    compare_membership(alloc, answer, bytes, &membership)
 }
 
-fn payload_text(alloc: Global, bytes: &[u8], payload: &Payload) -> Result<String, CaseFault> {
-    let mut answer = String::new(alloc);
-    write_payload(&mut answer, payload)?;
-    write_comparison(&mut answer, bytes, &encode_payload(alloc, payload)?)?;
-    Ok(answer)
-}
-
-fn envelope_text(alloc: Global, bytes: &[u8], envelope: &Envelope) -> Result<String, CaseFault> {
-    let mut answer = String::new(alloc);
-    write_envelope(&mut answer, envelope)?;
-    write_comparison(&mut answer, bytes, &encode_envelope(alloc, envelope)?)?;
-    Ok(answer)
-}
-
-fn block_text(alloc: Global, bytes: &[u8], block: &Block) -> Result<String, CaseFault> {
-    let mut answer = String::new(alloc);
-    write_block(&mut answer, block)?;
-    write_comparison(&mut answer, bytes, &encode_block(alloc, block)?)?;
-    Ok(answer)
-}
-
-fn definition_text(
+fn compare_payload(
     alloc: Global,
+    answer: &mut String,
+    bytes: &[u8],
+    payload: &Payload,
+) -> Result<(), CaseFault> {
+    write_payload(answer, payload)?;
+    Ok(write_comparison(answer, bytes, &encode_payload(alloc, payload)?)?)
+}
+
+fn compare_envelope(
+    alloc: Global,
+    answer: &mut String,
+    bytes: &[u8],
+    envelope: &Envelope,
+) -> Result<(), CaseFault> {
+    write_envelope(answer, envelope)?;
+    Ok(write_comparison(answer, bytes, &encode_envelope(alloc, envelope)?)?)
+}
+
+fn compare_block(
+    alloc: Global,
+    answer: &mut String,
+    bytes: &[u8],
+    block: &Block,
+) -> Result<(), CaseFault> {
+    write_block(answer, block)?;
+    Ok(write_comparison(answer, bytes, &encode_block(alloc, block)?)?)
+}
+
+fn compare_definition(
+    alloc: Global,
+    answer: &mut String,
     bytes: &[u8],
     definition: &Definition,
-) -> Result<String, CaseFault> {
-    let mut answer = String::from_str(alloc, "definition")?;
-    write_definition(&mut answer, definition)?;
-    write_comparison(&mut answer, bytes, &encode_definition(alloc, definition)?)?;
-    Ok(answer)
+) -> Result<(), CaseFault> {
+    answer.push_str("definition")?;
+    write_definition(answer, definition)?;
+    Ok(write_comparison(answer, bytes, &encode_definition(alloc, definition)?)?)
 }
 
-fn membership_text(
+fn compare_membership(
     alloc: Global,
+    answer: &mut String,
     bytes: &[u8],
     membership: &Membership,
-) -> Result<String, CaseFault> {
-    let mut answer = String::new(alloc);
-    write_membership(&mut answer, membership)?;
-    write_comparison(&mut answer, bytes, &encode_membership(alloc, membership)?)?;
-    Ok(answer)
+) -> Result<(), CaseFault> {
+    write_membership(answer, membership)?;
+    Ok(write_comparison(answer, bytes, &encode_membership(alloc, membership)?)?)
 }
 
 /// The id of the transaction that the payload's proposal begins.
-pub fn show_id(alloc: Global, pieces: &str) -> Result<String, CaseFault> {
-    let bytes = bytes_of(alloc, pieces)?;
-    let payload = decode_payload(alloc, &bytes)?;
-    id_text(alloc, payload.proposal())
+fn show_id(alloc: Global, answer: &mut String, bytes: &[u8]) -> Result<(), CaseFault> {
+    let payload = decode_payload(alloc, bytes)?;
+    write_id(alloc, answer, payload.proposal())
 }
 
-fn id_text(alloc: Global, proposal: &Proposal) -> Result<String, CaseFault> {
+fn write_id(alloc: Global, answer: &mut String, proposal: &Proposal) -> Result<(), CaseFault> {
     let id = tx_id(alloc, proposal)?;
-    Ok(hex::encode(alloc, &id)?)
+    Ok(write_hex(answer, &id)?)
 }
 
 /// The hashes of the block's header and of its data.
-pub fn show_hashes(alloc: Global, pieces: &str) -> Result<String, CaseFault> {
-    let bytes = bytes_of(alloc, pieces)?;
-    let block = decode_block(alloc, &bytes)?;
-    hashes_text(alloc, &block)
+fn show_hashes(alloc: Global, answer: &mut String, bytes: &[u8]) -> Result<(), CaseFault> {
+    let block = decode_block(alloc, bytes)?;
+    write_hashes(alloc, answer, &block)
 }
 
-fn hashes_text(alloc: Global, block: &Block) -> Result<String, CaseFault> {
+fn write_hashes(alloc: Global, answer: &mut String, block: &Block) -> Result<(), CaseFault> {
     let data = data_hash(alloc, &block.envelopes)?;
-    let mut answer = hex::encode(alloc, &header_hash(&block.header))?;
+    write_hex(answer, &header_hash(&block.header))?;
     answer.push(' ')?;
-    write_hex(&mut answer, &data)?;
-    Ok(answer)
+    Ok(write_hex(answer, &data)?)
 }
 
 /// The tag of the bytes under the key, which is the first piece.

@@ -11,7 +11,7 @@ use wasm_validate::ValidateFault;
 use wire::WireFault;
 
 /// Why a line has no answer but a fault.
-#[derive(Clone, Copy, Debug, Drop, PartialEq, Eq)]
+#[derive(Clone, Copy)]
 pub enum CaseFault {
     /// There was no memory.
     Memory,
@@ -28,8 +28,8 @@ pub enum CaseFault {
 impl Display for CaseFault {
     fn fmt<W: Write>(&self, f: &mut Formatter<W>) -> fmt::Result {
         match self {
-            CaseFault::Memory => write!(f, "no memory"),
-            CaseFault::BadLine => write!(f, "bad line"),
+            CaseFault::Memory => f.write_str("no memory"),
+            CaseFault::BadLine => f.write_str("bad line"),
             CaseFault::Malformed(number, offset) => write!(f, "fault {number} at {offset}"),
             CaseFault::Invalid(fault) => write!(f, "invalid {fault}"),
             CaseFault::Refused(number) => write!(f, "refused {number}"),

@@ -2,6 +2,7 @@
 
 use crate::bytes::{bytes_of, split_word};
 use crate::fault::CaseFault;
+use crate::texts::separate;
 use std::alloc::{AllocError, Global};
 use std::fmt::Write;
 use wasm_ast::Position;
@@ -25,9 +26,7 @@ pub fn read_items(alloc: Global, text: &str) -> Result<String, CaseFault> {
 fn items_text(alloc: Global, kinds: &str, cursor: &mut Cursor<'_>) -> Result<String, CaseFault> {
     let mut answer = String::new(alloc);
     for kind in kinds.split(',') {
-        if !answer.is_empty() {
-            answer.push(' ')?;
-        }
+        separate(&mut answer, " ")?;
         answer_kind(&mut answer, kind, cursor)?;
     }
     Ok(answer)

@@ -72,16 +72,12 @@ fn case_of(rest: &str) -> Case<'_> {
 
 /// Whether an envelope with these tags is endorsed under the policy, on the state after the chain,
 /// which may be empty.
-pub fn show_endorsed(alloc: Global, rest: &str) -> Result<String, CaseFault> {
-    endorsed_after(alloc, &mut Snapshot::empty(alloc), case_of(rest))
-}
-
-/// The same of a chain that goes on behind a snapshot.
-fn endorsed_after(
+pub fn show_endorsed(
     alloc: Global,
     snapshot: &mut Snapshot,
-    case: Case<'_>,
+    rest: &str,
 ) -> Result<String, CaseFault> {
+    let case = case_of(rest);
     if !case.chain.is_empty() {
         judge_chain(alloc, snapshot, case.chain)?;
     }
@@ -97,7 +93,17 @@ fn endorsed_by(
     case: Case<'_>,
 ) -> Result<String, CaseFault> {
     let envelope = envelope_of(alloc, case.tags, case.words)?;
-    let endorsed = is_endorsed(alloc, rules, snapshot, &envelope)?;
+    judged_by(alloc, rules, snapshot, &envelope)
+}
+
+/// The same of the case's envelope.
+fn judged_by(
+    alloc: Global,
+    rules: &Rules,
+    snapshot: &Snapshot,
+    envelope: &Envelope,
+) -> Result<String, CaseFault> {
+    let endorsed = is_endorsed(alloc, rules, snapshot, envelope)?;
     Ok(format!(in alloc; "{endorsed}")?)
 }
 
@@ -120,7 +126,7 @@ fn rules_of(alloc: Global, known: &str, text: &str) -> Result<Rules, CaseFault> 
 
 /// The policy of calls.
 fn policies_of(alloc: Global, known: &str, text: &str) -> Result<Vec<ChaincodePolicy>, CaseFault> {
-    let chaincode = chaincode_name(alloc)?;
+    let chaincode = chaincode_name()?;
     let policy = policy_of(alloc, known, text)?;
     Ok(vec![in alloc; ChaincodePolicy { chaincode, policy }]?)
 }

@@ -125,7 +125,7 @@ pub fn outcome_text(alloc: Global, outcome: Outcome) -> Result<String, AllocErro
     match outcome {
         Outcome::Returned { status, used } => format!(in alloc; "returned {status} used {used}"),
         Outcome::Trapped { kind, used } => format!(in alloc; "trapped {kind:?} used {used}"),
-        Outcome::Spent => format!(in alloc; "spent"),
+        Outcome::Spent => String::from_str(alloc, "spent"),
     }
 }
 

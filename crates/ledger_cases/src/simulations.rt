@@ -4,7 +4,7 @@ use crate::bytes::{split_fuel, split_word};
 use crate::chains::{block_after, extend};
 use crate::fault::CaseFault;
 use crate::modules::valid_module;
-use crate::texts::write_payload;
+use crate::texts::{separate, write_payload};
 use crate::transactions::{call_with, change_of, name_of, unendorsed};
 use endorsement_policy::{Installed, ModuleId};
 use fab_types::{Block, Flag, OrgName, Payload, Proposal, Value};
@@ -16,10 +16,15 @@ use wasm_validate::ValidModule;
 use world_state::Snapshot;
 
 /// The payload or the refusal of each call of a module of a profile.
-pub fn simulate_calls(alloc: Global, text: &str, profile: Profile) -> Result<String, CaseFault> {
+pub fn simulate_calls(
+    alloc: Global,
+    snapshot: &mut Snapshot,
+    text: &str,
+    profile: Profile,
+) -> Result<String, CaseFault> {
     let (head, calls) = text.split_once(" |").ok_or(CaseFault::BadLine)?;
     let book = book_of(alloc, head, profile)?;
-    call_each(alloc, &book, &mut Snapshot::empty(alloc), calls)
+    call_each(alloc, &book, snapshot, calls)
 }
 
 /// The book that has the module of a profile under a name, by `NAME FUEL MODULE`.
@@ -42,7 +47,7 @@ fn chaincodes_of(alloc: Global, head: &str, profile: Profile) -> Result<Vec<Chai
 /// A module of this profile whose digest has bytes 7, and the organisation A.
 fn installed(alloc: Global, profile: Profile) -> Result<Installed, CaseFault> {
     let digest = [7; 32];
-    let org = OrgName::new(b"A".to_vec(alloc)?).ok_or(CaseFault::BadLine)?;
+    let org = OrgName::from_slice(b"A").ok_or(CaseFault::BadLine)?;
     let modules = vec![in alloc; ModuleId { digest, profile }]?;
     Ok(Installed::new(modules, vec![in alloc; org]?))
 }
@@ -65,9 +70,7 @@ fn call_each(
 ) -> Result<String, CaseFault> {
     let mut answer = String::new(alloc);
     for text in calls.split(" |") {
-        if !answer.is_empty() {
-            answer.push_str(" / ")?;
-        }
+        separate(&mut answer, " / ")?;
         call_once(alloc, &mut answer, book, snapshot, text)?;
     }
     Ok(answer)
@@ -110,7 +113,7 @@ fn proposal_in(alloc: Global, text: &str) -> Result<Proposal, CaseFault> {
     let text = text.strip_prefix(" ").unwrap_or(text);
     match text.split_once(':') {
         Some((kind, text)) => change_of(alloc, [0; 16], kind, text),
-        None => call_with(alloc, argument_of(alloc, text)?, [0; 16]),
+        None => call_with(argument_of(alloc, text)?, [0; 16]),
     }
 }
 

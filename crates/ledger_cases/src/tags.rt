@@ -16,14 +16,14 @@ fn words_of(list: &str) -> &str {
 pub fn orgs_of(alloc: Global, list: &str) -> Result<Vec<OrgName>, CaseFault> {
     let mut orgs = Vec::new(alloc);
     for word in words_of(list).split_terminator(',') {
-        orgs.push(org_of(alloc, split_kind(word).0)?)?;
+        orgs.push(org_of(split_kind(word).0)?)?;
     }
     Ok(orgs)
 }
 
 /// The name of an organisation that a word spells.
-pub fn org_of(alloc: Global, name: &str) -> Result<OrgName, CaseFault> {
-    OrgName::new(name.as_bytes().to_vec(alloc)?).ok_or(CaseFault::BadLine)
+pub fn org_of(name: &str) -> Result<OrgName, CaseFault> {
+    OrgName::from_slice(name.as_bytes()).ok_or(CaseFault::BadLine)
 }
 
 /// A name, and whether a `!` stands behind it, which gives its organisation a public key.
@@ -50,7 +50,7 @@ fn organisation_of(alloc: Global, word: &str) -> Result<Organisation, CaseFault>
     } else {
         OrgKey::Shared(TagKey::new(text.as_bytes().to_vec(alloc)?).ok_or(CaseFault::BadLine)?)
     };
-    let name = org_of(alloc, text)?;
+    let name = org_of(text)?;
     Ok(Organisation { name, key })
 }
 
@@ -74,13 +74,13 @@ pub fn endorsements_of(
     let bytes = payload.bytes();
     let mut items = Vec::new(alloc);
     for word in words_of(tags).split_terminator(',') {
-        items.push(endorsement_of(alloc, bytes, word)?)?;
+        items.push(endorsement_of(bytes, word)?)?;
     }
     Endorsements::new(items).ok_or(CaseFault::BadLine)
 }
 
 /// The endorsement by who stands before the sign in a word, with the tag of who stands behind it.
-fn endorsement_of(alloc: Global, bytes: &[u8], word: &str) -> Result<Endorsement, CaseFault> {
+fn endorsement_of(bytes: &[u8], word: &str) -> Result<Endorsement, CaseFault> {
     let (name, tag) = if let Some((name, key)) = word.split_once('/') {
         (name, Tag::Hmac(tag(key.as_bytes(), bytes)))
     } else if let Some((name, signer)) = word.split_once('?') {
@@ -92,7 +92,7 @@ fn endorsement_of(alloc: Global, bytes: &[u8], word: &str) -> Result<Endorsement
     } else {
         return Err(CaseFault::BadLine);
     };
-    let org = org_of(alloc, name)?;
+    let org = org_of(name)?;
     Ok(Endorsement { org, tag })
 }
 

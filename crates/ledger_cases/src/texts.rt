@@ -7,6 +7,14 @@ use fab_types::{
 use std::alloc::AllocError;
 use std::fmt::Write;
 
+/// Puts a sign behind what stands there, if anything does.
+pub fn separate(answer: &mut String, sign: &str) -> Result<(), AllocError> {
+    if answer.is_empty() {
+        return Ok(());
+    }
+    answer.push_str(sign)
+}
+
 /// Bytes as they are where all of them are printed characters, and else in hex behind `0x`.
 pub fn write_bytes(answer: &mut String, bytes: &[u8]) -> Result<(), AllocError> {
     if bytes.iter().all(|byte| matches!(byte, b' '..=b'~')) {

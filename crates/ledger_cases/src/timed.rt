@@ -37,9 +37,8 @@ mod workload;
 
 use crate::timed::done::Done;
 use crate::timed::failure::Failure;
-use crate::timed::register::{book_of, flag_transfers, simulate_transfers};
+use crate::timed::register::{book_of, transfer_on};
 use crate::timed::task::Task;
-use simulator::Book;
 use std::alloc::Global;
 use std::fs;
 use std::io::Read;
@@ -47,6 +46,7 @@ use std::rt::Files;
 use std::sync::Wait;
 use std::thread::Threads;
 use std::time::Clock;
+use world_state::Snapshot;
 
 /// Does what the words name. How much that was.
 pub fn time<R: Files + Threads + Wait + Clock + Sync>(
@@ -54,21 +54,9 @@ pub fn time<R: Files + Threads + Wait + Clock + Sync>(
     alloc: Global,
     words: &[String],
 ) -> Result<Done, Failure> {
-    match task::parse(words) {
-        Some(task) => carry_out(rt, alloc, task),
-        None => Err(Failure::Usage),
-    }
-}
-
-/// Does the work once.
-fn carry_out<R: Files + Threads + Wait + Clock + Sync>(
-    rt: &R,
-    alloc: Global,
-    task: Task<'_>,
-) -> Result<Done, Failure> {
-    match task {
-        Task::Simulate { module, count } => simulate(rt, alloc, module, count),
-        Task::Flags { module, count } => flag(rt, alloc, module, count),
+    match task::parse(words).ok_or(Failure::Usage)? {
+        Task::Simulate { module, count } => transfer(rt, alloc, module, count, false),
+        Task::Flags { module, count } => transfer(rt, alloc, module, count, true),
         Task::Check { workers, count } => {
             parts::check(rt, alloc, workers as usize, count, false)
         }
@@ -86,17 +74,22 @@ fn carry_out<R: Files + Threads + Wait + Clock + Sync>(
     }
 }
 
-fn simulate<R: Files>(rt: &R, alloc: Global, module: &str, count: u32) -> Result<Done, Failure> {
-    simulate_transfers(alloc, &read_book(rt, alloc, module)?, count)
-}
-
-fn flag<R: Files>(rt: &R, alloc: Global, module: &str, count: u32) -> Result<Done, Failure> {
-    flag_transfers(alloc, &read_book(rt, alloc, module)?, count)
-}
-
-/// The book of the register whose module this file has.
-fn read_book<R: Files>(rt: &R, alloc: Global, module: &str) -> Result<Book, Failure> {
-    book_of(alloc, &bytes_of(rt, alloc, module)?)
+/// Simulates or flags so many transfers by the register whose module this file has.
+fn transfer<R: Files>(
+    rt: &R,
+    alloc: Global,
+    module: &str,
+    count: u32,
+    are_flagged: bool,
+) -> Result<Done, Failure> {
+    let book = book_of(alloc, &bytes_of(rt, alloc, module)?)?;
+    transfer_on(
+        alloc,
+        &book,
+        &mut Snapshot::empty(alloc),
+        count,
+        are_flagged,
+    )
 }
 
 fn load<R: Files>(rt: &R, alloc: Global, store: &str) -> Result<Done, Failure> {

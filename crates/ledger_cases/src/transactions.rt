@@ -72,11 +72,15 @@ fn ranges_of(alloc: Global, words: &str) -> Result<Ranges, CaseFault> {
 fn writes_of(alloc: Global, words: &str) -> Result<WriteSet, CaseFault> {
     let mut writes = Vec::new(alloc);
     for word in words.split_whitespace() {
-        if word.starts_with("w:") || word.starts_with("d:") {
+        if is_write(word) {
             writes.push(write_item(alloc, word)?)?;
         }
     }
     WriteSet::new(writes).ok_or(CaseFault::BadLine)
+}
+
+fn is_write(word: &str) -> bool {
+    word.starts_with("w:") || word.starts_with("d:")
 }
 
 /// The upgrade or the amendment that a word says, or else the call with an empty argument.
@@ -84,7 +88,7 @@ fn proposal_of(alloc: Global, nonce: [u8; 16], words: &str) -> Result<Proposal, 
     let nonce = nonce_of(nonce, words)?;
     match change_in(words)? {
         Some((kind, text)) => change_of(alloc, nonce, kind, text),
-        None => call_with(alloc, empty_value(alloc), nonce),
+        None => call_with(empty_value(alloc), nonce),
     }
 }
 
@@ -105,11 +109,16 @@ fn change_in(words: &str) -> Result<Option<(&str, &str)>, CaseFault> {
     let mut change = None;
     for word in words.split_whitespace() {
         let (kind, text) = word.split_once(':').ok_or(CaseFault::BadLine)?;
-        if !matches!(kind, "r" | "q" | "w" | "d" | "n" | "e") {
+        if is_change(kind) {
             change = Some((kind, text));
         }
     }
     Ok(change)
+}
+
+/// Whether what stands in front of a colon begins an upgrade or an amendment.
+fn is_change(kind: &str) -> bool {
+    !matches!(kind, "r" | "q" | "w" | "d" | "n" | "e")
 }
 
 /// The amendment of a word that begins with `a:`, or the upgrade of another one.
@@ -124,7 +133,7 @@ pub fn change_of(
         return Ok(Proposal::Amend(Amend { membership, nonce }));
     }
     let definition = definition_of(alloc, kind, text)?;
-    let chaincode = chaincode_name(alloc)?;
+    let chaincode = chaincode_name()?;
     Ok(Proposal::Upgrade(Upgrade {
         chaincode,
         definition,
@@ -134,8 +143,7 @@ pub fn change_of(
 
 /// `SERIAL,NAMES,POLICY`, where `+` stands between the names and each member keeps its key.
 fn membership_of(alloc: Global, text: &str) -> Result<Membership, CaseFault> {
-    let (serial, rest) = text.split_once(',').ok_or(CaseFault::BadLine)?;
-    let (names, policy) = rest.split_once(',').ok_or(CaseFault::BadLine)?;
+    let (serial, names, policy) = in_three(text).ok_or(CaseFault::BadLine)?;
     let Ok(serial) = serial.parse::<u32>() else {
         return Err(CaseFault::BadLine);
     };
@@ -148,18 +156,25 @@ fn membership_of(alloc: Global, text: &str) -> Result<Membership, CaseFault> {
     })
 }
 
+/// What stands before a comma, between it and the next, and behind that.
+fn in_three(text: &str) -> Option<(&str, &str, &str)> {
+    let (first, rest) = text.split_once(',')?;
+    let (second, third) = rest.split_once(',')?;
+    Some((first, second, third))
+}
+
 fn members_of(alloc: Global, names: &str) -> Result<Members, CaseFault> {
     let mut members = Vec::new(alloc);
     for name in names.split('+') {
-        let (name, key) = (org_of(alloc, name)?, MemberKey::Kept);
+        let (name, key) = (org_of(name)?, MemberKey::Kept);
         members.push(Member { name, key })?;
     }
     Members::new(members).ok_or(CaseFault::BadLine)
 }
 
 /// The call of the chaincode with an argument.
-pub fn call_with(alloc: Global, argument: Value, nonce: [u8; 16]) -> Result<Proposal, CaseFault> {
-    let chaincode = chaincode_name(alloc)?;
+pub fn call_with(argument: Value, nonce: [u8; 16]) -> Result<Proposal, CaseFault> {
+    let chaincode = chaincode_name()?;
     Ok(Proposal::Call(Call {
         chaincode,
         argument,
@@ -181,8 +196,7 @@ fn form_of(kind: &str) -> Result<(bool, Profile), CaseFault> {
 
 /// `BYTE,FUEL,POLICY` behind such a word, where each byte of the digest is the same.
 fn definition_of(alloc: Global, kind: &str, text: &str) -> Result<Definition, CaseFault> {
-    let (byte, rest) = text.split_once(',').ok_or(CaseFault::BadLine)?;
-    let (fuel, policy) = rest.split_once(',').ok_or(CaseFault::BadLine)?;
+    let (byte, fuel, policy) = in_three(text).ok_or(CaseFault::BadLine)?;
     let (is_open, profile) = form_of(kind)?;
     let digest = [number_of(byte)?; 32];
     let fuel = fuel_of(fuel)?;
@@ -208,8 +222,8 @@ fn policy_text_of(alloc: Global, text: &str) -> Result<PolicyText, CaseFault> {
 }
 
 /// The chaincode that every case calls: `kv`.
-pub fn chaincode_name(alloc: Global) -> Result<Name, CaseFault> {
-    name_of(alloc, "kv")
+pub fn chaincode_name() -> Result<Name, CaseFault> {
+    Name::from_slice(b"kv").ok_or(CaseFault::BadLine)
 }
 
 /// The name that a word spells.
@@ -326,10 +340,14 @@ fn range_item(alloc: Global, text: &str) -> Result<RangeItem, CaseFault> {
 fn range_entries(alloc: Global, text: &str) -> Result<Vec<RangeEntry>, CaseFault> {
     let mut entries = Vec::new(alloc);
     for word in text.split(',') {
-        let (key, version) = word.split_once('@').ok_or(CaseFault::BadLine)?;
-        let version = version_of(version)?;
-        let key = key_of(alloc, key)?;
-        entries.push(RangeEntry { key, version })?;
+        entries.push(range_entry(alloc, word)?)?;
     }
     Ok(entries)
+}
+
+fn range_entry(alloc: Global, word: &str) -> Result<RangeEntry, CaseFault> {
+    let (key, version) = word.split_once('@').ok_or(CaseFault::BadLine)?;
+    let version = version_of(version)?;
+    let key = key_of(alloc, key)?;
+    Ok(RangeEntry { key, version })
 }

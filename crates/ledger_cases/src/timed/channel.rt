@@ -8,6 +8,7 @@ use endorsement_policy::{Rules, check_plain};
 use fab_types::{Block, CommittedBlock, Envelope, Flag};
 use orderer::Orderer;
 use std::alloc::Global;
+use std::sync::Arc;
 use world_state::Snapshot;
 
 /// How many transactions a batch has.
@@ -16,7 +17,7 @@ pub const BATCH: usize = 512;
 /// What the members of a channel share, and the transactions that they are given.
 #[derive(Drop)]
 pub struct Channel {
-    rules: Rules,
+    rules: Arc<Rules>,
     kind: TagKind,
     workload: Workload,
     orderer: Orderer,
@@ -64,9 +65,13 @@ impl Channel {
 
     /// Checks and commits all blocks again, from the empty state on.
     pub fn commit_again(&self, alloc: Global) -> Result<(), Failure> {
-        let mut snapshot = Snapshot::empty(alloc);
+        self.commit_on(alloc, &mut Snapshot::empty(alloc))
+    }
+
+    /// The same behind a snapshot.
+    fn commit_on(&self, alloc: Global, snapshot: &mut Snapshot) -> Result<(), Failure> {
         for block in self.orderer.blocks() {
-            commit_next(alloc, &self.rules, &mut snapshot, block)?;
+            commit_next(alloc, &self.rules, snapshot, block)?;
         }
         Ok(())
     }

@@ -51,15 +51,15 @@ impl Display for Failure {
     fn fmt<W: Write>(&self, f: &mut Formatter<W>) -> fmt::Result {
         match self {
             Failure::Usage => f.write_str(USAGE),
-            Failure::Memory => write!(f, "refused 9"),
-            Failure::File => write!(f, "refused 703"),
-            Failure::Clock => write!(f, "no clock"),
-            Failure::Module => write!(f, "no valid module"),
+            Failure::Memory => f.write_str("refused 9"),
+            Failure::File => f.write_str("refused 703"),
+            Failure::Clock => f.write_str("no clock"),
+            Failure::Module => f.write_str("no valid module"),
             Failure::Refused(refusal) => write!(f, "{refusal}"),
             Failure::Order(cause) => write!(f, "{cause}"),
             Failure::Commit(refusal) => write!(f, "{refusal}"),
-            Failure::Limit => write!(f, "a value is out of its limits"),
-            Failure::Invalid => write!(f, "a transaction is not VALID"),
+            Failure::Limit => f.write_str("a value is out of its limits"),
+            Failure::Invalid => f.write_str("a transaction is not VALID"),
         }
     }
 }

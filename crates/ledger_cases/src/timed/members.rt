@@ -1,14 +1,15 @@
 //! The organisations A, B and C, of which two have to endorse each transaction: A and B do.
 
 use crate::timed::failure::Failure;
-use crate::timed::workload::{Workload, chaincode};
-use ed25519::{public_key, sign};
-use endorsement_policy::{ChaincodePolicy, Installed, Rules};
+use crate::timed::workload::Workload;
+use ed25519::sign;
+use endorsement_policy::Rules;
 use fab_types::{Endorsement, Endorsements, Envelope, OrgName, Payload, Tag};
 use hmac_tag::tag;
-use org_keys::{OrgKey, Organisation, PublicKey, TagKey};
-use policy_language::{Policies, Policy};
+use json_genesis::read_genesis;
+use ledger_setting::Genesis;
 use std::alloc::Global;
+use std::sync::Arc;
 use world_state::Snapshot;
 
 /// The kind of all tags: HMACs under shared keys, or signatures.
@@ -24,15 +25,49 @@ const ENDORSEMENTS_SIZE: usize = 1 + 2 * 34;
 /// How many bytes an HMAC hashes beside those of the payload: two padded keys and the inner hash.
 const TAG_SIZE: u64 = 64 + 64 + 32;
 
-/// The rules of the organisations. Nothing is installed.
-pub fn rules(alloc: Global, kind: TagKind) -> Result<Rules, Failure> {
-    Rules::new(
-        organisations(alloc, kind)?,
-        policies(alloc)?,
-        two_of_three(alloc)?,
-        Installed::new(Vec::new(alloc), Vec::new(alloc)),
-    )
-    .ok_or(Failure::Limit)
+/// The front of a genesis file, with the organisations and their shared keys.
+const SHARED: &str = "{\"orgs\": [
+  {\"name\": \"A\",
+   \"key\": \"4141414141414141414141414141414141414141414141414141414141414141\"},
+  {\"name\": \"B\",
+   \"key\": \"4242424242424242424242424242424242424242424242424242424242424242\"},
+  {\"name\": \"C\",
+   \"key\": \"4343434343434343434343434343434343434343434343434343434343434343\"}],";
+
+/// The same with their public keys, of which the shared ones are the seeds.
+const PUBLIC: &str = "{\"orgs\": [
+  {\"name\": \"A\",
+   \"public\": \"db995fe25169d141cab9bbba92baa01f9f2e1ece7df4cb2ac05190f37fcc1f9d\"},
+  {\"name\": \"B\",
+   \"public\": \"2152f8d19b791d24453242e15f2eab6cb7cffa7b6a5ed30097960e069881db12\"},
+  {\"name\": \"C\",
+   \"public\": \"22fc297792f0b6ffc0bfcfdb7edb0c0aa14e025a365ec0e342e86e3829cb74b6\"}],";
+
+/// What follows: one peer, and the transactions' chaincode, which answers 0. No peer calls it.
+const SETTING: &str = " \"peers\": [\"A\"], \"seats\": 1, \"queue\": 1,
+ \"count\": 512, \"preferred\": 524288, \"absolute\": 524288, \"reorder\": false,
+ \"chaincodes\": [{\"name\": \"bench\", \"policy\": \"OutOf(2, 'A', 'B', 'C')\",
+  \"fuel\": 1, \"profile\": 1,
+  \"module\": \"0061736d010000000105016000017f03020100070a0106696e766f6b6500000a0601040041000b\"}],
+ \"modules\": [], \"upgrade\": \"OutOf(2, 'A', 'B', 'C')\"}";
+
+/// A genesis of the organisations with keys of a kind.
+pub fn genesis(alloc: Global, kind: TagKind) -> Result<Genesis, Failure> {
+    let orgs = match kind {
+        TagKind::Hmac => SHARED,
+        TagKind::Ed25519 => PUBLIC,
+    };
+    let text = format!(in alloc; "{orgs}{}", SETTING)?;
+    match read_genesis(alloc, text.as_str()) {
+        Ok(genesis) => Ok(genesis),
+        Err(_) => Err(Failure::Limit),
+    }
+}
+
+/// The rules of that genesis.
+pub fn rules(alloc: Global, kind: TagKind) -> Result<Arc<Rules>, Failure> {
+    let genesis = genesis(alloc, kind)?;
+    Ok(Arc::try_clone(&genesis.rules)?)
 }
 
 /// The next transaction of a workload, made on this state, with two right tags of a kind.
@@ -58,69 +93,18 @@ pub fn tagged_bytes(envelope: &Envelope) -> u64 {
 
 fn endorsements(alloc: Global, payload: &Payload, kind: TagKind) -> Result<Endorsements, Failure> {
     let bytes = payload.bytes();
-    let first = endorsement(alloc, b'A', bytes, kind)?;
-    let second = endorsement(alloc, b'B', bytes, kind)?;
+    let first = endorsement(b'A', bytes, kind)?;
+    let second = endorsement(b'B', bytes, kind)?;
     Endorsements::new(vec![in alloc; first, second]?).ok_or(Failure::Limit)
 }
 
-fn endorsement(
-    alloc: Global,
-    letter: u8,
-    bytes: &[u8],
-    kind: TagKind,
-) -> Result<Endorsement, Failure> {
-    let org = org(alloc, letter)?;
+fn endorsement(letter: u8, bytes: &[u8], kind: TagKind) -> Result<Endorsement, Failure> {
+    let org = OrgName::from_slice(&[letter]).ok_or(Failure::Limit)?;
     let tag = match kind {
         TagKind::Hmac => Tag::Hmac(tag(&secret(letter), bytes)),
         TagKind::Ed25519 => Tag::Ed25519(sign(&secret(letter), bytes)),
     };
     Ok(Endorsement { org, tag })
-}
-
-fn policies(alloc: Global) -> Result<Vec<ChaincodePolicy>, Failure> {
-    let chaincode = chaincode(alloc)?;
-    let policy = two_of_three(alloc)?;
-    Ok(vec![in alloc; ChaincodePolicy { chaincode, policy }]?)
-}
-
-fn two_of_three(alloc: Global) -> Result<Policy, Failure> {
-    let first = org(alloc, b'A')?;
-    let second = org(alloc, b'B')?;
-    let third = org(alloc, b'C')?;
-    let leaves = vec![in alloc; Policy::Org(first), Policy::Org(second), Policy::Org(third)]?;
-    let leaves = Policies::new(leaves).ok_or(Failure::Limit)?;
-    Ok(Policy::OutOf(2, leaves))
-}
-
-fn organisations(alloc: Global, kind: TagKind) -> Result<Vec<Organisation>, Failure> {
-    let first = organisation(alloc, b'A', kind)?;
-    let second = organisation(alloc, b'B', kind)?;
-    let third = organisation(alloc, b'C', kind)?;
-    Ok(vec![in alloc; first, second, third]?)
-}
-
-fn organisation(alloc: Global, letter: u8, kind: TagKind) -> Result<Organisation, Failure> {
-    let key = match kind {
-        TagKind::Hmac => shared_key(alloc, letter)?,
-        TagKind::Ed25519 => public_key_of(letter)?,
-    };
-    let name = org(alloc, letter)?;
-    Ok(Organisation { name, key })
-}
-
-fn shared_key(alloc: Global, letter: u8) -> Result<OrgKey, Failure> {
-    let key = TagKey::new(secret(letter).to_vec(alloc)?).ok_or(Failure::Limit)?;
-    Ok(OrgKey::Shared(key))
-}
-
-fn public_key_of(letter: u8) -> Result<OrgKey, Failure> {
-    let key = PublicKey::new(public_key(&secret(letter))).ok_or(Failure::Limit)?;
-    Ok(OrgKey::Public(key))
-}
-
-/// The organisation of this letter.
-pub fn org(alloc: Global, letter: u8) -> Result<OrgName, Failure> {
-    OrgName::new(vec![in alloc; letter]?).ok_or(Failure::Limit)
 }
 
 /// The bytes of an organisation's shared key, or its seed.

@@ -19,6 +19,7 @@ use policy_language::OrgSet;
 use reorder::reorder;
 use std::alloc::Global;
 use std::io::Read;
+use std::sync::Arc;
 use std::thread::Threads;
 use store_devices::Counted;
 use world_state::Snapshot;
@@ -65,7 +66,7 @@ pub fn check<R: Threads + Sync>(
 /// A batch of transactions that is checked, and what it is checked by.
 #[derive(Drop)]
 struct Checked {
-    rules: Rules,
+    rules: Arc<Rules>,
     batch: Vec<Envelope>,
     snapshot: Snapshot,
 }
@@ -105,22 +106,23 @@ impl Checked {
         for _ in 0..count {
             blocks.push(self.batch.as_slice())?;
         }
-        self.check_blocks(workers, alloc, &blocks)?;
+        check_blocks(workers, alloc, &self.rules, &self.snapshot, &blocks)?;
         Ok(Done::hashed(count, BATCH as u64, tags_of(&self.batch)))
     }
+}
 
-    /// Checks blocks: the tags of all of them by the workers, and then each block by what is known
-    /// of its tags.
-    fn check_blocks<R: Threads + Sync>(
-        &self,
-        workers: &Workers<'_, R>,
-        alloc: Global,
-        blocks: &[&[Envelope]],
-    ) -> Result<(), Failure> {
-        let standing = Standing::of(alloc, &self.rules, &self.snapshot)?;
-        let right = right_orgs_of_blocks(workers, alloc, standing.organisations(), blocks)?;
-        check_each(alloc, &self.rules, &self.snapshot, blocks, &right)
-    }
+/// Checks blocks: the tags of all of them by the workers, and then each block by what is known of
+/// its tags.
+fn check_blocks<R: Threads + Sync>(
+    workers: &Workers<'_, R>,
+    alloc: Global,
+    rules: &Rules,
+    snapshot: &Snapshot,
+    blocks: &[&[Envelope]],
+) -> Result<(), Failure> {
+    let standing = Standing::of(alloc, rules, snapshot)?;
+    let right = right_orgs_of_blocks(workers, alloc, standing.organisations(), blocks)?;
+    check_each(alloc, rules, snapshot, blocks, &right)
 }
 
 /// Checks blocks on a state, of which it is known whose tags are right.

@@ -3,17 +3,14 @@
 use crate::timed::channel::Channel;
 use crate::timed::done::Done;
 use crate::timed::failure::Failure;
-use crate::timed::members::{TagKind, org, rules};
+use crate::timed::members::{TagKind, genesis};
 use crate::timed::workload::key;
-use endorsement_policy::{Installed, Rules};
 use fab_types::{Block, Key};
 use ledger_setting::Genesis;
-use org_keys::Signers;
 use peer_node::{Peer, PeerWriter, Seat};
-use simulator::Book;
 use std::alloc::Global;
+use std::sync::Wait;
 use std::sync::atomic::{AtomicU64, Ordering};
-use std::sync::{Arc, Wait};
 use std::thread::{Threads, join};
 use std::time::{Clock, Instant};
 
@@ -41,7 +38,7 @@ fn read_beside<R: Threads + Wait + Clock + Sync>(
     count: u32,
 ) -> Result<Done, Failure> {
     channel.advance(alloc, blocks)?;
-    let genesis = genesis(alloc)?;
+    let genesis = genesis(alloc, TagKind::Hmac)?;
     read_by(rt, alloc, &genesis, channel.blocks(), count)
 }
 
@@ -53,9 +50,9 @@ fn read_by<R: Threads + Wait + Clock + Sync>(
     blocks: &[Block],
     count: u32,
 ) -> Result<Done, Failure> {
-    let key = key(alloc, 0)?;
-    let org = org(alloc, b'A')?;
-    let Ok((mut writer, seats)) = Peer::open(rt, alloc, genesis, &org, 1) else {
+    let key = key(0)?;
+    let org = genesis.peers.first().ok_or(Failure::Limit)?;
+    let Ok((mut writer, seats)) = Peer::open(rt, alloc, genesis, org, 1) else {
         return Err(Failure::Memory);
     };
     let micros = match last_of(seats) {
@@ -73,41 +70,6 @@ fn read_by<R: Threads + Wait + Clock + Sync>(
 /// One of the seats.
 fn last_of(mut seats: Vec<Seat>) -> Option<Seat> {
     seats.pop()
-}
-
-/// A genesis without chaincodes.
-fn genesis(alloc: Global) -> Result<Genesis, Failure> {
-    let peers = vec![in alloc; org(alloc, b'A')?]?;
-    let signers = Arc::new(alloc, Signers::none(alloc))?;
-    let (rules, book) = rules_and_book(alloc)?;
-    Ok(Genesis {
-        book,
-        rules,
-        signers,
-        peers,
-        seats: 1,
-        queue: 1,
-        count: 512,
-        preferred: 524_288,
-        absolute: 524_288,
-        reorder: false,
-    })
-}
-
-/// The rules, and a book without chaincodes.
-fn rules_and_book(alloc: Global) -> Result<(Arc<Rules>, Arc<Book>), Failure> {
-    let rules = Arc::new(alloc, rules(alloc, TagKind::Hmac)?)?;
-    let book = empty_book(alloc)?;
-    Ok((rules, book))
-}
-
-/// A book without chaincodes.
-fn empty_book(alloc: Global) -> Result<Arc<Book>, Failure> {
-    let installed = Installed::new(Vec::new(alloc), Vec::new(alloc));
-    let book = Book::new(Vec::new(alloc), Vec::new(alloc), installed, Vec::new(alloc)).ok_or(
-        Failure::Limit,
-    )?;
-    Ok(Arc::new(alloc, book)?)
 }
 
 /// The microseconds that the reads take beside the commits.

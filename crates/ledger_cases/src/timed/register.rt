@@ -20,38 +20,38 @@ const ASSETS: u32 = 1000;
 /// How many transactions a block has.
 const BATCH: u32 = 500;
 
-/// Simulates so many transfers by the chaincode of a book, one after another.
-pub fn simulate_transfers(alloc: Global, book: &Book, count: u32) -> Result<Done, Failure> {
-    simulate_on(alloc, book, &mut Snapshot::empty(alloc), count)
-}
-
-/// The same on a state that has no assets yet.
-fn simulate_on(
+/// Simulates or flags so many transfers by the chaincode of a book, on a state that has no assets
+/// yet.
+pub fn transfer_on(
     alloc: Global,
     book: &Book,
     snapshot: &mut Snapshot,
     count: u32,
+    are_flagged: bool,
 ) -> Result<Done, Failure> {
     create_assets(alloc, book, snapshot)?;
+    if are_flagged {
+        flag(alloc, book, snapshot, count)
+    } else {
+        simulate_each(alloc, book, snapshot, count)
+    }
+}
+
+/// Simulates so many transfers, one after another.
+fn simulate_each(
+    alloc: Global,
+    book: &Book,
+    snapshot: &Snapshot,
+    count: u32,
+) -> Result<Done, Failure> {
     for asset in 0..count {
         let _payload = called(alloc, book, snapshot, "transfer", asset % ASSETS)?;
     }
     Ok(Done::Count(u64::from(count)))
 }
 
-/// Flags so many transfers by the chaincode of a book, the same block of them again and again.
-pub fn flag_transfers(alloc: Global, book: &Book, count: u32) -> Result<Done, Failure> {
-    flag_on(alloc, book, &mut Snapshot::empty(alloc), count)
-}
-
-/// The same on a state that has no assets yet.
-fn flag_on(
-    alloc: Global,
-    book: &Book,
-    snapshot: &mut Snapshot,
-    count: u32,
-) -> Result<Done, Failure> {
-    create_assets(alloc, book, snapshot)?;
+/// Flags so many transfers, the same block of them again and again.
+fn flag(alloc: Global, book: &Book, snapshot: &Snapshot, count: u32) -> Result<Done, Failure> {
     let block = block_of(alloc, book, snapshot, "transfer", 0)?;
     flag_again(alloc, snapshot, &block, count)
 }
@@ -102,7 +102,7 @@ pub fn book_of(alloc: Global, bytes: &[u8]) -> Result<Book, Failure> {
     };
     let installed = Installed::new(vec![in alloc; id]?, Vec::new(alloc));
     let chaincode = Chaincode {
-        name: name(alloc)?,
+        name: name()?,
         module: valid_module(alloc, bytes, Profile::Core1)?,
         fuel: 10_000_000,
     };
@@ -111,15 +111,15 @@ pub fn book_of(alloc: Global, bytes: &[u8]) -> Result<Book, Failure> {
 }
 
 /// The name of the chaincode.
-fn name(alloc: Global) -> Result<Name, Failure> {
-    Name::new(b"register".to_vec(alloc)?).ok_or(Failure::Limit)
+fn name() -> Result<Name, Failure> {
+    Name::from_slice(b"register").ok_or(Failure::Limit)
 }
 
 /// The proposal to create an asset, or to transfer it.
 fn proposal_of(alloc: Global, verb: &str, asset: u32) -> Result<Proposal, Failure> {
     let argument = format!(in alloc; "{verb} asset{asset} alice")?.into_bytes();
     Ok(Proposal::Call(Call {
-        chaincode: name(alloc)?,
+        chaincode: name()?,
         argument: Value::new(argument).ok_or(Failure::Limit)?,
         nonce: [0; 16],
     }))
@@ -166,5 +166,8 @@ fn called(
     asset: u32,
 ) -> Result<Payload, Failure> {
     let proposal = proposal_of(alloc, verb, asset)?;
-    Ok(simulate(alloc, book, snapshot, &proposal)?)
+    match simulate(alloc, book, snapshot, &proposal) {
+        Ok(payload) => Ok(payload),
+        Err(refusal) => Err(Failure::Refused(refusal)),
+    }
 }

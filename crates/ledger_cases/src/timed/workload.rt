@@ -82,7 +82,7 @@ impl Workload {
         let mut nonce = [0; 16];
         nonce[8..].copy_from_slice(&self.made.to_be_bytes());
         let argument = value(alloc, self.argument)?;
-        let chaincode = chaincode(alloc)?;
+        let chaincode = chaincode()?;
         Ok(Call {
             chaincode,
             argument,
@@ -115,8 +115,8 @@ impl Workload {
 }
 
 /// The name of the chaincode.
-pub fn chaincode(alloc: Global) -> Result<Name, Failure> {
-    Name::new(b"bench".to_vec(alloc)?).ok_or(Failure::Limit)
+fn chaincode() -> Result<Name, Failure> {
+    Name::from_slice(b"bench").ok_or(Failure::Limit)
 }
 
 /// So many zeros.
@@ -125,18 +125,18 @@ fn value(alloc: Global, len: usize) -> Result<Value, Failure> {
 }
 
 /// The key of a number: 16 bytes.
-pub fn key(alloc: Global, number: u64) -> Result<Key, Failure> {
-    let mut bytes = b"account:".to_vec(alloc)?;
-    bytes.extend_from_slice(&number.to_be_bytes())?;
-    Key::new(bytes).ok_or(Failure::Limit)
+pub fn key(number: u64) -> Result<Key, Failure> {
+    let mut bytes = *b"account:\0\0\0\0\0\0\0\0";
+    bytes[8..].copy_from_slice(&number.to_be_bytes());
+    Key::from_slice(&bytes).ok_or(Failure::Limit)
 }
 
 /// Reads of the chaincode's definition and of the keys of these numbers.
 fn reads(alloc: Global, snapshot: &Snapshot, numbers: &[u64]) -> Result<ReadSet, Failure> {
-    let definition = Key::of_definition(&chaincode(alloc)?);
+    let definition = Key::of_definition(&chaincode()?);
     let mut items = vec![in alloc; read(snapshot, definition)]?;
     for number in numbers {
-        items.push(read(snapshot, key(alloc, *number)?))?;
+        items.push(read(snapshot, key(*number)?))?;
     }
     ReadSet::new(items).ok_or(Failure::Limit)
 }
@@ -160,7 +160,7 @@ fn writes(alloc: Global, numbers: &[u64]) -> Result<WriteSet, Failure> {
 
 fn write(alloc: Global, number: u64) -> Result<WriteItem, Failure> {
     Ok(WriteItem {
-        key: key(alloc, number)?,
+        key: key(number)?,
         value: Some(value(alloc, VALUE)?),
     })
 }
