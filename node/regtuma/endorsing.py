@@ -51,7 +51,7 @@ class Approver(Asked):
         try:
             async with asyncio.timeout(APPROVAL_SECONDS):
                 await super()._hand_on()
-        except TimeoutError:
+        except asyncio.TimeoutError:
             if is_asked:
                 raise FilterEnded(f"{self.name} has given no answer for {APPROVAL_SECONDS:g} s") from None
 

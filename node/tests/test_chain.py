@@ -349,6 +349,7 @@ class Calls(Case):
 
     async def test_an_approver_that_has_ended_gives_no_answer(self):
         self.endorsing.approver = Says()
+        self.assertIsNone(await self.gateway.own("Maker/alice").answers([CALL], 0))
         self.assertEqual(await self.refusal(["Maker"]), (503, "no answer of Maker"))
 
     async def test_an_unknown_organisation(self):

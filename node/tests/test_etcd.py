@@ -167,6 +167,29 @@ class Failures(unittest.IsolatedAsyncioTestCase):
             self.assertFalse(await log.is_led())
             self.assertEqual(await found, [b"5.0 a\n", b"6.0 b\n"])
 
+    async def test_a_watch_that_is_silent_for_too_long_is_begun_again(self):
+        first, second = Node([told(event(5, "a")), "nothing"]), Node([told(event(6, "b"))])
+        with mock.patch.object(etcd, "QUIET", 0.3), mock.patch.object(etcd, "LOOK", 0.1):
+            self.assertEqual(await self.watched(await self.log(first, second), 2), [b"5.0 a\n", b"6.0 b\n"])
+
+    async def test_a_watch_ends_in_the_very_moment_in_which_it_tells(self):
+        async def read(log: Log) -> None:
+            async for _ in log._pieces("", mock.Mock(readany=mock.AsyncMock(side_effect=piece))):
+                await asyncio.sleep(0)
+
+        async def piece() -> bytes:
+            await asyncio.sleep(0)
+            return b"a"
+        log = await self.log(Node())
+        for steps in range(1, 9):
+            work = asyncio.ensure_future(read(log))
+            for _ in range(steps):
+                await asyncio.sleep(0)
+            work.cancel()
+            done, _ = await asyncio.wait([work], timeout=0.5)
+            work.cancel()
+            self.assertTrue(done, steps)
+
     async def test_a_watch_that_does_not_begin(self):
         with mock.patch.object(etcd, "NODE_SECONDS", 0.5):
             self.assertEqual(await self.watched(await self.log(Node("nothing"), Node([told(event(5, "a"))])), 1), [b"5.0 a\n"])
