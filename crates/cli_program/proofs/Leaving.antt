@@ -3,10 +3,12 @@ use Rattle.std.proofs.Common.{◌≡◌, ◌∷◌, ℕ, Bool, List, [], Option,
 use Rattle.std.specs.Borrow.{Bor}
 use Rattle.cli_lines.specs.Places.{ChangesOnly, FilesHeld}
 use Rattle.cli_lines.proofs.Changes.{changes_none}
+use Rattle.cli_words.specs.declared.task.Task.{Task}
+use Rattle.cli_words.specs.declared.task.Task.TheVariants as task
 use Rattle.cli_words.specs.declared.task.Work.{Work}
 use Rattle.cli_words.specs.declared.task.Work.TheVariants as work
 use Rattle.cli_session.specs.Stored.{store_names}
-use Rattle.cli_program.specs.Leaving.{Leaves}
+use Rattle.cli_program.specs.Leaving.{Leaves, LeavesFiles}
 
 pub leaves_all : (known : Bool) (w : Work) (before after : FilesHeld) → after ≡ before → Leaves known w before after
 leaves_all known (work.Run events None) before after same = same
@@ -19,3 +21,8 @@ pub leaves_run : (known : Bool) (events : Bor (List ℕ)) (store : Option (Bor (
     IfSome store (λ s. ChangesOnly known (store_names s.now) before after) → Leaves known (work.Run events store) before after
 leaves_run known events None before after kept others = kept refl
 leaves_run known events (Some store) before after kept others = others
+
+-- so does a task
+pub leaves_files : (known : Bool) (t : Task) (before after : FilesHeld) → after ≡ before → LeavesFiles known t before after
+leaves_files known (task.Work b w) before after same = leaves_all known w before after same
+leaves_files known t before after same = same

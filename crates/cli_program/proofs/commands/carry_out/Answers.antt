@@ -29,3 +29,6 @@ returns-in-Err-Usage-clause-files g c = inr refl
 
 pub returns-in-Err-Memory-clause-files : goal.returns-in-Err-Memory-clause-files
 returns-in-Err-Memory-clause-files g c = inr refl
+
+pub returns-in-Ok-clause-tells : goal.returns-in-Ok-clause-tells
+returns-in-Ok-clause-tells g c = c.do_task.ensures.tells

@@ -1,8 +1,8 @@
-use Rattle.std.proofs.Common.{sym, subst}
+use Rattle.std.proofs.Common.{refl, sym, subst}
 use Rattle.cli_words.specs.declared.task.Work.{Work}
 use Rattle.cli_program.specs.Leaving.{Leaves}
 use Rattle.cli_program.specs.Tasks.{Works, known_files}
-use Rattle.cli_program.proofs.Leaving.{leaves_run}
+use Rattle.cli_program.proofs.Leaving.{leaves_all, leaves_run}
 use Rattle.cli_program.proofs.commands.do_work.Goals as goal
 
 pub returns-in-State-clause-works : goal.returns-in-State-clause-works
@@ -40,3 +40,129 @@ pub returns-in-Commit-clause-files : goal.returns-in-Commit-clause-files
 returns-in-Commit-clause-files g c =
     let r = c.commit in
     subst (λ (w : Work). Leaves g.F.Files.is_known w (g.F.Files.bytes c.args.files.now) (g.F.Files.bytes r.new.files)) (sym c.in-Commit.is) r.ensures.others
+
+pub returns-in-Simulate-clause-works : goal.returns-in-Simulate-clause-works
+returns-in-Simulate-clause-works g c =
+    let r = c.simulate in
+    let input = g.F.Files.input_bytes c.args.files.now in
+    let k = known_files g.F.Files.is_known (g.F.Files.bytes c.args.files.now) (g.F.Files.bytes r.new.files) input in
+    subst (λ (w : Work). Works c.args.subject.log.now w k c.args.out.now r.new.out r.result) (sym c.in-Simulate.is) (r.ensures.answers, r.ensures.begins)
+
+pub returns-in-Run-clause-works : goal.returns-in-Run-clause-works
+returns-in-Run-clause-works g c =
+    let r = c.run_events in
+    let input = g.F.Files.input_bytes c.args.files.now in
+    let k = known_files g.F.Files.is_known (g.F.Files.bytes c.args.files.now) (g.F.Files.bytes r.new.files) input in
+    subst (λ (w : Work). Works c.args.subject.log.now w k c.args.out.now r.new.out r.result) (sym c.in-Run.is) (r.ensures.answers, r.ensures.begins)
+
+pub returns-in-Audit-clause-works : goal.returns-in-Audit-clause-works
+returns-in-Audit-clause-works g c =
+    let r = c.audit in
+    let input = g.F.Files.input_bytes c.args.files.now in
+    let k = known_files g.F.Files.is_known (g.F.Files.bytes c.args.files.now) (g.F.Files.bytes r.new.files) input in
+    subst (λ (w : Work). Works c.args.subject.log.now w k c.args.out.now r.new.out r.result) (sym c.in-Audit.is) (r.ensures.answers, r.ensures.begins)
+
+pub returns-in-Show-clause-works : goal.returns-in-Show-clause-works
+returns-in-Show-clause-works g c =
+    let r = c.show in
+    let input = g.F.Files.input_bytes c.args.files.now in
+    let k = known_files g.F.Files.is_known (g.F.Files.bytes c.args.files.now) (g.F.Files.bytes r.new.files) input in
+    subst (λ (w : Work). Works c.args.subject.log.now w k c.args.out.now r.new.out r.result) (sym c.in-Show.is) (r.ensures.answers, r.ensures.begins)
+
+pub returns-in-Commit-clause-works : goal.returns-in-Commit-clause-works
+returns-in-Commit-clause-works g c =
+    let r = c.commit in
+    let input = g.F.Files.input_bytes c.args.files.now in
+    let k = known_files g.F.Files.is_known (g.F.Files.bytes c.args.files.now) (g.F.Files.bytes r.new.files) input in
+    subst (λ (w : Work). Works c.args.subject.log.now w k c.args.out.now r.new.out r.result) (sym c.in-Commit.is) (r.ensures.answers, r.ensures.begins)
+
+pub returns-in-Query-clause-works : goal.returns-in-Query-clause-works
+returns-in-Query-clause-works g c =
+    let r = c.query in
+    let input = g.F.Files.input_bytes c.args.files.now in
+    let k = known_files g.F.Files.is_known (g.F.Files.bytes c.args.files.now) (g.F.Files.bytes r.new.files) input in
+    subst (λ (w : Work). Works c.args.subject.log.now w k c.args.out.now r.new.out r.result) (sym c.in-Query.is) (r.ensures.answers, r.ensures.begins)
+
+pub returns-in-Marks-clause-works : goal.returns-in-Marks-clause-works
+returns-in-Marks-clause-works g c =
+    let r = c.marks in
+    let input = g.F.Files.input_bytes c.args.files.now in
+    let k = known_files g.F.Files.is_known (g.F.Files.bytes c.args.files.now) (g.F.Files.bytes r.new.files) input in
+    subst (λ (w : Work). Works c.args.subject.log.now w k c.args.out.now r.new.out r.result) (sym c.in-Marks.is) (r.ensures.answers, r.ensures.begins)
+
+pub returns-in-Simulate-clause-files : goal.returns-in-Simulate-clause-files
+returns-in-Simulate-clause-files g c =
+    let bytes = g.F.Files.bytes in
+    leaves_all g.F.Files.is_known c.args.work.now (bytes c.args.files.now) (bytes c.simulate.new.files) c.simulate.ensures.kept
+
+pub returns-in-Threads-clause-files : goal.returns-in-Threads-clause-files
+returns-in-Threads-clause-files g c =
+    let bytes = g.F.Files.bytes in
+    leaves_all g.F.Files.is_known c.args.work.now (bytes c.args.files.now) (bytes c.threads.new.files) c.threads.ensures.kept
+
+pub returns-in-Audit-clause-files : goal.returns-in-Audit-clause-files
+returns-in-Audit-clause-files g c =
+    let bytes = g.F.Files.bytes in
+    leaves_all g.F.Files.is_known c.args.work.now (bytes c.args.files.now) (bytes c.audit.new.files) c.audit.ensures.kept
+
+pub returns-in-Show-clause-files : goal.returns-in-Show-clause-files
+returns-in-Show-clause-files g c =
+    let bytes = g.F.Files.bytes in
+    leaves_all g.F.Files.is_known c.args.work.now (bytes c.args.files.now) (bytes c.show.new.files) c.show.ensures.kept
+
+pub returns-in-State-clause-files : goal.returns-in-State-clause-files
+returns-in-State-clause-files g c =
+    let bytes = g.F.Files.bytes in
+    leaves_all g.F.Files.is_known c.args.work.now (bytes c.args.files.now) (bytes c.state.new.files) c.state.ensures.kept
+
+pub returns-in-Endorse-clause-files : goal.returns-in-Endorse-clause-files
+returns-in-Endorse-clause-files g c =
+    let bytes = g.F.Files.bytes in
+    leaves_all g.F.Files.is_known c.args.work.now (bytes c.args.files.now) (bytes c.endorse.new.files) c.endorse.ensures.kept
+
+pub returns-in-Query-clause-files : goal.returns-in-Query-clause-files
+returns-in-Query-clause-files g c =
+    let bytes = g.F.Files.bytes in
+    leaves_all g.F.Files.is_known c.args.work.now (bytes c.args.files.now) (bytes c.query.new.files) c.query.ensures.kept
+
+pub returns-in-Marks-clause-files : goal.returns-in-Marks-clause-files
+returns-in-Marks-clause-files g c =
+    let bytes = g.F.Files.bytes in
+    leaves_all g.F.Files.is_known c.args.work.now (bytes c.args.files.now) (bytes c.marks.new.files) c.marks.ensures.kept
+
+pub returns-in-Trace-clause-files : goal.returns-in-Trace-clause-files
+returns-in-Trace-clause-files g c =
+    let held = g.F.Files.bytes c.args.files.now in leaves_all g.F.Files.is_known c.args.work.now held held refl
+
+pub returns-in-Simulate-clause-tells : goal.returns-in-Simulate-clause-tells
+returns-in-Simulate-clause-tells g c = c.simulate.ensures.tells
+
+pub returns-in-Run-clause-tells : goal.returns-in-Run-clause-tells
+returns-in-Run-clause-tells g c = c.run_events.ensures.tells
+
+pub returns-in-Threads-clause-tells : goal.returns-in-Threads-clause-tells
+returns-in-Threads-clause-tells g c = c.threads.ensures.tells
+
+pub returns-in-Audit-clause-tells : goal.returns-in-Audit-clause-tells
+returns-in-Audit-clause-tells g c = c.audit.ensures.tells
+
+pub returns-in-Show-clause-tells : goal.returns-in-Show-clause-tells
+returns-in-Show-clause-tells g c = c.show.ensures.tells
+
+pub returns-in-State-clause-tells : goal.returns-in-State-clause-tells
+returns-in-State-clause-tells g c = c.state.ensures.tells
+
+pub returns-in-Trace-clause-tells : goal.returns-in-Trace-clause-tells
+returns-in-Trace-clause-tells g c = c.trace.ensures.tells
+
+pub returns-in-Commit-clause-tells : goal.returns-in-Commit-clause-tells
+returns-in-Commit-clause-tells g c = c.commit.ensures.tells
+
+pub returns-in-Endorse-clause-tells : goal.returns-in-Endorse-clause-tells
+returns-in-Endorse-clause-tells g c = c.endorse.ensures.tells
+
+pub returns-in-Query-clause-tells : goal.returns-in-Query-clause-tells
+returns-in-Query-clause-tells g c = c.query.ensures.tells
+
+pub returns-in-Marks-clause-tells : goal.returns-in-Marks-clause-tells
+returns-in-Marks-clause-tells g c = c.marks.ensures.tells

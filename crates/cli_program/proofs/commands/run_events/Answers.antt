@@ -34,3 +34,9 @@ returns-clause-begins g c =
     let Whole = RunBegins c.args.genesis.now (g.F.Files.bytes c.args.files.now c.args.names.now.events.now) in
     subst (λ (a : Result (Unit {0}) Failure). Begins Whole c.args.out.now r.new.out a) (sym c.answer_of.ensures)
     (verdict_begins Whole c.args.out.now r.new.out r.result r.ensures.begins)
+
+pub returns-clause-kept : goal.returns-clause-kept
+returns-clause-kept g c = c.run.ensures.kept
+
+pub returns-clause-others : goal.returns-clause-others
+returns-clause-others g c = c.run.ensures.others

@@ -37,3 +37,6 @@ pub returns-clause-files : goal.returns-clause-files
 returns-clause-files g c =
     let r = c.do_work in
     subst (λ (h : FilesHeld). Leaves g.F.Files.is_known c.args.work.now h (g.F.Files.bytes r.new.files)) c.in_ok-log.ensures.kept r.ensures.files
+
+pub returns-clause-tells : goal.returns-clause-tells
+returns-clause-tells g c = c.do_work.ensures.tells

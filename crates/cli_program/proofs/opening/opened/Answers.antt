@@ -73,3 +73,9 @@ returns-in-Some-clause-refused g c =
     signed_refused (held b.genesis.now) (option_map (λ n. held n.now) b.modules) (option_map (λ n. held n.now) b.keys) (held name) bytes
     (record { genesis = genesis; digest = c.digest-digest.result }) c.signers.result c.with_signers.result (ap (option_map (λ n. held n.now)) c.in-Some.is)
     read.bytes spelled refused c.with_signers.ensures.signed
+
+pub returns-in-Some-clause-kept : goal.returns-in-Some-clause-kept
+returns-in-Some-clause-kept g c = c.signers.ensures.kept ∙ c.in_ok-genesis.ensures.kept ∙ c.in_ok-bytes.ensures.kept
+
+pub returns-clause-kept : goal.returns-clause-kept
+returns-clause-kept g c = c.in_ok-genesis.ensures.kept ∙ c.in_ok-bytes.ensures.kept

@@ -1,4 +1,4 @@
-use Rattle.std.proofs.Common.{List, ℕ, [], Option, inl, inr, refl, subst}
+use Rattle.std.proofs.Common.{List, ℕ, [], Option, inl, inr, refl, subst, ◌∙◌}
 use Rattle.std.proofs.lemmas.Result.{err_from_is_err_and}
 use Rattle.cli_lines.specs.Told.{Answers, Begins}
 use Rattle.cli_lines.proofs.Answering.{answers_by, begins_by}
@@ -45,3 +45,9 @@ returns-clause-begins g c =
     let begins = subst (λ (i : Option (List ℕ)). Begins (OrdersBegin log.genesis log.digest i) c.args.out.now r.new.out r.result) e.input r.ensures.begins in
     begins_by (OrdersBegin log.genesis log.digest (input old)) (OrdersByBegin k c.args.name.now) c.args.out.now r.new.out r.result
     (λ text h. (log, e.opens, h)) begins
+
+pub returns-clause-kept : goal.returns-clause-kept
+returns-clause-kept g c = c.order.ensures.kept ∙ c.in_ok-log.ensures.kept
+
+pub returns-clause-tells : goal.returns-clause-tells
+returns-clause-tells g c = c.order.ensures.tells

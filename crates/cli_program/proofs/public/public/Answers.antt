@@ -44,3 +44,9 @@ returns-clause-begins g c =
     begins_part (IsTextOf (Publishes held)) c.args.out.now r.new.out r.result (flat_map public_text keys)
     (Ok tt, (keys, c.in_ok-keys.ensures.spelled, refl))
     (subst (λ (ks : List (List ℕ)). OnErr r.result (PrintsPart c.args.out.now r.new.out (flat_map public_text ks))) c.deref.ensures.value r.ensures.part)
+
+pub returns-clause-kept : goal.returns-clause-kept
+returns-clause-kept g c = c.in_ok-keys.ensures.kept
+
+pub returns-clause-tells : goal.returns-clause-tells
+returns-clause-tells g c = c.print_keys.ensures.tells

@@ -75,3 +75,15 @@ returns-in-Err-NoPlace-clause-begins g c = λ broken. inl (nothing_same c.args.o
 
 pub returns-in-Err-NotEntered-clause-begins : goal.returns-in-Err-NotEntered-clause-begins
 returns-in-Err-NotEntered-clause-begins g c = λ broken. inl (nothing_same c.args.out.now)
+
+pub returns-in-Ok-clause-kept : goal.returns-in-Ok-clause-kept
+returns-in-Ok-clause-kept g c = c.in_ok-need_secrets.ensures.kept
+
+pub returns-in-Err-Memory-clause-kept : goal.returns-in-Err-Memory-clause-kept
+returns-in-Err-Memory-clause-kept g c = c.in_ok-need_secrets.ensures.kept
+
+pub returns-in-Err-NoPlace-clause-kept : goal.returns-in-Err-NoPlace-clause-kept
+returns-in-Err-NoPlace-clause-kept g c = c.in_ok-need_secrets.ensures.kept
+
+pub returns-in-Err-NotEntered-clause-kept : goal.returns-in-Err-NotEntered-clause-kept
+returns-in-Err-NotEntered-clause-kept g c = c.in_ok-need_secrets.ensures.kept
