@@ -19,7 +19,7 @@ import reasons as sentences
 import timed as timed_words
 from calling import find_pieces
 from pages import Block, Typist, blocks_of
-from report import Ran, Report, end, run, start
+from report import Ran, Report, children, end, is_alive, run, start
 from seeing import comes_to_be
 from tree import ENVIRONMENT, program
 
@@ -97,7 +97,10 @@ def follow(report: Report, at: Setting) -> None:
     with log.open("a") as more:
         more.writelines(lines[first:])
     is_whole = is_begun and comes_to_be(lambda: store.read_bytes() == whole.read_bytes())
-    report.case("examples/roles/plain --follow", is_whole, "\n".join(end(replica)))
+    said = "\n".join(end(replica))
+    # Its filters end by the same signal, each in its time.
+    has_ended = comes_to_be(lambda: not any(is_alive(it, replica.pid) for it in children()))
+    report.case("examples/roles/plain --follow", is_whole and has_ended, said)
 
 
 def formats(report: Report, at: Setting) -> None:

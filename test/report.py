@@ -99,9 +99,10 @@ def end_children() -> list[int]:
     return left
 
 
-def is_alive(number: int) -> bool:
-    """Whether a process is there that has not ended."""
+def is_alive(number: int, group: int | None = None) -> bool:
+    """Whether a process is there, of this group where one is given, that has not ended."""
     try:
-        return pathlib.Path(f"/proc/{number}/stat").read_text().rpartition(")")[2].split()[0] != "Z"
+        state, _, its_group = pathlib.Path(f"/proc/{number}/stat").read_text().rpartition(")")[2].split()[:3]
     except OSError:
         return False
+    return state != "Z" and group in (None, int(its_group))
