@@ -11,10 +11,11 @@ use Rattle.fab_types.specs.declared.flag.Flag.{Flag}
 use Rattle.fab_types.specs.declared.items.ReadItem.{ReadItem}
 use Rattle.fab_types.specs.declared.items.WriteItem.{WriteItem}
 use Rattle.wire.specs.Ids.{id_of}
+use Rattle.simulator.specs.RefusalNumber.{refusal_text}
 use Rattle.simulator.specs.declared.refusal.SimRefusal.{SimRefusal}
 use Rattle.ledger_setting.specs.declared.verdict.Audit.{Audit}
 use Rattle.ledger_setting.specs.declared.verdict.Audit.TheVariants.{Agrees, Differs}
-use Rattle.cli_lines.specs.Texts.{line, simulation_text}
+use Rattle.cli_lines.specs.Texts.{line}
 
 -- bytes in lower-case hex, and `-` for none
 abbrev pub hex_text : List ℕ → List ℕ
@@ -56,13 +57,11 @@ head_text p = (codes "tx " ++ (id_text p ++ codes "\n")) ++ (codes "result " ++ 
 
 -- a transaction: its id, its result, and all that it read and writes
 abbrev pub payload_text : Payload → List ℕ
-payload_text p =
-    ((((codes "tx " ++ (id_text p ++ codes "\n")) ++ (codes "result " ++ (hex_text p.result ++ codes "\n"))) ++ flat_map read_text p.reads)
-    ++ flat_map range_text p.ranges) ++ flat_map write_text p.writes
+payload_text p = ((head_text p ++ flat_map read_text p.reads) ++ flat_map range_text p.ranges) ++ flat_map write_text p.writes
 
 -- why a simulation was refused
 abbrev pub simulation_line : SimRefusal → List ℕ
-simulation_line refusal = line (simulation_text refusal)
+simulation_line refusal = line (refusal_text refusal)
 
 abbrev pub flag_text : Flag → List ℕ
 flag_text f = codes " " ++ decimal (flag_number f)

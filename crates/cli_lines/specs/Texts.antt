@@ -1,7 +1,6 @@
 -- What the program prints of a failure.
 use Rattle.std.specs.Prelude.{◌++◌, ℕ, List, [], Option, Some, None, codes, option_map}
-use Rattle.std.specs.Fmt.{decimal, signed_decimal}
-use Rattle.std.specs.Int.{w32, cast_signed}
+use Rattle.std.specs.Fmt.{decimal}
 use Rattle.block_store.specs.End.{end_text}
 use Rattle.committer.specs.Numbers.{refusal_number as commit_number}
 use Rattle.json_genesis.specs.Numbers.{refusal_number as genesis_number}
@@ -10,8 +9,7 @@ use Rattle.json_genesis.specs.declared.refusal.GenesisRefusal.TheVariants as gen
 use Rattle.wasm_file.specs.Texts.{refusal_text as module_text}
 use Rattle.wasm_file.specs.declared.module.ModuleRefusal.{ModuleRefusal}
 use Rattle.wasm_file.specs.declared.module.ModuleRefusal.TheVariants as module_refusal
-use Rattle.wasm_ast.specs.Traps.{trap_number}
-use Rattle.simulator.specs.RefusalNumber.{refusal_number as simulation_number}
+use Rattle.simulator.specs.RefusalNumber.{refusal_text as simulation_text}
 use Rattle.simulator.specs.declared.refusal.SimRefusal.{SimRefusal}
 use Rattle.simulator.specs.declared.refusal.SimRefusal.TheVariants as simulation
 use Rattle.cli_lines.specs.declared.files.FileFault.{FileFault}
@@ -23,12 +21,6 @@ use Rattle.cli_lines.specs.declared.failure.Failure.TheVariants as failure
 abbrev pub refused : ℕ → List ℕ
 refused n = codes "refused " ++ decimal n
 
--- the text of a simulation's refusal. The word that a chaincode returned is written as a signed number
-abbrev pub simulation_text : SimRefusal → List ℕ
-simulation_text (simulation.Trapped kind used) = codes "refused 402 trap " ++ decimal (trap_number kind)
-simulation_text (simulation.Status status) = codes "refused 404 status " ++ signed_decimal (cast_signed w32 status)
-simulation_text refusal = refused (simulation_number refusal)
-
 -- the text of a failure, empty where it is told otherwise
 abbrev pub failure_text : Failure → Option (List ℕ)
 failure_text failure.Usage = Some []
@@ -37,7 +29,7 @@ failure_text failure.File = Some (codes "refused 703")
 failure_text (failure.Module refusal) = Some (module_text refusal)
 failure_text (failure.Genesis refusal) = Some (refused (genesis_number refusal))
 failure_text failure.KeyFile = Some (codes "refused 809")
-failure_text failure.NoSecret = Some (codes "refused 808")
+failure_text failure.NoSeed = Some (codes "refused 808")
 failure_text (failure.Simulation refusal) = Some (simulation_text refusal)
 failure_text failure.NoPlace = Some (codes "refused 431")
 failure_text failure.NotEntered = Some (codes "refused 432")

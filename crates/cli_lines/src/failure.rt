@@ -31,7 +31,7 @@ pub enum Failure {
     /// The file is no key file.
     KeyFile,
     /// An organisation that is to endorse has a public key, and its seed is not at hand.
-    NoSecret,
+    NoSeed,
     /// A simulation gave no payload.
     Simulation(SimRefusal),
     /// A seat on a thread of its own got no place at its peer.
@@ -66,8 +66,8 @@ impl Display for Failure {
             Failure::Module(refusal) => write!(f, "{refusal}"),
             Failure::Genesis(refusal) => write!(f, "{refusal}"),
             Failure::KeyFile => write!(f, "refused 809"),
-            Failure::NoSecret => write!(f, "refused 808"),
-            Failure::Simulation(refusal) => write!(f, "{}", SimulationText(*refusal)),
+            Failure::NoSeed => write!(f, "refused 808"),
+            Failure::Simulation(refusal) => write!(f, "{refusal}"),
             Failure::NoPlace => write!(f, "refused 431"),
             Failure::NotEntered => write!(f, "refused 432"),
             Failure::Commit(refusal) => write!(f, "{refusal}"),
@@ -75,28 +75,6 @@ impl Display for Failure {
             Failure::Store(end) => write!(f, "refused {end}"),
             Failure::BadLine(number) => write!(f, "bad line {number}"),
             Failure::Usage | Failure::Printed | Failure::Output => Ok(()),
-        }
-    }
-}
-
-/// What the program prints of a simulation's refusal, without the line's end: a status as a signed
-/// number.
-#[derive(Clone, Copy)]
-pub struct SimulationText(pub SimRefusal);
-
-impl Display for SimulationText {
-    ghost use Rattle.std.specs.Prelude.{Some};
-    ghost use Rattle.cli_lines.specs.Texts.{simulation_text};
-
-    ghost output = { λ t. Some (simulation_text t.0) };
-
-    fn fmt<W: Write>(&self, f: &mut Formatter<W>) -> fmt::Result {
-        match self.0 {
-            SimRefusal::Status(status) => {
-                let status = status.cast_signed();
-                write!(f, "refused 404 status {status}")
-            }
-            refusal => write!(f, "{refusal}"),
         }
     }
 }

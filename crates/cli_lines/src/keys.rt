@@ -4,7 +4,7 @@ ghost use Rattle.std.specs.Prelude.{◌≡◌, true, false, Ok, Err, IfErr, IfOk
 ghost use Rattle.std.specs.List.{find, list_any};
 ghost use Rattle.cli_lines.specs.Sealing.{HasSeeds, IsNoKeyFile, lacks_seed};
 ghost use Rattle.cli_lines.specs.Told.{IsSilent};
-ghost use Rattle.cli_lines.specs.declared.failure.Failure.TheVariants.{NoSecret};
+ghost use Rattle.cli_lines.specs.declared.failure.Failure.TheVariants.{NoSeed};
 
 use crate::explaining::{Location, explain_numbered, read_explained};
 use crate::failure::Failure;
@@ -76,7 +76,7 @@ fn lacks_seed(rules: &Rules, signers: &Signers, org: &OrgName) -> bool
 
 /// Refused where one of these organisations lacks its seed (808), the first of which is said in
 /// words too.
-pub fn need_secrets<F: Files>(
+pub fn need_seeds<F: Files>(
     alloc: Global,
     files: &mut F,
     genesis: &Genesis,
@@ -84,9 +84,9 @@ pub fn need_secrets<F: Files>(
 ) -> Result<(), Failure>
     ensures ok { result ≡ Ok tt
         → list_any (lacks_seed genesis.now.rules.value genesis.now.signers.value) orgs.now ≡ false }
-    ensures refused { result ≡ Err NoSecret
+    ensures refused { result ≡ Err NoSeed
         → list_any (lacks_seed genesis.now.rules.value genesis.now.signers.value) orgs.now ≡ true }
-    ensures only { IfErr result (λ f. f ≡ NoSecret) }
+    ensures only { IfErr result (λ f. f ≡ NoSeed) }
     ensures unchanged { OnOk result (files.new ≡ files.old) }
     ensures kept { F.bytes files.new ≡ F.bytes files.old }
     ensures silent { IfErr result IsSilent }
@@ -94,7 +94,7 @@ pub fn need_secrets<F: Files>(
     match first_lacking(genesis, orgs) {
         Some(org) => {
             explain_no_seed(alloc, files, org);
-            Err(Failure::NoSecret)
+            Err(Failure::NoSeed)
         }
         None => Ok(()),
     }

@@ -27,9 +27,9 @@ pub use explaining::{
     Location, STANDARD_INPUT, explain, explain_bad_line, explain_failure, explain_number,
     explain_numbered, explain_read, explain_trouble, read_all_explained, read_explained,
 };
-pub use failure::{Failure, SimulationText};
+pub use failure::Failure;
 pub use files::{Access, FileFault, Files, Target, read_all};
-pub use keys::{explain_no_seed, keys_in, need_secrets, signers_in};
+pub use keys::{explain_no_seed, keys_in, need_seeds, signers_in};
 pub use lines::{
     hex_of, id_of, print_committed, print_line, print_payload, print_simulation, version_of,
 };

@@ -8,7 +8,7 @@ ghost use Rattle.cli_lines.specs.Texts.{line};
 ghost use Rattle.cli_lines.specs.Told.{IsBrokenOff, Prints, PrintsNothing, PrintsPart, Tells};
 
 use crate::committed::CommittedText;
-use crate::failure::{Failure, SimulationText};
+use crate::failure::Failure;
 use crate::printer::Printer;
 use fab_types::{Flag, Payload, RangeItem, ReadItem, Version, WriteItem};
 use simulator::SimRefusal;
@@ -203,7 +203,7 @@ pub fn print_simulation<W: Write>(
     ensures failed { OnErr result (out.new.failed ≡ true) }
     ensures nothing { OnErr result (PrintsNothing out.old out.new) }
 {
-    writeln!(out, "{}", SimulationText(refusal))
+    writeln!(out, "{refusal}")
 }
 
 /// Prints the number of a block that was committed, and its flags.

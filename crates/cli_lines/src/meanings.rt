@@ -78,7 +78,7 @@ pub fn simulation_words(alloc: Global, refusal: &SimRefusal) -> Result<String, A
             format!(in alloc; "the chaincode trapped by trap {kind}, {trap} ({number})")
         }
         SimRefusal::Status(word) => {
-            let status = i32::from_be_bytes(word.to_be_bytes());
+            let status = (*word).cast_signed();
             format!(in alloc;
                 "the chaincode returned the status {status}; its source says why ({number})"
             )
@@ -116,7 +116,7 @@ pub(crate) fn failure_words(
         | Failure::Module(_)
         | Failure::Genesis(_)
         | Failure::KeyFile
-        | Failure::NoSecret
+        | Failure::NoSeed
         | Failure::Commit(_)
         | Failure::Flags(_)
         | Failure::Store(_)

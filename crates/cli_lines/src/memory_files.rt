@@ -13,7 +13,8 @@ use store_replay::Unwatched;
 
 /// Files in memory, by their names. Nobody else has them, and contracts see the bytes of each: what
 /// is said of files whose bytes are known is said of these. No store is opened there, and the
-/// standard input is empty.
+/// standard input is empty. What is made for writing is no file before `keep` gives it a name, and
+/// a file of the name that it has until then stays.
 #[derive(Drop)]
 pub struct MemoryFiles {
     /// Where the files take their memory from.

@@ -45,5 +45,5 @@ SeatsCame g chaincode rounds answer text =
 -- `threads`: refused (808) exactly where the first peer's seed is not at hand, else what its seats came to
 abbrev pub RunsSeats : Genesis → (chaincode : List ℕ) → (rounds : ℕ) → Result (Unit {0}) Failure → List ℕ → Type 0
 RunsSeats g chaincode rounds answer text =
-    ((first_lacks_seed g ≡ true) × (answer ≡ Err failure.NoSecret) × (text ≡ []))
+    ((first_lacks_seed g ≡ true) × (answer ≡ Err failure.NoSeed) × (text ≡ []))
     ⊎ ((first_lacks_seed g ≡ false) × SeatsCame g chaincode rounds answer text)

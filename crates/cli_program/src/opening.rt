@@ -26,7 +26,7 @@ use std::sync::Arc;
 /// What a system begins with, by the files of these names, and the genesis file's digest. Of several
 /// files that are refused the genesis file is told first, then the modules file, then the key file.
 /// Why is said in words too.
-pub fn opened<F: Files>(
+pub(crate) fn opened<F: Files>(
     alloc: Global,
     files: &mut F,
     begin: &Beginning<'_>,
@@ -202,7 +202,7 @@ fn with_signers(
 
 /// Prints the blocks of a log that comes line by line, by the limits of the genesis in the file of
 /// this name.
-pub fn order_log<F: Files, W: Write>(
+pub(crate) fn order_log<F: Files, W: Write>(
     alloc: Global,
     files: &mut F,
     name: &str,

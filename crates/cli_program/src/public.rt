@@ -12,7 +12,7 @@ use std::io::Write;
 
 /// Prints the public key of each seed in the key file of this name, in order. Refused as `keys_in`
 /// is.
-pub fn public<F: Files, W: Write>(
+pub(crate) fn public<F: Files, W: Write>(
     alloc: Global,
     files: &mut F,
     name: &str,

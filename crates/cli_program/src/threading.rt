@@ -6,7 +6,7 @@ ghost use Rattle.cli_lines.specs.Told.{Answers, Begins, IsBrokenOff, IsTextOf, P
 ghost use Rattle.cli_program.specs.Seats.{RunsSeats, TellsReport, missing_text, report_text};
 
 use crate::verdict::answer_of;
-use cli_lines::{Failure, Files, Printer, need_secrets, print_audit};
+use cli_lines::{Failure, Files, Printer, need_seeds, print_audit};
 use fab_types::Name;
 use ledger_setting::Genesis;
 use seat_threads::{Report, SeatsRefusal, run_seats};
@@ -20,7 +20,7 @@ use std::thread::Threads;
 /// orderer refused, if any, how many blocks came of them, and what the audit of the chain says.
 ///
 /// Refused first where the peer's seed is not at hand (808), and as `run_seats` is.
-pub fn threads<R: Threads + Wait + Sync + Send + Copy + 'static, F: Files, W: Write>(
+pub(crate) fn threads<R: Threads + Wait + Sync + Send + Copy + 'static, F: Files, W: Write>(
     rt: &R,
     alloc: Global,
     files: &mut F,
@@ -35,7 +35,7 @@ pub fn threads<R: Threads + Wait + Sync + Send + Copy + 'static, F: Files, W: Wr
         result }
     ensures kept { F.bytes files.new ≡ F.bytes files.old }
 {
-    need_secrets(alloc, files, genesis, &genesis.peers[..1])?;
+    need_seeds(alloc, files, genesis, &genesis.peers[..1])?;
     match run_seats(rt, alloc, genesis, chaincode, rounds) {
         Ok(report) => print_report(report, out),
         Err(SeatsRefusal::Memory) => Err(Failure::Memory),

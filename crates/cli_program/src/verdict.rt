@@ -6,7 +6,7 @@ ghost use Rattle.cli_program.specs.Verdicts.{verdict_answer};
 use cli_lines::Failure;
 
 /// What a task answers that found whether all is well: a difference is a failure, which is printed.
-pub fn answer_of(verdict: Result<bool, Failure>) -> Result<(), Failure>
+pub(crate) fn answer_of(verdict: Result<bool, Failure>) -> Result<(), Failure>
     ensures { result ≡ verdict_answer verdict }
 {
     match verdict {

@@ -143,7 +143,7 @@ can_tag_behind g org chain = can_endorse g.signers.value g.rules.value (plain_af
 -- the organisation cannot endorse: it is a stranger (806), or it has no seed
 abbrev pub LacksKey : Bool → Failure → Bytes → Type 0
 LacksKey true cause text = (cause ≡ failure.Printed) × (text ≡ line (codes "refused 806"))
-LacksKey false cause text = (cause ≡ failure.NoSecret) × (text ≡ [])
+LacksKey false cause text = (cause ≡ failure.NoSeed) × (text ≡ [])
 
 abbrev pub NeedsKey : {A : Type 0} → Genesis → Bytes → Chain → Result A Failure → Bytes → Type 0
 NeedsKey g org chain (Ok a) text = (can_tag_behind g org chain ≡ true) × (text ≡ [])

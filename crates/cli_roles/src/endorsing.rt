@@ -251,7 +251,7 @@ fn need_keys<F: Files, S: Read + Drop, W: Write>(
         return Err(Failure::Printed);
     }
     explain_no_seed(alloc, files, org);
-    Err(Failure::NoSecret)
+    Err(Failure::NoSeed)
 }
 
 /// Whether an organisation can endorse behind the store, and whether it is a stranger there.

@@ -85,13 +85,16 @@ pub fn explain_store<F: Files>(
 )
     ensures kept { F.bytes files.new ≡ F.bytes files.old }
 {
-    let place = Location::file(name);
     match (refusal, access) {
         (StoreRefusal::File, Access::Read) => explain_trouble(alloc, files, name, access),
-        (StoreRefusal::File, Access::Write) => {
-            explain_numbered(alloc, files, &place, NOT_WRITTEN, 703);
+        (refusal, _) => {
+            explain(
+                alloc,
+                files,
+                &Location::file(name),
+                store_words(alloc, refusal),
+            );
         }
-        (refusal, _) => explain(alloc, files, &place, store_words(alloc, refusal)),
     }
 }
 
@@ -151,7 +154,7 @@ fn store_words(alloc: Global, refusal: &StoreRefusal) -> Result<String, AllocErr
         }
         StoreRefusal::Received(refusal) => {
             let number = refusal.number();
-            format!(in alloc; "a block {FORKED} ({number})")
+            format!(in alloc; "a block is refused ({number})")
         }
         StoreRefusal::Memory | StoreRefusal::Stored(RecommitRefusal::Memory) => {
             String::from_str(
@@ -159,6 +162,6 @@ fn store_words(alloc: Global, refusal: &StoreRefusal) -> Result<String, AllocErr
                 "there is no memory for it; begin again when there is some (9)",
             )
         }
-        StoreRefusal::File => String::from_str(alloc, "it cannot be read or written (703)"),
+        StoreRefusal::File => format!(in alloc; "{NOT_WRITTEN} (703)"),
     }
 }

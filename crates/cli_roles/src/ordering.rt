@@ -1,6 +1,6 @@
 //! The command `order`.
 
-ghost use Rattle.std.specs.Prelude.{◌≡◌, [], ◌||◌, IfErr, IfOk, OnErr, OnOk, codes, option_map, if◌then◌else◌};
+ghost use Rattle.std.specs.Prelude.{◌≡◌, [], IfErr, IfOk, OnErr, OnOk, codes, option_map, if◌then◌else◌};
 ghost use Rattle.std.specs.List.{flat_map, zip};
 ghost use Rattle.cli_lines.specs.Told.{Answers, Begins, IsBrokenOff, IsMore, Prints, PrintsNothing, PrintsPart, Says, Tells};
 ghost use Rattle.cli_roles.specs.Filters.{ComesTo, DoesOrEnds, Filters, FiltersBegin, IsEndedBy, PrintsSo};

@@ -31,7 +31,7 @@ use Rattle.cli_session.specs.States.{state_text}
 use Rattle.cli_session.specs.Stages.{Stage, first_chain}
 use Rattle.cli_session.specs.Running.{AreLines, DoesAll, MeetsBadLine, events_of, replies_of}
 use Rattle.cli_session.specs.Stored.{HoldsAsked, HoldsPlaced}
-use Rattle.cli_session.specs.Whole.{ComesTo, EndsAtBadLine, EndsPrinted, EndsWith, IsOpening, IsWholeRun, LinesComeTo, lacks_secret, rules_by}
+use Rattle.cli_session.specs.Whole.{ComesTo, EndsAtBadLine, EndsPrinted, EndsWith, IsOpening, IsWholeRun, LinesComeTo, a_peer_lacks_seed, rules_by}
 use Rattle.cli_session.proofs.Steps.{Runs, same_rules}
 use Rattle.cli_session.proofs.Several.{lines_run}
 
@@ -168,5 +168,5 @@ asked_of_place known bytes name target file (Some chain) held = λ is. held name
 
 -- a run whose organisations have their seeds
 pub with_secrets : (g : Genesis) (held : Option (List ℕ)) (P : Option Chain → Type 0) (before after : Told) (r : Result Bool Failure) →
-    lacks_secret g ≡ false → Answers (LinesComeTo g held P) before after r → Answers (ComesTo g held P) before after r
+    a_peer_lacks_seed g ≡ false → Answers (LinesComeTo g held P) before after r → Answers (ComesTo g held P) before after r
 with_secrets g held P before after r has = answers_by (LinesComeTo g held P) (ComesTo g held P) before after r (λ text c. inl (has, c))

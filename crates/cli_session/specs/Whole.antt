@@ -88,14 +88,14 @@ LinesComeTo g events IsStored (Err (failure.BadLine number)) text = EndsAtBadLin
 LinesComeTo g events IsStored (Err f) text = ⊥
 
 -- a peer's organisation lacks its seed
-abbrev pub lacks_secret : Genesis → Bool
-lacks_secret g = list_any (lacks_seed g.rules.value g.signers.value) g.peers.items
+abbrev pub a_peer_lacks_seed : Genesis → Bool
+a_peer_lacks_seed g = list_any (lacks_seed g.rules.value g.signers.value) g.peers.items
 
 -- What `run` answers and prints: what its lines come to, or nothing where a seed is missing
 abbrev pub ComesTo : Genesis → Option (List ℕ) → (Option Chain → Type 0) → Result Bool Failure → List ℕ → Type 0
 ComesTo g events IsStored answer text =
-    ((lacks_secret g ≡ false) × LinesComeTo g events IsStored answer text)
-    ⊎ ((lacks_secret g ≡ true) × (answer ≡ Err failure.NoSecret) × (text ≡ []))
+    ((a_peer_lacks_seed g ≡ false) × LinesComeTo g events IsStored answer text)
+    ⊎ ((a_peer_lacks_seed g ≡ true) × (answer ≡ Err failure.NoSeed) × (text ≡ []))
 
 -- What is printed of some first lines that are done from a stage on, and, where they are all, of the end
 pub record BeginsFrom (exec : Exec) (events : Option (List ℕ)) (start : Stage) (text : List ℕ) : Type 0 where
@@ -115,4 +115,4 @@ LinesBegin g events text = (start : Stage) × IsOpening g start × BeginsFrom (e
 
 -- What `run` prints, where no seed is missing, of some first lines, and, where they are all, of the end
 abbrev pub RunBegins : Genesis → Option (List ℕ) → List ℕ → Type 0
-RunBegins g events text = (lacks_secret g ≡ false) × LinesBegin g events text
+RunBegins g events text = (a_peer_lacks_seed g ≡ false) × LinesBegin g events text

@@ -4,7 +4,7 @@ ghost use Rattle.std.specs.Fmt.{WritesOnOk};
 ghost use Rattle.std.specs.List.{flat_map};
 ghost use Rattle.cli_session.specs.Replies.{aborted_text, batch_text, made_text};
 
-use cli_lines::{CommittedText, SimulationText};
+use cli_lines::CommittedText;
 use fabric_core::Reply;
 use orderer::{AbortCause, BatchReport};
 use std::fmt::{self, Display, Formatter, Write};
@@ -33,7 +33,7 @@ impl Display for ReplyText<'_> {
                 let (number, flags) = (*number, flags.as_slice());
                 write!(f, "{}", CommittedText { number, flags })
             }
-            Reply::Refused(refusal) => writeln!(f, "{}", SimulationText(*refusal)),
+            Reply::Refused(refusal) => writeln!(f, "{refusal}"),
             reply => match reply.number() {
                 Some(number) => writeln!(f, "refused {number}"),
                 None => Ok(()),

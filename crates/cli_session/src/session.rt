@@ -22,7 +22,7 @@ use crate::placing::place_of;
 use crate::reading::Next;
 use crate::storing::write_store;
 use cli_lines::{
-    Access, Failure, Files, Location, Printer, Target, explain_trouble, need_secrets, print_audit,
+    Access, Failure, Files, Location, Printer, Target, explain_trouble, need_seeds, print_audit,
 };
 use endorsement_policy::Workers;
 use fab_types::{Endorsement, Payload, Proposal};
@@ -96,7 +96,7 @@ pub fn run<T: Threads + Sync, F: Files, W: Write>(
     ensures others { IfSome names.now.store
         (λ s. ChangesOnly F.is_known (store_names s.now) (F.bytes files.old) (F.bytes files.new)) }
 {
-    need_secrets(alloc, files, genesis, &genesis.peers)?;
+    need_seeds(alloc, files, genesis, &genesis.peers)?;
     let Some(events) = files.open(names.events) else {
         explain_trouble(alloc, files, names.events, Access::Read);
         return Err(Failure::File);

@@ -20,7 +20,7 @@ use world_state::Snapshot;
 
 /// Prints each entry of the state after the first so many blocks of a chain, or after all where
 /// there are no more, in key order, as a line of JSON.
-pub fn print_state<W: Write>(
+pub(crate) fn print_state<W: Write>(
     alloc: Global,
     snapshot: &Snapshot,
     at: usize,

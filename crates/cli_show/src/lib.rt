@@ -4,9 +4,7 @@
 //!
 //! `show` and `state` print that chain, and the state after it, as lines of JSON (`json_chain`).
 //! [`print_chain`] prints what the genesis sets and the blocks, and [`print_ending`] what is found
-//! of them. [`print_asked`] answers `state`: [`print_state`] prints the entries of the state after
-//! a block, [`print_writes`] each write to a key, and [`print_members`] who stands there. Contracts
-//! say which lines the writer has then (`specs/Lines.antt`).
+//! of them. Contracts say which lines the writer has then (`specs/Lines.antt`).
 #![tactic(auto)]
 
 mod auditing;
@@ -31,14 +29,11 @@ mod writes;
 pub use auditing::audit;
 pub use chain::print_chain;
 pub use checking::{check, digest};
-pub use entries::print_state;
 pub use findings::print_ending;
 pub use laws::stores_hold_chains;
-pub use marking::{marks, print_marks};
-pub use members::print_members;
-pub use showing::{Asked, Part, Shown, print_asked, show, state};
+pub use marking::marks;
+pub use showing::{Asked, Part, Shown, show, state};
 pub use simulation::{Simulated, simulate};
 pub use span::Span;
 pub use tracing::trace;
 pub use versioning::version;
-pub use writes::print_writes;

@@ -49,7 +49,7 @@ pub fn marks<T: Threads + Sync, F: Files, W: Write>(
 }
 
 /// Prints the marks of a chain that was committed again.
-pub fn print_marks<W: Write>(
+pub(crate) fn print_marks<W: Write>(
     alloc: Global,
     replayed: &Replayed,
     out: &mut Printer<'_, W>,

@@ -1,6 +1,6 @@
 //! The line of who stands.
 
-ghost use Rattle.std.specs.Prelude.{◌≡◌, [], ◌∷◌, IfErr, OnErr, OnOk, take};
+ghost use Rattle.std.specs.Prelude.{[], ◌∷◌, IfErr, OnErr, OnOk};
 ghost use Rattle.wire.specs.Links.{AreLinked};
 ghost use Rattle.committer.specs.Fits.{blocks_of};
 ghost use Rattle.cli_lines.specs.Told.{IsBrokenOff, PrintsNothing, Tells};
@@ -19,7 +19,7 @@ use world_state::Snapshot;
 /// Prints what stands after the first so many blocks of a chain, or after all where there are no
 /// more, as a line of JSON: the membership in the state, where one stands there that can be used,
 /// else what the genesis says.
-pub fn print_members<W: Write>(
+pub(crate) fn print_members<W: Write>(
     alloc: Global,
     rules: &Rules,
     snapshot: &Snapshot,

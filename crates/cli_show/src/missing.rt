@@ -11,7 +11,7 @@ use simulator::is_at_hand;
 use std::sync::Arc;
 
 /// The number of the first block with a VALID upgrade to a definition whose module is not at hand.
-pub fn first_missing(book: &Book, blocks: &[Arc<CommittedBlock>]) -> Option<u32>
+pub(crate) fn first_missing(book: &Book, blocks: &[Arc<CommittedBlock>]) -> Option<u32>
     ensures { result ≡ first_missing book.now (blocks_in blocks.now) }
 {
     let committed = first_that_needs(book, blocks)?;

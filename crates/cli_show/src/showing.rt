@@ -126,7 +126,7 @@ pub fn state<T: Threads + Sync, F: Files, W: Write>(
 }
 
 /// Prints what is asked for of the state after a store, as `state` does.
-pub fn print_asked<W: Write>(
+pub(crate) fn print_asked<W: Write>(
     alloc: Global,
     rules: &Rules,
     replayed: &Replayed,

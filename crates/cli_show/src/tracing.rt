@@ -1,6 +1,6 @@
 //! The command `trace`.
 
-ghost use Rattle.std.specs.Prelude.{◌≡◌, List, ℕ, IfErr, IfOk, OnErr, OnOk};
+ghost use Rattle.std.specs.Prelude.{List, ℕ, IfErr, IfOk, OnErr, OnOk};
 ghost use Rattle.wasm_trace.specs.Standing.{standing};
 ghost use Rattle.cli_lines.specs.Told.{Answers, Begins, IsBrokenOff, Prints, PrintsNothing, Tells};
 ghost use Rattle.cli_show.specs.Tracing.{IsTrace, IsTraceBegun, NextStep, TraceBegins, Traces, named_text, outcome_text};

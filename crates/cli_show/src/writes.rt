@@ -15,7 +15,7 @@ use world_state::Snapshot;
 
 /// Prints each write of a VALID transaction to a key, in the first so many blocks of a chain, as a
 /// line of JSON.
-pub fn print_writes<W: Write>(
+pub(crate) fn print_writes<W: Write>(
     alloc: Global,
     snapshot: &Snapshot,
     key: &Key,

@@ -28,8 +28,8 @@ impl Spelled for Fuel {
     }
 }
 
-/// The first byte of a definition: its profile's number, and 16 more where it is open.
-fn form_of(definition: &Definition) -> u8
+/// The first byte of a definition: its profile's number, 1 or 2, and 16 more where it is open.
+pub fn form_of(definition: &Definition) -> u8
     ensures { result ≡ form_of definition.now }
 {
     let profile = definition.profile.number();

@@ -35,26 +35,24 @@ impl Model for Field {
 
 ghost use Rattle.field25519.specs.Limbs.{limbs};
 
+/// Five limbs, low limb first.
+type Limbs = (u64, u64, u64, u64, u64);
+
 /// Five products and their sum: a column of the product of two residues.
 #[inline(always)]
-fn column(
-    a: u64,
-    b: u64,
-    c: u64,
-    d: u64,
-    e: u64,
-    a2: u64,
-    b2: u64,
-    c2: u64,
-    d2: u64,
-    e2: u64,
-) -> u128
-    requires left { (a < 2 ^ 52) × (b < 2 ^ 52) × (c < 2 ^ 52) × (d < 2 ^ 52) × (e < 2 ^ 52) }
-    requires right { (a2 < 2 ^ 57) × (b2 < 2 ^ 57) × (c2 < 2 ^ 57) × (d2 < 2 ^ 57) × (e2 < 2 ^ 57) }
-    ensures sum { result ≡ a * a2 + b * b2 + c * c2 + d * d2 + e * e2 }
+fn column(x: Limbs, y: Limbs) -> u128
+    requires left { (x.0 < 2 ^ 52) × (x.1 < 2 ^ 52) × (x.2 < 2 ^ 52) × (x.3 < 2 ^ 52)
+        × (x.4 < 2 ^ 52) }
+    requires right { (y.0 < 2 ^ 57) × (y.1 < 2 ^ 57) × (y.2 < 2 ^ 57) × (y.3 < 2 ^ 57)
+        × (y.4 < 2 ^ 57) }
+    ensures sum { result ≡ x.0 * y.0 + x.1 * y.1 + x.2 * y.2 + x.3 * y.3 + x.4 * y.4 }
     ensures small { result < 2 ^ 112 }
 {
-    product(a, a2) + product(b, b2) + product(c, c2) + product(d, d2) + product(e, e2)
+    product(x.0, y.0)
+        + product(x.1, y.1)
+        + product(x.2, y.2)
+        + product(x.3, y.3)
+        + product(x.4, y.4)
 }
 
 /// The product of two limbs, of which the second may be 19 times one.
@@ -151,22 +149,13 @@ impl Field {
         let c19 = 19 * other.c;
         let d19 = 19 * other.d;
         let e19 = 19 * other.e;
+        let x = (self.a, self.b, self.c, self.d, self.e);
         carried(
-            column(
-                self.a, self.b, self.c, self.d, self.e, other.a, e19, d19, c19, b19,
-            ),
-            column(
-                self.a, self.b, self.c, self.d, self.e, other.b, other.a, e19, d19, c19,
-            ),
-            column(
-                self.a, self.b, self.c, self.d, self.e, other.c, other.b, other.a, e19, d19,
-            ),
-            column(
-                self.a, self.b, self.c, self.d, self.e, other.d, other.c, other.b, other.a, e19,
-            ),
-            column(
-                self.a, self.b, self.c, self.d, self.e, other.e, other.d, other.c, other.b, other.a,
-            ),
+            column(x, (other.a, e19, d19, c19, b19)),
+            column(x, (other.b, other.a, e19, d19, c19)),
+            column(x, (other.c, other.b, other.a, e19, d19)),
+            column(x, (other.d, other.c, other.b, other.a, e19)),
+            column(x, (other.e, other.d, other.c, other.b, other.a)),
         )
     }
 

@@ -27,7 +27,7 @@ use Rattle.serde_json.specs.View.{items_of}
 use Rattle.fab_types.specs.Spelling.{payload_bytes}
 use Rattle.json_chain.specs.Texts.{pairs_json, value_json}
 use Rattle.json_chain.specs.Memberships.{kept_json, member_json, membership_json, standing_json, with_key}
-use Rattle.json_chain.specs.Sets.{entry_json, range_json, read_json, seen_json, write_json}
+use Rattle.json_chain.specs.Sets.{range_entry_json, range_json, read_json, seen_json, write_item_json}
 use Rattle.fab_types.specs.Payloads.{Payload}
 use Rattle.ledger_model.specs.Chain.{Placed}
 use Rattle.json_chain.specs.Transactions.{endorsement_json, payload_json, placed_transaction_json, proposal_json, transaction_json, with_place}
@@ -59,11 +59,11 @@ seen_low (Some version) = omega arith
 read_low : (r : ReadItem) → depth (read_json r) ≤ 1
 read_low r = omega (arith, seen_low r.version)
 
-write_low : (w : WriteItem) → depth (write_json w) ≤ 1
+write_low : (w : WriteItem) → depth (write_item_json w) ≤ 1
 write_low w = omega (arith, value_low w.value)
 
 range_low : (r : Range) → depth (range_json r) ≤ 3
-range_low r = omega (arith, items_low entry_json 1 (λ e. omega arith) r.entries)
+range_low r = omega (arith, items_low range_entry_json 1 (λ e. omega arith) r.entries)
 
 key_low : (name : List ℕ) (k : MemberKey) → depth (object (with_key k (member (codes "name") (string name) no_members))) ≤ 1
 key_low name Kept = omega arith
@@ -91,7 +91,7 @@ transaction_low orgs e flag =
     proposal_low p.proposal flag _ _ _ _ _ _
     (omega (arith, items_low (endorsement_json orgs (payload_bytes p)) 1 (λ x. omega arith) e.endorsements))
     (omega arith) (omega (arith, items_low range_json 3 range_low p.ranges)) (omega (arith, items_low read_json 1 read_low p.reads))
-    (omega arith) (omega (arith, items_low write_json 1 write_low p.writes))
+    (omega arith) (omega (arith, items_low write_item_json 1 write_low p.writes))
 
 pub block_low : (orgs : List Organisation) (c : Committed) → depth (block_json orgs c) ≤ 7
 block_low orgs c = omega (arith, pairs_low (transaction_json orgs) 5 (transaction_low orgs) c.block.envelopes c.flags)
@@ -136,7 +136,7 @@ did_low t key w = omega (arith, placed_write_low (id_of t.envelope.payload.propo
 
 pub payload_low : (p : Payload) → depth (payload_json p) ≤ 5
 payload_low p =
-    omega (arith, items_low range_json 3 range_low p.ranges, items_low read_json 1 read_low p.reads, items_low write_json 1 write_low p.writes)
+    omega (arith, items_low range_json 3 range_low p.ranges, items_low read_json 1 read_low p.reads, items_low write_item_json 1 write_low p.writes)
 
 -- a transaction with its place, by its proposal
 placed_low : (p : Proposal) (orgs : List Organisation) (e : Envelope) (flag : Flag) (block place : ℕ)
@@ -148,7 +148,7 @@ placed_low (proposal.Call x) orgs e flag block place =
       items_low (endorsement_json orgs (payload_bytes q)) 1 (λ x. omega arith) e.endorsements,
       items_low range_json 3 range_low q.ranges,
       items_low read_json 1 read_low q.reads,
-      items_low write_json 1 write_low q.writes,
+      items_low write_item_json 1 write_low q.writes,
     )
 placed_low (proposal.Upgrade u) orgs e flag block place =
     let q = e.payload in
@@ -157,7 +157,7 @@ placed_low (proposal.Upgrade u) orgs e flag block place =
       items_low (endorsement_json orgs (payload_bytes q)) 1 (λ x. omega arith) e.endorsements,
       items_low range_json 3 range_low q.ranges,
       items_low read_json 1 read_low q.reads,
-      items_low write_json 1 write_low q.writes,
+      items_low write_item_json 1 write_low q.writes,
     )
 placed_low (proposal.Amend x) orgs e flag block place =
     let q = e.payload in
@@ -167,7 +167,7 @@ placed_low (proposal.Amend x) orgs e flag block place =
       items_low (endorsement_json orgs (payload_bytes q)) 1 (λ x. omega arith) e.endorsements,
       items_low range_json 3 range_low q.ranges,
       items_low read_json 1 read_low q.reads,
-      items_low write_json 1 write_low q.writes,
+      items_low write_item_json 1 write_low q.writes,
     )
 
 pub placed_transaction_low : (orgs : List Organisation) (t : Placed) → depth (placed_transaction_json orgs t) ≤ 5

@@ -21,7 +21,7 @@ use Rattle.ledger_model.specs.Chain.{Placed}
 use Rattle.serde_json.specs.Data.{Data, boolean, number, unsigned, string, Members, object, member, no_members, put}
 use Rattle.json_chain.specs.Texts.{hex_json, list_json}
 use Rattle.json_chain.specs.Memberships.{membership_json}
-use Rattle.json_chain.specs.Sets.{range_json, read_json, write_json}
+use Rattle.json_chain.specs.Sets.{range_json, read_json, write_item_json}
 
 -- whose endorsement it is, and whether the tag is that organisation's on these bytes
 abbrev pub endorsement_json : List Organisation → List ℕ → Endorsement → Data
@@ -68,7 +68,7 @@ abbrev pub of_parts : (json : (endorsements id ranges reads result writes : Data
 of_parts json orgs e =
     let p = e.payload in
     json (endorsements_json orgs e) (hex_json (id_of p.proposal)) (list_json range_json p.ranges) (list_json read_json p.reads)
-    (hex_json p.result) (list_json write_json p.writes)
+    (hex_json p.result) (list_json write_item_json p.writes)
 
 -- a transaction with its flag, under the keys of these organisations
 abbrev pub transaction_json : List Organisation → Envelope → Flag → Data
@@ -88,7 +88,7 @@ with_amend a ms = put (codes "nonce") (hex_json a.nonce) (put (codes "amend") (m
 
 abbrev pub with_payload : Payload → Members → Members
 with_payload p ms =
-    put (codes "writes") (list_json write_json p.writes) (put (codes "result") (hex_json p.result)
+    put (codes "writes") (list_json write_item_json p.writes) (put (codes "result") (hex_json p.result)
     (put (codes "reads") (list_json read_json p.reads) (put (codes "ranges") (list_json range_json p.ranges) ms)))
 
 -- what all transactions have
@@ -109,7 +109,7 @@ with_proposal (proposal.Amend a) ms = with_amend a ms
 abbrev pub payload_json : Payload → Data
 payload_json p =
     object (member (codes "ranges") (list_json range_json p.ranges) (member (codes "reads") (list_json read_json p.reads)
-    (member (codes "result") (hex_json p.result) (member (codes "writes") (list_json write_json p.writes) no_members))))
+    (member (codes "result") (hex_json p.result) (member (codes "writes") (list_json write_item_json p.writes) no_members))))
 
 -- the number of a block, and a place in it
 abbrev pub with_place : (block place : ℕ) → Members → Members

@@ -2,7 +2,7 @@
 
 ghost use Rattle.std.specs.Prelude.{◌≡◌, IfOk};
 ghost use Rattle.serde_json.specs.View.{view};
-ghost use Rattle.json_chain.specs.Sets.{entry_json, range_json, read_json, seen_json, write_json};
+ghost use Rattle.json_chain.specs.Sets.{range_entry_json, range_json, read_json, seen_json, write_item_json};
 
 use crate::object::Object;
 use crate::texts::value_of;
@@ -33,7 +33,7 @@ impl ToJson for ReadItem {
 }
 
 impl ToJson for RangeEntry {
-    ghost json = { entry_json };
+    ghost json = { range_entry_json };
 
     fn to_json(&self, alloc: Global) -> Result<Value, AllocError> {
         let mut object = Object::new(alloc);
@@ -57,7 +57,7 @@ impl ToJson for RangeItem {
 }
 
 impl ToJson for WriteItem {
-    ghost json = { write_json };
+    ghost json = { write_item_json };
 
     fn to_json(&self, alloc: Global) -> Result<Value, AllocError> {
         let mut object = Object::new(alloc);

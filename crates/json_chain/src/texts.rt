@@ -1,7 +1,6 @@
 //! Bytes, versions and names as JSON.
 
 ghost use Rattle.std.specs.Prelude.{◌≡◌, IfOk};
-ghost use Rattle.fab_types.specs.Version as spec;
 ghost use Rattle.serde_json.specs.Data.{string};
 ghost use Rattle.serde_json.specs.View.{view};
 ghost use Rattle.json_chain.specs.Texts.{hex_json, value_json, version_json};

@@ -4,7 +4,6 @@ ghost use Rattle.std.specs.Prelude.{◌≡◌, IfOk, OnOk};
 ghost use Rattle.serde_json.specs.View.{view};
 ghost use Rattle.json_chain.specs.Members.{members_in};
 ghost use Rattle.json_chain.specs.Texts.{list_json};
-ghost use Rattle.fab_types.specs.Spelling.{form_of};
 ghost use Rattle.json_chain.specs.Transactions.{definition_json, endorsement_json, endorsements_json, transaction_json};
 ghost use Rattle.json_chain.specs.Transactions.{with_amend, with_call, with_payload, with_rest, with_upgrade};
 ghost use Rattle.json_chain.specs.Transactions.{payload_json, placed_transaction_json, with_place, with_proposal};
@@ -12,11 +11,12 @@ ghost use Rattle.json_chain.specs.Writes.{placed_at};
 
 use crate::object::Object;
 use crate::placed::Placed;
-use crate::sets;
 use crate::texts::{name_of, policy_of};
 use crate::to_json::ToJson;
 use endorsement_policy::is_tag;
-use fab_types::{Amend, Call, Definition, Endorsement, Envelope, Flag, Payload, Proposal, Upgrade};
+use fab_types::{
+    Amend, Call, Definition, Endorsement, Envelope, Flag, Payload, Proposal, Upgrade, form_of,
+};
 use org_keys::Organisation;
 use serde_json::Value;
 use std::alloc::{AllocError, Global};
@@ -150,18 +150,6 @@ fn put_payload(object: &mut Object, payload: &Payload) -> Result<(), AllocError>
     object.put_list("reads", payload.reads().as_slice())?;
     object.put_hex("result", payload.result().as_slice())?;
     object.put_list("writes", payload.writes().as_slice())
-}
-
-/// The first byte of a definition: its profile's number, and 16 more where it is open.
-fn form_of(definition: &Definition) -> u8
-    ensures { result ≡ form_of definition.now }
-{
-    let profile = definition.profile.number();
-    if definition.is_open {
-        16 + profile
-    } else {
-        profile
-    }
 }
 
 impl ToJson for Definition {

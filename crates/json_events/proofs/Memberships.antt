@@ -14,7 +14,8 @@ use Rattle.json_fields.specs.Lists.{AreItems}
 use Rattle.json_fields.proofs.ReadItems.{AreItems-at, AreItems-same}
 use Rattle.json_fields.proofs.Rests.{members_in, rest, first, text_in}
 use Rattle.json_events.specs.Refused.{NoneIs}
-use Rattle.json_events.specs.Spelling.{AreMembers, IsMember, IsMembership, IsNamedKey, kept_object, public_object}
+use Rattle.json_fields.specs.NamedKeys.{public_object}
+use Rattle.json_events.specs.Spelling.{AreMembers, IsMember, IsMembership, IsNamedKey, kept_object}
 use Rattle.json_events.specs.declared.action.BadLine.{BadLine}
 
 pub same_ok : {A E : Type 0} (r : Result A E) (a b : A) → r ≡ Ok a → r ≡ Ok b → a ≡ b

@@ -6,6 +6,7 @@ use Rattle.std.specs.declared.alloc.Global.{Global}
 use Rattle.serde_json.specs.Data.{Data, object, member, no_members, Members, Items, array, put, string, number, unsigned}
 use Rattle.serde_json.specs.Read.{read}
 use Rattle.json_fields.specs.Lists.{AreItems}
+use Rattle.json_fields.specs.NamedKeys.{public_object}
 use Rattle.hex.specs.Hex.{decode_of, decode_sized}
 use Rattle.fab_types.specs.Limits.{IsFuel, IsName, IsOrgName, IsPolicyText, IsValue}
 use Rattle.fab_types.specs.Memberships.{IsMembers}
@@ -50,10 +51,6 @@ IsUpgrade fuel digest nonce policy profile chaincode u =
 -- {"name":"A"}
 abbrev pub kept_object : List ℕ → Data
 kept_object name = object (member (codes "name") (string name) no_members)
-
--- {"name":"B","public":"d75a98.."}
-abbrev pub public_object : List ℕ → List ℕ → Data
-public_object name public = object (member (codes "name") (string name) (member (codes "public") (string public) no_members))
 
 -- the object has this name alone where the member keeps its key, or beside it a public key of 32 bytes
 abbrev pub IsNamedKey : Data → List ℕ → MemberKey → Type 0

@@ -1,14 +1,12 @@
 //! The fields of each form of a line, which are taken in the order of their names.
 
-ghost use Rattle.std.specs.Prelude.{◌≡◌, ◌≢◌, ℕ, List, codes, MatchOption, MatchBool};
+ghost use Rattle.std.specs.Prelude.{◌≡◌, ◌≢◌, ℕ, List, MatchOption, MatchBool};
 ghost use Rattle.serde_json.specs.Data.{Items, Members, array, member, number, object, string, unsigned};
 ghost use Rattle.serde_json.specs.View.{view, items_view, members_view};
 ghost use Rattle.json_events.specs.Spelling.{amend_members, begin_object, call_members, commit_object, finish_object, hex_object, seat_members, upgrade_members, use_object, word_object};
-ghost use Rattle.json_events.specs.Spelling.{kept_object, public_object};
+ghost use Rattle.json_events.specs.Spelling.{kept_object};
 
-use json_fields::{
-    Fields, fields, is_end, items, take, take_list, take_number, take_text, take_word,
-};
+use json_fields::{Fields, fields, is_end, take_list, take_number, take_text, take_word};
 use serde_json::Value;
 
 /// A peer and one of its seats.
@@ -249,29 +247,6 @@ pub(crate) fn kept_name(value: &Value) -> Option<&str>
     if is_end(&mut left) { Some(name) } else { None }
 }
 
-/// What the fields of a member with a public key of its own hold: the name, and the key in hex.
-#[derive(Clone, Copy)]
-pub(crate) struct PublicFields<'a> {
-    pub name: &'a str,
-    pub public: &'a str,
-}
-
-/// The fields of a member with a public key of its own. None where the object is of another form.
-pub(crate) fn public_fields(value: &Value) -> Option<PublicFields<'_>>
-    ensures { MatchOption result
-        ((name public : List ℕ) → view value.now ≢ public_object name public)
-        (λ f. view value.now ≡ public_object f.name.now f.public.now) }
-{
-    let mut left = fields(value)?;
-    let name = take_text(&mut left, "name")?;
-    let public = take_text(&mut left, "public")?;
-    if is_end(&mut left) {
-        Some(PublicFields { name, public })
-    } else {
-        None
-    }
-}
-
 /// What the fields of a finish hold.
 #[derive(Clone, Copy)]
 pub(crate) struct FinishFields<'a> {
@@ -303,7 +278,7 @@ pub(crate) fn used_names(value: &Value) -> Option<&[Value]>
     if !take_word(&mut left, "do", "submit") {
         return None;
     }
-    let names = items(take(&mut left, "use")?)?;
+    let names = take_list(&mut left, "use")?;
     if is_end(&mut left) { Some(names) } else { None }
 }
 

@@ -8,10 +8,11 @@ ghost use Rattle.json_events.specs.Refused.{NoneIs};
 ghost use Rattle.json_events.specs.Spelling.{AreMembers, IsAmend, IsMember, IsMembership, IsNamedKey};
 
 use crate::action::BadLine;
-use crate::fields::{AmendFields, kept_name, public_fields};
+use crate::fields::{AmendFields, kept_name};
 use crate::values::policy_text;
 use fab_types::{Amend, Member, MemberKey, Members, Membership, OrgName};
 use hex::FromHex;
+use json_fields::public_fields;
 use serde_json::Value;
 use std::alloc::Global;
 

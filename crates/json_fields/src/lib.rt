@@ -9,6 +9,7 @@
 ghost use Rattle.std.specs.Prelude.{◌≡◌, ◌≢◌, ◌↔◌, ℕ, List, Bool, true, MatchOption, MatchBool};
 ghost use Rattle.serde_json.specs.Data.{Data, Items, Members, string, boolean, number, unsigned, array, object, member, no_members};
 ghost use Rattle.serde_json.specs.View.{view, items_view, members_view};
+ghost use Rattle.json_fields.specs.NamedKeys.{public_object};
 
 use serde_json::Value;
 use std::collections::btree_map::Iter;
@@ -132,5 +133,29 @@ pub fn items(value: &Value) -> Option<&[Value]>
     match value {
         Value::Array(items) => Some(items),
         _ => None,
+    }
+}
+
+/// What the fields of an organisation with a public key hold: the name, and the key in hex.
+#[derive(Clone, Copy)]
+pub struct PublicFields<'a> {
+    pub name: &'a str,
+    pub public: &'a str,
+}
+
+/// The fields of an organisation with a public key. None where one is missing, left over or no
+/// text.
+pub fn public_fields(value: &Value) -> Option<PublicFields<'_>>
+    ensures { MatchOption result
+        ((name public : List ℕ) → view value.now ≢ public_object name public)
+        (λ f. view value.now ≡ public_object f.name.now f.public.now) }
+{
+    let mut left = fields(value)?;
+    let name = take_text(&mut left, "name")?;
+    let public = take_text(&mut left, "public")?;
+    if is_end(&mut left) {
+        Some(PublicFields { name, public })
+    } else {
+        None
     }
 }

@@ -4,7 +4,8 @@ use Rattle.org_keys.specs.declared.organisation.OrgKey.{OrgKey}
 use Rattle.org_keys.specs.declared.organisation.OrgKey.TheVariants as key
 use Rattle.org_keys.specs.declared.organisation.Organisation.{Organisation}
 use Rattle.serde_json.specs.Data.{Data}
-use Rattle.json_genesis.specs.Spelling.{IsHex, IsNamedKey, IsOrganisation, public_object, shared_object}
+use Rattle.json_fields.specs.NamedKeys.{public_object}
+use Rattle.json_genesis.specs.Spelling.{IsHex, IsNamedKey, IsOrganisation, shared_object}
 use Rattle.json_genesis.proofs.Refusals.{same_ok}
 use Rattle.json_fields.proofs.Rests.{members_in, rest, first, text_in}
 

@@ -3,6 +3,7 @@
 use Rattle.std.specs.Prelude.{◌≡◌, ◌&&◌, ℕ, Bool, true, not, List, [], ◌∷◌, ◌++◌, map, length, codes, Some, Ok}
 use Rattle.serde_json.specs.Data.{Data, object, member, no_members, string, boolean, number, unsigned}
 use Rattle.serde_json.specs.Read.{read}
+use Rattle.json_fields.specs.NamedKeys.{public_object}
 use Rattle.hex.specs.Hex.{decode_of}
 use Rattle.sha2.specs.Sha256.{sha256}
 use Rattle.wasm_profile.specs.Numbers.{number_of}
@@ -35,10 +36,6 @@ IsHex text bytes = decode_of text ≡ Ok bytes
 -- {"key":"4a656665","name":"A"}
 abbrev pub shared_object : List ℕ → List ℕ → Data
 shared_object key name = object (member (codes "key") (string key) (member (codes "name") (string name) no_members))
-
--- {"name":"B","public":"d75a98.."}
-abbrev pub public_object : List ℕ → List ℕ → Data
-public_object name public = object (member (codes "name") (string name) (member (codes "public") (string public) no_members))
 
 -- the object has this name with a shared key of 1 to 128 bytes, or with a public key of Ed25519: 32 bytes that are a point not of small order
 abbrev pub IsNamedKey : Data → List ℕ → OrgKey → Type 0

@@ -4,7 +4,7 @@ ghost use Rattle.std.specs.Prelude.{◌≡◌, ◌≢◌, ℕ, List, MatchOption
 ghost use Rattle.serde_json.specs.Data.{Data, Members, member};
 ghost use Rattle.serde_json.specs.View.{view, members_view};
 ghost use Rattle.json_genesis.specs.Spelling.{Parts, chaincode_object, module_object, object_of};
-ghost use Rattle.json_genesis.specs.Spelling.{public_object, shared_object};
+ghost use Rattle.json_genesis.specs.Spelling.{shared_object};
 ghost use Rattle.json_genesis.specs.Fields.{parts_of};
 
 use json_fields::{Fields, fields, is_end, take, take_text};
@@ -96,30 +96,6 @@ pub(crate) fn shared_fields(value: &Value) -> Option<SharedFields<'_>>
     let name = take_text(&mut left, "name")?;
     if is_end(&mut left) {
         Some(SharedFields { key, name })
-    } else {
-        None
-    }
-}
-
-/// What the fields of an organisation with a public key hold: the name, and the key in hex.
-#[derive(Clone, Copy)]
-pub(crate) struct PublicFields<'a> {
-    pub name: &'a str,
-    pub public: &'a str,
-}
-
-/// The fields of an organisation with a public key. None where one is missing, left over or no
-/// text.
-pub(crate) fn public_fields(value: &Value) -> Option<PublicFields<'_>>
-    ensures { MatchOption result
-        ((name public : List ℕ) → view value.now ≢ public_object name public)
-        (λ f. view value.now ≡ public_object f.name.now f.public.now) }
-{
-    let mut left = fields(value)?;
-    let name = take_text(&mut left, "name")?;
-    let public = take_text(&mut left, "public")?;
-    if is_end(&mut left) {
-        Some(PublicFields { name, public })
     } else {
         None
     }

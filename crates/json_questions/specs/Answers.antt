@@ -1,6 +1,7 @@
 -- What is answered to a question, by a genesis and a chain.
-use Rattle.std.specs.Prelude.{ℕ, ◌-◌, ◌++◌, List, Option, Some, None, Result, Ok, Err, Bool, nat_lt, if◌then◌else◌, bytes_eq, codes, replicate, slice_get}
-use Rattle.std.specs.Fmt.{decimal}
+use Rattle.std.specs.Prelude.{ℕ, ◌-◌, ◌++◌, List, Option, Some, None, Result, Ok, Err, Bool, bytes_eq, codes, replicate, slice_get}
+use Rattle.std.specs.Fmt.{decimal, signed_decimal}
+use Rattle.std.specs.Int.{w32, cast_signed}
 use Rattle.std.specs.List.{find}
 use Rattle.serde_json.specs.Data.{Data, null, boolean, number, unsigned, string, array, object, member, no_members}
 use Rattle.serde_json.specs.View.{items_of}
@@ -46,7 +47,7 @@ call_of chaincode argument = proposal.Call (record { chaincode = chaincode; argu
 
 -- a status is a word of 32 bits, and written as a signed number (two's complement)
 abbrev pub status_words : ℕ → List ℕ
-status_words n = if nat_lt n 2147483648 then codes "404 status " ++ decimal n else codes "404 status -" ++ decimal (4294967296 - n)
+status_words n = codes "404 status " ++ signed_decimal (cast_signed w32 n)
 
 -- what a line `refused ..` says of it behind that word
 abbrev pub refusal_words : SimRefusal → List ℕ

@@ -15,9 +15,6 @@ use simulator::{Book, SimRefusal, simulate};
 use std::alloc::{AllocError, Global};
 use world_state::Snapshot;
 
-/// Statuses from here on are written as negative numbers.
-const SIGN: u32 = 2_147_483_648;
-
 /// What a call of a chaincode comes to on the state after a chain: what its payload read, gives and
 /// would write, or why it gives none.
 pub(crate) fn outcome_of(
@@ -86,9 +83,6 @@ fn refusal_words(alloc: Global, refusal: SimRefusal) -> Result<String, AllocErro
 fn status_words(alloc: Global, status: u32) -> Result<String, AllocError>
     ensures { IfOk result (λ s. string_bytes s ≡ status_words status) }
 {
-    if status < SIGN {
-        return format!(in alloc; "404 status {status}");
-    }
-    let below = u32::MAX - status + 1;
-    format!(in alloc; "404 status -{below}")
+    let status = status.cast_signed();
+    format!(in alloc; "404 status {status}")
 }

@@ -13,7 +13,7 @@ use serde_json::Value;
 use std::alloc::{AllocError, Global};
 
 /// Why a line of an events file asks for nothing: one sentence with the field, the reason and what
-/// is possible there. A line of one of the forms uses a name that no finish gave.
+/// is possible there.
 pub fn event_reason(alloc: Global, line: &[u8]) -> Result<String, AllocError> {
     match read_json(alloc, line, false)? {
         Read::Json(value) => event_fault(alloc, &value),
@@ -25,7 +25,7 @@ pub fn event_reason(alloc: Global, line: &[u8]) -> Result<String, AllocError> {
 fn event_fault(alloc: Global, value: &Value) -> Result<String, AllocError> {
     match by_word(alloc, &EVENTS, value)? {
         Some(words) => Ok(words),
-        None => unbound(alloc, value),
+        None => String::from_str(alloc, "it is none of the forms of an event"),
     }
 }
 
@@ -136,16 +136,4 @@ fn out_of_order(alloc: Global, value: &Value) -> Result<Option<String>, AllocErr
         last = name;
     }
     Ok(None)
-}
-
-/// That a line, which is of one of the forms, uses a name that stands for nothing.
-fn unbound(alloc: Global, value: &Value) -> Result<String, AllocError> {
-    let mut names = Vec::new(alloc);
-    for name in items_of(value, "use") {
-        if let Value::String(name) = name {
-            names.push(front(name.as_str()))?;
-        }
-    }
-    let used = listed(alloc, &names)?;
-    format!(in alloc; "field \"use\": no finish before it gave one of these names: {used:?}")
 }

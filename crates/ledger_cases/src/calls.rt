@@ -1,18 +1,17 @@
 //! Calls of the host.
 
-ghost use Rattle.std.specs.Prelude.{◌≡◌};
-ghost use Rattle.wasm_typing.specs.HostCalls.{arity};
-
 use crate::bytes::{bytes_of, split_word};
 use crate::fault::CaseFault;
 use crate::texts::{separate, write_hex, write_ranges, write_reads, write_result, write_writes};
 use crate::transactions::write_item;
 use fab_types::Value;
 use host_api::{Parts, PlainMap, Recorder};
-use interp::{Host, HostAnswer, HostCall};
+use interp::{Host, HostAnswer};
 use std::alloc::{AllocError, Global};
 use std::fmt::Write;
+use wasm_ast::arity;
 use wasm_instance::Memory;
+use wasm_typing::call_named;
 
 /// The parts of a case.
 #[derive(Clone, Copy)]
@@ -127,7 +126,7 @@ fn write_parts(answer: &mut String, parts: &Parts) -> Result<(), AllocError> {
 /// A word as a signed number.
 fn write_answer(answer: &mut String, given: HostAnswer) -> Result<(), AllocError> {
     match given {
-        HostAnswer::Value(word) => write!(answer, "{}", i32::from_be_bytes(word.to_be_bytes())),
+        HostAnswer::Value(word) => write!(answer, "{}", word.cast_signed()),
         HostAnswer::OutOfBounds => answer.push_str("out-of-bounds"),
     }
 }
@@ -142,7 +141,7 @@ fn call_once(
     let (name, numbers) = split_word(call);
     let which = call_named(name).ok_or(CaseFault::BadLine)?;
     let args = numbers_of(alloc, numbers)?;
-    if args.len() != arity_of(which) {
+    if args.len() != arity(which) {
         return Err(CaseFault::BadLine);
     }
     Ok(host.call(which, &args, memory)?)
@@ -157,27 +156,4 @@ fn numbers_of(alloc: Global, text: &str) -> Result<Vec<u32>, CaseFault> {
         }
     }
     Ok(numbers)
-}
-
-fn call_named(name: &str) -> Option<HostCall> {
-    match name {
-        "get_state" => Some(HostCall::GetState),
-        "put_state" => Some(HostCall::PutState),
-        "del_state" => Some(HostCall::DelState),
-        "range_state" => Some(HostCall::RangeState),
-        "get_arg" => Some(HostCall::GetArg),
-        "set_result" => Some(HostCall::SetResult),
-        _ => None,
-    }
-}
-
-/// How many numbers a call takes.
-fn arity_of(which: HostCall) -> usize
-    ensures { result ≡ arity which }
-{
-    match which {
-        HostCall::GetState | HostCall::PutState => 4,
-        HostCall::DelState | HostCall::GetArg | HostCall::SetResult => 2,
-        HostCall::RangeState => 7,
-    }
 }

@@ -2,7 +2,7 @@
 
 use fab_types::{
     Definition, Endorsement, Endorsements, Key, Member, MemberKey, Membership, Name, Payload,
-    Proposal, RangeEntry, RangeItem, ReadItem, Value, Version, WriteItem,
+    Proposal, RangeEntry, RangeItem, ReadItem, Value, Version, WriteItem, form_of,
 };
 use std::alloc::AllocError;
 use std::fmt::Write;
@@ -92,16 +92,6 @@ pub fn write_definition(answer: &mut String, definition: &Definition) -> Result<
     write_hex(answer, &definition.digest)?;
     write!(answer, " {} ", definition.fuel.get())?;
     write_bytes(answer, definition.policy.as_slice())
-}
-
-/// The first byte of a definition: its profile's number, and 16 more where it is open.
-fn form_of(definition: &Definition) -> u8 {
-    let profile = definition.profile.number();
-    if definition.is_open {
-        16 + profile
-    } else {
-        profile
-    }
 }
 
 /// The next membership.

@@ -20,7 +20,8 @@
 //!   blocks at most are committed, and prints how many microseconds the reads took.
 //! - `load STORE` reads the store of this name.
 //!
-//! Each prints `done` and how many transactions, plans or blocks that were.
+//! Each prints `done` and how many transactions, plans, blocks or reads that were; `check`, `blocks`,
+//! `order` and `commit` also `bytes` and how many were hashed for them.
 
 mod blocks;
 mod channel;

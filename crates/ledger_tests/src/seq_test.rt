@@ -1,5 +1,7 @@
+//! A copy of a sequence.
+
 use seq::Seq;
-use std::test::*;
+use std::test::Fail;
 
 #[test]
 fn items_are_copied(rt: HostRuntime) -> Result<(), Fail> {

@@ -1,5 +1,5 @@
 -- The numbers of refusals, and how they are written; which refusal a seat hands on, and what the refusal of a peer that comes back says.
-use Rattle.std.specs.Prelude.{◌++◌, ℕ, List, [], Option, Some, codes}
+use Rattle.std.specs.Prelude.{◌++◌, ℕ, List, [], codes}
 use Rattle.std.specs.Fmt.{decimal}
 use Rattle.fab_types.specs.Committed.{Committed}
 use Rattle.ledger_model.specs.Judged.{BlockRule}
@@ -19,10 +19,9 @@ abbrev pub finish_number : FinishRefusal → ℕ
 finish_number (Simulation r) = refusal_number r
 finish_number NotEntered = 432
 
--- none of a simulation's status, which is written as a signed number
-abbrev pub finish_text : FinishRefusal → Option (List ℕ)
+abbrev pub finish_text : FinishRefusal → List ℕ
 finish_text (Simulation r) = refusal_text r
-finish_text NotEntered = Some (codes "refused 432")
+finish_text NotEntered = codes "refused 432"
 
 abbrev pub of_memory : FinishRefusal
 of_memory = Simulation Memory

@@ -33,9 +33,10 @@ impl FinishRefusal {
 }
 
 impl Display for FinishRefusal {
+    ghost use Rattle.std.specs.Prelude.{Some};
     ghost use Rattle.peer_node.specs.Refusals.{finish_text};
 
-    ghost output = { finish_text };
+    ghost output = { λ r. Some (finish_text r) };
 
     fn fmt<W: Write>(&self, f: &mut Formatter<W>) -> fmt::Result {
         match self {

@@ -53,20 +53,20 @@ impl SimRefusal {
     }
 }
 
-/// The word as a signed number (two's complement).
-fn signed(word: u32) -> i32 {
-    i32::from_be_bytes(word.to_be_bytes())
-}
-
+/// A status is written as a signed number (two's complement).
 impl Display for SimRefusal {
+    ghost use Rattle.std.specs.Prelude.{Some};
     ghost use Rattle.simulator.specs.RefusalNumber.{refusal_text};
 
-    ghost output = { refusal_text };
+    ghost output = { λ r. Some (refusal_text r) };
 
     fn fmt<W: Write>(&self, f: &mut Formatter<W>) -> fmt::Result {
         match self {
             SimRefusal::Trapped { kind, .. } => write!(f, "refused 402 trap {}", kind.number()),
-            SimRefusal::Status(status) => write!(f, "refused 404 status {}", signed(*status)),
+            SimRefusal::Status(status) => {
+                let status = (*status).cast_signed();
+                write!(f, "refused 404 status {status}")
+            }
             refusal => write!(f, "refused {}", refusal.number()),
         }
     }

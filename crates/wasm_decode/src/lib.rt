@@ -19,7 +19,7 @@ mod external;
 mod fault;
 mod functions;
 mod item;
-mod limits;
+pub mod limits;
 mod reader;
 mod sections;
 mod types;

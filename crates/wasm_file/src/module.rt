@@ -1,7 +1,6 @@
 //! A module, from the bytes of its file.
 
 ghost use Rattle.std.specs.Prelude.{◌≡◌, IfOk, IfErr};
-ghost use Rattle.wasm_ast.specs.declared.module.Module.{Module};
 ghost use Rattle.wasm_decode.specs.ModuleSpelling.{IsModule};
 ghost use Rattle.wasm_typing.specs.ModuleRules.{IsValid};
 ghost use Rattle.wasm_file.specs.Modules.{NoModule, IsDefinedBy};
@@ -14,7 +13,7 @@ use wasm_decode::{DecodeFault, FaultKind, decode_as};
 use wasm_profile::Profile;
 use wasm_validate::{ValidModule, ValidateFault, validate};
 
-/// Why bytes give no chaincode.
+/// Why bytes give no valid module of a profile.
 #[derive(Clone, Copy, Debug, PartialEq, Eq)]
 pub enum ModuleRefusal {
     /// Want of memory.

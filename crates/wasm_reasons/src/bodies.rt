@@ -1,6 +1,5 @@
 //! The bodies of functions, each typed up to the first fault (Core 1.0, section 3.4.1).
 
-use crate::limits::MODULE_BYTES;
 use crate::opcodes::{ELSE, END};
 use crate::operands::Operands;
 use crate::place::{Numbered, Place};
@@ -10,6 +9,7 @@ use crate::source::Source;
 use crate::stop::Stop;
 use crate::typing::Typing;
 use wasm_ast::{Func, Module};
+use wasm_decode::limits::MODULE_BYTES;
 
 /// Looks for the first instruction of a module that breaks a rule, and leaves the place of it. The
 /// bytes spell the module.

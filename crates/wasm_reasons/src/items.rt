@@ -1,11 +1,11 @@
 //! The items of sections (Core 1.0, sections 5.5.4 to 5.5.14).
 
-use crate::limits::{MOST_ITEMS, MOST_LOCALS, MOST_PAGES, MOST_PARAMETERS};
 use crate::reader::{Holder, Reader};
 use crate::section::Section;
 use crate::stop::Stop;
 use wasm_ast::ValueType;
 use wasm_decode::FaultKind;
+use wasm_decode::limits::{MOST_ENTRIES, MOST_FUNCTIONS, MOST_LOCALS, MOST_PAGES, MOST_PARAMETERS};
 
 /// An import or an export: its name, its kind (0 is a function) and its index, which an import has
 /// as the one of its type.
@@ -37,7 +37,7 @@ impl<'a> Reader<'a> {
     /// The bodies of the functions, of which there are as many as the function section says.
     pub(crate) fn bodies(&mut self) -> Result<(), Stop> {
         let offset = self.cursor.offset();
-        let bodies = self.number_to(MOST_ITEMS, "the count of its bodies")?;
+        let bodies = self.number_to(MOST_FUNCTIONS, "the count of its bodies")?;
         let functions = self.source.count_of(Section::Function)?;
         if bodies != functions {
             let words = format_args!(
@@ -95,7 +95,7 @@ impl<'a> Reader<'a> {
 
     fn table_type(&mut self) -> Result<(), Stop> {
         self.byte_is(0x70, "the type 70 of a table's elements")?;
-        self.limits(MOST_ITEMS)
+        self.limits(MOST_ENTRIES)
     }
 
     fn memory_type(&mut self) -> Result<(), Stop> {
@@ -158,7 +158,7 @@ impl<'a> Reader<'a> {
     fn element(&mut self) -> Result<(), Stop> {
         let _table = self.number("the index of its table")?;
         self.expression()?;
-        let count = self.number_to(MOST_ITEMS, "the count of its functions")?;
+        let count = self.number_to(MOST_ENTRIES, "the count of its functions")?;
         for _ in 0..count {
             let _function = self.number("the index of one of its functions")?;
         }

@@ -7,7 +7,6 @@
 mod bodies;
 mod generic;
 mod items;
-mod limits;
 mod lookup;
 mod naming;
 mod opcodes;

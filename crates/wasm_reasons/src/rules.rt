@@ -12,7 +12,7 @@ use wasm_ast::{
     Body, Export, ExternalKind, FuncType, HostCall, Import, ImportKind, Instr, Limits, Module,
     ValueType, arity,
 };
-use wasm_typing::{ValidateFault, is_type_of_call};
+use wasm_typing::{ValidateFault, call_named, is_type_of_call};
 
 /// How many pages of 65,536 bytes a memory can have.
 const MAX_PAGES: u32 = 65_536;
@@ -337,19 +337,6 @@ fn constant_of(instruction: &Instr) -> Option<(ValueType, u64)> {
     match instruction {
         Instr::I32Const(word) => Some((ValueType::I32, *word as u64)),
         Instr::I64Const(word) => Some((ValueType::I64, *word)),
-        _ => None,
-    }
-}
-
-// The call of a name.
-fn call_named(name: &str) -> Option<HostCall> {
-    match name {
-        "get_state" => Some(HostCall::GetState),
-        "put_state" => Some(HostCall::PutState),
-        "del_state" => Some(HostCall::DelState),
-        "range_state" => Some(HostCall::RangeState),
-        "get_arg" => Some(HostCall::GetArg),
-        "set_result" => Some(HostCall::SetResult),
         _ => None,
     }
 }

@@ -1,7 +1,7 @@
 //! The sections of a module (Core 1.0, section 5.5.2).
 
-use crate::limits::{MOST_ITEMS, MOST_PARTS};
 use std::fmt::{self, Display, Formatter, Write};
+use wasm_decode::limits::{MOST_FUNCTIONS, MOST_PARTS, MOST_TYPES};
 
 /// A section, by its id.
 #[derive(Clone, Copy, PartialEq, Eq)]
@@ -60,7 +60,8 @@ impl Section {
     /// The most items that it may have.
     pub(crate) fn most_items(self) -> u32 {
         match self {
-            Section::Type | Section::Function | Section::Code => MOST_ITEMS,
+            Section::Type => MOST_TYPES,
+            Section::Function | Section::Code => MOST_FUNCTIONS,
             _ => MOST_PARTS,
         }
     }

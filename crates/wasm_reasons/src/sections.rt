@@ -1,12 +1,12 @@
 //! The sections of a module, one after the other (Core 1.0, section 5.5.15).
 
-use crate::limits::MODULE_BYTES;
 use crate::place::Place;
 use crate::reader::Reader;
 use crate::section::Section;
 use crate::source::Source;
 use crate::stop::Stop;
 use wasm_decode::FaultKind;
+use wasm_decode::limits::MODULE_BYTES;
 
 /// What each module begins with.
 const HEADER: [u8; 8] = [0x00, 0x61, 0x73, 0x6d, 0x01, 0x00, 0x00, 0x00];

@@ -1,6 +1,5 @@
 //! A module's bytes, in which a section is looked for.
 
-use crate::limits::MODULE_BYTES;
 use crate::reader::Reader;
 use crate::section::Section;
 use crate::stop::Stop;
@@ -8,6 +7,7 @@ use std::alloc::Global;
 use std::cell::Cell;
 use std::fmt::Display;
 use wasm_bytes::Cursor;
+use wasm_decode::limits::MODULE_BYTES;
 use wasm_file::ModuleRefusal;
 use wasm_profile::Profile;
 

@@ -1,6 +1,5 @@
 //! Expressions and their instructions (Core 1.0, section 5.4).
 
-use crate::limits::{MODULE_BYTES, MOST_INSTRUCTIONS, MOST_ITEMS, MOST_NESTING};
 use crate::opcodes::{
     BLOCK, BR, BR_IF, BR_TABLE, CALL, CALL_INDIRECT, DROP, ELSE, END, GLOBAL_GET, GLOBAL_SET,
     I32_CONST, I64_CONST, IF, LOCAL_GET, LOCAL_SET, LOCAL_TEE, LOOP, MEMORY_GROW, MEMORY_SIZE, NOP,
@@ -13,6 +12,7 @@ use crate::shapes::shape_of;
 use crate::stop::Stop;
 use wasm_ast::{BlockType, MemoryArgument};
 use wasm_decode::FaultKind;
+use wasm_decode::limits::{MODULE_BYTES, MOST_INSTRUCTIONS, MOST_LABELS, MOST_NESTING};
 use wasm_operators::{load, store};
 use wasm_profile::Profile;
 
@@ -77,7 +77,7 @@ impl<'a> Reader<'a> {
 
     // The labels of a `br_table`.
     fn labels(&mut self) -> Result<Immediate, Stop> {
-        let count = self.number_to(MOST_ITEMS, "the count of its labels")?;
+        let count = self.number_to(MOST_LABELS, "the count of its labels")?;
         let mut labels = Vec::new(self.source.alloc);
         for _ in 0..count {
             labels.push(self.number("one of its labels")?)?;
@@ -177,7 +177,7 @@ impl<'a> Reader<'a> {
             );
             return self.malformed(FaultKind::Limit, offset, words);
         }
-        if depth >= MOST_NESTING && (opcode == BLOCK || opcode == LOOP || opcode == IF) {
+        if depth >= MOST_NESTING as usize && (opcode == BLOCK || opcode == LOOP || opcode == IF) {
             let words = format_args!("{depth} blocks stand round it, and no more are allowed");
             return self.malformed(FaultKind::Limit, offset, words);
         }

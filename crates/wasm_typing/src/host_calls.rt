@@ -1,11 +1,27 @@
-//! The types of the host calls.
+//! The names and the types of the host calls.
 
 ghost use Rattle.std.specs.Prelude.{◌≡◌, IsTrue, ◌↔◌, replicate};
 ghost use Rattle.std.specs.List.{All};
 ghost use Rattle.wasm_ast.specs.declared.types.ValueType.TheVariants.{I32};
-ghost use Rattle.wasm_typing.specs.HostCalls.{call_type};
+ghost use Rattle.wasm_typing.specs.HostCalls.{call_named, call_type};
 
 use wasm_ast::{FuncType, HostCall, ValueType, arity};
+
+/// The host call of this name, among those that a module imports from `fabric`. None where there is
+/// none.
+pub fn call_named(name: &str) -> Option<HostCall>
+    ensures { result ≡ call_named name.now }
+{
+    match name {
+        "get_state" => Some(HostCall::GetState),
+        "put_state" => Some(HostCall::PutState),
+        "del_state" => Some(HostCall::DelState),
+        "range_state" => Some(HostCall::RangeState),
+        "get_arg" => Some(HostCall::GetArg),
+        "set_result" => Some(HostCall::SetResult),
+        _ => None,
+    }
+}
 
 /// Whether a function type is that of a host call, whose parameters and result are all i32.
 pub fn is_type_of_call(function_type: &FuncType, call: HostCall) -> bool

@@ -10,7 +10,7 @@ ghost use Rattle.wasm_typing.specs.Indices.{AreTypes};
 ghost use Rattle.wasm_typing.specs.Broken.{Broken};
 
 use crate::fault::ValidateFault;
-use crate::host_calls::is_type_of_call;
+use crate::host_calls::{call_named, is_type_of_call};
 use std::alloc::Global;
 use wasm_ast::{HostCall, Import, ImportKind, Module};
 
@@ -48,21 +48,6 @@ fn check_import(given: &Module, import: &Import) -> Result<HostCall, ValidateFau
     match call_named(import.name.as_str()) {
         Some(call) if is_type_of_call(function_type, call) => Ok(call),
         _ => Err(ValidateFault::Import),
-    }
-}
-
-// The call of a name.
-fn call_named(name: &str) -> Option<HostCall>
-    ensures { result ≡ call_named name.now }
-{
-    match name {
-        "get_state" => Some(HostCall::GetState),
-        "put_state" => Some(HostCall::PutState),
-        "del_state" => Some(HostCall::DelState),
-        "range_state" => Some(HostCall::RangeState),
-        "get_arg" => Some(HostCall::GetArg),
-        "set_result" => Some(HostCall::SetResult),
-        _ => None,
     }
 }
 

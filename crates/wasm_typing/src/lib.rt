@@ -30,5 +30,5 @@ mod shapes;
 mod variables;
 
 pub use fault::ValidateFault;
-pub use host_calls::is_type_of_call;
+pub use host_calls::{call_named, is_type_of_call};
 pub use sections::{Resolved, check_module};

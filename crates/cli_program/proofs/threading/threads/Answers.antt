@@ -12,11 +12,11 @@ use Rattle.seat_threads.specs.declared.refusal.SeatsRefusal.TheVariants as seats
 use Rattle.cli_program.specs.Seats.{RunsSeats, TellsReport}
 use Rattle.cli_program.proofs.threading.threads.Goals as goal
 
-pub returns-in_err-need_secrets : goal.returns-in_err-need_secrets
-returns-in_err-need_secrets g c =
+pub returns-in_err-need_seeds : goal.returns-in_err-need_seeds
+returns-in_err-need_seeds g c =
     let p = err_from_is_err_and c.from_residual.result c.from_residual.ensures.1 in
     let t = c.args.out.now in
-    let e = c.in_err-need_secrets.ensures in
+    let e = c.in_err-need_seeds.ensures in
     let genesis = c.args.genesis.now in
     let lacks = ap (λ (orgs : List (List ℕ)). list_any (lacks_seed genesis.rules.value genesis.signers.value) (take 1 orgs)) (sym c.deref.ensures.value)
     ∙ e.refused (ap Err e.only) in
@@ -24,14 +24,14 @@ returns-in_err-need_secrets g c =
       tells = tells_by t t _ (no_less t) e.silent;
       answers = inr ([], inl (lacks, ap Err e.only, refl), prints_none t);
       begins = λ broken. inl (nothing_same t);
-      kept = c.in_err-need_secrets.ensures.kept;
+      kept = c.in_err-need_seeds.ensures.kept;
     })
 
 pub returns-in-Ok-clause-answers : goal.returns-in-Ok-clause-answers
 returns-in-Ok-clause-answers g c =
     let genesis = c.args.genesis.now in
     let has = ap (λ (orgs : List (List ℕ)). list_any (lacks_seed genesis.rules.value genesis.signers.value) (take 1 orgs)) (sym c.deref.ensures.value)
-    ∙ c.in_ok-need_secrets.ensures.ok refl in
+    ∙ c.in_ok-need_seeds.ensures.ok refl in
     let r = c.in-Ok.report in
     let told = c.print_report in
     answers_by (TellsReport r) (RunsSeats genesis c.args.chaincode.now c.args.rounds) c.args.out.now told.new.out told.result
@@ -41,7 +41,7 @@ pub returns-in-Ok-clause-begins : goal.returns-in-Ok-clause-begins
 returns-in-Ok-clause-begins g c =
     let genesis = c.args.genesis.now in
     let has = ap (λ (orgs : List (List ℕ)). list_any (lacks_seed genesis.rules.value genesis.signers.value) (take 1 orgs)) (sym c.deref.ensures.value)
-    ∙ c.in_ok-need_secrets.ensures.ok refl in
+    ∙ c.in_ok-need_seeds.ensures.ok refl in
     let r = c.in-Ok.report in
     let told = c.print_report in
     begins_by (IsTextOf (TellsReport r)) (IsTextOf (RunsSeats genesis c.args.chaincode.now c.args.rounds)) c.args.out.now told.new.out told.result
@@ -51,7 +51,7 @@ pub returns-in-Err-NoPlace-clause-answers : goal.returns-in-Err-NoPlace-clause-a
 returns-in-Err-NoPlace-clause-answers g c =
     let genesis = c.args.genesis.now in
     let has = ap (λ (orgs : List (List ℕ)). list_any (lacks_seed genesis.rules.value genesis.signers.value) (take 1 orgs)) (sym c.deref.ensures.value)
-    ∙ c.in_ok-need_secrets.ensures.ok refl in
+    ∙ c.in_ok-need_seeds.ensures.ok refl in
     let a = c.in-Err-NoPlace in
     let task = task_of genesis c.args.chaincode.now c.args.rounds in
     let why = subst (λ (e : SeatsRefusal). IsSeatsRefused task genesis.seats e) a.field-0-is a.ensures.refused in
@@ -61,7 +61,7 @@ pub returns-in-Err-NotEntered-clause-answers : goal.returns-in-Err-NotEntered-cl
 returns-in-Err-NotEntered-clause-answers g c =
     let genesis = c.args.genesis.now in
     let has = ap (λ (orgs : List (List ℕ)). list_any (lacks_seed genesis.rules.value genesis.signers.value) (take 1 orgs)) (sym c.deref.ensures.value)
-    ∙ c.in_ok-need_secrets.ensures.ok refl in
+    ∙ c.in_ok-need_seeds.ensures.ok refl in
     let a = c.in-Err-NotEntered in
     let task = task_of genesis c.args.chaincode.now c.args.rounds in
     let why = subst (λ (e : SeatsRefusal). IsSeatsRefused task genesis.seats e) a.field-0-is a.ensures.refused in
@@ -77,13 +77,13 @@ pub returns-in-Err-NotEntered-clause-begins : goal.returns-in-Err-NotEntered-cla
 returns-in-Err-NotEntered-clause-begins g c = λ broken. inl (nothing_same c.args.out.now)
 
 pub returns-in-Ok-clause-kept : goal.returns-in-Ok-clause-kept
-returns-in-Ok-clause-kept g c = c.in_ok-need_secrets.ensures.kept
+returns-in-Ok-clause-kept g c = c.in_ok-need_seeds.ensures.kept
 
 pub returns-in-Err-Memory-clause-kept : goal.returns-in-Err-Memory-clause-kept
-returns-in-Err-Memory-clause-kept g c = c.in_ok-need_secrets.ensures.kept
+returns-in-Err-Memory-clause-kept g c = c.in_ok-need_seeds.ensures.kept
 
 pub returns-in-Err-NoPlace-clause-kept : goal.returns-in-Err-NoPlace-clause-kept
-returns-in-Err-NoPlace-clause-kept g c = c.in_ok-need_secrets.ensures.kept
+returns-in-Err-NoPlace-clause-kept g c = c.in_ok-need_seeds.ensures.kept
 
 pub returns-in-Err-NotEntered-clause-kept : goal.returns-in-Err-NotEntered-clause-kept
-returns-in-Err-NotEntered-clause-kept g c = c.in_ok-need_secrets.ensures.kept
+returns-in-Err-NotEntered-clause-kept g c = c.in_ok-need_seeds.ensures.kept

@@ -18,6 +18,6 @@ returns-then-is_strange-clause-keys g c =
 
 pub returns-clause-keys : goal.returns-clause-keys
 returns-clause-keys g c =
-    cannot c.args.genesis.now c.args.org.now (read_chain c.args.follower.now) c.args.out.now c.args.out.now false failure.NoSecret []
+    cannot c.args.genesis.now c.args.org.now (read_chain c.args.follower.now) c.args.out.now c.args.out.now false failure.NoSeed []
     (sym c.in_ok-is_able.ensures.able ∙ c.if-is_able.false) (sym c.in_ok-is_able.ensures.strange ∙ c.if-is_strange.false) (refl, refl)
     (prints_none c.args.out.now)

@@ -13,10 +13,10 @@ use Rattle.cli_session.proofs.Stored.{asked_behind, asked_kept}
 use Rattle.cli_session.proofs.Whole.{with_secrets}
 use Rattle.cli_session.proofs.session.run.Goals as goal
 
-pub returns-in_err-need_secrets : goal.returns-in_err-need_secrets
-returns-in_err-need_secrets g c =
+pub returns-in_err-need_seeds : goal.returns-in_err-need_seeds
+returns-in_err-need_seeds g c =
     let p = err_from_is_err_and c.from_residual.result c.from_residual.ensures.1 in
-    let e = c.in_err-need_secrets.ensures in
+    let e = c.in_err-need_seeds.ensures in
     let lacks = lacks_seed c.args.genesis.now.rules.value c.args.genesis.now.signers.value in
     let lack = subst (λ (orgs : List (List ℕ)). list_any lacks orgs ≡ true) c.deref.ensures.value (e.refused (ap Err e.only)) in
     rw (p.1, p.2) (record {
@@ -24,26 +24,26 @@ returns-in_err-need_secrets g c =
       differs = tt;
       answers = inr ([], inr (lack, ap Err e.only, refl), prints_none c.args.out.now);
       begins = λ broken. inl (nothing_same c.args.out.now);
-      kept = λ none. c.in_err-need_secrets.ensures.kept;
-      others = asked_kept g.F.Files.is_known c.args.names.now.store (g.F.Files.bytes c.args.files.now) (g.F.Files.bytes c.need_secrets.new.files)
-          c.in_err-need_secrets.ensures.kept;
+      kept = λ none. c.in_err-need_seeds.ensures.kept;
+      others = asked_kept g.F.Files.is_known c.args.names.now.store (g.F.Files.bytes c.args.files.now) (g.F.Files.bytes c.need_seeds.new.files)
+          c.in_err-need_seeds.ensures.kept;
     })
 
 pub returns-in_default-clause-others : goal.returns-in_default-clause-others
 returns-in_default-clause-others g c =
     asked_kept g.F.Files.is_known c.args.names.now.store (g.F.Files.bytes c.args.files.now) (g.F.Files.bytes c.explain_trouble.new.files)
-    (c.explain_trouble.ensures.kept ∙ c.open.ensures.kept ∙ c.need_secrets.ensures.kept)
+    (c.explain_trouble.ensures.kept ∙ c.open.ensures.kept ∙ c.need_seeds.ensures.kept)
 
 pub returns-in_err-lines-clause-others : goal.returns-in_err-lines-clause-others
 returns-in_err-lines-clause-others g c =
     asked_kept g.F.Files.is_known c.args.names.now.store (g.F.Files.bytes c.args.files.now) (g.F.Files.bytes c.open.new.self)
-    (c.open.ensures.kept ∙ c.need_secrets.ensures.kept)
+    (c.open.ensures.kept ∙ c.need_seeds.ensures.kept)
 
 pub returns-clause-others : goal.returns-clause-others
 returns-clause-others g c =
     let bytes = g.F.Files.bytes in
     asked_behind g.F.Files.is_known c.args.names.now.store (bytes c.args.files.now) (bytes c.open.new.self) (bytes c.run_read.new.files)
-    (c.open.ensures.kept ∙ c.need_secrets.ensures.kept) c.run_read.ensures.others
+    (c.open.ensures.kept ∙ c.need_seeds.ensures.kept) c.run_read.ensures.others
 
 pub returns-clause-answers : goal.returns-clause-answers
 returns-clause-answers g c =
@@ -53,8 +53,8 @@ returns-clause-answers g c =
     let name = c.args.names.now.events.now in
     let held = g.F.Files.bytes c.args.files.now name in
     let stored = HoldsAsked g.F.Files.is_known (g.F.Files.bytes c.run_read.new.files) (option_map (λ s. s.now) c.args.names.now.store) in
-    let same = ap (λ x. g.F.Reader.Read.remaining x) r.inner ∙ c.in-Some.ensures.read ∙ ap (λ f. g.F.Files.bytes f name) c.in_ok-need_secrets.ensures.unchanged in
-    let none = subst (λ (orgs : List (List ℕ)). list_any lacks orgs ≡ false) c.deref.ensures.value (c.in_ok-need_secrets.ensures.ok refl) in
+    let same = ap (λ x. g.F.Reader.Read.remaining x) r.inner ∙ c.in-Some.ensures.read ∙ ap (λ f. g.F.Files.bytes f name) c.in_ok-need_seeds.ensures.unchanged in
+    let none = subst (λ (orgs : List (List ℕ)). list_any lacks orgs ≡ false) c.deref.ensures.value (c.in_ok-need_seeds.ensures.ok refl) in
     with_secrets genesis held stored c.args.out.now c.run_read.new.out c.run_read.result none
     (subst (λ (o : Option (List ℕ)). Answers (LinesComeTo genesis o stored) c.args.out.now c.run_read.new.out c.run_read.result)
     (fresh_reader _ _ _ held r.capacity r.empty same) c.run_read.ensures.comes)
@@ -66,20 +66,20 @@ returns-clause-begins g c =
     let lacks = lacks_seed genesis.rules.value genesis.signers.value in
     let name = c.args.names.now.events.now in
     let held = g.F.Files.bytes c.args.files.now name in
-    let same = ap (λ x. g.F.Reader.Read.remaining x) r.inner ∙ c.in-Some.ensures.read ∙ ap (λ f. g.F.Files.bytes f name) c.in_ok-need_secrets.ensures.unchanged in
-    let none = subst (λ (orgs : List (List ℕ)). list_any lacks orgs ≡ false) c.deref.ensures.value (c.in_ok-need_secrets.ensures.ok refl) in
+    let same = ap (λ x. g.F.Reader.Read.remaining x) r.inner ∙ c.in-Some.ensures.read ∙ ap (λ f. g.F.Files.bytes f name) c.in_ok-need_seeds.ensures.unchanged in
+    let none = subst (λ (orgs : List (List ℕ)). list_any lacks orgs ≡ false) c.deref.ensures.value (c.in_ok-need_seeds.ensures.ok refl) in
     begins_by (LinesBegin genesis held) (RunBegins genesis held) c.args.out.now c.run_read.new.out c.run_read.result (λ text is. (none, is))
     (subst (λ (o : Option (List ℕ)). Begins (LinesBegin genesis o) c.args.out.now c.run_read.new.out c.run_read.result)
     (fresh_reader _ _ _ held r.capacity r.empty same) c.run_read.ensures.begins)
 
 pub returns-in_default-clause-kept : goal.returns-in_default-clause-kept
-returns-in_default-clause-kept g c = λ none. c.explain_trouble.ensures.kept ∙ c.open.ensures.kept ∙ c.need_secrets.ensures.kept
+returns-in_default-clause-kept g c = λ none. c.explain_trouble.ensures.kept ∙ c.open.ensures.kept ∙ c.need_seeds.ensures.kept
 
 pub returns-in_err-lines-clause-kept : goal.returns-in_err-lines-clause-kept
-returns-in_err-lines-clause-kept g c = λ none. c.open.ensures.kept ∙ c.need_secrets.ensures.kept
+returns-in_err-lines-clause-kept g c = λ none. c.open.ensures.kept ∙ c.need_seeds.ensures.kept
 
 pub returns-clause-kept : goal.returns-clause-kept
-returns-clause-kept g c = λ none. c.run_read.ensures.kept none ∙ c.open.ensures.kept ∙ c.need_secrets.ensures.kept
+returns-clause-kept g c = λ none. c.run_read.ensures.kept none ∙ c.open.ensures.kept ∙ c.need_seeds.ensures.kept
 
 pub returns-clause-tells : goal.returns-clause-tells
 returns-clause-tells g c = c.run_read.ensures.tells

@@ -1,7 +1,7 @@
 use Rattle.std.proofs.Common.{is_some, option_map, ap, ◌∙◌}
 use Rattle.cli_lines.specs.Sealing.{lacks_seed}
 use Rattle.cli_lines.proofs.Found.{is_any}
-use Rattle.cli_lines.proofs.keys.need_secrets.Goals as goal
+use Rattle.cli_lines.proofs.keys.need_seeds.Goals as goal
 
 pub returns-in-Some-clause-refused : goal.returns-in-Some-clause-refused
 returns-in-Some-clause-refused g c e =

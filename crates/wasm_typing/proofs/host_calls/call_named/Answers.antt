@@ -3,7 +3,7 @@ use Rattle.std.specs.Cmp.Lexicographic.{pointwise, same_text}
 use Rattle.wasm_ast.specs.declared.host_call.HostCall.{HostCall}
 use Rattle.wasm_ast.specs.declared.host_call.HostCall.TheVariants.{GetState, PutState, DelState, RangeState, GetArg, SetResult}
 use Rattle.wasm_typing.specs.HostCalls.{name_of, named_in}
-use Rattle.wasm_typing.proofs.imports.call_named.Goals as goal
+use Rattle.wasm_typing.proofs.host_calls.call_named.Goals as goal
 
 passed : (call : HostCall) (calls : List HostCall) (name : List ℕ) → name ≢ name_of call → None ≡ named_in calls name → None ≡ named_in (call ∷ calls) name
 passed call calls name other rest =
