@@ -86,17 +86,12 @@ fn add_envelopes(alloc: Global, envelopes: &mut Vec<Envelope>, count: usize) -> 
     Some(())
 }
 
-fn envelopes(alloc: Global, count: usize) -> Option<Vec<Envelope>> {
-    let mut envelopes = Vec::new(alloc);
-    add_envelopes(alloc, &mut envelopes, count)?;
-    Some(envelopes)
-}
-
 fn is_first_of_four(answers: &[bool]) -> bool {
-    answers
-        .iter()
-        .enumerate()
-        .all(|(place, answer)| *answer == (place % 4 == 0))
+    let mut is_each = true;
+    for (place, answer) in answers.iter().enumerate() {
+        is_each &= *answer == (place % 4 == 0);
+    }
+    is_each
 }
 
 /// Nothing is done round a check.
@@ -234,7 +229,8 @@ fn are_right<R: Threads + Sync>(
 }
 
 fn workers_are_right<R: Threads + Sync>(rt: &R, alloc: Global, rules: &Rules) -> Option<bool> {
-    let all = envelopes(alloc, 33)?;
+    let mut all = Vec::new(alloc);
+    add_envelopes(alloc, &mut all, 33)?;
     are_right(rt, alloc, rules, &Snapshot::empty(alloc), &all).ok()
 }
 

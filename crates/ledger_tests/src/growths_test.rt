@@ -9,7 +9,7 @@ ghost use Rattle.peer_node.specs.Seats.{peer_of};
 ghost use Rattle.peer_node.specs.Writers.{peer_of_writer};
 
 use crate::endorsement_policy_test::Open;
-use crate::peer_node_test::commit;
+use crate::peer_node_test::tell;
 use crate::samples::{GET_PUT_A, Setup, opening};
 use committer::{CommitRefusal, commit_on};
 use endorsement_policy::{Workers, check_all};
@@ -56,8 +56,10 @@ fn modules_are_read_again(rt: HostRuntime) {
 /// `a`, and puts one key.
 fn is_simulated(alloc: Global, setup: &Setup) -> Result<bool, SimRefusal> {
     let (book, proposal) = (&setup.genesis.book, setup.call.payload.proposal());
-    let payload = simulate(alloc, book, &Snapshot::empty(alloc), proposal)?;
-    Ok(is_get_put(&payload))
+    match simulate(alloc, book, &Snapshot::empty(alloc), proposal) {
+        Ok(payload) => Ok(is_get_put(&payload)),
+        Err(refusal) => Err(refusal),
+    }
 }
 
 fn is_get_put(payload: &Payload) -> bool {
@@ -110,13 +112,17 @@ fn envelopes_are_checked_again(rt: HostRuntime) -> Result<(), Fail> {
     Ok(())
 }
 
-/// Puts a block of one endorsed transaction behind the empty chain. Whether it is VALID there.
-fn is_committed(alloc: Global, block: Block) -> Result<bool, CommitRefusal> {
+/// Puts a copy of a block of one endorsed transaction behind the empty chain. Whether it is VALID
+/// there.
+fn is_committed(alloc: Global, block: &Block) -> Result<bool, CommitRefusal> {
     if block.envelopes.as_slice().len() != 1 {
         return Ok(false);
     }
-    let next = commit_on(alloc, &Snapshot::empty(alloc), block, &[true])?;
-    Ok(is_valid_alone(&next))
+    let copy = block.clone()?;
+    match commit_on(alloc, &Snapshot::empty(alloc), copy, &[true]) {
+        Ok(next) => Ok(is_valid_alone(&next)),
+        Err(refusal) => Err(refusal),
+    }
 }
 
 /// Whether a chain has one block, with one VALID transaction.
@@ -126,29 +132,21 @@ fn is_valid_alone(snapshot: &Snapshot) -> bool {
 }
 
 /// Whether the first block of a setup's chain is committed so, again where that was refused memory.
-fn is_first_committed(alloc: Global, setup: &Setup) -> Result<bool, Fail> {
-    let first = is_committed(alloc, first_block(setup)?);
-    Ok(
-        first == Ok(true)
-            || first == Err(CommitRefusal::Memory)
-                && is_committed(alloc, first_block(setup)?) == Ok(true),
-    )
+fn is_first_committed(alloc: Global, setup: &Setup) -> bool {
+    let [block] = setup.chain.blocks() else {
+        return false;
+    };
+    let first = is_committed(alloc, block);
+    first == Ok(true)
+        || first == Err(CommitRefusal::Memory) && is_committed(alloc, block) == Ok(true)
 }
 
 #[test]
 fn blocks_are_committed_again(rt: HostRuntime) -> Result<(), Fail> {
     let alloc = rt.alloc();
     let is_committed = is_first_committed(alloc, &opening(alloc, GET_PUT_A, 1)?);
-    assert!(rt; is_committed?);
+    assert!(rt; is_committed);
     Ok(())
-}
-
-/// The first block of a setup's chain.
-fn first_block(setup: &Setup) -> Result<Block, Fail> {
-    match setup.chain.blocks() {
-        [first] => Ok(first.clone()?),
-        _ => Err("a block".into()),
-    }
 }
 
 /// The steps by which a seat endorses a call, and by which one with an endorsement comes to the
@@ -176,20 +174,20 @@ fn is_reply(place: usize, reply: &Reply) -> bool {
     )
 }
 
-/// What a system replies to an event.
-fn replied(system: &mut System, event: &Event) -> Result<Reply, AllocError> {
-    system.step(event.clone()?)
+/// Whether a system replies so to the event at a place.
+fn is_replied_once(system: &mut System, place: usize, event: &Event) -> Result<bool, AllocError> {
+    let copy = event.clone()?;
+    match system.step(copy) {
+        Ok(reply) => Ok(is_reply(place, &reply)),
+        Err(refused) => Err(refused),
+    }
 }
 
-/// Whether a system replies to the event at a place, again where it was refused memory.
+/// Whether a system replies so, again where it was refused memory.
 fn is_replied(system: &mut System, place: usize, event: &Event) -> bool {
-    let reply = match replied(system, event) {
-        Ok(reply) => Ok(reply),
-        Err(_) => replied(system, event),
-    };
-    match reply {
-        Ok(reply) => is_reply(place, &reply),
-        Err(_) => false,
+    match is_replied_once(system, place, event) {
+        Ok(is_replied) => is_replied,
+        Err(_) => is_replied_once(system, place, event) == Ok(true),
     }
 }
 
@@ -249,17 +247,9 @@ fn is_told<R: Threads + Wait + Sync>(
 ) -> bool
     requires { peer_of seat.old ≡ peer_of_writer writer.old }
 {
-    let told = match commit(rt, writer, &setup.chain, 1) {
-        Some(told) => Some(told),
-        None => commit(rt, writer, &setup.chain, 1),
-    };
-    match told {
-        Some(told) => {
-            seat.learn(&told);
-            is_valid_alone(writer.newest()) && is_read(seat, &setup.call)
-        }
-        None => false,
-    }
+    let chain = &setup.chain;
+    let is_told = tell(rt, writer, chain, 1, seat) || tell(rt, writer, chain, 1, seat);
+    is_told && is_valid_alone(writer.newest()) && is_read(seat, &setup.call)
 }
 
 /// Whether a seat reads what a transaction puts, again where it was refused memory.

@@ -1,6 +1,6 @@
 //! Peers on threads: seats that were told of blocks, a payload that goes stale, and refused blocks.
 
-ghost use Rattle.std.specs.Prelude.{◌≡◌, Some};
+ghost use Rattle.std.specs.Prelude.{◌≡◌, IfSome};
 ghost use Rattle.snapshot_cell.specs.Seats.{cell_of_told};
 ghost use Rattle.peer_node.specs.Seats.{peer_of};
 ghost use Rattle.peer_node.specs.Writers.{peer_of_writer};
@@ -21,7 +21,7 @@ pub fn commit<R: Threads + Wait + Sync>(
     chain: &Orderer,
     number: u32,
 ) -> Option<Told>
-    ensures told { (t : Told) → result ≡ Some t → cell_of_told t ≡ peer_of_writer writer.old }
+    ensures told { IfSome result (λ t. cell_of_told t ≡ peer_of_writer writer.old) }
     ensures same { peer_of_writer writer.new ≡ peer_of_writer writer.old }
 {
     let block = chain.blocks_from(number).first()?;
@@ -42,7 +42,7 @@ fn place(seat: &mut Seat, key: &Key) -> Option<(u32, u32)>
 }
 
 /// Commits the block of a number, and tells a seat of it. Whether that was done.
-fn tell<R: Threads + Wait + Sync>(
+pub fn tell<R: Threads + Wait + Sync>(
     rt: &R,
     writer: &mut PeerWriter,
     chain: &Orderer,

@@ -140,16 +140,10 @@ fn comes_back<R: Threads + Wait + Sync>(
     Ok(is_back(rt, alloc, setup)? && is_refused(rt, alloc, setup)?)
 }
 
-/// The same of a peer with five blocks.
-fn comes_back_with_five<R: Threads + Wait + Sync>(rt: &R, alloc: Global) -> Result<bool, Fail> {
-    let setup = opening(alloc, GET_PUT_A, 5)?;
-    comes_back(rt, alloc, &setup)
-}
-
 #[test]
 fn a_peer_comes_back_with_its_store(rt: HostRuntime) -> Result<(), Fail> {
     let alloc = rt.alloc();
-    let comes_back = comes_back_with_five(&rt, alloc)?;
-    assert!(rt; comes_back);
+    let comes_back = comes_back(&rt, alloc, &opening(alloc, GET_PUT_A, 5)?);
+    assert!(rt; comes_back?);
     Ok(())
 }

@@ -19,11 +19,7 @@ pub const ENVELOPE: [u8; 106] =
 pub const PROPOSAL: usize = 22;
 
 /// The transaction of these bytes.
-pub fn envelope(alloc: Global) -> Result<Envelope, Fail> {
-    decoded(alloc, &ENVELOPE)
-}
-
-fn decoded(alloc: Global, bytes: &[u8]) -> Result<Envelope, Fail> {
+pub fn decoded(alloc: Global, bytes: &[u8]) -> Result<Envelope, Fail> {
     match decode_envelope(alloc, bytes) {
         Ok(envelope) => Ok(envelope),
         Err(_) => Err("a transaction".into()),
@@ -106,23 +102,18 @@ pub struct Setup {
     pub call: Envelope,
 }
 
-/// A setup with what a text spells and a chain of so many blocks.
+/// A setup with what a text spells and a chain of so many blocks: block 4 puts `a`, those of other
+/// even numbers `b`, and the rest `k`.
 pub fn opening(alloc: Global, text: &str, count: u8) -> Result<Setup, Fail> {
     let call = transaction(alloc, 50, b'k')?;
-    let chain = chain(alloc, count)?;
+    let mut chain = Orderer::new(alloc, 1, 1000, 1000, false);
+    order(alloc, &mut chain, count)?;
     let genesis = genesis(alloc, text)?;
     Ok(Setup {
         genesis,
         chain,
         call,
     })
-}
-
-/// A chain of so many blocks: block 4 puts `a`, those of other even numbers `b`, and the rest `k`.
-pub fn chain(alloc: Global, count: u8) -> Result<Orderer, Fail> {
-    let mut orderer = Orderer::new(alloc, 1, 1000, 1000, false);
-    order(alloc, &mut orderer, count)?;
-    Ok(orderer)
 }
 
 /// Orders the transactions of such a chain.

@@ -1,6 +1,6 @@
 //! The bytes of a part of a transaction.
 
-use crate::samples::{ENVELOPE, PROPOSAL, envelope};
+use crate::samples::{ENVELOPE, PROPOSAL, decoded};
 use fab_types::Envelope;
 use std::alloc::{AllocError, Global};
 use std::test::Fail;
@@ -16,7 +16,7 @@ fn is_in_front(alloc: Global, envelope: &Envelope) -> Result<bool, AllocError> {
 #[test]
 fn a_proposal_is_the_front_of_its_envelope(rt: HostRuntime) -> Result<(), Fail> {
     let alloc = rt.alloc();
-    let is_in_front = is_in_front(alloc, &envelope(alloc)?)?;
+    let is_in_front = is_in_front(alloc, &decoded(alloc, &ENVELOPE)?)?;
     assert!(rt; is_in_front && WireFault::Memory.number() == 9);
     Ok(())
 }
