@@ -12,7 +12,7 @@ use Rattle.cli_words.specs.declared.task.Work.TheVariants as work
 use Rattle.cli_words.specs.declared.task.WordsFault.{WordsFault}
 use Rattle.cli_words.specs.declared.task.WordsFault.TheVariants as words
 use Rattle.cli_program.specs.Ends.{ComesOf, PrintsLast, failure_status}
-use Rattle.cli_query.specs.Printed.{Queries}
+use Rattle.cli_roles.specs.Querying.{Queries}
 use Rattle.cli_roles.specs.Committing.{Commits}
 use Rattle.cli_roles.specs.Endorsing.{Endorses, endorser}
 use Rattle.cli_show.specs.Answers.{States}

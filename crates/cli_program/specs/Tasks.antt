@@ -15,7 +15,7 @@ use Rattle.cli_roles.specs.declared.log_genesis.LogGenesis.{LogGenesis}
 use Rattle.cli_roles.specs.Orders.{Orders, OrdersBegin}
 use Rattle.cli_roles.specs.Committing.{Commits, CommitsBegin}
 use Rattle.cli_roles.specs.Endorsing.{Endorses, EndorsesBegin, endorser}
-use Rattle.cli_query.specs.Printed.{Queries, QueriesBegin}
+use Rattle.cli_roles.specs.Querying.{Queries, QueriesBegin}
 use Rattle.cli_show.specs.Modules.{Checks, Digests}
 use Rattle.cli_show.specs.Simulations.{Simulates}
 use Rattle.cli_show.specs.declared.showing.Part.{Part}

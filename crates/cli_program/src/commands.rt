@@ -15,8 +15,7 @@ use crate::public::public;
 use crate::threading::threads;
 use crate::verdict::answer_of;
 use cli_lines::{Failure, Files, Location, Printer, explain_failure};
-use cli_query::query;
-use cli_roles::{Endorsing, LogGenesis, commit, endorse};
+use cli_roles::{Endorsing, LogGenesis, commit, endorse, query};
 use cli_session::{RunFiles, run};
 use cli_show::{
     Asked, Part, Shown, Simulated, Span, audit, check, digest, marks, show, simulate, state, trace,

@@ -4,8 +4,8 @@
 //!
 //! [`program`] takes the words of the command line, the files by [`Files`], and where lines are
 //! printed. [`Disk`] is the files of a machine, and [`Terminal`] tells how far a replay is.
-//! `threads` and `public` are here; the other commands do their work in `cli_session`, `cli_show`,
-//! `cli_roles` and `cli_query`.
+//! `threads` and `public` are here; the other commands do their work in `cli_session`, `cli_show`
+//! and `cli_roles`.
 #![tactic(auto)]
 
 mod commands;

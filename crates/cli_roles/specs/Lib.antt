@@ -10,3 +10,4 @@ pub mod Orders
 pub mod Asking
 pub mod Committing
 pub mod Endorsing
+pub mod Querying

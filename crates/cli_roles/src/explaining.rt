@@ -76,7 +76,7 @@ pub(crate) fn explain_stranger<F: Files>(alloc: Global, files: &mut F, org: &Org
 }
 
 /// Says why a store, which is read alone or written too, ends a filter.
-pub fn explain_store<F: Files>(
+pub(crate) fn explain_store<F: Files>(
     alloc: Global,
     files: &mut F,
     name: &str,

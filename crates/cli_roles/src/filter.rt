@@ -13,7 +13,7 @@ use std::alloc::Global;
 use std::io::{Read, Write};
 
 /// Prints why a filter ends.
-pub fn end<W: Write>(refusal: StoreRefusal, out: &mut Printer<'_, W>) -> Failure
+pub(crate) fn end<W: Write>(refusal: StoreRefusal, out: &mut Printer<'_, W>) -> Failure
     ensures more { IsMore out.old out.new }
     ensures says { Says out.old out.new result }
     ensures ends { IsEndedBy (store_text refusal) out.old out.new result }
@@ -45,7 +45,7 @@ fn hand_on<R: Read + Drop, W: Write>(
 /// Reads the next line, behind what was printed: where no further line is at hand, that is handed
 /// on first, so that nobody waits for it who has to send the next line. Answers whether there is
 /// one. Says why the input was not read, if it was not.
-pub fn next_line<F: Files, R: Read + Drop, W: Write>(
+pub(crate) fn next_line<F: Files, R: Read + Drop, W: Write>(
     alloc: Global,
     files: &mut F,
     lines: &mut InputLines<R>,

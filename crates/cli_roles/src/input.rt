@@ -18,7 +18,7 @@ const NOT_READ: &str = "it cannot be read to its end";
 /// A reader of lines. Contracts see the line that was read last, the bytes behind it, where they
 /// are known, and those of them that were read with it.
 #[derive(Drop)]
-pub struct InputLines<R: Read> {
+pub(crate) struct InputLines<R: Read> {
     input: BufReader<R>,
     line: Vec<u8>,
 }

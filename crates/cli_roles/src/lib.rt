@@ -1,17 +1,18 @@
-//! The commands `order`, `commit` and `endorse` of the ledger's program: filters over lines, which
-//! an organisation runs on a machine of its own beside a replicated log.
+//! The commands `order`, `commit`, `endorse` and `query` of the ledger's program: filters over
+//! lines, which an organisation runs on a machine of its own beside a replicated log.
 //!
-//! [`order`] cuts the blocks of a log, [`commit`] puts blocks at the end of a store, and
-//! [`endorse`] endorses proposals on the state after a store that grows. Each answers a line at
-//! once, and hands on what it printed where no further line is at hand. What stands behind the last
-//! line's end is not read: it may be a part of a line.
+//! [`order`] cuts the blocks of a log, [`commit`] puts blocks at the end of a store, [`endorse`]
+//! endorses proposals on the state after a store that grows, and [`query`] answers questions about
+//! such a store's chain and the state after it, for which it needs no organisation. Each answers a
+//! line at once, and hands on what it printed where no further line is at hand. What stands behind
+//! the last line's end is not read: it may be a part of a line.
 //!
 //! Who has a public key signs which blocks it has: `endorse` makes the line, `order` hands it on,
 //! and `commit`, which has the chain, tells where another one is meant.
 //!
-//! [`InputLines`] are the lines of such a filter, [`next_line`] reads one, and [`end`] says why it
-//! ends before them. The state of each is a type with a contract: `Replica` of `log_orderer`,
-//! `StoredChain` and `StoreFollower` of `log_store`.
+//! The state of each is a type with a contract: `Replica` of `log_orderer`, `StoredChain`,
+//! `StoreFollower` and `StoreReader` of `log_store`. Questions and answers are those of
+//! `json_questions`.
 #![tactic(auto)]
 
 mod asking;
@@ -23,13 +24,12 @@ mod input;
 mod log_genesis;
 mod marks;
 mod ordering;
+mod querying;
 mod seen;
 mod words;
 
 pub use committing::commit;
 pub use endorsing::{Endorsing, endorse};
-pub use explaining::explain_store;
-pub use filter::{end, next_line};
-pub use input::InputLines;
 pub use log_genesis::LogGenesis;
 pub use ordering::order;
+pub use querying::query;

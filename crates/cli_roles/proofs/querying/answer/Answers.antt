@@ -2,8 +2,8 @@ use Rattle.std.proofs.Common.{refl, string_bytes}
 use Rattle.cli_lines.specs.Texts.{line}
 use Rattle.cli_lines.proofs.Printing.{nothing_same, on_err}
 use Rattle.cli_roles.proofs.Filters.{prints_so}
-use Rattle.cli_query.specs.Printed.{IsPrinted}
-use Rattle.cli_query.proofs.querying.answer.Goals as goal
+use Rattle.cli_roles.specs.Querying.{IsPrinted}
+use Rattle.cli_roles.proofs.querying.answer.Goals as goal
 
 pub returns-clause-prints : goal.returns-clause-prints
 returns-clause-prints g c =

@@ -1,8 +1,8 @@
 use Rattle.std.proofs.Common.{◌≡◌, inl, inr, string_bytes}
 use Rattle.std.proofs.lemmas.Result.{IfOk-weaker}
 use Rattle.json_events.specs.declared.action.BadLine.TheVariants.{Memory, NoForm}
-use Rattle.cli_query.specs.Printed.{IsSaid}
-use Rattle.cli_query.proofs.querying.text_of.Goals as goal
+use Rattle.cli_roles.specs.Querying.{IsSaid}
+use Rattle.cli_roles.proofs.querying.text_of.Goals as goal
 
 other : NoForm ≡ Memory → ⊥
 other e = cc

@@ -6,10 +6,12 @@ ghost use Rattle.std.specs.Io.KnownBytes.{Keeps};
 ghost use Rattle.cli_lines.specs.Told.{Answers, Begins, BreaksOff, IsBrokenOff, PrintsNothing, Tells};
 ghost use Rattle.cli_roles.specs.Filters.{PrintsSo};
 ghost use Rattle.log_store.specs.Reading.{IsReadBy, bytes_read, store_bytes};
-ghost use Rattle.cli_query.specs.Printed.{IsPrinted, IsSaid, LinesBegin, Queries, QueriesBegin, QueriesLines, TakesLine};
+ghost use Rattle.cli_roles.specs.Querying.{IsPrinted, IsSaid, LinesBegin, Queries, QueriesBegin, QueriesLines, TakesLine};
 
+use crate::explaining::explain_store;
+use crate::filter::{end, next_line};
+use crate::input::InputLines;
 use cli_lines::{Access, Failure, Files, Location, Printer, explain_bad_line, explain_trouble};
-use cli_roles::{InputLines, end, explain_store, next_line};
 use endorsement_policy::Workers;
 use json_events::BadLine;
 use json_questions::{answer_line, read_question};

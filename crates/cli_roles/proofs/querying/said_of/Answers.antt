@@ -1,7 +1,7 @@
 use Rattle.std.proofs.Common.{IfOk, List, ℕ, inr, string_bytes, subst}
 use Rattle.std.proofs.lemmas.Result.{IfOk-weaker}
-use Rattle.cli_query.specs.Printed.{IsSaid}
-use Rattle.cli_query.proofs.querying.said_of.Goals as goal
+use Rattle.cli_roles.specs.Querying.{IsSaid}
+use Rattle.cli_roles.proofs.querying.said_of.Goals as goal
 
 pub returns-in-Ok : goal.returns-in-Ok
 returns-in-Ok c =

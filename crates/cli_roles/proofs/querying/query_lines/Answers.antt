@@ -12,8 +12,8 @@ use Rattle.cli_lines.proofs.Printing.{nothing_same}
 use Rattle.cli_roles.specs.Input.{Input, IsNext}
 use Rattle.cli_roles.proofs.Filters.{HasDone, none_done, one_done, done_kept, all_done, comes_by, line_ended, begins_between, begins_lines, tells_then}
 use Rattle.cli_roles.proofs.Stores.{read_by, stops_by}
-use Rattle.cli_query.specs.Printed.{DoesLine, EndsLine, TakesLine}
-use Rattle.cli_query.proofs.querying.query_lines.Goals as goal
+use Rattle.cli_roles.specs.Querying.{DoesLine, EndsLine, TakesLine}
+use Rattle.cli_roles.proofs.querying.query_lines.Goals as goal
 
 -- what is known of the store stayed so
 taken_by : {A : Type 0} (g : Genesis) (a b : Option Bytes) (n : ℕ) (old l new : Bytes) (t u : Told) (r : Result A Failure) → Keeps a b

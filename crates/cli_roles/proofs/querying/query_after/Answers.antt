@@ -3,8 +3,8 @@ use Rattle.log_store.specs.Reading.{IsReadBy, store_bytes}
 use Rattle.cli_lines.specs.Told.{Answers, Begins}
 use Rattle.cli_lines.proofs.Answering.{begins_nothing}
 use Rattle.cli_lines.proofs.Printing.{nothing_same}
-use Rattle.cli_query.specs.Printed.{LinesBegin, Queries, QueriesBegin, QueriesLines}
-use Rattle.cli_query.proofs.querying.query_after.Goals as goal
+use Rattle.cli_roles.specs.Querying.{LinesBegin, Queries, QueriesBegin, QueriesLines}
+use Rattle.cli_roles.proofs.querying.query_after.Goals as goal
 
 pub query_lines-requires : goal.query_lines-requires
 query_lines-requires g c =

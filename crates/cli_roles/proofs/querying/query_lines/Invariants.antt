@@ -2,8 +2,8 @@ use Rattle.std.proofs.Common.{◌≡◌}
 use Rattle.std.specs.Io.KnownBytes.{Keeps}
 use Rattle.log_store.specs.Reading.{IsReadBy, bytes_read, store_bytes}
 use Rattle.cli_roles.proofs.Filters.{HasDone}
-use Rattle.cli_query.specs.Printed.{DoesLine}
-use Rattle.cli_query.proofs.querying.query_lines.Given as goal
+use Rattle.cli_roles.specs.Querying.{DoesLine}
+use Rattle.cli_roles.proofs.querying.query_lines.Given as goal
 
 abbrev pub invariant-loop-number : goal.invariant-loop-number
 invariant-loop-number g l =

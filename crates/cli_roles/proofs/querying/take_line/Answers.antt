@@ -12,8 +12,8 @@ use Rattle.cli_roles.specs.Filters.{IsEndedBy, PrintsSo}
 use Rattle.cli_roles.specs.Stores.{StopsAtStore}
 use Rattle.cli_roles.proofs.Filters.{done_so, ended_by, so_behind}
 use Rattle.cli_roles.proofs.Stores.{first_of, read_on}
-use Rattle.cli_query.specs.Printed.{DoesLine, EndsLine, IsPrinted}
-use Rattle.cli_query.proofs.querying.take_line.Goals as goal
+use Rattle.cli_roles.specs.Querying.{DoesLine, EndsLine, IsPrinted}
+use Rattle.cli_roles.proofs.querying.take_line.Goals as goal
 
 broken_err : {A : Type 0} (r : Result A Failure) (P : Type 0) → OnErr r P → BreaksOff r → P
 broken_err (Ok a) P h broken = absurd broken

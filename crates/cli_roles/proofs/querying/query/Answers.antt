@@ -4,8 +4,8 @@ use Rattle.cli_lines.specs.Told.{Answers, Begins}
 use Rattle.cli_lines.proofs.Answering.{begins_nothing}
 use Rattle.cli_lines.proofs.Printing.{nothing_same}
 use Rattle.cli_lines.proofs.Silence.{no_less, tells_by}
-use Rattle.cli_query.specs.Printed.{Queries, QueriesBegin}
-use Rattle.cli_query.proofs.querying.query.Goals as goal
+use Rattle.cli_roles.specs.Querying.{Queries, QueriesBegin}
+use Rattle.cli_roles.proofs.querying.query.Goals as goal
 
 pub returns-in_err-lines-clause-tells : goal.returns-in_err-lines-clause-tells
 returns-in_err-lines-clause-tells g c =
