@@ -59,6 +59,32 @@ impl<T: Drop> From<AllocFailed<T>> for ModuleRefusal {
     }
 }
 
+impl From<DecodeFault> for ModuleRefusal {
+    ghost use Rattle.wasm_file.specs.Modules.{decode_refusal};
+
+    ghost from_gives = { λ e r. r ≡ decode_refusal e };
+
+    fn from(fault: DecodeFault) -> ModuleRefusal {
+        match fault {
+            DecodeFault::Memory => ModuleRefusal::Memory,
+            DecodeFault::Malformed(kind, offset) => ModuleRefusal::Malformed(kind, offset),
+        }
+    }
+}
+
+impl From<ValidateFault> for ModuleRefusal {
+    ghost use Rattle.wasm_file.specs.Modules.{IsOfRule};
+
+    ghost from_gives = { IsOfRule };
+
+    fn from(fault: ValidateFault) -> ModuleRefusal {
+        match fault {
+            ValidateFault::Memory => ModuleRefusal::Memory,
+            fault => ModuleRefusal::Invalid(fault),
+        }
+    }
+}
+
 /// The valid module of a profile that the bytes spell.
 ///
 /// Refused where they spell none of the profile, where it is not valid, and for want of memory.
@@ -70,18 +96,8 @@ pub fn valid_module(
     ensures ok { IfOk result (λ v. IsModule profile v bytes.now × IsValid v) }
     ensures refused { IfErr result (λ r. NoModule profile bytes.now r) }
 {
-    let module = match decode_as(alloc, bytes, profile) {
-        Ok(module) => module,
-        Err(DecodeFault::Memory) => return Err(ModuleRefusal::Memory),
-        Err(DecodeFault::Malformed(kind, offset)) => return Err(ModuleRefusal::Malformed(
-            kind, offset,
-        )),
-    };
-    match validate(alloc, module) {
-        Ok(valid) => Ok(valid),
-        Err(ValidateFault::Memory) => Err(ModuleRefusal::Memory),
-        Err(fault) => Err(ModuleRefusal::Invalid(fault)),
-    }
+    let module = decode_as(alloc, bytes, profile)?;
+    Ok(validate(alloc, module)?)
 }
 
 /// How many functions the valid module of a profile that the bytes spell defines. Imports are not
