@@ -1,17 +1,15 @@
-"""Proves crates side by side: each as soon as the libraries that it stands on are proved, the longest chain first.
+"""Proves the crates that a program stands on, and builds it, by the merge gate's own command on a copy of their files.
 
-Two runs of `rt` don't work over the same crates at once. `rt all`, which works on several, reads all sources on one core
-before it begins, and takes crates in another order. So each worker has a copy of the sources, beside the repository, in
-which it proves one crate after another. What it proves is linked into the repository, and from there into the copy of
-who needs it.
+The gate builds libraries of statements alone, which crates above read in half the time that whole ones take, takes the
+longest chain of crates first, and gives a crate the cores that no other needs. What it proved stays beside the kit, so a
+run that was interrupted goes on where it was. Wrong bodies are not copied: the gate alone tries them.
 """
-import concurrent.futures
 import os
 import pathlib
+import re
 import shutil
 import subprocess
 import tempfile
-import threading
 from collections.abc import Callable
 from typing import TextIO
 
@@ -19,10 +17,8 @@ from typing import TextIO
 Libraries = dict[str, list[str]]
 # Tells of a crate whether it is proved, how many are so far, and of how many.
 Tell = Callable[[str, bool, int, int], None]
-# The folders of a crate's sources.
-PARTS = ["src", "specs", "proofs"]
-# What `rt` keeps of a crate: the library, and the work that a later check begins with.
-KEPT = ["rlib", "incremental"]
+# What the gate says of a crate.
+SAID = re.compile(r"rt: (\w+) (proved|NOT PROVED|is kept)\b")
 
 
 def libraries_of(root: pathlib.Path) -> Libraries:
@@ -43,117 +39,36 @@ def below(libraries: Libraries, crate: str) -> set[str]:
     return found
 
 
-def link_file(source: str, target: str) -> None:
-    """Gives a file a second name, or copies it where that can't be. `rt` replaces such a file, and changes none."""
-    try:
-        os.link(source, target)
-    except OSError:
-        shutil.copy2(source, target)
+def copy_sources(root: pathlib.Path, room: pathlib.Path, crates: set[str]) -> None:
+    """Copies what the gate reads of some crates, and makes the copy the top of a repository."""
+    room.joinpath(".git").mkdir()
+    shutil.copy2(root / "HANDLES", room)
+    lines = (root / "crates.txt").read_text().splitlines(keepends=True)
+    room.joinpath("crates.txt").write_text("".join(it for it in lines if it.partition(":")[0].partition(" ")[0] in crates))
+    for crate in crates:
+        shutil.copytree(root / "crates" / crate, room / "crates" / crate, ignore=shutil.ignore_patterns("out", "must-fail", "plants"))
 
 
-def link(source: pathlib.Path, target: pathlib.Path, crate: str) -> None:
-    """Puts what one tree keeps of a crate into another one. Each part is whole there, or missing."""
-    for part in KEPT:
-        kept = pathlib.Path("crates", crate, "out", part)
-        if (source / kept).is_dir():
-            new = (target / kept).with_suffix(".new")
-            shutil.rmtree(new, ignore_errors=True)
-            shutil.copytree(source / kept, new, copy_function=link_file)
-            shutil.rmtree(target / kept, ignore_errors=True)
-            new.rename(target / kept)
-
-
-class Proving:
-    """The crates that one crate stands on: which are left, and which are proved. Workers share it."""
-
-    def __init__(self, root: pathlib.Path, top: str, log: TextIO, tell: Tell):
-        self.root, self.log, self.tell = root, log, tell
-        self.libraries = libraries_of(root)
-        self.left = below(self.libraries, top)
-        self.count, self.failed, self.idle = len(self.left), False, 0
-        self.proved: set[str] = set()
-        self.turn = threading.Condition()
-        self.behind = self.chains(self.left)
-
-    def chains(self, crates: set[str]) -> dict[str, int]:
-        """For each crate, the lines of it and of the longest chain of crates that wait for it."""
-        behind: dict[str, int] = {}
-        for crate in sorted(crates, key=lambda it: -len(below(self.libraries, it))):
-            above = [behind[it] for it in behind if crate in self.libraries[it]]
-            files = [it for part in PARTS for it in (self.root / "crates" / crate / part).rglob("*") if it.is_file()]
-            behind[crate] = sum(it.read_bytes().count(b"\n") for it in files) + max(above, default=0)
-        return behind
-
-    def next_crate(self) -> tuple[str, int] | None:
-        """Takes the crate with the longest chain behind it of those whose libraries are proved. None at the end.
-
-        Beside it, by how many jobs it is proved: one more for each worker that has nothing to do.
-        """
-        with self.turn:
-            while self.left and not self.failed:
-                ready = [it for it in self.left if self.proved.issuperset(self.libraries[it])]
-                if ready:
-                    crate = max(ready, key=self.behind.get)
-                    self.left.remove(crate)
-                    return crate, 1 + max(0, self.idle - len(ready) + 1)
-                self.idle += 1
-                self.turn.wait()
-                self.idle -= 1
-        return None
-
-    def take(self, crate: str, is_proved: bool, said: str) -> None:
-        """Notes how the check of a crate ended, and what it said."""
-        with self.turn:
-            self.log.write(f"== {crate}\n{said}")
-            self.log.flush()
-            self.failed = self.failed or not is_proved
-            self.proved.update([crate] if is_proved else [])
-            self.tell(crate, is_proved, len(self.proved), self.count)
-            self.turn.notify_all()
-
-    def work(self, room: pathlib.Path) -> None:
-        """Proves crates in a room until all are taken or one is not proved."""
-        while taken := self.next_crate():
-            crate, jobs = taken
-            is_proved, said = False, ""
-            try:
-                is_proved, said = self.prove_in(room, crate, jobs)
-            finally:
-                self.take(crate, is_proved, said)
-
-    def prove_in(self, room: pathlib.Path, crate: str, jobs: int) -> tuple[bool, str]:
-        """Proves a crate in a room by so many jobs. Whether it is proved, and what was said."""
-        for name in below(self.libraries, crate):
-            if not (room / "crates" / name / "out").exists():
-                link(self.root, room, name)
-        link(self.root, room, crate)
-        how = {"stdin": subprocess.DEVNULL, "stdout": subprocess.PIPE, "stderr": subprocess.STDOUT, "check": False}
-        words = ["rt", "lib", "--jobs", str(jobs)]
-        ran = subprocess.run(words, cwd=room / "crates" / crate, text=True, errors="replace", **how)
-        link(room, self.root, crate)
-        return ran.returncode == 0, ran.stdout
-
-
-def copy_sources(root: pathlib.Path, room: pathlib.Path) -> None:
-    """Copies what `rt` reads of the repository."""
-    room.mkdir()
-    shutil.copy2(root / "crates.txt", room)
-    for crate in (root / "crates").iterdir():
-        for part in PARTS:
-            if (crate / part).is_dir():
-                shutil.copytree(crate / part, room / "crates" / crate.name / part)
-
-
-def prove(root: pathlib.Path, top: str, workers: int, log: TextIO, tell: Tell) -> bool:
-    """Proves all that a crate stands on, by so many workers. Whether all is proved."""
-    proving = Proving(root, top, log, tell)
-    # Beside the repository files can be linked.
+def prove(root: pathlib.Path, program: str, cores: int, log: TextIO, tell: Tell) -> bool:
+    """Proves a program and all that it stands on, on so many cores, and puts it into its crate's out/. Whether all is proved."""
+    crates = below(libraries_of(root), program) | {program}
+    proved: set[str] = set()
+    os.sched_setaffinity(0, sorted(os.sched_getaffinity(0))[:cores])
+    # Beside the repository the program can be moved.
     beside = root.parent if os.access(root.parent, os.W_OK) else None
     with tempfile.TemporaryDirectory(prefix="regtuma-prove-", dir=beside) as folder:
-        rooms = [pathlib.Path(folder) / str(number) for number in range(workers)]
-        for room in rooms:
-            copy_sources(root, room)
-        with concurrent.futures.ThreadPoolExecutor(workers) as pool:
-            for done in [pool.submit(proving.work, room) for room in rooms]:
-                done.result()
-    return not proving.failed
+        room = pathlib.Path(folder)
+        copy_sources(root, room, crates)
+        how = {"stdin": subprocess.DEVNULL, "stdout": subprocess.PIPE, "stderr": subprocess.STDOUT}
+        with subprocess.Popen(["rt", "ci"], cwd=room, text=True, errors="replace", **how) as gate:
+            for line in gate.stdout:
+                log.write(line)
+                log.flush()
+                if said := SAID.match(line):
+                    proved.update([said[1]] if said[2] != "NOT PROVED" else [])
+                    tell(said[1], said[2] != "NOT PROVED", len(proved), len(crates))
+        if gate.returncode == 0:
+            made = pathlib.Path("crates", program, "out", program)
+            root.joinpath(made).parent.mkdir(exist_ok=True)
+            shutil.move(room / made, root / made)
+        return gate.returncode == 0
