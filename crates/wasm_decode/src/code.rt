@@ -29,7 +29,7 @@ const END: u8 = 0x0b;
 const ELSE: u8 = 0x05;
 
 /// An opcode, and where it stands.
-#[derive(Clone, Copy, Debug, PartialEq, Eq)]
+#[derive(Clone, Copy)]
 struct Opcode {
     byte: u8,
     offset: usize,
@@ -277,15 +277,15 @@ fn instruction(
     ensures tells { TellsBy level.profile result cursor.old cursor.new }
     ensures fewer { OnOk result (left.new ≤ left.old) }
 {
-    Ok(match opcode.byte {
-        0x02 => Instr::Block(block(alloc, cursor, level, opcode, left)?),
-        0x03 => Instr::Loop(block(alloc, cursor, level, opcode, left)?),
+    match opcode.byte {
+        0x02 => Ok(Instr::Block(block(alloc, cursor, level, opcode, left)?)),
+        0x03 => Ok(Instr::Loop(block(alloc, cursor, level, opcode, left)?)),
         0x04 => {
             let conditional = conditional(alloc, cursor, level, opcode, left)?;
-            Instr::If(Box::new(alloc, conditional)?)
+            Ok(Instr::If(Box::new(alloc, conditional)?))
         }
-        _ => plain(alloc, cursor, level.profile, opcode)?,
-    })
+        _ => plain(alloc, cursor, level.profile, opcode),
+    }
 }
 
 /// Instructions, and the opcode that ends them. Each takes one off what is left.

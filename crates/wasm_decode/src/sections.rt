@@ -26,7 +26,7 @@ use wasm_bytes::Cursor;
 use wasm_profile::Profile;
 
 /// What a section holds.
-#[derive(Clone, Copy, Debug, PartialEq, Eq)]
+#[derive(Clone, Copy)]
 pub(crate) enum Kind {
     Types,
     Imports,
@@ -41,7 +41,7 @@ pub(crate) enum Kind {
 }
 
 /// What was read so far: the module, and the types of its functions, whose code comes later.
-#[derive(Debug, Drop)]
+#[derive(Drop)]
 pub(crate) struct Parts {
     pub(crate) type_indices: Seq<u32>,
     pub(crate) module: Module,
