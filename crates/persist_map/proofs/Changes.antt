@@ -44,6 +44,12 @@ at_next : (r : Result ℕ ℕ) → at_of r ≤ next_of r
 at_next (Ok at) = omega arith
 at_next (Err at) = omega arith
 
+pub size_placed : {X : Type 0} (p : List X) (r : Result ℕ ℕ) (e : X) → at_of r ≤ length p → next_of r ≤ length p →
+    length (placed p r e) + next_of r ≡ length p + at_of r + 1
+size_placed p r e h k =
+    let total = length-append (take (at_of r) p) (e ∷ drop (next_of r) p) in
+    omega (arith, total, length-take-le (at_of r) p h, length-drop (next_of r) p, k)
+
 module _ {K X : Type 0} (cmp : K → K → Ordering) (o : IsTotalOrder cmp) (key : K) where
   pub fits_at : (ps : List (List (K × X))) (j : ℕ) (r : Result ℕ ℕ) → IsPlaceOf cmp key ps j r → at_of r ≤ length (page_at ps j)
   fits_at ps j (Ok at) w = omega (arith, w.inside)
@@ -110,12 +116,6 @@ module _ {K X : Type 0} (cmp : K → K → Ordering) (o : IsTotalOrder cmp) (key
       joined_append front (take n q ∷ drop n q ∷ ds) ∙
       ap (λ l. joined front ++ l) (sym (append_assoc (take n q) (drop n q) (joined ds)) ∙ ap (λ l. l ++ joined ds) (take-append-drop n q))
       ∙ sym (joined_append front (q ∷ ds))
-
-  size_placed : (p : List (K × X)) (r : Result ℕ ℕ) (e : K × X) → at_of r ≤ length p → next_of r ≤ length p →
-      length (placed p r e) + next_of r ≡ length p + at_of r + 1
-  size_placed p r e h k =
-      let total = length-append (take (at_of r) p) (e ∷ drop (next_of r) p) in
-      omega (arith, total, length-take-le (at_of r) p h, length-drop (next_of r) p, k)
 
   sizes_with : (ps : List (List (K × X))) (j : ℕ) (qs : List (List (K × X))) → AllByRecursion IsPage ps → AllByRecursion IsPage qs →
       AllByRecursion IsPage (take j ps ++ (qs ++ drop (j + 1) ps))
@@ -235,6 +235,14 @@ filled (suc n) h = omega arith
 
 pub none_left : (n : ℕ) → (n == 0) ≡ true → n ≡ 0
 none_left n h = eqb-true n 0 h
+
+-- a place that was found is on a page, where there is one
+pub inside_pages : {K X : Type 0} (cmp : K → K → Ordering) (o : IsTotalOrder cmp) (pages ds : List (Page K X)) (key : K) (j : ℕ) (r : Result ℕ ℕ) →
+    0 < length pages → ds ≡ pages → IsPlaceOf cmp key (pages_of ds) j r → j < length pages
+inside_pages cmp o pages ds key j r h d w =
+    let count = length-map pages (λ p. shared p.value.items) in
+    let place = subst (λ b. IsPlaceOf cmp key (pages_of b) j r) d w in
+    omega (arith, count, page_inside cmp o key (pages_of pages) j r place (omega (arith, h, count)))
 
 -- the place that was found, and how many entries its page has
 pub record IsHere {K X : Type 0} (cmp : K → K → Ordering) (key : K) (ps : List (List (K × X))) (j : ℕ) (r : Result ℕ ℕ) (n : ℕ) : Type 0 where

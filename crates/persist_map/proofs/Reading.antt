@@ -53,6 +53,11 @@ pub page_is : {K X : Type 0} (ps : List (Page K X)) (j : ℕ) (a : Page K X) (v 
     a ≡ get_or ps j a → v ≡ a.value → get_or (pages_of ps) j [] ≡ shared v.items
 page_is ps j a v h e f = read_page ps j a (omega (arith, h, length-map ps (λ p. shared p.value.items))) e [] ∙ ap (λ w. shared w.items) (sym f)
 
+-- and its entries, as they were read
+pub page_shared : {K X : Type 0} (ps : List (Page K X)) (j : ℕ) (a : Page K X) (v : Vec (Arc (K × X) Global) Global) (s : List (Arc (K × X) Global)) →
+    j < length ps → a ≡ get_or ps j a → v ≡ a.value → s ≡ v.items → shared s ≡ get_or (pages_of ps) j []
+page_shared ps j a v s h e f g = ap shared g ∙ sym (page_is ps j a v (omega (arith, h, length-map ps (λ p. shared p.value.items))) e f)
+
 -- and an entry of it
 pub entry_is : {X : Type 0} (p : List X) (es : List (Arc X Global)) (at : ℕ) (x : Arc X Global) → p ≡ shared es → at < length p → x ≡ get_or es at x → (d : X) →
     get_or p at d ≡ x.value

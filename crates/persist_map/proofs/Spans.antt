@@ -1,10 +1,11 @@
 -- The parts of pages that a range is made of.
-use Rattle.std.proofs.Common.{◌≡◌, ℕ, ◌+◌, ◌-◌, ◌<◌, List, [], ◌++◌, length, take, drop, get_or, sym, ap, ap₂, ◌∙◌, subst, arith, Some}
+use Rattle.std.proofs.Common.{◌≡◌, ℕ, ◌+◌, ◌-◌, ◌<◌, ◌≤◌, List, [], ◌++◌, length, take, drop, get_or, sym, ap, ap₂, ◌∙◌, subst, arith, Some}
 use Rattle.std.proofs.lemmas.List.{length-map, take_rest, drop-map, take-map, nil_from_length, take-append-drop}
 use Rattle.std.proofs.lemmas.List.Elements.{filter-append}
 use Rattle.std.specs.Cmp.{IsTotalOrder}
 use Rattle.std.specs.declared.cmp.Ordering.{Ordering}
 use Rattle.std.specs.declared.result.Result.{Result}
+use Rattle.std.specs.declared.result.Result.TheVariants.{Ok, Err}
 use Rattle.std.specs.declared.alloc.Global.{Global}
 use Rattle.std.specs.declared.sync.Arc.{Arc}
 use Rattle.std.specs.declared.vec.Vec.{Vec}
@@ -15,7 +16,7 @@ use Rattle.persist_map.specs.Search.{IsPlaceOf, IsFound}
 use Rattle.persist_map.specs.Changes.{at_of}
 use Rattle.persist_map.proofs.Ordered.{Ascend, ascend_left, ascend_right}
 use Rattle.persist_map.proofs.Laid.{joined_split, all_drop}
-use Rattle.persist_map.proofs.Changes.{page_inside}
+use Rattle.persist_map.proofs.Changes.{fits_at, page_inside}
 use Rattle.persist_map.proofs.Reading.{page_is}
 use Rattle.persist_map.proofs.Building.{back_of}
 use Rattle.persist_map.proofs.Ranges.{from_place, before_place, before_found}
@@ -27,6 +28,17 @@ module _ {K X : Type 0} (cmp : K → K → Ordering) (o : IsTotalOrder cmp) wher
   pages_ascend : (ps : List (List (K × X))) (j : ℕ) → j < length ps → AreLaid cmp ps → Ascend cmp (get_or ps j [] ++ joined (drop (j + 1) ps))
   pages_ascend ps j h l =
       ascend_right cmp (joined (take j ps)) (get_or ps j [] ++ joined (drop (j + 1) ps)) (subst (Ascend cmp) (joined_split ps j h) l.ascending)
+
+  -- a place that was found is on its page
+  pub place_fits : (pages : List (Page K X)) (key : K) (j at : ℕ) (r : Result ℕ ℕ) (a : Page K X) (v : Vec (Arc (K × X) Global) Global)
+      (s : List (Arc (K × X) Global)) → 0 < length pages → IsPlaceOf cmp key (pages_of pages) j r → at ≡ at_of r → a ≡ get_or pages j a → v ≡ a.value →
+      s ≡ v.items → at ≤ length s
+  place_fits pages key j at r a v s h w e x y z =
+      let inside : j < length (pages_of pages) =
+      page_inside cmp o key (pages_of pages) j r w (omega (arith, h, length-map pages (λ p. shared p.value.items))) in
+      let long : length (get_or (pages_of pages) j []) ≡ length v.items = ap length (page_is pages j a v inside x y) ∙ length-map v.items (λ p. p.value) in
+      let fits : at_of r ≤ length (get_or (pages_of pages) j []) = fits_at cmp o key (pages_of pages) j r w in
+      omega (arith, e, long, ap length z, fits)
 
   pub rest_laid : (pages : List (Page K X)) (key : K) (j : ℕ) (r : Result ℕ ℕ) → 0 < length pages → AreLaid cmp (pages_of pages) →
       IsPlaceOf cmp key (pages_of pages) j r → AreLaid cmp (pages_of (take (length pages - (j + 1)) (drop (j + 1) pages)))
@@ -61,6 +73,10 @@ module _ {K X : Type 0} (cmp : K → K → Ordering) (o : IsTotalOrder cmp) wher
       page_inside cmp o key (pages_of pages) j r w (omega (arith, h, length-map pages (λ p. shared p.value.items))) in
       let page : shared s ≡ get_or (pages_of pages) j [] = ap shared z ∙ sym (page_is pages j a v inside x y) in
       ap₂ (λ b c. b ++ c) (back_of s at ∙ (λ i. drop (e i) (page i))) (ap joined (rest_is pages (j + 1))) ∙ from_place cmp o key (pages_of pages) j r w inside
+
+  pub found_fits : (key : K) (es : List (K × X)) (r : Result ℕ ℕ) → IsFound cmp key es r → at_of r ≤ length es
+  found_fits key es (Ok at) f = omega (arith, f.inside)
+  found_fits key es (Err at) f = f.inside
 
   front_kept : (front : List (Arc (K × X) Global)) (key : K) (at : ℕ) (q : Result ℕ ℕ) → Ascend cmp (shared front) → IsFound cmp key (shared front) q →
       at ≡ at_of q → shared (take at front) ≡ filter (λ e. is_before cmp (Some key) e.0) (shared front)

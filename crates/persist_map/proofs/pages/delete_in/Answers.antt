@@ -1,7 +1,8 @@
 use Rattle.std.proofs.Common.{arith, ◌≡◌, ap, sym, subst, [], ◌∷◌, length}
+use Rattle.std.proofs.lemmas.List.{length-map}
 use Rattle.persist_map.specs.Entries.{without}
-use Rattle.persist_map.specs.Pages.{pages_of, page_at, joined, AreLaid}
-use Rattle.persist_map.specs.Search.{IsPlaceOf, IsGapAt}
+use Rattle.persist_map.specs.Pages.{shared, pages_of, page_at, joined, AreLaid}
+use Rattle.persist_map.specs.Search.{IsPlaceOf, IsEntryAt, IsGapAt}
 use Rattle.persist_map.specs.Changes.{cut, replaced}
 use Rattle.persist_map.proofs.Reading.{by_outcome, on_ok}
 use Rattle.persist_map.proofs.Building.{pages_removed}
@@ -9,6 +10,20 @@ use Rattle.persist_map.proofs.Changes.{AreAfter, delete_one, delete_page, withou
 use Rattle.persist_map.proofs.pages.delete_in.Given.{Over}
 use Rattle.persist_map.proofs.pages.delete_in.Goals.{After-drop-remove}
 use Rattle.persist_map.proofs.pages.delete_in.Goals as goal
+
+pub find-sought-requires : goal.find-sought-requires
+find-sought-requires g c = subst (λ ps. AreLaid g.K.Ord.cmp (pages_of ps)) (sym c.deref.ensures.value) c.requires
+
+pub returns-in_default-clause-laid : goal.returns-in_default-clause-laid
+returns-in_default-clause-laid g c = c.requires
+
+pub index-requires : goal.index-requires
+index-requires g c =
+    let place : IsEntryAt g.K.Ord.cmp c.args.key.now (pages_of c.args.pages.now.items) c.find-sought.result.page c.in-Ok.at =
+    subst (IsPlaceOf g.K.Ord.cmp c.args.key.now (pages_of c.args.pages.now.items) c.find-sought.result.page) c.in-Ok.is
+    (subst (λ b. IsPlaceOf g.K.Ord.cmp c.args.key.now (pages_of b) c.find-sought.result.page c.find-sought.result.place) c.deref.ensures.value
+    c.find-sought.ensures.place) in
+    omega (arith, place.page_inside, c.args.pages.now.ok.0, length-map c.args.pages.now.items (λ p. shared p.value.items))
 
 pub returns-in_default-clause-ok : goal.returns-in_default-clause-ok
 returns-in_default-clause-ok g c =
@@ -33,6 +48,15 @@ returns-then-is_single-clause-laid g c = (after_remove g c).laid
 
 pub returns-then-is_single-clause-ok : goal.returns-then-is_single-clause-ok
 returns-then-is_single-clause-ok g c = (after_remove g c).entries
+
+pub cut_entry-requires : goal.cut_entry-requires
+cut_entry-requires g c =
+    let h = hit g.K.Ord.cmp c.args.pages.now.items c.deref.result.now c.args.key.now c.find-sought.result.page c.in-Ok.at c.find-sought.result.place
+    c.index.result.now c.deref-2.result.now c.deref.ensures.value c.find-sought.ensures.place c.in-Ok.is c.index.ensures c.deref-2.ensures in
+    record {
+      page = omega (arith, h.place.page_inside, c.args.pages.now.ok.0, length-map c.args.pages.now.items (λ p. shared p.value.items));
+      place = h.place.inside;
+    }
 
 after_cut : (g : Over) (c : goal.After-cut_entry g) →
     pages_of c.cut_entry.new.pages.items ≡
