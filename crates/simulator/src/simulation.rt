@@ -250,11 +250,13 @@ fn put<V: View>(alloc: Global, view: &V, key: Key, value: Value) -> Result<Parts
         key: key.clone()?,
         value: Some(value),
     };
+    let reads = vec![in alloc; ReadItem { key, version }]?;
+    let writes = vec![in alloc; write]?;
     Ok(Parts {
-        reads: ReadSet::new(vec![in alloc; ReadItem { key, version }]?).unwrap(),
+        reads: ReadSet::new(reads).unwrap(),
         ranges: Ranges::new(Vec::new(alloc)).unwrap(),
         result: Value::new(Vec::new(alloc)).unwrap(),
-        writes: WriteSet::new(vec![in alloc; write]?).unwrap(),
+        writes: WriteSet::new(writes).unwrap(),
     })
 }
 
