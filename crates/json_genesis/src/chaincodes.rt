@@ -67,13 +67,21 @@ fn definition(
         fields.now.policy.now) r) }
 {
     let chaincode = name.clone()?;
-    let Held { id, module } = module(alloc, fields.hex, fields.profile)?;
-    let policy = policy(alloc, fields.policy, orgs)?;
-    Ok(Definition {
-        chaincode: Chaincode { name, module, fuel },
-        id,
-        policy: ChaincodePolicy { chaincode, policy },
-    })
+    let held = module(alloc, fields.hex, fields.profile)?;
+    match policy(alloc, fields.policy, orgs) {
+        Ok(policy) => {
+            let Held { id, module } = held;
+            Ok(Definition {
+                chaincode: Chaincode { name, module, fuel },
+                id,
+                policy: ChaincodePolicy { chaincode, policy },
+            })
+        }
+        Err(refusal) => {
+            drop(held);
+            Err(refusal)
+        }
+    }
 }
 
 /// The policy of upgrades over these organisations.
