@@ -61,3 +61,13 @@ as_negative n above one = omega (arith, ints)
 pub as_joined : (n : ℕ) (z : ℤ) (half : ℕ) → n < 128 → half ≤ 2 ^ 63 → neg_ℤ (pos (half / 128)) ≤ℤ z → z <ℤ pos (half / 128) →
     to_z w64 (of_z w64 (to_z w64 n +ℤ to_z w64 (of_z w64 (pos 128 *ℤ to_z w64 (of_z w64 z))))) ≡ pos n +ℤ pos 128 *ℤ z
 as_joined n z half small wide low high = omega (arith, ints)
+
+-- a number that seven bits more made stays within its bounds
+pub joined_within : (n high bound : ℕ) → n < 128 → high < bound / 128 → n + 128 * high < bound
+joined_within n high bound small within = omega arith
+
+pub joined_low : (n : ℕ) (z : ℤ) (half : ℕ) → n < 128 → neg_ℤ (pos (half / 128)) ≤ℤ z → neg_ℤ (pos half) ≤ℤ (pos n +ℤ pos 128 *ℤ z)
+joined_low n z half small low = omega (arith, ints)
+
+pub joined_high : (n : ℕ) (z : ℤ) (half : ℕ) → n < 128 → z <ℤ pos (half / 128) → (pos n +ℤ pos 128 *ℤ z) <ℤ pos half
+joined_high n z half small high = omega (arith, ints)

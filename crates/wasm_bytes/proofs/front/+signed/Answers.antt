@@ -3,7 +3,7 @@ use Rattle.std.proofs.lemmas.Int.{to_z_pos}
 use Rattle.std.proofs.lemmas.Result.{err_from_is_err_and}
 use Rattle.wasm_bytes.specs.Reading.{signed_at}
 use Rattle.wasm_bytes.proofs.Fronts.{in_front, signed_last, signed_large, signed_below, signed_low, signed_long, signed_ended, signed_joined}
-use Rattle.wasm_bytes.proofs.Fronts.{as_negative, as_joined}
+use Rattle.wasm_bytes.proofs.Fronts.{as_negative, as_joined, joined_low, joined_high}
 use Rattle.wasm_bytes.proofs.front.+signed.Goals as goal
 
 pub signed-returns-then-first-half-clause-read : goal.signed-returns-then-first-half-clause-read
@@ -53,3 +53,15 @@ signed_on-returns-clause-read t c =
     let high = c.in_ok-high.high in
     let value = as_joined (c.args.first - 128) high c.args.half (omega arith) c.requires.half c.in_ok-high.ensures.low c.in_ok-high.ensures.high in
     rw value (signed_joined c.args.half c.args.first c.args.rest.now high c.in_ok-high.rest.now c.requires.low c.if-half-le64.false c.in_ok-high.ensures.read)
+
+pub signed_on-returns-clause-low : goal.signed_on-returns-clause-low
+signed_on-returns-clause-low t c =
+    let high = c.in_ok-high.high in
+    let value = as_joined (c.args.first - 128) high c.args.half (omega arith) c.requires.half c.in_ok-high.ensures.low c.in_ok-high.ensures.high in
+    rw value (joined_low (c.args.first - 128) high c.args.half (omega arith) c.in_ok-high.ensures.low)
+
+pub signed_on-returns-clause-high : goal.signed_on-returns-clause-high
+signed_on-returns-clause-high t c =
+    let high = c.in_ok-high.high in
+    let value = as_joined (c.args.first - 128) high c.args.half (omega arith) c.requires.half c.in_ok-high.ensures.low c.in_ok-high.ensures.high in
+    rw value (joined_high (c.args.first - 128) high c.args.half (omega arith) c.in_ok-high.ensures.high)

@@ -1,6 +1,6 @@
-use Rattle.std.proofs.Common.{◌∙◌, sym, arith}
+use Rattle.std.proofs.Common.{◌-◌, ◌∙◌, sym, arith}
 use Rattle.std.proofs.lemmas.Result.{err_from_is_err_and}
-use Rattle.wasm_bytes.proofs.Fronts.{in_front, unsigned_ended, unsigned_goes_on, unsigned_joined}
+use Rattle.wasm_bytes.proofs.Fronts.{in_front, unsigned_ended, unsigned_goes_on, unsigned_joined, joined_within}
 use Rattle.wasm_bytes.proofs.front.+unsigned.Goals as goal
 
 pub unsigned-returns-clause-read : goal.unsigned-returns-clause-read
@@ -20,3 +20,7 @@ unsigned_on-returns-in_err-high-clause-fault t c =
 pub unsigned_on-returns-clause-read : goal.unsigned_on-returns-clause-read
 unsigned_on-returns-clause-read t c =
     unsigned_joined c.args.bound c.args.first c.args.rest.now c.in_ok-high.high c.in_ok-high.rest.now c.requires.low (omega arith) c.in_ok-high.ensures.read
+
+pub unsigned_on-returns-clause-within : goal.unsigned_on-returns-clause-within
+unsigned_on-returns-clause-within t c =
+    joined_within (c.args.first - 128) c.in_ok-high.high c.args.bound (omega arith) c.in_ok-high.ensures.within
