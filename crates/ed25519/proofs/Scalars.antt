@@ -1,5 +1,6 @@
 -- Sums and products modulo the order.
-use Rattle.std.proofs.Common.{◌≡◌, ◌≢◌, Bool, true, false, ℕ, suc, ◌+◌, ◌-◌, ◌*◌, ◌/◌, ◌%◌, ◌^◌, ◌<◌, List, length, drop, sym, ap, ◌∙◌, arith, add-one}
+use Rattle.std.proofs.Common.{◌≡◌, ◌≢◌, Bool, true, false, eqb, ℕ, suc, ◌+◌, ◌-◌, ◌*◌, ◌/◌, ◌%◌, ◌^◌, ◌<◌, ◌≤◌, List, length, drop, sym, ap, ◌∙◌, arith}
+use Rattle.std.proofs.Common.{add-one}
 use Rattle.std.proofs.Math.Nat.{add-mod, add-mod-mod, pow-suc}
 use Rattle.std.proofs.lemmas.Nat.{mul-mod_first}
 use Rattle.std.proofs.lemmas.List.{drop_all}
@@ -73,3 +74,11 @@ halved_small k n h l =
     let next : 256 - k ≡ suc (256 - (k + 1)) = omega arith in
     let double : 2 ^ (256 - k) ≡ 2 ^ (256 - (k + 1)) * 2 = ap (λ j. 2 ^ j) next ∙ pow-suc 2 (256 - (k + 1)) in
     omega (arith, l, double)
+
+-- the sum of two numbers below the order, or what it is past the order
+pub reduced : (o : Bool) (a b low carry over more k n : ℕ) → eqb more 1 ≡ o → a < order → b < order → low + 2 ^ 256 * carry ≡ a + b →
+    over + 2 ^ 256 * more ≡ low + k → k + order ≡ 2 ^ 256 → more ≤ 1 → over < 2 ^ 256 → n ≡ (if o then over else low) → (n ≡ (a + b) % order) × (n < order)
+reduced true a b low carry over more k n o ha hb first second comp few fits e =
+    let one : more ≡ 1 = eqb-true more 1 o in (omega (arith, one), omega (arith, one))
+reduced false a b low carry over more k n o ha hb first second comp few fits e =
+    let other : more ≢ 1 = eqb-false more 1 o in (omega (arith, other), omega (arith, other))

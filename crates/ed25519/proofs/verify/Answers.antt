@@ -17,7 +17,7 @@ returns c =
     let signature = c.args.signature.now in
     let first : c.first_half-commitment.result ≡ take 32 signature = c.first_half-commitment.ensures in
     let response : c.from_bytes-response.result ≡ number (drop 32 signature) = c.from_bytes-response.ensures ∙ ap number c.second_half.ensures in
-    let below : nat_lt c.from_bytes-response.result order ≡ true = search rules in
+    let below : nat_lt c.from_bytes-response.result order ≡ true = cc in
     let k = c.number.ensures ∙ c.challenge-challenge.ensures ∙ ap (λ (t : List ℕ). challenge t c.args.public.now c.args.message.now) first in
     holds_by key r (number (drop 32 signature)) (challenge (take 32 signature) c.args.public.now c.args.message.now) (decoded c.args.public.now)
     (decoded (take 32 signature)) c.is.result (sym c.decoded.ensures ∙ c.in-Some.is)
