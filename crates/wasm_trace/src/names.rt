@@ -9,7 +9,7 @@ use wasm_ast::{BinaryOp, CompareOp, ConvertOp, Instr, LoadOp, StoreOp, UnaryOp};
 
 /// The name of an instruction, without its operands: a type with its dot, if there is one, and the
 /// rest.
-#[derive(Clone, Copy, Debug, Drop)]
+#[derive(Clone, Copy)]
 pub(crate) struct Mnemonic {
     pub(crate) prefix: &'static str,
     pub(crate) rest: &'static str,

@@ -243,11 +243,7 @@ pub(crate) fn select<H: Host>(stack: &mut Vec<Value>) -> Result<Turn<'static>, A
                     if type_of(lower) != type_of(upper) {
                         return Ok(Turn::Stuck);
                     }
-                    if condition == 0 {
-                        stack.push(upper)?;
-                        return Ok(Turn::On(Front::Nothing));
-                    }
-                    stack.push(lower)?;
+                    stack.push(if condition == 0 { upper } else { lower })?;
                     Ok(Turn::On(Front::Nothing))
                 }
             },

@@ -3,7 +3,7 @@
 use wasm_ast::{Block, BlockType, Func, FuncType, Instr, Trap, ValueType};
 
 /// A word with its type.
-#[derive(Clone, Copy, Debug, PartialEq, Eq)]
+#[derive(Clone, Copy)]
 pub(crate) enum Value {
     I32(u32),
     I64(u64),
