@@ -12,52 +12,48 @@ use nearest_word::nearest;
 use serde_json::Value;
 use std::alloc::{AllocError, Global};
 
+/// What a line is to be.
+#[derive(Clone, Copy)]
+enum Wanted {
+    Event,
+    Proposal,
+    Question,
+}
+
 /// Why a line of an events file asks for nothing: one sentence with the field, the reason and what
 /// is possible there.
 pub fn event_reason(alloc: Global, line: &[u8]) -> Result<String, AllocError> {
-    match read_json(alloc, line, false)? {
-        Read::Json(value) => event_fault(alloc, &value),
-        Read::None(words) => Ok(words),
-    }
-}
-
-/// The same of the value that a line is.
-fn event_fault(alloc: Global, value: &Value) -> Result<String, AllocError> {
-    match by_word(alloc, &EVENTS, value)? {
-        Some(words) => Ok(words),
-        None => String::from_str(alloc, "it is none of the forms of an event"),
-    }
+    line_reason(alloc, line, Wanted::Event)
 }
 
 /// Why a line is no proposal, in a sentence as of `event_reason`.
 pub fn proposal_reason(alloc: Global, line: &[u8]) -> Result<String, AllocError> {
-    match read_json(alloc, line, false)? {
-        Read::Json(value) => proposal_fault(alloc, &value),
-        Read::None(words) => Ok(words),
-    }
-}
-
-/// The same of the value that a line is.
-fn proposal_fault(alloc: Global, value: &Value) -> Result<String, AllocError> {
-    match fault_of(alloc, PROPOSAL, value)? {
-        Some(words) => Ok(words),
-        None => String::from_str(alloc, "it is none of the forms of a proposal"),
-    }
+    line_reason(alloc, line, Wanted::Proposal)
 }
 
 /// Why a line is no question, in a sentence as of `event_reason`.
 pub fn question_reason(alloc: Global, line: &[u8]) -> Result<String, AllocError> {
+    line_reason(alloc, line, Wanted::Question)
+}
+
+/// Why a line is not what is wanted, in a sentence as of `event_reason`.
+fn line_reason(alloc: Global, line: &[u8], wanted: Wanted) -> Result<String, AllocError> {
     match read_json(alloc, line, false)? {
-        Read::Json(value) => question_fault(alloc, &value),
+        Read::Json(value) => value_reason(alloc, &value, wanted),
         Read::None(words) => Ok(words),
     }
 }
 
 /// The same of the value that a line is.
-fn question_fault(alloc: Global, value: &Value) -> Result<String, AllocError> {
-    match by_word(alloc, &QUESTIONS, value)? {
+fn value_reason(alloc: Global, value: &Value, wanted: Wanted) -> Result<String, AllocError> {
+    let (fault, noun) = match wanted {
+        Wanted::Event => (by_word(alloc, &EVENTS, value), "an event"),
+        Wanted::Proposal => (fault_of(alloc, PROPOSAL, value), "a proposal"),
+        Wanted::Question => (by_word(alloc, &QUESTIONS, value), "a question"),
+    };
+    match fault? {
         Some(words) => Ok(words),
-        None => String::from_str(alloc, "it is none of the forms of a question"),
+        None => format!(in alloc; "it is none of the forms of {noun}"),
     }
 }
 
