@@ -10,6 +10,13 @@ loop-at-init c = record {
   best = best_first (edges_at c.args.waiting.now c.args.into.now c.args.out.now);
 }
 
+pub returns-then-into-i-eq0 : goal.returns-then-into-i-eq0
+returns-then-into-i-eq0 c = record {
+  within = omega arith;
+  is = search rules;
+  by_counts = (c.if-into-i-eq0.true, c.loop-at.invariant.blocked);
+}
+
 pub loop-at-preserved : goal.loop-at-preserved
 loop-at-preserved c =
     let waiting = c.args.waiting.now in
