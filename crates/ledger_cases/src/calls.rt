@@ -25,7 +25,7 @@ struct Case<'a> {
 /// What the host answers to calls, and what it recorded.
 pub fn call_host(alloc: Global, text: &str) -> Result<String, CaseFault> {
     let case = case_of(text).ok_or(CaseFault::BadLine)?;
-    let argument = argument_of(alloc, case.argument)?;
+    let argument = Value::new(bytes_of(alloc, case.argument)?).ok_or(CaseFault::BadLine)?;
     let memory = bytes_of(alloc, case.memory)?;
     let mut state = PlainMap::empty(alloc);
     record_calls(alloc, &mut state, &argument, &memory, case)
@@ -41,10 +41,6 @@ fn case_of(text: &str) -> Option<Case<'_>> {
         memory,
         calls,
     })
-}
-
-fn argument_of(alloc: Global, pieces: &str) -> Result<Value, CaseFault> {
-    Value::new(bytes_of(alloc, pieces)?).ok_or(CaseFault::BadLine)
 }
 
 /// Puts on a state what the writes leave.
@@ -71,7 +67,8 @@ fn record_calls(
     with_parts(answers, &host.into_parts())
 }
 
-/// The answers to the calls, and the memory where it is no longer as it was.
+/// The answers to the calls, with blanks between them, and the memory where it is no longer as it
+/// was.
 fn answers(
     alloc: Global,
     host: &mut Recorder<'_, PlainMap>,
@@ -79,23 +76,12 @@ fn answers(
     before: &[u8],
     calls: &str,
 ) -> Result<String, CaseFault> {
-    let mut answer = call_each(alloc, host, memory, calls)?;
-    write_change(&mut answer, before, memory.front(before.len()))?;
-    Ok(answer)
-}
-
-/// The answers to the calls, with blanks between them.
-fn call_each(
-    alloc: Global,
-    host: &mut Recorder<'_, PlainMap>,
-    memory: &mut Memory,
-    calls: &str,
-) -> Result<String, CaseFault> {
     let mut answer = String::new(alloc);
     for call in calls.split(" | ") {
         separate(&mut answer, " ")?;
         write_answer(&mut answer, call_once(alloc, host, memory, call)?)?;
     }
+    write_change(&mut answer, before, memory.front(before.len()))?;
     Ok(answer)
 }
 
@@ -150,10 +136,7 @@ fn call_once(
 fn numbers_of(alloc: Global, text: &str) -> Result<Vec<u32>, CaseFault> {
     let mut numbers = Vec::new(alloc);
     for word in text.split_whitespace() {
-        match word.parse::<u32>() {
-            Ok(number) => numbers.push(number)?,
-            Err(_) => return Err(CaseFault::BadLine),
-        }
+        numbers.push(word.parse::<u32>()?)?;
     }
     Ok(numbers)
 }

@@ -3,7 +3,7 @@
 use crate::bytes::{split_fuel, split_word};
 use crate::calls::call_host;
 use crate::chains::{judge_chain, show_key, show_range, show_state};
-use crate::decoding::{show_tag, show_value};
+use crate::decoding::{Kind, show_hashes, show_id, show_tag, show_value};
 use crate::event_lines::event_line;
 use crate::fault::CaseFault;
 use crate::genesis_files::{genesis_file, modules_file};
@@ -26,33 +26,13 @@ pub fn without_note(line: &str) -> &str {
     }
 }
 
-/// What a case gives, by its verb.
+/// What a case gives.
 pub fn answer_case(alloc: Global, line: &str) -> Result<String, CaseFault> {
     let (verb, rest) = split_word(line);
-    if begins_empty(verb) {
-        return answer_on_state(alloc, &mut Snapshot::empty(alloc), verb, rest);
-    }
-    match verb {
-        "policy" => show_policy(alloc, rest),
-        "satisfied" => show_satisfied(alloc, rest),
-        "event" => Ok(event_line(alloc, rest)?),
-        "genesis" => Ok(genesis_file(alloc, rest)?),
-        "modules" => Ok(modules_file(alloc, rest)?),
-        "call" => call_host(alloc, rest),
-        "by" => answer_by(alloc, rest),
-        _ => answer_bytes(alloc, verb, rest),
-    }
+    answer_on_state(alloc, &mut Snapshot::empty(alloc), verb, rest)
 }
 
-/// Whether a case of this verb begins with a state without keys.
-fn begins_empty(verb: &str) -> bool {
-    matches!(
-        verb,
-        "endorsed" | "flags" | "state" | "get" | "range" | "simulate" | "simulate2"
-    )
-}
-
-/// What such a case gives on that state, by its verb.
+/// What a case gives, by its verb, of which some begin with this state without keys.
 fn answer_on_state(
     alloc: Global,
     snapshot: &mut Snapshot,
@@ -66,40 +46,47 @@ fn answer_on_state(
         "get" => show_key(alloc, snapshot, rest),
         "range" => show_range(alloc, snapshot, rest),
         "simulate" => simulate_calls(alloc, snapshot, rest, Profile::Core1),
-        _ => simulate_calls(alloc, snapshot, rest, Profile::SignExtension),
+        "simulate2" => simulate_calls(alloc, snapshot, rest, Profile::SignExtension),
+        _ => answer_text(alloc, verb, rest),
+    }
+}
+
+/// What a case of a text gives, by its verb, and else one of bytes.
+fn answer_text(alloc: Global, verb: &str, rest: &str) -> Result<String, CaseFault> {
+    match verb {
+        "policy" => show_policy(alloc, rest),
+        "satisfied" => show_satisfied(alloc, rest),
+        "event" => Ok(event_line(alloc, rest)?),
+        "genesis" => Ok(genesis_file(alloc, rest)?),
+        "modules" => Ok(modules_file(alloc, rest)?),
+        "call" => call_host(alloc, rest),
+        "by" => answer_by(alloc, rest),
+        _ => answer_bytes(alloc, verb, rest),
     }
 }
 
 /// What a case of the ledger's bytes gives, by its verb, and else one of modules by profile 1.
 fn answer_bytes(alloc: Global, verb: &str, pieces: &str) -> Result<String, CaseFault> {
-    if is_of_value(verb) {
-        return show_value(alloc, verb, pieces);
-    }
     match verb {
+        "payload" => show_value(alloc, Kind::Payload, pieces),
+        "envelope" => show_value(alloc, Kind::Envelope, pieces),
+        "block" => show_value(alloc, Kind::Block, pieces),
+        "definition" => show_value(alloc, Kind::Definition, pieces),
+        "membership" => show_value(alloc, Kind::Membership, pieces),
+        "tx_id" => show_id(alloc, pieces),
+        "hashes" => show_hashes(alloc, pieces),
         "tag" => show_tag(alloc, pieces),
         _ => answer_module(alloc, Profile::Core1, verb, pieces),
     }
-}
-
-/// Whether a case of this verb has the bytes of a value.
-fn is_of_value(verb: &str) -> bool {
-    matches!(
-        verb,
-        "payload" | "envelope" | "block" | "definition" | "membership" | "tx_id" | "hashes"
-    )
 }
 
 /// What a case of modules gives behind the number of a profile.
 fn answer_by(alloc: Global, text: &str) -> Result<String, CaseFault> {
     let (number, case) = split_word(text);
     let (verb, rest) = split_word(case);
-    answer_module(alloc, profile_of(number)?, verb, rest)
-}
-
-fn profile_of(number: &str) -> Result<Profile, CaseFault> {
     match number {
-        "1" => Ok(Profile::Core1),
-        "2" => Ok(Profile::SignExtension),
+        "1" => answer_module(alloc, Profile::Core1, verb, rest),
+        "2" => answer_module(alloc, Profile::SignExtension, verb, rest),
         _ => Err(CaseFault::BadLine),
     }
 }
@@ -116,15 +103,12 @@ fn answer_module(
         "position" => show_position(alloc, rest),
         "decode" => show_module(alloc, Look::Counts, profile, rest),
         "show" => show_module(alloc, Look::Whole, profile, rest),
-        "validate" | "run" | "trace" | "compare" | "answer" => ask(alloc, profile, verb, rest),
+        "validate" | "run" | "trace" | "compare" | "answer" => {
+            let (question, pieces) = question_of(verb, rest)?;
+            ask_module(alloc, question, profile, pieces)
+        }
         _ => apply_operator(alloc, verb, rest),
     }
-}
-
-/// The answer to what a verb asks about a valid module.
-fn ask(alloc: Global, profile: Profile, verb: &str, rest: &str) -> Result<String, CaseFault> {
-    let (question, pieces) = question_of(verb, rest)?;
-    ask_module(alloc, question, profile, pieces)
 }
 
 /// What a verb asks about a valid module, and the bytes behind its words.

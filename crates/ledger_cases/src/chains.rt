@@ -1,16 +1,17 @@
 //! Chains from the words of their transactions, and the state after them.
 
-ghost use Rattle.std.specs.Prelude.{◌≡◌, ◌↔◌, ◌+◌, IsTrue, length};
+ghost use Rattle.std.specs.Prelude.{◌≡◌, ◌+◌, length, IfOk, IfSome};
+ghost use Rattle.world_state.specs.Judging.{IsOf};
 
 use crate::bytes::split_word;
 use crate::fault::CaseFault;
 use crate::texts::{separate, write_pair, write_version};
 use crate::transactions::{Asked, asked_range, is_endorsed, key_of, payload_of, unendorsed};
 use fab_types::{Block, BlockData, BlockNumber, Envelope, Flag, Header, Key, Value, Version};
-use mvcc_validate::flags;
+use mvcc_validate::flag_block;
 use std::alloc::{AllocError, Global};
 use std::fmt::Write;
-use world_state::Snapshot;
+use world_state::{Judged, Snapshot};
 
 /// Each key of the state after a chain, with its value and version.
 pub fn show_state(
@@ -92,29 +93,36 @@ fn judge_block(
     snapshot: &mut Snapshot,
     text: &str,
 ) -> Result<(), CaseFault> {
-    let height = snapshot.height();
     let (mut envelopes, mut endorsed) = (Vec::new(alloc), Vec::new(alloc));
-    add_envelopes(alloc, height, &mut envelopes, &mut endorsed, text)?;
-    let block = block_after(height, envelopes)?;
-    let flags = judged(alloc, answer, snapshot, &block, &endorsed)?;
-    extend(alloc, snapshot, block, flags)
+    add_envelopes(
+        alloc,
+        snapshot.height(),
+        &mut envelopes,
+        &mut endorsed,
+        text,
+    )?;
+    let block = next_block(snapshot, envelopes)?;
+    let judged = judged(alloc, answer, snapshot, &block, &endorsed)?;
+    Ok(snapshot.extend(alloc, block, judged)?)
 }
 
-/// The flags of the next block, which are added to the answer.
+/// What the next block is judged to be, whose flags are added to the answer.
 fn judged(
     alloc: Global,
     answer: &mut String,
     snapshot: &Snapshot,
     block: &Block,
     endorsed: &[bool],
-) -> Result<Vec<Flag>, CaseFault> {
+) -> Result<Judged, CaseFault>
+    ensures { IfOk result (λ judged. IsOf block.now judged) }
+{
     if endorsed.len() != block.envelopes.as_slice().len() {
         return Err(CaseFault::BadLine);
     }
-    let flags = flags(alloc, snapshot, block, endorsed)?;
     separate(answer, " /")?;
-    write_flags(answer, &flags)?;
-    Ok(flags)
+    let judged = flag_block(alloc, snapshot, block, endorsed)?;
+    write_flags(answer, &judged.flags)?;
+    Ok(judged)
 }
 
 /// The numbers of flags, with blanks between them.
@@ -151,45 +159,25 @@ fn nonce_at(height: usize, place: usize) -> [u8; 16] {
     nonce
 }
 
-/// The block of these envelopes that comes next after so many.
-pub fn block_after(height: usize, envelopes: Vec<Envelope>) -> Result<Block, CaseFault> {
-    let header = header_after(height)?;
-    match BlockData::new(envelopes) {
-        Some(envelopes) => Ok(Block { header, envelopes }),
-        None => Err(CaseFault::BadLine),
-    }
-}
-
-fn header_after(height: usize) -> Result<Header, CaseFault> {
-    let number = u32::try_from(height).unwrap_or(u32::MAX).saturating_add(1);
-    let number = BlockNumber::new(number).ok_or(CaseFault::BadLine)?;
-    Ok(Header {
-        number,
+/// The header of the block that comes next, if one may. Its hashes are zeros.
+pub fn next_header(snapshot: &Snapshot) -> Option<Header>
+    ensures { IfSome result (λ h. h.number ≡ length snapshot.now + 1) }
+{
+    Some(Header {
+        number: BlockNumber::new(snapshot.height() as u32 + 1)?,
         previous_hash: [0; 32],
         data_hash: [0; 32],
     })
 }
 
-/// Adds a block to the snapshot. A bad line where the block is not the next, or has other flags.
-pub fn extend(
-    alloc: Global,
-    snapshot: &mut Snapshot,
-    block: Block,
-    flags: Vec<Flag>,
-) -> Result<(), CaseFault> {
-    if !comes_next(snapshot, &block, &flags) {
-        return Err(CaseFault::BadLine);
-    }
-    *snapshot = snapshot.extended(alloc, block, flags)?;
-    Ok(())
-}
-
-/// Whether the block is the next in number, with a flag for each transaction.
-fn comes_next(snapshot: &Snapshot, block: &Block, flags: &[Flag]) -> bool
-    ensures { IsTrue result
-        ↔ ((block.now.header.number ≡ length snapshot.now + 1) ×
-        (length flags.now ≡ length block.now.envelopes)) }
+/// The block of these envelopes that comes next. A bad line where none may, or not with these.
+pub fn next_block(snapshot: &Snapshot, envelopes: Vec<Envelope>) -> Result<Block, CaseFault>
+    ensures number { IfOk result (λ b. b.header.number ≡ length snapshot.now + 1) }
+    ensures envelopes { IfOk result (λ b. b.envelopes ≡ envelopes.items) }
 {
-    let number = block.header.number.get() as usize;
-    number == snapshot.height() + 1 && flags.len() == block.envelopes.as_slice().len()
+    let header = next_header(snapshot).ok_or(CaseFault::BadLine)?;
+    match BlockData::new(envelopes) {
+        Some(envelopes) => Ok(Block { header, envelopes }),
+        None => Err(CaseFault::BadLine),
+    }
 }

@@ -1,9 +1,10 @@
 //! Cases `event TEXT`: what a line of an events file asks for.
 
 use crate::texts::{write_amendment, write_characters, write_hex, write_upgrade};
-use fab_types::{Call, Proposal};
+use fab_types::Proposal;
 use json_events::{Action, BadLine, read_event};
 use std::alloc::{AllocError, Global};
+use std::fmt::Write;
 
 /// The answer of a case.
 pub fn event_line(alloc: Global, text: &str) -> Result<String, AllocError> {
@@ -15,58 +16,55 @@ pub fn event_line(alloc: Global, text: &str) -> Result<String, AllocError> {
 }
 
 fn shown(alloc: Global, action: &Action) -> Result<String, AllocError> {
+    let mut text = String::new(alloc);
+    write_action(&mut text, action)?;
+    Ok(text)
+}
+
+fn write_action(text: &mut String, action: &Action) -> Result<(), AllocError> {
     match action {
         Action::Begin {
             peer,
             seat,
             proposal,
-        } => begun(alloc, *peer, *seat, proposal),
-        Action::Finish { peer, seat, name } => format!(in alloc; "finish {peer}.{seat} {name}"),
-        Action::SubmitEndorsed(names) => used(alloc, names),
-        Action::SubmitBytes(bytes) => submitted(alloc, bytes),
-        Action::Take => String::from_str(alloc, "take"),
-        Action::Tick => String::from_str(alloc, "tick"),
-        Action::Commit { peer } => format!(in alloc; "commit {peer}"),
+        } => {
+            write!(text, "begin {peer}.{seat} ")?;
+            write_asked(text, proposal)?;
+            text.push(' ')?;
+            write_hex_or_none(text, proposal.nonce().as_slice())
+        }
+        Action::Finish { peer, seat, name } => write!(text, "finish {peer}.{seat} {name}"),
+        Action::SubmitEndorsed(names) => write_use(text, names),
+        Action::SubmitBytes(bytes) => {
+            text.push_str("hex ")?;
+            write_hex_or_none(text, bytes)
+        }
+        Action::Take => text.push_str("take"),
+        Action::Tick => text.push_str("tick"),
+        Action::Commit { peer } => write!(text, "commit {peer}"),
     }
-}
-
-fn begun(alloc: Global, peer: u64, seat: u64, proposal: &Proposal) -> Result<String, AllocError> {
-    let mut text = format!(in alloc; "begin {peer}.{seat} ")?;
-    write_asked(&mut text, proposal)?;
-    text.push(' ')?;
-    write_hex_or_none(&mut text, proposal.nonce().as_slice())?;
-    Ok(text)
 }
 
 /// What a proposal asks for.
 fn write_asked(text: &mut String, proposal: &Proposal) -> Result<(), AllocError> {
     match proposal {
-        Proposal::Call(call) => write_call(text, call),
+        Proposal::Call(call) => {
+            write_characters(text, call.chaincode.as_slice())?;
+            text.push(' ')?;
+            write_hex_or_none(text, call.argument.as_slice())
+        }
         Proposal::Upgrade(upgrade) => write_upgrade(text, &upgrade.chaincode, &upgrade.definition),
         Proposal::Amend(amend) => write_amendment(text, &amend.membership),
     }
 }
 
-/// A chaincode and its argument.
-fn write_call(text: &mut String, call: &Call) -> Result<(), AllocError> {
-    write_characters(text, call.chaincode.as_slice())?;
-    text.push(' ')?;
-    write_hex_or_none(text, call.argument.as_slice())
-}
-
-fn used(alloc: Global, names: &[String]) -> Result<String, AllocError> {
-    let mut text = String::from_str(alloc, "use")?;
+fn write_use(text: &mut String, names: &[String]) -> Result<(), AllocError> {
+    text.push_str("use")?;
     for name in names {
         text.push(' ')?;
         text.push_str(name.as_str())?;
     }
-    Ok(text)
-}
-
-fn submitted(alloc: Global, bytes: &[u8]) -> Result<String, AllocError> {
-    let mut text = String::from_str(alloc, "hex ")?;
-    write_hex_or_none(&mut text, bytes)?;
-    Ok(text)
+    Ok(())
 }
 
 /// Bytes in hex; `-` for none.

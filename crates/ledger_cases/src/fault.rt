@@ -3,8 +3,10 @@
 ghost use Rattle.std.specs.Prelude.{◌≡◌};
 ghost use Rattle.ledger_cases.specs.declared.fault.CaseFault.TheVariants.{Memory};
 
+use hex::FromHexError;
 use std::alloc::{AllocError, AllocFailed};
 use std::fmt::{self, Display, Formatter, Write};
+use std::num::ParseIntError;
 use wasm_bytes::ByteFault;
 use wasm_decode::DecodeFault;
 use wasm_validate::ValidateFault;
@@ -50,6 +52,21 @@ impl<T: Drop> From<AllocFailed<T>> for CaseFault {
 
     fn from(_refused: AllocFailed<T>) -> CaseFault {
         CaseFault::Memory
+    }
+}
+
+impl From<ParseIntError> for CaseFault {
+    fn from(_fault: ParseIntError) -> CaseFault {
+        CaseFault::BadLine
+    }
+}
+
+impl From<FromHexError> for CaseFault {
+    fn from(fault: FromHexError) -> CaseFault {
+        match fault {
+            FromHexError::OutOfMemory => CaseFault::Memory,
+            _ => CaseFault::BadLine,
+        }
     }
 }
 

@@ -37,37 +37,26 @@ fn held(alloc: Global, modules: &[Held]) -> Result<String, AllocError> {
 
 /// How many there are of each, the numbers, and the digests of the modules.
 fn contents(alloc: Global, genesis: &Genesis) -> Result<String, AllocError> {
-    let mut text = String::new(alloc);
-    write_counts(&mut text, genesis)?;
-    write_numbers(&mut text, genesis)?;
-    text.push_str(" installed=")?;
-    write_installed(&mut text, genesis.book.installed().modules())?;
-    Ok(text)
-}
-
-fn write_counts(text: &mut String, genesis: &Genesis) -> Result<(), AllocError> {
-    let (chaincodes, modules) = (
-        genesis.book.chaincodes().len(),
-        genesis.book.modules().len(),
-    );
-    let (policies, peers) = (genesis.rules.policies().len(), genesis.peers.len());
+    let book = &genesis.book;
+    let mut text = format!(in alloc;
+        "read chaincodes={} modules={} policies={} peers={}",
+        book.chaincodes().len(),
+        book.modules().len(),
+        genesis.rules.policies().len(),
+        genesis.peers.len()
+    )?;
     write!(
         text,
-        "read chaincodes={chaincodes} modules={modules} policies={policies} peers={peers}"
-    )
-}
-
-fn write_numbers(text: &mut String, genesis: &Genesis) -> Result<(), AllocError> {
-    write!(
-        text,
-        " seats={} queue={} count={} preferred={} absolute={} reorder={}",
+        " seats={} queue={} count={} preferred={} absolute={} reorder={} installed=",
         genesis.seats,
         genesis.queue,
         genesis.count,
         genesis.preferred,
         genesis.absolute,
         genesis.reorder
-    )
+    )?;
+    write_installed(&mut text, book.installed().modules())?;
+    Ok(text)
 }
 
 /// The digests in hex, with `/2` behind those of profile 2, and commas between them.

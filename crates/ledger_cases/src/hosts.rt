@@ -42,10 +42,7 @@ pub fn answer_of(word: &str) -> Result<HostAnswer, CaseFault> {
     if word == "past" {
         return Ok(HostAnswer::OutOfBounds);
     }
-    match word.parse::<u32>() {
-        Ok(value) => Ok(HostAnswer::Value(value)),
-        Err(_) => Err(CaseFault::BadLine),
-    }
+    Ok(HostAnswer::Value(word.parse::<u32>()?))
 }
 
 /// How `invoke` ends where the host always answers so.

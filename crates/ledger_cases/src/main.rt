@@ -95,6 +95,7 @@ mod timed;
 mod transactions;
 
 use crate::cases::{answer_case, without_note};
+use crate::timed::{Done, Failure};
 use std::env;
 use std::io::{self, BufRead, BufReader, Write};
 use std::process::ExitCode;
@@ -102,10 +103,15 @@ use std::process::ExitCode;
 fn main(rt: HostRuntime) -> io::Result<ExitCode> {
     let words: Vec<String> = env::args(&rt)?.skip(1).collect(rt.alloc())?;
     if words.is_empty() {
-        answer_lines(&rt)?;
-        return Ok(ExitCode::from(0));
+        return answer_lines(&rt);
     }
-    match timed::time(&rt, rt.alloc(), &words) {
+    let done = timed::time(&rt, rt.alloc(), &words);
+    report(&rt, done)
+}
+
+/// Prints what was done, or why nothing was.
+fn report(rt: &HostRuntime, done: Result<Done, Failure>) -> io::Result<ExitCode> {
+    match done {
         Ok(done) => {
             println!(rt; "{done}")?;
             Ok(ExitCode::from(0))
@@ -118,12 +124,12 @@ fn main(rt: HostRuntime) -> io::Result<ExitCode> {
 }
 
 /// Answers each line of the input.
-fn answer_lines(rt: &HostRuntime) -> io::Result<()> {
+fn answer_lines(rt: &HostRuntime) -> io::Result<ExitCode> {
     let alloc = rt.alloc();
     for line in BufReader::new(alloc, rt.reader())?.lines(alloc) {
         answer_line(rt, line?.as_str())?;
     }
-    Ok(())
+    Ok(ExitCode::from(0))
 }
 
 /// Answers a line: a comment by itself, a case by what it gives or by its fault.

@@ -5,7 +5,7 @@ use crate::fault::CaseFault;
 use crate::runs::{Question, answer_question};
 use std::alloc::{AllocError, Global};
 use wasm_ast::Module;
-use wasm_decode::{DecodeFault, decode, decode_as};
+use wasm_decode::decode_as;
 use wasm_profile::Profile;
 use wasm_validate::{ValidModule, validate};
 
@@ -69,12 +69,5 @@ pub fn valid_module(
 
 fn decoded(alloc: Global, profile: Profile, pieces: &str) -> Result<Module, CaseFault> {
     let bytes = bytes_of(alloc, pieces)?;
-    Ok(module_of(alloc, profile, &bytes)?)
-}
-
-fn module_of(alloc: Global, profile: Profile, bytes: &[u8]) -> Result<Module, DecodeFault> {
-    match profile {
-        Profile::Core1 => decode(alloc, bytes),
-        Profile::SignExtension => decode_as(alloc, bytes, profile),
-    }
+    Ok(decode_as(alloc, &bytes, profile)?)
 }

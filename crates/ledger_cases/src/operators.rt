@@ -6,63 +6,54 @@ use std::alloc::{AllocError, Global};
 use wasm_ast::{BinaryOp, CompareOp, ConvertOp, Trap, UnaryOp};
 use wasm_num::{convert, word32, word64};
 
-const BINARY_NAMES: [&str; 15] = [
-    "add", "sub", "mul", "div_s", "div_u", "rem_s", "rem_u", "and", "or", "xor", "shl", "shr_s",
-    "shr_u", "rotl", "rotr",
-];
+fn binary_op(name: &str) -> Option<BinaryOp> {
+    match name {
+        "add" => Some(BinaryOp::Add),
+        "sub" => Some(BinaryOp::Sub),
+        "mul" => Some(BinaryOp::Mul),
+        "div_s" => Some(BinaryOp::DivS),
+        "div_u" => Some(BinaryOp::DivU),
+        "rem_s" => Some(BinaryOp::RemS),
+        "rem_u" => Some(BinaryOp::RemU),
+        "and" => Some(BinaryOp::And),
+        "or" => Some(BinaryOp::Or),
+        "xor" => Some(BinaryOp::Xor),
+        "shl" => Some(BinaryOp::Shl),
+        "shr_s" => Some(BinaryOp::ShrS),
+        "shr_u" => Some(BinaryOp::ShrU),
+        "rotl" => Some(BinaryOp::Rotl),
+        "rotr" => Some(BinaryOp::Rotr),
+        _ => None,
+    }
+}
 
-const BINARY: [BinaryOp; 15] = [
-    BinaryOp::Add,
-    BinaryOp::Sub,
-    BinaryOp::Mul,
-    BinaryOp::DivS,
-    BinaryOp::DivU,
-    BinaryOp::RemS,
-    BinaryOp::RemU,
-    BinaryOp::And,
-    BinaryOp::Or,
-    BinaryOp::Xor,
-    BinaryOp::Shl,
-    BinaryOp::ShrS,
-    BinaryOp::ShrU,
-    BinaryOp::Rotl,
-    BinaryOp::Rotr,
-];
+fn compare_op(name: &str) -> Option<CompareOp> {
+    match name {
+        "eq" => Some(CompareOp::Eq),
+        "ne" => Some(CompareOp::Ne),
+        "lt_s" => Some(CompareOp::LtS),
+        "lt_u" => Some(CompareOp::LtU),
+        "gt_s" => Some(CompareOp::GtS),
+        "gt_u" => Some(CompareOp::GtU),
+        "le_s" => Some(CompareOp::LeS),
+        "le_u" => Some(CompareOp::LeU),
+        "ge_s" => Some(CompareOp::GeS),
+        "ge_u" => Some(CompareOp::GeU),
+        _ => None,
+    }
+}
 
-const COMPARE_NAMES: [&str; 10] = [
-    "eq", "ne", "lt_s", "lt_u", "gt_s", "gt_u", "le_s", "le_u", "ge_s", "ge_u",
-];
-
-const COMPARE: [CompareOp; 10] = [
-    CompareOp::Eq,
-    CompareOp::Ne,
-    CompareOp::LtS,
-    CompareOp::LtU,
-    CompareOp::GtS,
-    CompareOp::GtU,
-    CompareOp::LeS,
-    CompareOp::LeU,
-    CompareOp::GeS,
-    CompareOp::GeU,
-];
-
-const UNARY_NAMES: [&str; 6] = [
-    "clz",
-    "ctz",
-    "popcnt",
-    "extend8_s",
-    "extend16_s",
-    "extend32_s",
-];
-
-const UNARY: [UnaryOp; 6] = [
-    UnaryOp::Clz,
-    UnaryOp::Ctz,
-    UnaryOp::Popcnt,
-    UnaryOp::Extend8S,
-    UnaryOp::Extend16S,
-    UnaryOp::Extend32S,
-];
+fn unary_op(name: &str) -> Option<UnaryOp> {
+    match name {
+        "clz" => Some(UnaryOp::Clz),
+        "ctz" => Some(UnaryOp::Ctz),
+        "popcnt" => Some(UnaryOp::Popcnt),
+        "extend8_s" => Some(UnaryOp::Extend8S),
+        "extend16_s" => Some(UnaryOp::Extend16S),
+        "extend32_s" => Some(UnaryOp::Extend32S),
+        _ => None,
+    }
+}
 
 /// An operator's name and the digits of its operands; those that a line lacks are empty.
 #[derive(Clone, Copy)]
@@ -108,12 +99,12 @@ fn given_text(alloc: Global, given: Given) -> Result<String, AllocError> {
 /// What the verb's group of operators gives, where the words are of that group.
 fn apply(verb: &str, words: Application<'_>) -> Option<Given> {
     match verb {
-        "binary32" => binary_32(words),
-        "binary64" => binary_64(words),
-        "compare32" => compare_32(words),
-        "compare64" => compare_64(words),
-        "unary32" => unary_32(words),
-        "unary64" => unary_64(words),
+        "binary32" => binary(words, false),
+        "binary64" => binary(words, true),
+        "compare32" => compare(words, false),
+        "compare64" => compare(words, true),
+        "unary32" => unary(words, false),
+        "unary64" => unary(words, true),
         "eqz32" => Some(Given::Word32(word32::eqz(word_32(words.operator)?))),
         "eqz64" => Some(Given::Word32(word64::eqz(word_64(words.operator)?))),
         "convert" => convert_word(words),
@@ -121,44 +112,32 @@ fn apply(verb: &str, words: Application<'_>) -> Option<Given> {
     }
 }
 
-fn binary_32(words: Application<'_>) -> Option<Given> {
-    let op = named(words.operator, &BINARY_NAMES, &BINARY)?;
-    Some(
-        match word32::binary(op, word_32(words.first)?, word_32(words.second)?) {
-            Ok(word) => Given::Word32(word),
-            Err(trap) => Given::Trapped(trap),
-        },
-    )
+fn binary(words: Application<'_>, is_wide: bool) -> Option<Given> {
+    let op = binary_op(words.operator)?;
+    let given = if is_wide {
+        word64::binary(op, word_64(words.first)?, word_64(words.second)?).map(Given::Word64)
+    } else {
+        word32::binary(op, word_32(words.first)?, word_32(words.second)?).map(Given::Word32)
+    };
+    Some(given.unwrap_or_else(Given::Trapped))
 }
 
-fn binary_64(words: Application<'_>) -> Option<Given> {
-    let op = named(words.operator, &BINARY_NAMES, &BINARY)?;
-    Some(
-        match word64::binary(op, word_64(words.first)?, word_64(words.second)?) {
-            Ok(word) => Given::Word64(word),
-            Err(trap) => Given::Trapped(trap),
-        },
-    )
+fn compare(words: Application<'_>, is_wide: bool) -> Option<Given> {
+    let op = compare_op(words.operator)?;
+    Some(Given::Word32(if is_wide {
+        word64::compare(op, word_64(words.first)?, word_64(words.second)?)
+    } else {
+        word32::compare(op, word_32(words.first)?, word_32(words.second)?)
+    }))
 }
 
-fn compare_32(words: Application<'_>) -> Option<Given> {
-    let op = named(words.operator, &COMPARE_NAMES, &COMPARE)?;
-    Some(Given::Word32(word32::compare(op, word_32(words.first)?, word_32(words.second)?)))
-}
-
-fn compare_64(words: Application<'_>) -> Option<Given> {
-    let op = named(words.operator, &COMPARE_NAMES, &COMPARE)?;
-    Some(Given::Word32(word64::compare(op, word_64(words.first)?, word_64(words.second)?)))
-}
-
-fn unary_32(words: Application<'_>) -> Option<Given> {
-    let op = named(words.operator, &UNARY_NAMES, &UNARY)?;
-    Some(Given::Word32(word32::unary(op, word_32(words.first)?)))
-}
-
-fn unary_64(words: Application<'_>) -> Option<Given> {
-    let op = named(words.operator, &UNARY_NAMES, &UNARY)?;
-    Some(Given::Word64(word64::unary(op, word_64(words.first)?)))
+fn unary(words: Application<'_>, is_wide: bool) -> Option<Given> {
+    let op = unary_op(words.operator)?;
+    Some(if is_wide {
+        Given::Word64(word64::unary(op, word_64(words.first)?))
+    } else {
+        Given::Word32(word32::unary(op, word_32(words.first)?))
+    })
 }
 
 fn convert_word(words: Application<'_>) -> Option<Given> {
@@ -168,12 +147,6 @@ fn convert_word(words: Application<'_>) -> Option<Given> {
         "extend_u" => convert(ConvertOp::ExtendI32U, u64::from(word_32(words.first)?)),
         _ => return None,
     }))
-}
-
-/// The operator at the place that its name has.
-fn named<T: Copy>(name: &str, names: &[&str], ops: &[T]) -> Option<T> {
-    let place = names.iter().position(|it| *it == name)?;
-    ops.get(place).copied()
 }
 
 /// A word of 32 bits from its eight hex digits.

@@ -7,7 +7,7 @@ use crate::tags::{endorsements_of, organisations_of, orgs_of};
 use crate::transactions::{chaincode_name, payload_of};
 use endorsement_policy::{ChaincodePolicy, Installed, ModuleId, Rules, is_endorsed, satisfied};
 use fab_types::Envelope;
-use policy_language::{OrgSet, Policy, PolicyFault, parse};
+use policy_language::{OrgSet, Policy, parse};
 use std::alloc::Global;
 use wasm_profile::Profile;
 use world_state::Snapshot;
@@ -15,32 +15,20 @@ use world_state::Snapshot;
 /// Whether the text spells a policy over the organisations that the first word lists, or its fault.
 pub fn show_policy(alloc: Global, rest: &str) -> Result<String, CaseFault> {
     let (known, text) = split_word(rest);
-    Ok(match fault_of(alloc, known, text)? {
+    let fault = parse(alloc, text, &orgs_of(alloc, known)?).err();
+    Ok(match fault {
         None => String::from_str(alloc, "policy")?,
         Some(fault) => format!(in alloc; "{fault}")?,
     })
-}
-
-/// Why the text spells no policy over these organisations. None where it spells one.
-fn fault_of(alloc: Global, known: &str, text: &str) -> Result<Option<PolicyFault>, CaseFault> {
-    let orgs = orgs_of(alloc, known)?;
-    match parse(alloc, text, &orgs) {
-        Ok(_) => Ok(None),
-        Err(fault) => Ok(Some(fault)),
-    }
 }
 
 /// Whether the organisations that the second word lists satisfy the policy.
 pub fn show_satisfied(alloc: Global, rest: &str) -> Result<String, CaseFault> {
     let (known, rest) = split_word(rest);
     let (present, text) = split_word(rest);
-    let policy = policy_of(alloc, known, text)?;
-    satisfied_by(alloc, &policy, present)
-}
-
-fn satisfied_by(alloc: Global, policy: &Policy, present: &str) -> Result<String, CaseFault> {
-    let set = OrgSet::new(orgs_of(alloc, present)?).ok_or(CaseFault::BadLine)?;
-    Ok(format!(in alloc; "{}", satisfied(policy, &set))?)
+    let orgs = OrgSet::new(orgs_of(alloc, present)?).ok_or(CaseFault::BadLine)?;
+    let is_satisfied = satisfied(&policy_of(alloc, known, text)?, &orgs);
+    Ok(format!(in alloc; "{is_satisfied}")?)
 }
 
 /// What a call that does nothing reads: its definition, which is absent.
@@ -81,38 +69,18 @@ pub fn show_endorsed(
     if !case.chain.is_empty() {
         judge_chain(alloc, snapshot, case.chain)?;
     }
-    let rules = rules_of(alloc, case.known, case.text)?;
-    endorsed_by(alloc, &rules, snapshot, case)
-}
-
-/// The same by rules.
-fn endorsed_by(
-    alloc: Global,
-    rules: &Rules,
-    snapshot: &Snapshot,
-    case: Case<'_>,
-) -> Result<String, CaseFault> {
-    let envelope = envelope_of(alloc, case.tags, case.words)?;
-    judged_by(alloc, rules, snapshot, &envelope)
-}
-
-/// The same of the case's envelope.
-fn judged_by(
-    alloc: Global,
-    rules: &Rules,
-    snapshot: &Snapshot,
-    envelope: &Envelope,
-) -> Result<String, CaseFault> {
-    let endorsed = is_endorsed(alloc, rules, snapshot, envelope)?;
-    Ok(format!(in alloc; "{endorsed}")?)
+    let endorsed = is_endorsed(
+        alloc,
+        &rules_of(alloc, case.known, case.text)?,
+        snapshot,
+        &envelope_of(alloc, case.tags, case.words)?,
+    );
+    Ok(format!(in alloc; "{}", endorsed?)?)
 }
 
 fn policy_of(alloc: Global, known: &str, text: &str) -> Result<Policy, CaseFault> {
-    let orgs = orgs_of(alloc, known)?;
-    match parse(alloc, text, &orgs) {
-        Ok(policy) => Ok(policy),
-        Err(_) => Err(CaseFault::BadLine),
-    }
+    let parsed = parse(alloc, text, &orgs_of(alloc, known)?);
+    parsed.ok().ok_or(CaseFault::BadLine)
 }
 
 /// The organisations with their keys, the policy of calls and of upgrades, and a module.

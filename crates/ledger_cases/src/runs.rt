@@ -46,17 +46,15 @@ pub fn answer_question(
     valid: &ValidModule,
 ) -> Result<String, CaseFault> {
     Ok(match question {
-        Question::Parts => parts(alloc, valid),
+        Question::Parts => {
+            let (invoke, calls) = (valid.invoke(), valid.host_calls());
+            format!(in alloc; "valid invoke={invoke} calls={calls:?}")
+        }
         Question::Run(fuel) => run_invoke(alloc, valid, fuel, Runner::Flat, &mut Vec::new(alloc)),
         Question::Trace(fuel) => trace(alloc, valid, fuel),
         Question::Compare(last) => compared(alloc, valid, last),
         Question::Answer(answer, fuel) => run_on_answer(alloc, valid, answer, fuel),
     }?)
-}
-
-fn parts(alloc: Global, valid: &ValidModule) -> Result<String, AllocError> {
-    let (invoke, calls) = (valid.invoke(), valid.host_calls());
-    format!(in alloc; "valid invoke={invoke} calls={calls:?}")
 }
 
 fn compared(alloc: Global, valid: &ValidModule, last: u64) -> Result<String, AllocError> {

@@ -1,13 +1,13 @@
 //! Calls and upgrades of a chaincode, each on the state that the earlier ones leave.
 
 use crate::bytes::{split_fuel, split_word};
-use crate::chains::{block_after, extend};
+use crate::chains::next_block;
 use crate::fault::CaseFault;
 use crate::modules::valid_module;
 use crate::texts::{separate, write_payload};
 use crate::transactions::{call_with, change_of, name_of, unendorsed};
 use endorsement_policy::{Installed, ModuleId};
-use fab_types::{Block, Flag, OrgName, Payload, Proposal, Value};
+use fab_types::{Flag, OrgName, Payload, Proposal, Value};
 use simulator::{Book, Chaincode, SimRefusal, simulate};
 use std::alloc::{AllocError, Global};
 use std::fmt::Write;
@@ -85,23 +85,11 @@ fn call_once(
     snapshot: &mut Snapshot,
     text: &str,
 ) -> Result<(), CaseFault> {
-    let proposal = proposal_in(alloc, text)?;
-    propose(alloc, answer, book, snapshot, &proposal)
-}
-
-fn propose(
-    alloc: Global,
-    answer: &mut String,
-    book: &Book,
-    snapshot: &mut Snapshot,
-    proposal: &Proposal,
-) -> Result<(), CaseFault> {
-    let flags = vec![in alloc; Flag::Valid]?;
-    match simulate(alloc, book, snapshot, proposal) {
+    let simulated = simulate(alloc, book, snapshot, &proposal_in(alloc, text)?);
+    match simulated {
         Ok(payload) => {
             write_payload(answer, &payload)?;
-            let block = block_with(alloc, snapshot.height(), payload)?;
-            extend(alloc, snapshot, block, flags)
+            extend_by(alloc, snapshot, payload)
         }
         Err(refusal) => Ok(write_refusal(answer, refusal)?),
     }
@@ -113,12 +101,11 @@ fn proposal_in(alloc: Global, text: &str) -> Result<Proposal, CaseFault> {
     let text = text.strip_prefix(" ").unwrap_or(text);
     match text.split_once(':') {
         Some((kind, text)) => change_of(alloc, [0; 16], kind, text),
-        None => call_with(argument_of(alloc, text)?, [0; 16]),
+        None => {
+            let argument = Value::new(text.as_bytes().to_vec(alloc)?).ok_or(CaseFault::BadLine)?;
+            call_with(argument, [0; 16])
+        }
     }
-}
-
-fn argument_of(alloc: Global, text: &str) -> Result<Value, CaseFault> {
-    Value::new(text.as_bytes().to_vec(alloc)?).ok_or(CaseFault::BadLine)
 }
 
 /// The text of a refusal, and the fuel used up to a trap.
@@ -130,8 +117,11 @@ fn write_refusal(answer: &mut String, refusal: SimRefusal) -> Result<(), AllocEr
     }
 }
 
-/// The block of a payload alone that comes next after so many.
-fn block_with(alloc: Global, height: usize, payload: Payload) -> Result<Block, CaseFault> {
+/// Adds a block of a payload alone, which is VALID, to the snapshot.
+fn extend_by(alloc: Global, snapshot: &mut Snapshot, payload: Payload) -> Result<(), CaseFault> {
+    let flags = vec![in alloc; Flag::Valid]?;
     let envelopes = vec![in alloc; unendorsed(alloc, payload)]?;
-    block_after(height, envelopes)
+    let block = next_block(snapshot, envelopes)?;
+    *snapshot = snapshot.extended(alloc, block, flags)?;
+    Ok(())
 }

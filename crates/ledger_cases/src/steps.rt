@@ -30,15 +30,9 @@ pub fn step_to_end<H: Host>(
         if let Some(outcome) = stepper.step(host)? {
             return Ok(outcome);
         }
-        show_step(stepper, shown)?;
+        if let Some(step) = stepper.render()? {
+            shown.push(step)?;
+        }
     }
     Ok(Outcome::Spent)
-}
-
-/// Adds what the last step shows.
-fn show_step(stepper: &Stepper<'_>, shown: &mut Vec<String>) -> Result<(), AllocError> {
-    if let Some(step) = stepper.render()? {
-        shown.push(step)?;
-    }
-    Ok(())
 }

@@ -1,8 +1,8 @@
 //! Values as the words of a line.
 
 use fab_types::{
-    Definition, Endorsement, Endorsements, Key, Member, MemberKey, Membership, Name, Payload,
-    Proposal, RangeEntry, RangeItem, ReadItem, Value, Version, WriteItem, form_of,
+    Definition, Endorsements, Key, Member, MemberKey, Membership, Name, Payload, Proposal,
+    RangeEntry, RangeItem, ReadItem, Value, Version, WriteItem, form_of,
 };
 use std::alloc::AllocError;
 use std::fmt::Write;
@@ -108,27 +108,20 @@ pub fn write_membership(answer: &mut String, membership: &Membership) -> Result<
     write_bytes(answer, membership.policy.as_slice())
 }
 
-/// Members with commas between them.
+/// The members' names with commas between them, each with its public key behind `=`, if it has one
+/// of its own.
 fn write_members(answer: &mut String, members: &[Member]) -> Result<(), AllocError> {
     for (place, member) in members.iter().enumerate() {
         if place > 0 {
             answer.push(',')?;
         }
-        write_member(answer, member)?;
-    }
-    Ok(())
-}
-
-/// A member's name, and its public key behind `=`, if it has one of its own.
-fn write_member(answer: &mut String, member: &Member) -> Result<(), AllocError> {
-    write_bytes(answer, member.name.as_slice())?;
-    match &member.key {
-        MemberKey::Kept => Ok(()),
-        MemberKey::Public(key) => {
+        write_bytes(answer, member.name.as_slice())?;
+        if let MemberKey::Public(key) = &member.key {
             answer.push('=')?;
-            write_hex(answer, key)
+            write_hex(answer, key)?;
         }
     }
+    Ok(())
 }
 
 /// A result, if it is not empty.
@@ -153,18 +146,14 @@ pub fn write_reads(answer: &mut String, reads: &[ReadItem]) -> Result<(), AllocE
 /// The ranges that were read, each behind a blank.
 pub fn write_ranges(answer: &mut String, ranges: &[RangeItem]) -> Result<(), AllocError> {
     for range in ranges {
-        write_range(answer, range)?;
+        answer.push_str(" q:")?;
+        write_bytes(answer, range.start().as_slice())?;
+        answer.push_str("..")?;
+        write_bytes(answer, range.end().as_slice())?;
+        write!(answer, "*{}", range.limit())?;
+        write_entries(answer, range.entries())?;
     }
     Ok(())
-}
-
-fn write_range(answer: &mut String, range: &RangeItem) -> Result<(), AllocError> {
-    answer.push_str(" q:")?;
-    write_bytes(answer, range.start().as_slice())?;
-    answer.push_str("..")?;
-    write_bytes(answer, range.end().as_slice())?;
-    write!(answer, "*{}", range.limit())?;
-    write_entries(answer, range.entries())
 }
 
 fn write_entries(answer: &mut String, entries: &[RangeEntry]) -> Result<(), AllocError> {
@@ -187,22 +176,18 @@ pub fn write_version(answer: &mut String, version: Option<Version>) -> Result<()
 /// What was written, each word behind a blank.
 pub fn write_writes(answer: &mut String, writes: &[WriteItem]) -> Result<(), AllocError> {
     for write in writes {
-        write_write(answer, write)?;
+        match &write.value {
+            Some(value) => {
+                answer.push_str(" w:")?;
+                write_pair(answer, &write.key, value)?;
+            }
+            None => {
+                answer.push_str(" d:")?;
+                write_bytes(answer, write.key.as_slice())?;
+            }
+        }
     }
     Ok(())
-}
-
-fn write_write(answer: &mut String, write: &WriteItem) -> Result<(), AllocError> {
-    match &write.value {
-        Some(value) => {
-            answer.push_str(" w:")?;
-            write_pair(answer, &write.key, value)
-        }
-        None => {
-            answer.push_str(" d:")?;
-            write_bytes(answer, write.key.as_slice())
-        }
-    }
 }
 
 /// A key and its value as `KEY=VALUE`.
@@ -218,14 +203,10 @@ pub fn write_endorsements(
     endorsements: &Endorsements,
 ) -> Result<(), AllocError> {
     for endorsement in endorsements.as_slice() {
-        write_endorsement(answer, endorsement)?;
+        answer.push_str(" e:")?;
+        write_bytes(answer, endorsement.org.as_slice())?;
+        answer.push('=')?;
+        write_hex(answer, endorsement.tag.as_slice())?;
     }
     Ok(())
-}
-
-fn write_endorsement(answer: &mut String, endorsement: &Endorsement) -> Result<(), AllocError> {
-    answer.push_str(" e:")?;
-    write_bytes(answer, endorsement.org.as_slice())?;
-    answer.push('=')?;
-    write_hex(answer, endorsement.tag.as_slice())
 }

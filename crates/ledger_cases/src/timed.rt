@@ -36,8 +36,8 @@ mod state;
 mod task;
 mod workload;
 
-use crate::timed::done::Done;
-use crate::timed::failure::Failure;
+pub use crate::timed::done::Done;
+pub use crate::timed::failure::Failure;
 use crate::timed::register::{book_of, transfer_on};
 use crate::timed::task::Task;
 use std::alloc::Global;

@@ -1,6 +1,5 @@
 //! Transactions from their words.
 
-use crate::bytes::from_digits;
 use crate::fault::CaseFault;
 use crate::tags::org_of;
 use fab_types::{
@@ -14,18 +13,67 @@ use wasm_profile::Profile;
 /// The payload of the transaction that the words say. `nonce` stands until a word says another. A
 /// bad line where its sets are not within their limits.
 pub fn payload_of(alloc: Global, nonce: [u8; 16], words: &str) -> Result<Payload, CaseFault> {
-    let reads = reads_of(alloc, words)?;
-    let writes = writes_of(alloc, words)?;
-    let ranges = ranges_of(alloc, words)?;
-    let proposal = proposal_of(alloc, nonce, words)?;
-    let parts = PayloadParts {
-        proposal,
-        result: empty_value(alloc),
+    let mut said = Said {
+        reads: Vec::new(alloc),
+        ranges: Vec::new(alloc),
+        writes: Vec::new(alloc),
+        nonce,
+        change: None,
+    };
+    for word in words.split_whitespace() {
+        said.add(alloc, word)?;
+    }
+    let proposal = said.proposal(alloc)?;
+    let Said {
         reads,
         ranges,
         writes,
+        ..
+    } = said;
+    let parts = PayloadParts {
+        proposal,
+        result: empty_value(alloc),
+        reads: ReadSet::new(reads).ok_or(CaseFault::BadLine)?,
+        ranges: Ranges::new(ranges).ok_or(CaseFault::BadLine)?,
+        writes: WriteSet::new(writes).ok_or(CaseFault::BadLine)?,
     };
     Ok(Payload::new(alloc, parts)?)
+}
+
+/// What the words of a transaction say, but for whether it is endorsed.
+#[derive(Drop)]
+struct Said<'a> {
+    reads: Vec<ReadItem>,
+    ranges: Vec<RangeItem>,
+    writes: Vec<WriteItem>,
+    nonce: [u8; 16],
+    /// The last upgrade or amendment: what stands in front of its colon, and behind that.
+    change: Option<(&'a str, &'a str)>,
+}
+
+impl<'a> Said<'a> {
+    /// Adds what a word says.
+    fn add(&mut self, alloc: Global, word: &'a str) -> Result<(), CaseFault> {
+        let (kind, text) = word.split_once(':').ok_or(CaseFault::BadLine)?;
+        match kind {
+            "r" => self.reads.push(read_item(alloc, text)?)?,
+            "q" => self.ranges.push(range_item(alloc, text)?)?,
+            "w" => self.writes.push(put_item(alloc, text)?)?,
+            "d" => self.writes.push(delete_item(alloc, text)?)?,
+            "n" => self.nonce = [text.parse::<u8>()?; 16],
+            "e" => {}
+            _ => self.change = Some((kind, text)),
+        }
+        Ok(())
+    }
+
+    /// The upgrade or the amendment, or else the call with an empty argument.
+    fn proposal(&self, alloc: Global) -> Result<Proposal, CaseFault> {
+        match self.change {
+            Some((kind, text)) => change_of(alloc, self.nonce, kind, text),
+            None => call_with(empty_value(alloc), self.nonce),
+        }
+    }
 }
 
 /// The envelope of a payload, without endorsements.
@@ -47,78 +95,6 @@ pub fn is_endorsed(words: &str) -> bool {
         }
     }
     endorsed
-}
-
-fn reads_of(alloc: Global, words: &str) -> Result<ReadSet, CaseFault> {
-    let mut reads = Vec::new(alloc);
-    for word in words.split_whitespace() {
-        if let Some(text) = word.strip_prefix("r:") {
-            reads.push(read_item(alloc, text)?)?;
-        }
-    }
-    ReadSet::new(reads).ok_or(CaseFault::BadLine)
-}
-
-fn ranges_of(alloc: Global, words: &str) -> Result<Ranges, CaseFault> {
-    let mut ranges = Vec::new(alloc);
-    for word in words.split_whitespace() {
-        if let Some(text) = word.strip_prefix("q:") {
-            ranges.push(range_item(alloc, text)?)?;
-        }
-    }
-    Ranges::new(ranges).ok_or(CaseFault::BadLine)
-}
-
-fn writes_of(alloc: Global, words: &str) -> Result<WriteSet, CaseFault> {
-    let mut writes = Vec::new(alloc);
-    for word in words.split_whitespace() {
-        if is_write(word) {
-            writes.push(write_item(alloc, word)?)?;
-        }
-    }
-    WriteSet::new(writes).ok_or(CaseFault::BadLine)
-}
-
-fn is_write(word: &str) -> bool {
-    word.starts_with("w:") || word.starts_with("d:")
-}
-
-/// The upgrade or the amendment that a word says, or else the call with an empty argument.
-fn proposal_of(alloc: Global, nonce: [u8; 16], words: &str) -> Result<Proposal, CaseFault> {
-    let nonce = nonce_of(nonce, words)?;
-    match change_in(words)? {
-        Some((kind, text)) => change_of(alloc, nonce, kind, text),
-        None => call_with(empty_value(alloc), nonce),
-    }
-}
-
-/// The nonce that the words say, or else this one.
-fn nonce_of(nonce: [u8; 16], words: &str) -> Result<[u8; 16], CaseFault> {
-    let mut nonce = nonce;
-    for word in words.split_whitespace() {
-        if let Some(text) = word.strip_prefix("n:") {
-            nonce = [number_of(text)?; 16];
-        }
-    }
-    Ok(nonce)
-}
-
-/// The word that says an upgrade or an amendment: the last one, in front of and behind its colon. A
-/// bad line where a word says nothing.
-fn change_in(words: &str) -> Result<Option<(&str, &str)>, CaseFault> {
-    let mut change = None;
-    for word in words.split_whitespace() {
-        let (kind, text) = word.split_once(':').ok_or(CaseFault::BadLine)?;
-        if is_change(kind) {
-            change = Some((kind, text));
-        }
-    }
-    Ok(change)
-}
-
-/// Whether what stands in front of a colon begins an upgrade or an amendment.
-fn is_change(kind: &str) -> bool {
-    !matches!(kind, "r" | "q" | "w" | "d" | "n" | "e")
 }
 
 /// The amendment of a word that begins with `a:`, or the upgrade of another one.
@@ -144,9 +120,7 @@ pub fn change_of(
 /// `SERIAL,NAMES,POLICY`, where `+` stands between the names and each member keeps its key.
 fn membership_of(alloc: Global, text: &str) -> Result<Membership, CaseFault> {
     let (serial, names, policy) = in_three(text).ok_or(CaseFault::BadLine)?;
-    let Ok(serial) = serial.parse::<u32>() else {
-        return Err(CaseFault::BadLine);
-    };
+    let serial = serial.parse::<u32>()?;
     let policy = policy_text_of(alloc, policy)?;
     let members = members_of(alloc, names)?;
     Ok(Membership {
@@ -198,8 +172,8 @@ fn form_of(kind: &str) -> Result<(bool, Profile), CaseFault> {
 fn definition_of(alloc: Global, kind: &str, text: &str) -> Result<Definition, CaseFault> {
     let (byte, fuel, policy) = in_three(text).ok_or(CaseFault::BadLine)?;
     let (is_open, profile) = form_of(kind)?;
-    let digest = [number_of(byte)?; 32];
-    let fuel = fuel_of(fuel)?;
+    let digest = [byte.parse::<u8>()?; 32];
+    let fuel = Fuel::new(fuel.parse::<u32>()?).ok_or(CaseFault::BadLine)?;
     let policy = policy_text_of(alloc, policy)?;
     Ok(Definition {
         profile,
@@ -208,13 +182,6 @@ fn definition_of(alloc: Global, kind: &str, text: &str) -> Result<Definition, Ca
         fuel,
         policy,
     })
-}
-
-fn fuel_of(text: &str) -> Result<Fuel, CaseFault> {
-    match text.parse::<u32>() {
-        Ok(units) => Fuel::new(units).ok_or(CaseFault::BadLine),
-        Err(_) => Err(CaseFault::BadLine),
-    }
 }
 
 fn policy_text_of(alloc: Global, text: &str) -> Result<PolicyText, CaseFault> {
@@ -236,11 +203,6 @@ pub fn key_of(alloc: Global, text: &str) -> Result<Key, CaseFault> {
     Key::new(word_bytes(alloc, text)?).ok_or(CaseFault::BadLine)
 }
 
-/// The value that a word spells.
-fn value_of(alloc: Global, text: &str) -> Result<Value, CaseFault> {
-    Value::new(word_bytes(alloc, text)?).ok_or(CaseFault::BadLine)
-}
-
 fn empty_value(alloc: Global) -> Value {
     Value::new(Vec::new(alloc)).unwrap()
 }
@@ -252,16 +214,8 @@ fn bound_of(alloc: Global, text: &str) -> Result<Bound, CaseFault> {
 /// The bytes of a word: hex behind `0x`, or else its own characters.
 fn word_bytes(alloc: Global, text: &str) -> Result<Vec<u8>, CaseFault> {
     match text.strip_prefix("0x") {
-        Some(digits) => from_digits(alloc, digits),
-        None => Ok(Vec::from_slice(alloc, text.as_bytes())?),
-    }
-}
-
-/// A number up to 255.
-fn number_of(text: &str) -> Result<u8, CaseFault> {
-    match text.parse::<u8>() {
-        Ok(number) => Ok(number),
-        Err(_) => Err(CaseFault::BadLine),
+        Some(digits) => Ok(hex::decode(alloc, digits)?),
+        None => Ok(text.as_bytes().to_vec(alloc)?),
     }
 }
 
@@ -279,10 +233,7 @@ fn read_item(alloc: Global, text: &str) -> Result<ReadItem, CaseFault> {
 /// `BLOCK.PLACE`.
 fn version_of(text: &str) -> Result<Version, CaseFault> {
     let (block, place) = text.split_once('.').ok_or(CaseFault::BadLine)?;
-    match (block.parse::<u32>(), place.parse::<u32>()) {
-        (Ok(block), Ok(place)) => Version::new(block, place).ok_or(CaseFault::BadLine),
-        _ => Err(CaseFault::BadLine),
-    }
+    Version::new(block.parse::<u32>()?, place.parse::<u32>()?).ok_or(CaseFault::BadLine)
 }
 
 /// What `w:KEY=VALUE` puts or `d:KEY` deletes.
@@ -299,8 +250,11 @@ pub fn write_item(alloc: Global, word: &str) -> Result<WriteItem, CaseFault> {
 fn put_item(alloc: Global, text: &str) -> Result<WriteItem, CaseFault> {
     let (key, value) = text.split_once('=').ok_or(CaseFault::BadLine)?;
     let key = key_of(alloc, key)?;
-    let value = Some(value_of(alloc, value)?);
-    Ok(WriteItem { key, value })
+    let value = Value::new(word_bytes(alloc, value)?).ok_or(CaseFault::BadLine)?;
+    Ok(WriteItem {
+        key,
+        value: Some(value),
+    })
 }
 
 fn delete_item(alloc: Global, text: &str) -> Result<WriteItem, CaseFault> {
@@ -320,7 +274,7 @@ pub struct Asked {
 pub fn asked_range(alloc: Global, text: &str) -> Result<Asked, CaseFault> {
     let (start, rest) = text.split_once("..").ok_or(CaseFault::BadLine)?;
     let (end, limit) = rest.split_once('*').ok_or(CaseFault::BadLine)?;
-    let limit = number_of(limit)?;
+    let limit = limit.parse::<u8>()?;
     let start = bound_of(alloc, start)?;
     let end = bound_of(alloc, end)?;
     Ok(Asked { start, end, limit })

@@ -3,22 +3,10 @@
 ghost use Rattle.std.specs.Prelude.{◌≡◌, ◌+◌, length, IfOk};
 
 use crate::timed::failure::Failure;
-use fab_types::{Block, BlockNumber, Flag, Header};
+use fab_types::{Block, Flag};
 use mvcc_validate::flags;
 use std::alloc::Global;
 use world_state::Snapshot;
-
-/// The header of the block that comes next. Its hashes are zeros.
-pub fn next_header(snapshot: &Snapshot) -> Result<Header, Failure>
-    ensures { IfOk result (λ h. h.number ≡ length snapshot.now + 1) }
-{
-    let number = snapshot.height() as u32 + 1;
-    Ok(Header {
-        number: BlockNumber::new(number).ok_or(Failure::Limit)?,
-        previous_hash: [0; 32],
-        data_hash: [0; 32],
-    })
-}
 
 /// The flags of the next block, of which each transaction is endorsed.
 pub fn judge(alloc: Global, snapshot: &Snapshot, block: &Block) -> Result<Vec<Flag>, Failure>

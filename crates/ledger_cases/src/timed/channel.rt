@@ -100,7 +100,9 @@ impl Channel {
         self.advance(alloc, blocks)?;
         let mut valid = 0u64;
         for committed in self.snapshot.blocks() {
-            valid = valid.saturating_add(valid_in(committed.flags()));
+            let flags = committed.flags().iter();
+            let count = flags.filter(|flag| **flag == Flag::Valid).count();
+            valid = valid.saturating_add(count as u64);
         }
         Ok(valid)
     }
@@ -109,11 +111,6 @@ impl Channel {
 fn copied(alloc: Global, committed: &CommittedBlock) -> Result<CommittedBlock, Failure> {
     let flags = committed.flags().to_vec(alloc)?;
     Ok(CommittedBlock::new(committed.block().clone()?, flags))
-}
-
-/// How many of these flags are VALID.
-fn valid_in(flags: &[Flag]) -> u64 {
-    flags.iter().filter(|flag| **flag == Flag::Valid).count() as u64
 }
 
 /// Hands an envelope to an orderer.

@@ -100,14 +100,11 @@ fn endorsements(alloc: Global, payload: &Payload, kind: TagKind) -> Result<Endor
 
 fn endorsement(letter: u8, bytes: &[u8], kind: TagKind) -> Result<Endorsement, Failure> {
     let org = OrgName::from_slice(&[letter]).ok_or(Failure::Limit)?;
+    // The bytes of the organisation's shared key, or its seed.
+    let secret = [letter; 32];
     let tag = match kind {
-        TagKind::Hmac => Tag::Hmac(tag(&secret(letter), bytes)),
-        TagKind::Ed25519 => Tag::Ed25519(sign(&secret(letter), bytes)),
+        TagKind::Hmac => Tag::Hmac(tag(&secret, bytes)),
+        TagKind::Ed25519 => Tag::Ed25519(sign(&secret, bytes)),
     };
     Ok(Endorsement { org, tag })
-}
-
-/// The bytes of an organisation's shared key, or its seed.
-fn secret(letter: u8) -> [u8; 32] {
-    [letter; 32]
 }

@@ -2,7 +2,8 @@
 
 ghost use Rattle.std.specs.Prelude.{◌≡◌, ◌+◌, length, IfOk};
 
-use crate::timed::blocks::{extended, judge, next_header};
+use crate::chains::next_header;
+use crate::timed::blocks::{extended, judge};
 use crate::timed::done::Done;
 use crate::timed::failure::Failure;
 use crate::transactions::unendorsed;
@@ -136,7 +137,7 @@ fn block_of(
     ensures { IfOk result (λ b. b.header.number ≡ length snapshot.now + 1) }
 {
     Ok(Block {
-        header: next_header(snapshot)?,
+        header: next_header(snapshot).ok_or(Failure::Limit)?,
         envelopes: calls_of(alloc, book, snapshot, verb, first)?,
     })
 }
@@ -165,9 +166,6 @@ fn called(
     verb: &str,
     asset: u32,
 ) -> Result<Payload, Failure> {
-    let proposal = proposal_of(alloc, verb, asset)?;
-    match simulate(alloc, book, snapshot, &proposal) {
-        Ok(payload) => Ok(payload),
-        Err(refusal) => Err(Failure::Refused(refusal)),
-    }
+    let simulated = simulate(alloc, book, snapshot, &proposal_of(alloc, verb, asset)?);
+    Ok(simulated?)
 }

@@ -1,6 +1,7 @@
 //! Blocks committed on a state of many keys.
 
-use crate::timed::blocks::{extended, next_header};
+use crate::chains::next_header;
+use crate::timed::blocks::extended;
 use crate::timed::done::Done;
 use crate::timed::failure::Failure;
 use crate::timed::workload::Workload;
@@ -153,6 +154,6 @@ fn add_next(
 
 /// The snapshot after one block more, whose transactions are endorsed.
 fn next(alloc: Global, snapshot: &Snapshot, envelopes: BlockData) -> Result<Snapshot, Failure> {
-    let header = next_header(snapshot)?;
+    let header = next_header(snapshot).ok_or(Failure::Limit)?;
     extended(alloc, snapshot, Block { header, envelopes })
 }

@@ -42,10 +42,10 @@ pub fn parse(words: &[String]) -> Option<Task<'_>> {
 fn of_one<'a>(kind: &str, word: &'a str) -> Option<Task<'a>> {
     match kind {
         "order" => Some(Task::Order {
-            count: number(word)?,
+            count: word.parse().ok()?,
         }),
         "commit" => Some(Task::Commit {
-            count: number(word)?,
+            count: word.parse().ok()?,
         }),
         "load" => Some(Task::Load { store: word }),
         _ => None,
@@ -54,7 +54,7 @@ fn of_one<'a>(kind: &str, word: &'a str) -> Option<Task<'a>> {
 
 /// The task of this kind with two words.
 fn of_two<'a>(kind: &str, word: &'a str, count: &str) -> Option<Task<'a>> {
-    let count = number(count)?;
+    let count = count.parse().ok()?;
     match kind {
         "simulate" => Some(Task::Simulate {
             module: word,
@@ -64,7 +64,7 @@ fn of_two<'a>(kind: &str, word: &'a str, count: &str) -> Option<Task<'a>> {
             module: word,
             count,
         }),
-        _ => of_numbers(kind, number(word)?, count),
+        _ => of_numbers(kind, word.parse().ok()?, count),
     }
 }
 
@@ -92,8 +92,4 @@ fn of_numbers(kind: &str, first: u32, count: u32) -> Option<Task<'static>> {
         }),
         _ => None,
     }
-}
-
-fn number(word: &str) -> Option<u32> {
-    word.parse::<u32>().ok()
 }
