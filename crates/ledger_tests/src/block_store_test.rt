@@ -196,22 +196,8 @@ fn is_whole_by_byte(alloc: Global, bytes: &[u8]) -> bool {
     is_copied_each && is_same && reader.finish() == End::Clean
 }
 
-/// Whether a failed write of record 2 told what it wrote, and left a store that loads as the first
-/// block.
-fn is_told(
-    alloc: Global,
-    bytes: &[u8],
-    fault: Option<AppendFault>,
-    written: usize,
-) -> Result<bool, AllocError>
-    requires { written ≤ 150 }
-{
-    let end = if written == 0 { End::Clean } else { End::Torn };
-    let is_right = fault == Some(AppendFault::Device(written)) && bytes.len() == RECORD + written;
-    Ok(is_right && answer(alloc, bytes)? == (1, end))
-}
-
-/// Whether so is a write that fails at this call.
+/// Whether a write of record 2 that fails at this call tells what it wrote, and leaves a store that
+/// loads as the first block.
 fn is_beginning(
     alloc: Global,
     bytes: &[u8],
@@ -222,7 +208,10 @@ fn is_beginning(
 {
     let mut tape = Counted::new(Tape::new(bytes.to_vec(alloc)?, 10, calls));
     let fault = fault_of(alloc, &mut tape, block);
-    is_told(alloc, &tape.into_inner().bytes, fault, 10 * calls)
+    let (left, written) = (tape.into_inner().bytes, 10 * calls);
+    let end = if written == 0 { End::Clean } else { End::Torn };
+    let is_right = fault == Some(AppendFault::Device(written)) && left.len() == RECORD + written;
+    Ok(is_right && answer(alloc, &left)? == (1, end))
 }
 
 fn are_beginnings(alloc: Global, bytes: &[u8], block: &Block) -> Result<bool, AllocError> {

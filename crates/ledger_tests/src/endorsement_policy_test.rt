@@ -30,11 +30,6 @@ const TAG: usize = 71;
 /// The length of a call whose second endorsement is a signature, behind the byte 00.
 const SIGNED: usize = 136;
 
-/// The bytes of an organisation's shared key.
-fn secret(letter: u8) -> [u8; 3] {
-    [letter, 0, letter]
-}
-
 /// The call with endorsements by A under its own key, and by a name with the HMAC under a key.
 fn keyed(alloc: Global, name: u8, key: &[u8]) -> Option<Envelope> {
     let mut bytes = CALL;
@@ -54,27 +49,19 @@ fn signed(alloc: Global, name: u8, seed: &[u8; 32]) -> Option<Envelope> {
     decode_envelope(alloc, &bytes).ok()
 }
 
-/// B's HMAC; one more of A; that of B under A's key; that of an unknown organisation.
-fn nth_keyed(alloc: Global, index: usize) -> Option<Envelope> {
-    let (name, key) = [(b'B', b'B'), (b'A', b'A'), (b'B', b'A'), (b'D', b'D')][index % 4];
-    keyed(alloc, name, &secret(key))
-}
-
-/// C's signature; one of another seed; C's, by the name of B.
-fn nth_signed(alloc: Global, index: usize) -> Option<Envelope> {
-    let (name, seed) = [(b'C', &SEED), (b'C', &PUBLIC), (b'B', &SEED)][index % 3];
-    signed(alloc, name, seed)
-}
-
-/// The eight: four with HMACs, three with signatures, and an HMAC under C's public key, which
-/// everybody knows. The first and the fifth satisfy the policy.
+/// The eight, of which the first and the fifth satisfy the policy: B's HMAC; one more of A; that of
+/// B under A's key; that of an unknown organisation; C's signature; one of another seed; C's, by the
+/// name of B; and an HMAC under C's public key, which everybody knows.
 fn nth(alloc: Global, index: usize) -> Option<Envelope> {
-    if index % 8 < 4 {
-        nth_keyed(alloc, index % 4)
-    } else if index % 8 < 7 {
-        nth_signed(alloc, index % 8 - 4)
-    } else {
-        keyed(alloc, b'C', &PUBLIC)
+    match index % 8 {
+        0 => keyed(alloc, b'B', b"B\0B"),
+        1 => keyed(alloc, b'A', b"A\0A"),
+        2 => keyed(alloc, b'B', b"A\0A"),
+        3 => keyed(alloc, b'D', b"D\0D"),
+        4 => signed(alloc, b'C', &SEED),
+        5 => signed(alloc, b'C', &PUBLIC),
+        6 => signed(alloc, b'B', &SEED),
+        _ => keyed(alloc, b'C', &PUBLIC),
     }
 }
 

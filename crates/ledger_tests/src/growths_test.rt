@@ -56,23 +56,24 @@ fn modules_are_read_again(rt: HostRuntime) {
 /// `a`, and puts one key.
 fn is_simulated(alloc: Global, setup: &Setup) -> Result<bool, SimRefusal> {
     let (book, proposal) = (&setup.genesis.book, setup.call.payload.proposal());
-    match simulate(alloc, book, &Snapshot::empty(alloc), proposal) {
-        Ok(payload) => Ok(is_get_put(&payload)),
-        Err(refusal) => Err(refusal),
-    }
+    let simulated = simulate(alloc, book, &Snapshot::empty(alloc), proposal);
+    Ok(is_get_put(&simulated?))
 }
 
 fn is_get_put(payload: &Payload) -> bool {
     payload.reads().as_slice().len() == 2 && payload.writes().as_slice().len() == 1
 }
 
+/// Whether the call is simulated so, again where it was refused memory.
+fn is_simulated_again(alloc: Global, setup: &Setup) -> bool {
+    let first = is_simulated(alloc, setup);
+    first == Ok(true) || first == Err(SimRefusal::Memory) && is_simulated(alloc, setup) == Ok(true)
+}
+
 #[test]
 fn calls_are_simulated_again(rt: HostRuntime) -> Result<(), Fail> {
     let alloc = rt.alloc();
-    let setup = opening(alloc, GET_PUT_A, 0)?;
-    let first = is_simulated(alloc, &setup);
-    let is_simulated = first == Ok(true)
-        || first == Err(SimRefusal::Memory) && is_simulated(alloc, &setup) == Ok(true);
+    let is_simulated = is_simulated_again(alloc, &opening(alloc, GET_PUT_A, 0)?);
     assert!(rt; is_simulated);
     Ok(())
 }
@@ -84,10 +85,16 @@ fn are_endorsed<R: Threads + Sync>(
     setup: &Setup,
     envelopes: &[Envelope],
 ) -> Result<bool, AllocError> {
-    let (rules, snapshot) = (&setup.genesis.rules, Snapshot::empty(alloc));
-    let workers = Workers::new(rt, 2);
-    let answers = check_all(&workers, alloc, rules, &snapshot, envelopes, &Open)?;
-    Ok(answers.as_slice() == [true, true].as_slice())
+    let (rules, workers) = (&setup.genesis.rules, Workers::new(rt, 2));
+    let answers = check_all(
+        &workers,
+        alloc,
+        rules,
+        &Snapshot::empty(alloc),
+        envelopes,
+        &Open,
+    );
+    Ok(answers?.as_slice() == [true, true].as_slice())
 }
 
 /// Whether a setup's call is endorsed by that check, again where it was refused memory.
@@ -119,10 +126,8 @@ fn is_committed(alloc: Global, block: &Block) -> Result<bool, CommitRefusal> {
         return Ok(false);
     }
     let copy = block.clone()?;
-    match commit_on(alloc, &Snapshot::empty(alloc), copy, &[true]) {
-        Ok(next) => Ok(is_valid_alone(&next)),
-        Err(refusal) => Err(refusal),
-    }
+    let committed = commit_on(alloc, &Snapshot::empty(alloc), copy, &[true]);
+    Ok(is_valid_alone(&committed?))
 }
 
 /// Whether a chain has one block, with one VALID transaction.

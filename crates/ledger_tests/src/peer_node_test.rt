@@ -102,7 +102,7 @@ fn commit_refusal<R: Threads + Wait + Sync>(
 /// What a seat saw: whether it endorsed, the refusals of block 2, block 1 and block 1 again, where
 /// the key was written after block 1 and after it was told of block 3, and the number of the refusal
 /// of what it had begun before it was told of block 4.
-#[derive(Clone, Copy, Debug, PartialEq, Eq)]
+#[derive(Clone, Copy, PartialEq)]
 struct Sight {
     endorsed: bool,
     refusals: [Option<u16>; 3],

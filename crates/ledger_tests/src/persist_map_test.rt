@@ -88,20 +88,15 @@ fn is_range(map: &PMap<u32, u32>, start: u32, end: u32, count: usize) -> Result<
     Ok(are_from(&entries, start, count))
 }
 
-/// Whether ranges go on past a page, have at most as many entries as are asked for, and end before
-/// their ends.
+/// Whether ranges of a map of 200 keys go on past a page, have at most as many entries as are asked
+/// for, and end before their ends, and the one without bounds has all keys.
 fn are_ranges(map: &PMap<u32, u32>) -> Result<bool, AllocError> {
     let is_cut = is_range(map, 30, 100, 64)?;
     let is_ended = is_range(map, 30, 90, 60)?;
     let is_empty = is_range(map, 50, 50, 0)?;
     let is_crossed = is_range(map, 150, 50, 0)?;
-    Ok(is_cut && is_ended && is_empty && is_crossed)
-}
-
-/// Whether the range without bounds has so many keys.
-fn are_all(map: &PMap<u32, u32>, count: usize) -> Result<bool, AllocError> {
-    let entries = map.first_from(None, None, count.saturating_add(1))?;
-    Ok(are_from(&entries, 0, count))
+    let are_all = are_from(&map.first_from(None, None, 201)?, 0, 200);
+    Ok(is_cut && is_ended && is_empty && is_crossed && are_all)
 }
 
 /// What is seen of a large map, of one of two pages, and of one of 200 keys.
@@ -114,7 +109,6 @@ fn seen(alloc: Global) -> Result<bool, AllocError> {
 /// Whether a map of 200 keys has its ranges, and older maps answer as before.
 fn is_kept(map: &mut PMap<u32, u32>) -> bool {
     are_ranges(map) == Ok(true)
-        && are_all(map, 200) == Ok(true)
         && stays_where_one_is_put(map) == Ok(true)
         && stays_where_one_is_removed(map) == Ok(true)
         && stays_in_a_copy(map) == Ok(true)

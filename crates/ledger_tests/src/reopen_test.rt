@@ -112,32 +112,20 @@ fn reopened<R: Threads + Wait + Sync>(
 }
 
 /// Whether the bytes of a store, but for ten of the end of its fourth record, give three blocks, and
-/// with blocks 4 and 5 the flags and the state of all five.
-fn is_back<R: Threads + Wait + Sync>(rt: &R, alloc: Global, setup: &Setup) -> Result<bool, Fail> {
-    let store = store(alloc, setup.chain.blocks(), 0)?;
-    let end = (store.len() / 5 * 4).saturating_sub(10);
-    let cut = store.get(..end).unwrap_or(&[]);
-    Ok(reopened(rt, alloc, setup, cut) == Some(Ok((3, true))))
-}
-
-/// Whether a store with another flag of its second block is refused, and the block is named.
-fn is_refused<R: Threads + Wait + Sync>(
-    rt: &R,
-    alloc: Global,
-    setup: &Setup,
-) -> Result<bool, Fail> {
-    let store = store(alloc, setup.chain.blocks(), 2)?;
-    let refusal = ReopenRefusal::Stored(RecommitRefusal::Flags(2));
-    Ok(reopened(rt, alloc, setup, &store) == Some(Err(refusal)))
-}
-
-/// Whether a peer comes back with a store that is cut, and not with one that has another flag.
+/// with blocks 4 and 5 the flags and the state of all five; and whether a store with another flag of
+/// its second block is refused, and the block is named.
 fn comes_back<R: Threads + Wait + Sync>(
     rt: &R,
     alloc: Global,
     setup: &Setup,
 ) -> Result<bool, Fail> {
-    Ok(is_back(rt, alloc, setup)? && is_refused(rt, alloc, setup)?)
+    let whole = store(alloc, setup.chain.blocks(), 0)?;
+    let other = store(alloc, setup.chain.blocks(), 2)?;
+    let end = (whole.len() / 5 * 4).saturating_sub(10);
+    let is_back = reopened(rt, alloc, setup, whole.get(..end).unwrap_or(&[]));
+    let is_refused = reopened(rt, alloc, setup, &other);
+    let refusal = ReopenRefusal::Stored(RecommitRefusal::Flags(2));
+    Ok(is_back == Some(Ok((3, true))) && is_refused == Some(Err(refusal)))
 }
 
 #[test]
