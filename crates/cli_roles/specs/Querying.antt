@@ -1,4 +1,4 @@
--- What is printed of the lines of the input.
+-- What `query` prints of the lines of its input.
 use Rattle.std.specs.Prelude.{◌≡◌, ◌⊎◌, ◌++◌, ℕ, [], Option, Some, Result, length, codes}
 use Rattle.std.specs.Fmt.{decimal}
 use Rattle.std.specs.Str.{IsUtf8}

@@ -75,6 +75,8 @@ pub fn check_fits(alloc: Global, snapshot: &Snapshot, block: &Block) -> Result<(
 
 /// What a block that fits behind a snapshot is judged to be, where it is known which of its
 /// envelopes are endorsed.
+///
+/// It refuses as `check_fits` does, and for want of memory (9) behind that.
 pub fn judge_told(
     alloc: Global,
     snapshot: &Snapshot,

@@ -13,6 +13,7 @@ use world_state::Snapshot;
 /// An organisation's endorsement of a payload: the tag that the seeds at hand make of its bytes for
 /// the key that the organisation has in this snapshot's state, by the membership there, else by the
 /// genesis. Without a key or its seed, the tag is made with the empty key and counts for nothing.
+/// The error is of memory.
 pub fn seal(
     alloc: Global,
     rules: &Rules,

@@ -96,7 +96,8 @@ fn timed_out(orderer: &mut Orderer) -> Result<Option<BatchReport>, OrderCause>
 }
 
 impl System {
-    /// The system at its opening: no blocks, free seats and an empty queue.
+    /// The system at its opening: no blocks, free seats and an empty queue. The only error is want
+    /// of memory.
     pub fn new(alloc: Global, genesis: &Genesis) -> Result<System, AllocError>
         ensures { IfOk result
             (λ s. s

@@ -35,7 +35,7 @@ impl Model for Field {
 
 ghost use Rattle.field25519.specs.Limbs.{limbs};
 
-/// Five limbs, low limb first.
+/// Five factors of a column: limbs, or 19 times limbs.
 type Limbs = (u64, u64, u64, u64, u64);
 
 /// Five products and their sum: a column of the product of two residues.

@@ -143,8 +143,8 @@ pub struct PublicFields<'a> {
     pub public: &'a str,
 }
 
-/// The fields of an organisation with a public key. None where one is missing, left over or no
-/// text.
+/// The fields of an organisation with a public key. None where the value is not an object of these
+/// two texts alone.
 pub fn public_fields(value: &Value) -> Option<PublicFields<'_>>
     ensures { MatchOption result
         ((name public : List ℕ) → view value.now ≢ public_object name public)

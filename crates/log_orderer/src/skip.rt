@@ -28,7 +28,7 @@ pub enum Skip {
 }
 
 impl Skip {
-    /// The number of the reason: 300, 301, 303 to 305, 421 or 422.
+    /// The number of the reason: 300 to 305, 421 or 422. No line is skipped for 302.
     pub fn number(self) -> u16
         ensures { result ≡ skip_number self }
     {

@@ -14,7 +14,7 @@ use std::collections::BTreeMap;
 use world_state::Snapshot;
 
 /// Whether all that a payload read is as it is in a snapshot: each key's version, and each range's
-/// first keys and versions.
+/// first keys and versions. The error is of memory.
 pub fn is_current(alloc: Global, snapshot: &Snapshot, payload: &Payload) -> Result<bool, AllocError>
     ensures { IfOk result (λ b. b ≡ is_current (state (history snapshot.now)) payload.now) }
 {

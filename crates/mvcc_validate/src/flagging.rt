@@ -111,7 +111,7 @@ pub fn flag_block(
     Ok(Judged { flags, ids })
 }
 
-/// The flags of `flag_block`, where nothing is put on the snapshot.
+/// The flags of `flag_block`, where nothing is put on the snapshot. The error is of memory.
 pub fn flags(
     alloc: Global,
     snapshot: &Snapshot,

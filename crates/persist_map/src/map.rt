@@ -98,7 +98,8 @@ impl<K: Ord, V> PMap<K, V> {
         range_in(&self.pages, start, end)
     }
 
-    /// The first `n` entries of a range, in key order. The bounds are as in `range`.
+    /// The first `n` entries of a range, in key order. The bounds are as in `range`. The only error
+    /// is want of memory.
     pub fn first_from(
         &self,
         start: Option<&K>,
@@ -137,7 +138,7 @@ impl<K: Ord + Drop, V: Drop> PMap<K, V> {
         delete_in(&mut self.pages, key)
     }
 
-    /// The map with a value at a key. This one stays as it is.
+    /// The map with a value at a key. This one stays as it is. The only error is want of memory.
     pub fn insert(&self, key: K, value: V) -> Result<PMap<K, V>, AllocError>
         ensures { IfOk result (λ m. m.entries ≡ put K.cmp self.now.entries key value) }
     {
@@ -146,7 +147,7 @@ impl<K: Ord + Drop, V: Drop> PMap<K, V> {
         Ok(map)
     }
 
-    /// The map without a key. This one stays as it is.
+    /// The map without a key. This one stays as it is. The only error is want of memory.
     pub fn remove(&self, key: &K) -> Result<PMap<K, V>, AllocError>
         ensures { IfOk result (λ m. m.entries ≡ without K.cmp self.now.entries key.now) }
     {

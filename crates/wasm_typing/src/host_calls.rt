@@ -7,8 +7,7 @@ ghost use Rattle.wasm_typing.specs.HostCalls.{call_named, call_type};
 
 use wasm_ast::{FuncType, HostCall, ValueType, arity};
 
-/// The host call of this name, among those that a module imports from `fabric`. None where there is
-/// none.
+/// The host call of this name, which a module can import from `fabric`. None where there is none.
 pub fn call_named(name: &str) -> Option<HostCall>
     ensures { result ≡ call_named name.now }
 {

@@ -149,7 +149,7 @@ impl Snapshot {
         is_indexed(&self.ids, id)
     }
 
-    /// Each key of the state with its value and version, in key order.
+    /// Each key of the state with its value and version, in key order. The error is of memory.
     pub fn entries(&self, alloc: Global) -> Result<Vec<(&Key, &(Value, Version))>, AllocError>
         ensures { IfOk result (λ v. map deref_pair v.items ≡ entries (state (history self.now))) }
     {
@@ -166,7 +166,7 @@ impl Snapshot {
 
     /// The first `n` entries of a range, in key order: from `start` on, or from the first key where
     /// it is empty, and below `end`, or without a bound where it is empty. Keys that begin with the
-    /// byte 0 are shown in no range. Nothing else of the state is visited.
+    /// byte 0 are shown in no range. Nothing else of the state is visited. The error is of memory.
     pub fn range(
         &self,
         alloc: Global,
@@ -181,7 +181,7 @@ impl Snapshot {
     }
 
     /// The snapshot after one block more, which is the next in number. This one stays as it is, and
-    /// both share what the block does not change.
+    /// both share what the block does not change. The error is of memory.
     pub fn extended(
         &self,
         alloc: Global,
