@@ -1,74 +1,135 @@
 """Proves the crates that a program stands on, and builds it, by the merge gate's own command on a copy of their files.
 
 The gate builds libraries of statements alone, which crates above read in half the time that whole ones take, takes the
-longest chain of crates first, and gives a crate the cores that no other needs. What it proved stays beside the kit, so a
-run that was interrupted goes on where it was. Wrong bodies are not copied: the gate alone tries them.
+longest chain of crates first, and gives a crate the cores that no other needs. What it proved stays beside the kit, where
+it may write there, so a run that was interrupted goes on by that. Wrong bodies are not copied: the gate alone tries them.
 """
 import os
 import pathlib
 import re
 import shutil
 import subprocess
+import sys
 import tempfile
 from collections.abc import Callable
 from typing import TextIO
 
-# For each crate, the libraries that it stands on.
+# For each crate, the libraries that it stands on, those of the kit too.
 Libraries = dict[str, list[str]]
+# Crates that a run of the gate proves beside those before, and its settings.
+Step = tuple[set[str], dict[str, str]]
 # Tells of a crate whether it is proved, how many are so far, and of how many.
 Tell = Callable[[str, bool, int, int], None]
+# So many bytes of memory are enough for each core: a check takes 3 GB at most.
+ENOUGH_MEMORY = 5 << 30
 # What the gate says of a crate.
 SAID = re.compile(r"rt: (\w+) (proved|NOT PROVED|is kept)\b")
 
 
 def libraries_of(root: pathlib.Path) -> Libraries:
-    """The crates of the repository that crates.txt names for each crate."""
+    """The libraries that crates.txt names for each crate."""
     lines = [it.split(":") for it in (root / "crates.txt").read_text().splitlines() if ":" in it and it[0] != "#"]
-    named = {head.split()[0]: tail.split() for head, tail in lines}
-    return {crate: [it for it in libraries if it in named] for crate, libraries in named.items()}
+    return {head.split()[0]: tail.split() for head, tail in lines}
 
 
 def below(libraries: Libraries, crate: str) -> set[str]:
     """All that a crate stands on."""
-    found, left = set(), list(libraries[crate])
+    found, left = set(), [*libraries.get(crate, [])]
     while left:
         name = left.pop()
         if name not in found:
             found.add(name)
-            left += libraries[name]
+            left += libraries.get(name, [])
     return found
 
 
+def last_of(libraries: Libraries, program: str) -> set[str]:
+    """The program, and below it those crates that wait for all others: one is proved behind the other."""
+    last, top = set(), {program}
+    while len(top) == 1:
+        last |= top
+        named = [it for crate in top for it in libraries[crate] if it in libraries]
+        top = {it for it in named if not any(it in below(libraries, other) for other in named)}
+    return last
+
+
+def steps(libraries: Libraries, program: str, cores: int) -> list[Step]:
+    """The runs of the gate. `rt` reckons with three times the memory that high crates take, and so leaves cores idle, unless it is
+    told to give each crate one core. Those beside which no other is proved would have one too: a second run proves these, on what
+    the first one kept."""
+    crates = libraries.keys() & (below(libraries, program) | {program})
+    last = last_of(libraries, program)
+    memory = os.sysconf("SC_PHYS_PAGES") * os.sysconf("SC_PAGE_SIZE")
+    if crates > last and is_kept() and memory >= cores * ENOUGH_MEMORY:
+        return [(crates - last, {"RT_JOBS": str(cores)}), (last, {})]
+    return [(crates, {})]
+
+
+def is_kept() -> bool:
+    """Whether `rt` can keep what it proves."""
+    beside = pathlib.Path(shutil.which("rt") or sys.executable).resolve().parents[2]
+    kept = beside / "rattle-kept"
+    return os.access(kept if kept.exists() else beside, os.W_OK)
+
+
 def copy_sources(root: pathlib.Path, room: pathlib.Path, crates: set[str]) -> None:
-    """Copies what the gate reads of some crates, and makes the copy the top of a repository."""
-    room.joinpath(".git").mkdir()
-    shutil.copy2(root / "HANDLES", room)
+    """Copies what the gate reads of some crates into the top of a repository."""
     lines = (root / "crates.txt").read_text().splitlines(keepends=True)
-    room.joinpath("crates.txt").write_text("".join(it for it in lines if it.partition(":")[0].partition(" ")[0] in crates))
+    with open(room / "crates.txt", "a", encoding="utf-8") as listed:
+        listed.writelines(it for it in lines if it.partition(":")[0].partition(" ")[0] in crates)
     for crate in crates:
         shutil.copytree(root / "crates" / crate, room / "crates" / crate, ignore=shutil.ignore_patterns("out", "must-fail", "plants"))
 
 
+def run_gate(room: pathlib.Path, settings: dict[str, str], say: Callable[[str], None]) -> bool:
+    """Runs the gate, and says each line of it. Whether all passed."""
+    how = {"stdin": subprocess.DEVNULL, "stdout": subprocess.PIPE, "stderr": subprocess.STDOUT, "env": {**os.environ, **settings}}
+    with subprocess.Popen(["rt", "ci"], cwd=room, text=True, errors="replace", **how) as gate:
+        try:
+            for line in gate.stdout:
+                say(line)
+        except BaseException:
+            # Interrupted, it would wait for the checks that it has begun. Killed, it takes them with it.
+            gate.kill()
+            raise
+    return gate.returncode == 0
+
+
+def put(made: pathlib.Path, out: pathlib.Path) -> None:
+    """Puts a program into a folder in one step, also from another disk, and where the one of before runs."""
+    out.mkdir(exist_ok=True)
+    shutil.move(made, out / f"{made.name}.new")
+    (out / f"{made.name}.new").replace(out / made.name)
+    # What Rattle's own compiler made of older sources would be tried as this program (test/lines.py).
+    (out / f"{made.name}.by-rattle").unlink(missing_ok=True)
+
+
 def prove(root: pathlib.Path, program: str, cores: int, log: TextIO, tell: Tell) -> bool:
     """Proves a program and all that it stands on, on so many cores, and puts it into its crate's out/. Whether all is proved."""
-    crates = below(libraries_of(root), program) | {program}
-    proved: set[str] = set()
+    planned = steps(libraries_of(root), program, cores)
+    count, proved = sum(len(crates) for crates, _ in planned), set()
     os.sched_setaffinity(0, sorted(os.sched_getaffinity(0))[:cores])
     # Beside the repository the program can be moved.
     beside = root.parent if os.access(root.parent, os.W_OK) else None
-    with tempfile.TemporaryDirectory(prefix="regtuma-prove-", dir=beside) as folder:
+    with tempfile.TemporaryDirectory(prefix="regtuma-prove-", dir=beside, ignore_cleanup_errors=True) as folder:
         room = pathlib.Path(folder)
-        copy_sources(root, room, crates)
-        how = {"stdin": subprocess.DEVNULL, "stdout": subprocess.PIPE, "stderr": subprocess.STDOUT}
-        with subprocess.Popen(["rt", "ci"], cwd=room, text=True, errors="replace", **how) as gate:
-            for line in gate.stdout:
-                log.write(line)
-                log.flush()
-                if said := SAID.match(line):
-                    proved.update([said[1]] if said[2] != "NOT PROVED" else [])
-                    tell(said[1], said[2] != "NOT PROVED", len(proved), len(crates))
-        if gate.returncode == 0:
-            made = pathlib.Path("crates", program, "out", program)
-            root.joinpath(made).parent.mkdir(exist_ok=True)
-            shutil.move(room / made, root / made)
-        return gate.returncode == 0
+        room.joinpath(".git").mkdir()
+        shutil.copy2(root / "HANDLES", room)
+
+        def say(line: str) -> None:
+            # The copy is gone when the log is read.
+            log.write(line.replace(str(room), str(root)))
+            log.flush()
+            said = SAID.match(line)
+            if said and said[1] not in proved:
+                is_proved = said[2] != "NOT PROVED"
+                proved.update([said[1]] if is_proved else [])
+                tell(said[1], is_proved, len(proved), count)
+
+        for crates, settings in planned:
+            copy_sources(root, room, crates)
+            if not run_gate(room, settings, say):
+                return False
+        out = pathlib.Path("crates", program, "out")
+        put(room / out / program, root / out)
+    return True

@@ -14,6 +14,7 @@ import lines as typed_lines
 import modules_files
 import networks
 import operating
+import proved
 import questions
 import reasons as sentences
 import timed as timed_words
@@ -231,6 +232,10 @@ def install(report: Report, at: Setting) -> None:
     installing.try_installing(report, at.tree, at.room, at.env)
 
 
+def prove(report: Report, at: Setting) -> None:
+    proved.try_proving(report, at.tree, at.room, at.env)
+
+
 def network(report: Report, at: Setting) -> None:
     networks.try_networks(report, at.tree, at.room, at.env)
 
@@ -271,4 +276,4 @@ def timed(report: Report, _at: Setting) -> None:
 Part = Callable[[Report, Setting], None]
 # Those that take long come first.
 PARTS: list[Part] = [demo, operations, page, query, chaincode, node, tutorial, readme, formats, network, modules, change, lines, reasons, made,
-                     numbers, keys, install, growths, timed, scripts, calling]
+                     numbers, keys, install, prove, growths, timed, scripts, calling]
