@@ -59,6 +59,8 @@ sign() { # DIR NAME SUBJECT DAYS, and extensions at the input
     test -r "$1/ca.key" || complain "$1 has no ca.key: begin with regtuma-certs ca"
     work=$(mktemp -d "$1/.certs-XXXXXX")
     trap 'rm -rf "$work"' EXIT
+    # A shell that a signal ends does not do that of itself.
+    trap 'exit 1' HUP INT TERM
     { echo "basicConstraints=critical,CA:false"; echo "keyUsage=critical,digitalSignature"; cat; } > "$work/extensions"
     make_key "$work/key"
     openssl req -new -key "$work/key" -subj "$3" -out "$work/request"

@@ -158,6 +158,7 @@ class Operating:
         for machine in self.machines:
             machine.stop("regtuma-node", "regtuma-etcd")
             shutil.rmtree(machine.root / "var/lib/regtuma-etcd")
+        before = (self.maker.root / "var/lib/regtuma/chain.store").read_bytes()
         (self.carrier.root / "var/lib/regtuma/chain.store").unlink()
         self.begin_etcd()
         self.maker.type(self.report, *self.block("systemctl stop regtuma-node\nregtuma-log"))
@@ -165,10 +166,10 @@ class Operating:
             machine.run("systemctl", "start", "regtuma-node")
         self.well()
 
-        def stores() -> set[str]:
-            return {hashlib.sha256((it.root / "var/lib/regtuma/chain.store").read_bytes()).hexdigest() for it in self.machines}
+        def stores() -> set[bytes]:
+            return {(it.root / "var/lib/regtuma/chain.store").read_bytes() for it in self.machines}
         # A node is well before it has read the log.
-        self.wait("the stores are as they were", lambda: len(stores()) == 1, lambda: str(stores()))
+        self.wait("the stores are as they were", lambda: stores() == {before}, lambda: str([len(it) for it in (before, *stores())]))
 
     def change_members(self) -> None:
         self.maker.type(self.report, *self.block("systemctl stop regtuma-node\nmake install"))

@@ -76,9 +76,11 @@ def reload(root: pathlib.Path, unit: str) -> None:
 def main(words: list[str]) -> int:
     root, task = pathlib.Path(words[0]), words[1]
     tasks = {"enable": start, "start": start, "stop": stop, "reload": reload}
-    for unit in (it for it in words[2:] if not it.startswith("--")):
-        tasks[task](root, unit if "." in unit else f"{unit}.service")
-    return 0
+    units = [it if "." in it else f"{it}.service" for it in words[2:] if not it.startswith("--")]
+    for unit in units:
+        tasks[task](root, unit)
+    # What has not ended would go on in the place of what is started behind it.
+    return 1 if task == "stop" and any(process_of(root, it) for it in units) else 0
 
 
 if __name__ == "__main__":

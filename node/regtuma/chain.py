@@ -15,6 +15,7 @@ from .config import Config
 from .etcd import TICK, Lines, Log, LogError
 from .filters import Filter, FilterEnded, Query
 from .times import Times
+from .waiting import within
 
 # An entry of etcd has at most 1.5 MiB, and so many envelopes at most.
 ENTRY_CHARACTERS, ENTRY_LINES = 1_000_000, 500
@@ -211,11 +212,14 @@ class Chain:
     async def at_least(self, height: int, patience: float) -> bool:
         """Whether the store has so many blocks, within so many seconds."""
         try:
-            async with self.grown:
-                await asyncio.wait_for(self.grown.wait_for(lambda: self.height >= height), patience)
+            await within(patience, self._grow(height))
         except asyncio.TimeoutError:
             pass
         return self.height >= height
+
+    async def _grow(self, height: int) -> None:
+        async with self.grown:
+            await self.grown.wait_for(lambda: self.height >= height)
 
     async def block(self, number: int) -> str | None:
         """The JSON of a block, and when it was committed here; none where there is no such block."""

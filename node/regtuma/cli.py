@@ -25,6 +25,7 @@ name no task; 3 where no node answers.
 """
 import argparse
 import json
+import os
 import pathlib
 import sys
 from collections.abc import Callable
@@ -231,15 +232,20 @@ def main(words: list[str]) -> int:
         print("regtuma: a word is not UTF-8", file=sys.stderr)
         return NO_TASK
     try:
-        return asked.do(from_environment(asked.seconds), asked)
+        status = asked.do(from_environment(asked.seconds), asked)
+        sys.stdout.flush()
+        return status
     except Failed as failed:
         said = {"why": str(failed), **failed.said}
         say(asked, said, outcome(said))
         return UNANSWERED if isinstance(failed, NoAnswer) else NOT_DONE
     except KeyboardInterrupt:
         return INTERRUPTED
-    except BrokenPipeError:
-        sys.stderr.close()
+    except OSError as error:
+        # Who reads has gone, or there is no room. At the end Python would try once more, and end with 120.
+        os.dup2(os.open(os.devnull, os.O_WRONLY), sys.stdout.fileno())
+        if not isinstance(error, BrokenPipeError):
+            print(f"regtuma: the output: {error.strerror}", file=sys.stderr)
         return NOT_DONE
 
 

@@ -118,7 +118,7 @@ class Endorsing:
         denials = [self.denial(it) for it in proposals]
         if self.approver:
             asked = [self.approver.ask(json.dumps({"asker": asker, **it})) for it in proposals]
-            denials = [why or (None if said == "yes" else said) for why, said in zip(denials, [await it for it in asked])]
+            denials = [why or (None if said == "yes" else said) for why, said in zip(denials, await asyncio.gather(*asked))]
         lines = [self.line_of(it) if why is None else None for it, why in zip(proposals, denials)]
         return [{"denied": why, "height": height} if line is None else await answer_of(line, height)
                 for line, why in zip(lines, denials)]

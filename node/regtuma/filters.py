@@ -32,6 +32,9 @@ class Filter:
             self.process = await asyncio.create_subprocess_exec(*self.command, stdin=pipe, stdout=pipe, limit=PIECE)
         except OSError as error:
             raise FilterEnded(f"{self.name}: {self.command[0]} cannot be run: {error.strerror}") from None
+        # Where it ends before it has read all, that is asked for here: else asyncio of Python 3.11.2 says that nobody did.
+        closed = asyncio.ensure_future(self.process.stdin.wait_closed())
+        closed.add_done_callback(lambda it: it.cancelled() or it.exception())
 
     async def write(self, *lines: bytes) -> None:
         """Hands lines on, and waits where the filter is behind."""

@@ -66,19 +66,19 @@ class Node:
         self.tasks: list[asyncio.Future] = []
 
     async def run(self) -> None:
-        """Serves until it is asked to end."""
+        """Serves until it is asked to end, which it may be while the store is read."""
         stopped = asyncio.Event()
         loop = asyncio.get_running_loop()
         for number in (signal.SIGTERM, signal.SIGINT):
             loop.add_signal_handler(number, stopped.set)
         loop.add_signal_handler(signal.SIGHUP, self.reload)
-        program = await version_of(self.config.ledger.program)
-        if promise := self.config.ticks.promise():
-            say(f"warning: {promise}")
-        await self.chain.start()
-        await self.endorsing.start()
-        works = [*self.chain.works(), *self.endorsing.works(), stopped.wait()]
-        self.tasks = [asyncio.ensure_future(it) for it in works]
+        asked, begun = asyncio.ensure_future(stopped.wait()), asyncio.ensure_future(self.begin())
+        self.tasks = [asked, begun]
+        await asyncio.wait(self.tasks, return_when=asyncio.FIRST_COMPLETED)
+        if asked.done():
+            return
+        program = begun.result()
+        self.tasks = [asked, *(asyncio.ensure_future(it) for it in [*self.chain.works(), *self.endorsing.works()])]
         api = Api(self.config, self.chain, self.endorsing, self.gateway, program)
         await self.listen(api.app(), self.config.listen, self.config.server_tls())
         if self.config.page:
@@ -88,6 +88,15 @@ class Node:
         done, _ = await asyncio.wait(self.tasks, return_when=asyncio.FIRST_COMPLETED)
         for it in done:
             it.result()
+
+    async def begin(self) -> dict:
+        """Begins the filters, which read the store. What `ledger version` says."""
+        program = await version_of(self.config.ledger.program)
+        if promise := self.config.ticks.promise():
+            say(f"warning: {promise}")
+        await self.chain.start()
+        await self.endorsing.start()
+        return program
 
     async def listen(self, app: web.Application, where: str, tls: ssl.SSLContext | None) -> None:
         self.runners.append(runner := web.AppRunner(app, access_log=None))

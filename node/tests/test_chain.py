@@ -1,5 +1,6 @@
 """The chain's decisions, with filters and a log that say what a test wants."""
 import asyncio
+import gc
 import json
 import unittest
 from unittest import mock
@@ -158,6 +159,28 @@ class Lines(Case):
             self.gateway.check_open()
         self.assertEqual((raised.exception.status, raised.exception.said["why"]), (503, self.chain.forked))
         self.assertEqual(await self.endorsed(), [{"denied": self.chain.forked, "height": 0}])
+
+    async def test_who_waits_for_a_block_ends_in_the_very_moment_in_which_it_comes(self):
+        async def follow() -> None:
+            await self.chain.at_least(1, 60.0)
+            await asyncio.sleep(60)
+        for steps in range(9):
+            self.chain.height = 0
+            work = asyncio.ensure_future(follow())
+            await asyncio.sleep(0.01)
+            async with self.chain.grown:
+                self.chain.height = 1
+                self.chain.grown.notify_all()
+            for _ in range(steps):
+                await asyncio.sleep(0)
+            work.cancel()
+            done, _ = await asyncio.wait([work], timeout=0.5)
+            work.cancel()
+            self.assertTrue(done, steps)
+
+    async def test_a_block_is_waited_for_so_long(self):
+        self.chain.height = 1
+        self.assertEqual([await self.chain.at_least(it, 0.01) for it in (1, 2)], [True, False])
 
     async def test_past_forks_it_goes_on(self):
         self.config.ledger.past_forks = True
@@ -498,6 +521,19 @@ class Filters(unittest.IsolatedAsyncioTestCase):
             work.cancel()
             await asyncio.gather(work, return_exceptions=True)
             await asked.close()
+
+    async def test_an_input_that_breaks_is_told_once(self):
+        told: list[str] = []
+        asyncio.get_running_loop().set_exception_handler(lambda _, it: told.append(it["message"]))
+        ended = Filter("it", ["sh", "-c", "read line; exit 1"])
+        await ended.start()
+        await ended.write(b"x\n", bytes(1 << 20))
+        with self.assertRaisesRegex(FilterEnded, "^it ended with status 1$"):
+            await ended.line()
+        await asyncio.sleep(0.1)
+        del ended
+        gc.collect()
+        self.assertEqual(told, [])
 
     async def test_one_that_ends_is_told(self):
         asked = Asked("false", ["false"])

@@ -6,6 +6,7 @@ import os
 import re
 import shutil
 import subprocess
+import sys
 import threading
 import time
 import unittest
@@ -79,6 +80,16 @@ class CommandLine(unittest.TestCase):
             with self.subTest(it=it), self.assertRaises(SystemExit) as raised:
                 told("status", "ab", f"--wait={it}")
             self.assertEqual(raised.exception.code, 2)
+
+    def test_an_output_that_nobody_reads(self):
+        script = ("import sys; from unittest import mock; from regtuma import cli;"
+                  " cli.from_environment = lambda _: mock.Mock(height=lambda: 4); sys.exit(cli.main(['height']))")
+        reads, writes = os.pipe()
+        os.close(reads)
+        env = {**os.environ, "PYTHONPATH": str(support.ROOT / "node"), "PYTHONUNBUFFERED": ""}
+        ran = subprocess.run([sys.executable, "-B", "-c", script], env=env, stdout=writes, stderr=subprocess.PIPE, text=True, timeout=60)
+        os.close(writes)
+        self.assertEqual((ran.returncode, ran.stderr), (1, ""))
 
     def test_a_stream_that_no_node_gives(self):
         ledger = mock.Mock(blocks=mock.Mock(side_effect=NoAnswer("no node answers")))

@@ -2,6 +2,8 @@
 import asyncio
 import contextlib
 import io
+import os
+import signal
 import unittest
 from unittest import mock
 
@@ -54,6 +56,17 @@ class Starts(unittest.TestCase):
 
     def test_the_program_speaks_these_lines(self):
         self.assertIn('"lines":1,', support.ledger("version"))
+
+    def test_it_ends_while_it_reads_the_store(self):
+        program = self.program("[ $1 = version ] && echo '{\"lines\":1}' || exec cat")
+        settings = self.folder.config(('"ledger"', f'"{program}"'))
+
+        async def serve() -> int:
+            asyncio.get_running_loop().call_later(0.3, os.kill, os.getpid(), signal.SIGTERM)
+            return await asyncio.wait_for(node.serve(settings), 10)
+        no_tls = {it: mock.Mock(return_value=None) for it in ("server_tls", "etcd_tls", "node_tls", "password")}
+        with mock.patch.multiple(config.Config, **no_tls):
+            self.assertEqual(asyncio.run(serve()), 0)
 
     def test_rights_are_taken_anew_where_they_are_whole(self):
         it = mock.Mock(config=self.folder.config())

@@ -1,0 +1,21 @@
+"""Waiting for a limited time."""
+import asyncio
+from collections.abc import Coroutine
+from typing import Any, TypeVar
+
+T = TypeVar("T")
+
+
+async def within(seconds: float, doing: Coroutine[Any, Any, T]) -> T:
+    """What this comes to; TimeoutError where it takes longer.
+
+    Python 3.11's wait_for passes over a cancel that comes in the very moment in which it is done, and timeout takes one of aiohttp,
+    which takes none back, for the end of the task.
+    """
+    task = asyncio.ensure_future(doing)
+    try:
+        if not (await asyncio.wait([task], timeout=seconds))[0]:
+            raise asyncio.TimeoutError
+        return task.result()
+    finally:
+        task.cancel()
