@@ -21,6 +21,10 @@ use Rattle.cli_lines.specs.declared.failure.Failure.TheVariants as failure
 abbrev pub refused : ℕ → List ℕ
 refused n = codes "refused " ++ decimal n
 
+-- what is said of a line of the input, from 1, that spells nothing
+abbrev pub bad_line : ℕ → List ℕ
+bad_line n = codes "bad line " ++ decimal n
+
 -- the text of a failure, empty where it is told otherwise
 abbrev pub failure_text : Failure → Option (List ℕ)
 failure_text failure.Usage = Some []
@@ -36,7 +40,7 @@ failure_text failure.NotEntered = Some (codes "refused 432")
 failure_text (failure.Commit refusal) = Some (refused (commit_number refusal))
 failure_text (failure.Flags n) = Some (codes "refused 711 block " ++ decimal n)
 failure_text (failure.Store end) = Some (codes "refused " ++ end_text end)
-failure_text (failure.BadLine n) = Some (codes "bad line " ++ decimal n)
+failure_text (failure.BadLine n) = Some (bad_line n)
 failure_text failure.Printed = Some []
 failure_text failure.Output = Some []
 

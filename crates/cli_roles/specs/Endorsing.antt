@@ -26,7 +26,7 @@ use Rattle.ledger_setting.specs.declared.genesis.Genesis.{Genesis}
 use Rattle.log_roles.specs.Committing.{header_hash}
 use Rattle.simulator.specs.declared.refusal.SimRefusal.{SimRefusal}
 use Rattle.cli_lines.specs.Lines.{simulation_line}
-use Rattle.cli_lines.specs.Texts.{line}
+use Rattle.cli_lines.specs.Texts.{bad_line, line}
 use Rattle.cli_lines.specs.Told.{Answers, Told}
 use Rattle.cli_lines.specs.declared.failure.Failure.{Failure}
 use Rattle.cli_lines.specs.declared.failure.Failure.TheVariants as failure
@@ -94,7 +94,7 @@ IsProposed e chain l text =
     (p : Proposal) × SpellsIn l p × (text ≡ answer_text (is_passed_over e.agrees p) (endorsed_on (endorses_by e.log.genesis e.org) p chain))
 
 abbrev pub IsBad : ℕ → Bytes → Bytes → Type 0
-IsBad number l text = ((p : Proposal) → ¬ SpellsIn l p) × (text ≡ line (codes "bad line " ++ decimal number))
+IsBad number l text = ((p : Proposal) → ¬ SpellsIn l p) × (text ≡ line (bad_line number))
 
 abbrev pub IsOther : Endorser → ℕ → Chain → Bytes → Bytes → Type 0
 IsOther e number chain l text = IsProposed e chain l text ⊎ IsBad number l text

@@ -1,6 +1,5 @@
 -- What `query` prints of the lines of its input.
-use Rattle.std.specs.Prelude.{◌≡◌, ◌⊎◌, ◌++◌, ℕ, [], Option, Some, Result, length, codes}
-use Rattle.std.specs.Fmt.{decimal}
+use Rattle.std.specs.Prelude.{◌≡◌, ◌⊎◌, ℕ, [], Option, Some, Result, length}
 use Rattle.std.specs.Str.{IsUtf8}
 use Rattle.serde_json.specs.Read.{read}
 use Rattle.ledger_model.specs.Chain.{Bytes, Chain}
@@ -8,7 +7,7 @@ use Rattle.ledger_setting.specs.declared.genesis.Genesis.{Genesis}
 use Rattle.json_questions.specs.Answers.{answer_json, answered_json}
 use Rattle.json_questions.specs.Spelling.{SpellsQuestion}
 use Rattle.json_questions.specs.declared.question.Question.{Question}
-use Rattle.cli_lines.specs.Texts.{line}
+use Rattle.cli_lines.specs.Texts.{bad_line, line}
 use Rattle.cli_lines.specs.Told.{Answers, Told}
 use Rattle.cli_lines.specs.declared.failure.Failure.{Failure}
 use Rattle.cli_roles.specs.Filters.{DoesOrEnds, Filters, FiltersBegin}
@@ -24,7 +23,7 @@ IsAnswered g chain asked text = (q : Question) × SpellsIn asked q × (read text
 
 -- the line of this number spells no question, and that is said
 abbrev pub IsBad : Bytes → ℕ → Bytes → Type 0
-IsBad asked number text = ((q : Question) → ¬ SpellsIn asked q) × (text ≡ codes "bad line " ++ decimal number)
+IsBad asked number text = ((q : Question) → ¬ SpellsIn asked q) × (text ≡ bad_line number)
 
 -- what is said of the line of this number, where the chain of the store is this one
 abbrev pub IsSaid : Genesis → Chain → Bytes → ℕ → Bytes → Type 0

@@ -1,8 +1,8 @@
 //! The command `query`.
 
-ghost use Rattle.std.specs.Prelude.{◌≡◌, ◌++◌, IfErr, IfOk, OnErr, OnOk, codes, string_bytes};
-ghost use Rattle.std.specs.Fmt.{decimal};
+ghost use Rattle.std.specs.Prelude.{◌≡◌, IfErr, IfOk, OnErr, OnOk, string_bytes};
 ghost use Rattle.std.specs.Io.KnownBytes.{Keeps};
+ghost use Rattle.cli_lines.specs.Texts.{bad_line};
 ghost use Rattle.cli_lines.specs.Told.{Answers, Begins, BreaksOff, IsBrokenOff, PrintsNothing, Tells};
 ghost use Rattle.cli_roles.specs.Filters.{PrintsSo};
 ghost use Rattle.log_store.specs.Reading.{IsReadBy, bytes_read, store_bytes};
@@ -225,7 +225,7 @@ fn text_of(
 }
 
 fn bad_line(alloc: Global, number: u64) -> Result<String, AllocError>
-    ensures { IfOk result (λ s. string_bytes s ≡ codes "bad line " ++ decimal number) }
+    ensures { IfOk result (λ s. string_bytes s ≡ bad_line number) }
 {
     format!(in alloc; "bad line {number}")
 }

@@ -167,6 +167,6 @@ asked_of_place known bytes name target file None held = tt
 asked_of_place known bytes name target file (Some chain) held = λ is. held name (file is) is
 
 -- a run whose organisations have their seeds
-pub with_secrets : (g : Genesis) (held : Option (List ℕ)) (P : Option Chain → Type 0) (before after : Told) (r : Result Bool Failure) →
+pub with_seeds : (g : Genesis) (held : Option (List ℕ)) (P : Option Chain → Type 0) (before after : Told) (r : Result Bool Failure) →
     a_peer_lacks_seed g ≡ false → Answers (LinesComeTo g held P) before after r → Answers (ComesTo g held P) before after r
-with_secrets g held P before after r has = answers_by (LinesComeTo g held P) (ComesTo g held P) before after r (λ text c. inl (has, c))
+with_seeds g held P before after r has = answers_by (LinesComeTo g held P) (ComesTo g held P) before after r (λ text c. inl (has, c))

@@ -1,9 +1,8 @@
-use Rattle.std.proofs.Common.{◌≡◌, ◌++◌, inl, inr, ap, codes, refl}
-use Rattle.std.specs.Fmt.{decimal}
+use Rattle.std.proofs.Common.{◌≡◌, inl, inr, ap, refl}
 use Rattle.endorser.specs.Endorsing.{Endorsing, endorsed_on}
 use Rattle.json_events.specs.declared.action.BadLine.TheVariants.{Memory, NoForm}
 use Rattle.log_store.specs.Following.{endorses_by, read_chain}
-use Rattle.cli_lines.specs.Texts.{line}
+use Rattle.cli_lines.specs.Texts.{bad_line, line}
 use Rattle.cli_roles.specs.Endorsing.{IsOther, answer_text, endorser, is_passed_over}
 use Rattle.cli_roles.proofs.Filters.{prints_so}
 use Rattle.cli_roles.proofs.endorsing.answer_other.Goals as goal
@@ -30,7 +29,7 @@ returns-in-Err-NoForm-clause-prints g c =
     let n = c.args.number in
     let w = c.writeln in
     let none = rw c.in-Err-NoForm.field-0-is at c.in-Err-NoForm.ensures.refused in
-    prints_so (IsOther e n (read_chain c.args.follower.now) c.args.line.now) c.args.out.now w.new.self w.result (line (codes "bad line " ++ decimal n))
+    prints_so (IsOther e n (read_chain c.args.follower.now) c.args.line.now) c.args.out.now w.new.self w.result (line (bad_line n))
     w.ensures.prints (inr ((λ p spells. none other p spells), refl))
 
 pub returns-in-Ok-clause-kept : goal.returns-in-Ok-clause-kept

@@ -10,7 +10,7 @@ use Rattle.cli_session.specs.Stored.{HoldsAsked}
 use Rattle.cli_session.specs.Whole.{LinesBegin, LinesComeTo, RunBegins}
 use Rattle.cli_session.proofs.Pieces.{fresh_reader}
 use Rattle.cli_session.proofs.Stored.{asked_behind, asked_kept}
-use Rattle.cli_session.proofs.Whole.{with_secrets}
+use Rattle.cli_session.proofs.Whole.{with_seeds}
 use Rattle.cli_session.proofs.session.run.Goals as goal
 
 pub returns-in_err-need_seeds : goal.returns-in_err-need_seeds
@@ -55,7 +55,7 @@ returns-clause-answers g c =
     let stored = HoldsAsked g.F.Files.is_known (g.F.Files.bytes c.run_read.new.files) (option_map (λ s. s.now) c.args.names.now.store) in
     let same = ap (λ x. g.F.Reader.Read.remaining x) r.inner ∙ c.in-Some.ensures.read ∙ ap (λ f. g.F.Files.bytes f name) c.in_ok-need_seeds.ensures.unchanged in
     let none = subst (λ (orgs : List (List ℕ)). list_any lacks orgs ≡ false) c.deref.ensures.value (c.in_ok-need_seeds.ensures.ok refl) in
-    with_secrets genesis held stored c.args.out.now c.run_read.new.out c.run_read.result none
+    with_seeds genesis held stored c.args.out.now c.run_read.new.out c.run_read.result none
     (subst (λ (o : Option (List ℕ)). Answers (LinesComeTo genesis o stored) c.args.out.now c.run_read.new.out c.run_read.result)
     (fresh_reader _ _ _ held r.capacity r.empty same) c.run_read.ensures.comes)
 
