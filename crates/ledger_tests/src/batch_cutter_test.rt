@@ -36,6 +36,14 @@ fn cuts(cutter: &mut Cutter<Parcel>, size: usize, batches: &[&[usize]]) -> bool 
     }
 }
 
+/// Whether a timeout cuts a batch of these sizes.
+fn times_out(cutter: &mut Cutter<Parcel>, sizes: &[usize]) -> bool {
+    match cutter.timeout() {
+        Some(batch) => are_sizes(&batch, sizes),
+        None => false,
+    }
+}
+
 /// Whether a message of this size is handed back as too large.
 fn is_too_large(cutter: &mut Cutter<Parcel>, size: usize) -> bool {
     match cutter.offer(Parcel(size)) {
@@ -44,7 +52,7 @@ fn is_too_large(cutter: &mut Cutter<Parcel>, size: usize) -> bool {
     }
 }
 
-/// Whether messages of 60, 50, 120 and 10 bytes are cut as they have to be.
+/// Whether messages of 60, 50, 120 and 10 bytes and a timeout are cut as they have to be.
 fn are_first(cutter: &mut Cutter<Parcel>) -> bool {
     // It waits: one of three, and 60 are not above 100.
     cuts(cutter, 60, &[])
@@ -52,8 +60,9 @@ fn are_first(cutter: &mut Cutter<Parcel>) -> bool {
         && cuts(cutter, 50, &[&[60]])
         // It is above 100: what waits is cut, and then it alone.
         && cuts(cutter, 120, &[&[50], &[120]])
-        // Nothing waits before it.
+        // Nothing waits before it, until time is up.
         && cuts(cutter, 10, &[])
+        && times_out(cutter, &[10])
 }
 
 /// Whether messages of 60, 40, 1,000 and 1,001 bytes are cut as they have to be, behind one of 10
@@ -74,7 +83,7 @@ fn are_next(cutter: &mut Cutter<Parcel>, second: &[&[usize]], left: &[usize]) ->
 fn messages_are_cut_by_their_sizes(rt: HostRuntime) -> Result<(), Fail> {
     let mut cutter = Cutter::new(rt.alloc(), 3, 100, 1000);
     let mut other = Cutter::new(rt.alloc(), 3, 100, 1000);
-    let are_cut = are_first(&mut cutter) && are_next(&mut cutter, &[&[10, 60]], &[40]);
-    assert!(rt; are_cut && are_next(&mut other, &[], &[60, 40]));
+    let are_cut = are_first(&mut cutter) && are_next(&mut cutter, &[], &[60, 40]);
+    assert!(rt; are_cut && cuts(&mut other, 10, &[]) && are_next(&mut other, &[&[10, 60]], &[40]));
     Ok(())
 }
