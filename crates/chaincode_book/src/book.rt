@@ -120,20 +120,6 @@ impl Book {
         })
     }
 
-    /// The same book with these modules at hand in the place of what was beside those that are
-    /// installed. None if there are more than 64.
-    pub fn holding(self, held: Vec<Held>) -> Option<Book>
-        ensures accepted { IsSome result ↔ (length held.items ≤ 64) }
-        ensures value { IfSome result (λ b. b ≡ record {
-          chaincodes = self.chaincodes;
-          modules = self.modules;
-          installed = self.installed;
-          held = held.items;
-        }) }
-    {
-        Book::new(self.chaincodes, self.modules, self.installed, held)
-    }
-
     /// The chaincodes, in the order in which they were given. The module of each is valid.
     pub fn chaincodes(&self) -> &[Chaincode]
         ensures value { result.now ≡ self.now.chaincodes }
