@@ -1,18 +1,19 @@
 """Proves the crates that a program stands on, and builds it, by the merge gate's own command on a copy of their files.
 
 The gate builds libraries of statements alone, which crates above read in half the time that whole ones take, takes the
-longest chain of crates first, and gives a crate the cores that no other needs. What it proved stays beside the kit, where
-it may write there, so a run that was interrupted goes on by that. Wrong bodies are not copied: the gate alone tries them.
+longest chain of crates first, and gives a crate the cores that no other needs, unless it is told how many there are (steps).
+What it proved stays beside the kit, where it may write there, so a run that was interrupted goes on by that. Wrong bodies are not
+copied: the gate alone tries them.
 """
 import os
 import pathlib
 import re
 import shutil
-import subprocess
-import sys
-import tempfile
+import time
 from collections.abc import Callable
 from typing import TextIO
+
+import kit
 
 # For each crate, the libraries that it stands on, those of the kit too.
 Libraries = dict[str, list[str]]
@@ -22,13 +23,17 @@ Step = tuple[set[str], dict[str, str]]
 Tell = Callable[[str, bool, int, int], None]
 # So many bytes of memory are enough for each core: a check takes 3 GB at most.
 ENOUGH_MEMORY = 5 << 30
+# Where a container's limit of memory stands, by the two versions of control groups.
+MEMORY_LIMITS = (pathlib.Path("/sys/fs/cgroup/memory.max"), pathlib.Path("/sys/fs/cgroup/memory/memory.limit_in_bytes"))
+# `rt` keeps nothing more where fewer bytes of the disk are left.
+LEAST_DISK = 5_000 << 20
 # What the gate says of a crate.
 SAID = re.compile(r"rt: (\w+) (proved|NOT PROVED|is kept)\b")
 
 
 def libraries_of(root: pathlib.Path) -> Libraries:
     """The libraries that crates.txt names for each crate."""
-    lines = [it.split(":") for it in (root / "crates.txt").read_text().splitlines() if ":" in it and it[0] != "#"]
+    lines = [it.split(":", 1) for it in (root / "crates.txt").read_text().splitlines() if ":" in it and it[0] != "#"]
     return {head.split()[0]: tail.split() for head, tail in lines}
 
 
@@ -45,7 +50,8 @@ def below(libraries: Libraries, crate: str) -> set[str]:
 
 def last_of(libraries: Libraries, program: str) -> set[str]:
     """The program, and below it those crates that wait for all others: one is proved behind the other."""
-    last, top = set(), {program}
+    last: set[str] = set()
+    top = {program}
     while len(top) == 1:
         last |= top
         named = [it for crate in top for it in libraries[crate] if it in libraries]
@@ -56,20 +62,27 @@ def last_of(libraries: Libraries, program: str) -> set[str]:
 def steps(libraries: Libraries, program: str, cores: int) -> list[Step]:
     """The runs of the gate. `rt` reckons with three times the memory that high crates take, and so leaves cores idle, unless it is
     told to give each crate one core. Those beside which no other is proved would have one too: a second run proves these, on what
-    the first one kept."""
+    the first one kept. Who has told `rt` how many jobs it may use is heard."""
     crates = libraries.keys() & (below(libraries, program) | {program})
     last = last_of(libraries, program)
-    memory = os.sysconf("SC_PHYS_PAGES") * os.sysconf("SC_PAGE_SIZE")
-    if crates > last and is_kept() and memory >= cores * ENOUGH_MEMORY:
+    if crates > last and not os.environ.get("RT_JOBS") and memory() >= cores * ENOUGH_MEMORY and can_keep():
         return [(crates - last, {"RT_JOBS": str(cores)}), (last, {})]
     return [(crates, {})]
 
 
-def is_kept() -> bool:
-    """Whether `rt` can keep what it proves."""
-    beside = pathlib.Path(shutil.which("rt") or sys.executable).resolve().parents[2]
+def memory() -> int:
+    """The bytes of memory that there are: the machine's, or what a container may take."""
+    limits = [it.read_text().strip() for it in MEMORY_LIMITS if it.is_file()]
+    return min([os.sysconf("SC_PHYS_PAGES") * os.sysconf("SC_PAGE_SIZE"), *(int(it) for it in limits if it.isdigit())])
+
+
+def can_keep() -> bool:
+    """Whether `rt` can keep what it proves: in a folder of this user's beside the kit."""
+    beside = pathlib.Path(shutil.which("rt") or "rt").resolve().parent.parent.parent
     kept = beside / "rattle-kept"
-    return os.access(kept if kept.exists() else beside, os.W_OK)
+    place = kept if kept.exists() else beside
+    is_own = place == beside or place.stat().st_uid == os.geteuid()
+    return is_own and os.access(place, os.W_OK) and shutil.disk_usage(place).free >= LEAST_DISK
 
 
 def copy_sources(root: pathlib.Path, room: pathlib.Path, crates: set[str]) -> None:
@@ -81,22 +94,10 @@ def copy_sources(root: pathlib.Path, room: pathlib.Path, crates: set[str]) -> No
         shutil.copytree(root / "crates" / crate, room / "crates" / crate, ignore=shutil.ignore_patterns("out", "must-fail", "plants"))
 
 
-def run_gate(room: pathlib.Path, settings: dict[str, str], say: Callable[[str], None]) -> bool:
-    """Runs the gate, and says each line of it. Whether all passed."""
-    how = {"stdin": subprocess.DEVNULL, "stdout": subprocess.PIPE, "stderr": subprocess.STDOUT, "env": {**os.environ, **settings}}
-    with subprocess.Popen(["rt", "ci"], cwd=room, text=True, errors="replace", **how) as gate:
-        try:
-            for line in gate.stdout:
-                say(line)
-        except BaseException:
-            # Interrupted, it would wait for the checks that it has begun. Killed, it takes them with it.
-            gate.kill()
-            raise
-    return gate.returncode == 0
-
-
-def put(made: pathlib.Path, out: pathlib.Path) -> None:
+def put(made: pathlib.Path, out: pathlib.Path, begun: float) -> None:
     """Puts a program into a folder in one step, also from another disk, and where the one of before runs."""
+    # It is of the sources as they were then: what was changed meanwhile is newer.
+    os.utime(made, (begun, begun))
     out.mkdir(exist_ok=True)
     shutil.move(made, out / f"{made.name}.new")
     (out / f"{made.name}.new").replace(out / made.name)
@@ -106,13 +107,14 @@ def put(made: pathlib.Path, out: pathlib.Path) -> None:
 
 def prove(root: pathlib.Path, program: str, cores: int, log: TextIO, tell: Tell) -> bool:
     """Proves a program and all that it stands on, on so many cores, and puts it into its crate's out/. Whether all is proved."""
+    begun = time.time()
     planned = steps(libraries_of(root), program, cores)
-    count, proved = sum(len(crates) for crates, _ in planned), set()
+    count = sum(len(crates) for crates, _ in planned)
+    proved: set[str] = set()
     os.sched_setaffinity(0, sorted(os.sched_getaffinity(0))[:cores])
     # Beside the repository the program can be moved.
     beside = root.parent if os.access(root.parent, os.W_OK) else None
-    with tempfile.TemporaryDirectory(prefix="regtuma-prove-", dir=beside, ignore_cleanup_errors=True) as folder:
-        room = pathlib.Path(folder)
+    with kit.folder("regtuma-prove-", beside) as room:
         room.joinpath(".git").mkdir()
         shutil.copy2(root / "HANDLES", room)
 
@@ -128,8 +130,8 @@ def prove(root: pathlib.Path, program: str, cores: int, log: TextIO, tell: Tell)
 
         for crates, settings in planned:
             copy_sources(root, room, crates)
-            if not run_gate(room, settings, say):
+            if kit.run(["ci"], room, settings, say) != 0:
                 return False
         out = pathlib.Path("crates", program, "out")
-        put(room / out / program, root / out)
+        put(room / out / program, root / out, begun)
     return True

@@ -1,0 +1,55 @@
+"""The kit's command `rt`, run so that what it has begun ends with the one that asked for it; and folders for its copies."""
+import contextlib
+import os
+import pathlib
+import signal
+import subprocess
+import tempfile
+from collections.abc import Callable, Iterator
+
+# The signals that end what is done here.
+ENDINGS = (signal.SIGINT, signal.SIGTERM, signal.SIGHUP)
+
+
+def run(words: list[str], room: pathlib.Path, settings: dict[str, str], say: Callable[[str], None]) -> int:
+    """Runs `rt` in a folder, with these settings in its environment, and hands on each line that it says. Its status."""
+    how = {"stdin": subprocess.DEVNULL, "stdout": subprocess.PIPE, "stderr": subprocess.STDOUT, "text": True, "errors": "replace",
+           "env": {**os.environ, "PYTHONUNBUFFERED": "1", **settings}}
+    with subprocess.Popen(["rt", *words], cwd=room, **how) as ran:
+        try:
+            for line in ran.stdout:
+                say(line)
+        except BaseException:
+            # Interrupted, it would wait for the checks that it has begun. Killed, it takes them with it.
+            ran.kill()
+            raise
+    return ran.returncode
+
+
+@contextlib.contextmanager
+def folder(prefix: str, beside: pathlib.Path | None = None) -> Iterator[pathlib.Path]:
+    """A temporary folder. From its end on no signal ends what is done, so that it goes away whole."""
+    with tempfile.TemporaryDirectory(prefix=prefix, dir=beside, ignore_cleanup_errors=True) as name:
+        try:
+            yield pathlib.Path(name)
+        finally:
+            ignore_signals()
+
+
+def ignore_signals() -> None:
+    for it in ENDINGS:
+        signal.signal(it, signal.SIG_IGN)
+
+
+def interrupt(_number: int, _frame: object) -> None:
+    """Ends what is done, once: a second signal, as a terminal that closes sends two, would end it while it takes files away."""
+    ignore_signals()
+    raise KeyboardInterrupt
+
+
+def end_by_signals() -> None:
+    """Lets these signals end what is done, with its checks and its temporary folders."""
+    for it in ENDINGS:
+        # `nohup` has the last ignored.
+        if signal.getsignal(it) != signal.SIG_IGN:
+            signal.signal(it, interrupt)
