@@ -226,19 +226,25 @@ def words_of(words: list[str]) -> argparse.Namespace:
     return reader.parse_args(words)
 
 
+def answered(asked: argparse.Namespace) -> int:
+    """Does what is asked for, or says why not. The status."""
+    try:
+        return asked.do(from_environment(asked.seconds), asked)
+    except Failed as failed:
+        said = {"why": str(failed), **failed.said}
+        say(asked, said, outcome(said))
+        return UNANSWERED if isinstance(failed, NoAnswer) else NOT_DONE
+
+
 def main(words: list[str]) -> int:
     asked = words_of(words)
     if any("\udc80" <= it <= "\udcff" for word in words for it in word):
         print("regtuma: a word is not UTF-8", file=sys.stderr)
         return NO_TASK
     try:
-        status = asked.do(from_environment(asked.seconds), asked)
-        sys.stdout.flush()
+        status = answered(asked)
+        print(end="", flush=True)
         return status
-    except Failed as failed:
-        said = {"why": str(failed), **failed.said}
-        say(asked, said, outcome(said))
-        return UNANSWERED if isinstance(failed, NoAnswer) else NOT_DONE
     except KeyboardInterrupt:
         return INTERRUPTED
     except OSError as error:

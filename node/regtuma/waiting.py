@@ -13,6 +13,8 @@ async def within(seconds: float, doing: Coroutine[Any, Any, T]) -> T:
     which takes none back, for the end of the task.
     """
     task = asyncio.ensure_future(doing)
+    # One that fails as its time is up, or as nobody waits any more, is no matter: else asyncio says that nobody asked.
+    task.add_done_callback(lambda it: it.cancelled() or it.exception())
     try:
         if not (await asyncio.wait([task], timeout=seconds))[0]:
             raise asyncio.TimeoutError

@@ -83,13 +83,16 @@ class CommandLine(unittest.TestCase):
 
     def test_an_output_that_nobody_reads(self):
         script = ("import sys; from unittest import mock; from regtuma import cli;"
-                  " cli.from_environment = lambda _: mock.Mock(height=lambda: 4); sys.exit(cli.main(['height']))")
-        reads, writes = os.pipe()
-        os.close(reads)
+                  " ledger = mock.Mock(height=mock.Mock(side_effect=[4] if sys.argv[1] == 'told' else cli.Failed('why')));"
+                  " cli.from_environment = lambda _: ledger; sys.exit(cli.main(['height']))")
         env = {**os.environ, "PYTHONPATH": str(support.ROOT / "node"), "PYTHONUNBUFFERED": ""}
-        ran = subprocess.run([sys.executable, "-B", "-c", script], env=env, stdout=writes, stderr=subprocess.PIPE, text=True, timeout=60)
-        os.close(writes)
-        self.assertEqual((ran.returncode, ran.stderr), (1, ""))
+        for what in ("told", "failed"):
+            reads, writes = os.pipe()
+            os.close(reads)
+            command = [sys.executable, "-B", "-c", script, what]
+            ran = subprocess.run(command, env=env, stdout=writes, stderr=subprocess.PIPE, text=True, timeout=60)
+            os.close(writes)
+            self.assertEqual((ran.returncode, ran.stderr), (1, ""), what)
 
     def test_a_stream_that_no_node_gives(self):
         ledger = mock.Mock(blocks=mock.Mock(side_effect=NoAnswer("no node answers")))
