@@ -27,7 +27,7 @@ import sys
 sys.dont_write_bytecode = True
 sys.path.insert(0, str(pathlib.Path(__file__).resolve().parents[1] / "python"))
 from membership import Definition, Ledger, Membership, at_hand, check_usable, member_of, membership_of, needed, parsed, unmet
-from network import Mistake
+from network import OPEN, PROFILES, USUAL_PROFILE, Mistake
 from policies import is_satisfied
 from program import ROOT
 
@@ -171,7 +171,7 @@ def words_of(words: list[str]) -> argparse.Namespace:
         made[members].add_argument(option, action="append", default=[], metavar=value)
     made[members].add_argument("--policy", metavar="TEXT")
     made[upgrade].add_argument("--policy", required=True, metavar="TEXT")
-    made[upgrade].add_argument("--profile", type=int, choices=(1, 2, 17, 18), default=17)
+    made[upgrade].add_argument("--profile", type=int, choices=(*PROFILES, *(OPEN + it for it in PROFILES)), default=OPEN + USUAL_PROFILE)
     made[upgrade].add_argument("--fuel", type=int, default=100000)
     return reader.parse_args(words)
 

@@ -1,7 +1,7 @@
 """A modules file: modules that a command has at hand beside those of its genesis file (docs/INPUT.md, "Modules file")."""
 import re
 
-from network import MOST_MODULE_BYTES, Mistake, ask, quoted, reason, text_of
+from network import MOST_MODULE_BYTES, PROFILES, USUAL_PROFILE, Mistake, ask, quoted, reason, text_of
 
 # How many modules a modules file has at most.
 MOST_HELD = 64
@@ -19,7 +19,7 @@ def modules_file(words: list[str], program: str) -> str:
 def divided(word: str) -> tuple[str, int]:
     """The name of the file, and the profile: 1 where none is named."""
     name, mark, profile = word.rpartition(":")
-    return (name, int(profile)) if mark and profile in ("1", "2") else (word, 1)
+    return (name, int(profile)) if mark and profile in map(str, PROFILES) else (word, USUAL_PROFILE)
 
 
 def module(name: str, profile: int, program: str) -> dict[str, object]:

@@ -18,7 +18,8 @@ MODULE_FIELDS = ("module", "profile")
 # The greatest number that each of these may be, and what it is where it is left out. The least is 1.
 NUMBERS = {"seats": (64, 4), "queue": (4096, 64), "count": (512, 512), "preferred": (524288, 65536), "absolute": (524288, 524288)}
 MOST_FUEL, USUAL_FUEL = 10000000, 100000
-MOST_PROFILE, USUAL_PROFILE = 2, 1
+# The profiles of modules, and what an open definition has more than its profile.
+PROFILES, USUAL_PROFILE, OPEN = (1, 2), 1, 16
 MOST_PEERS, MOST_MODULES = 8, 16
 # The bytes of a network file and of a module, at most.
 MOST_BYTES, MOST_MODULE_BYTES = 131072, 262144
@@ -254,7 +255,7 @@ def more_modules(network: Table) -> list[Table]:
 def module(table: Table) -> dict[str, object]:
     """A module's bytes in hex, and its profile. Of a file that is too long for a module the program gets its beginning."""
     path = table.path("module", MODULE)
-    profile = table.number("profile", MOST_PROFILE, USUAL_PROFILE)
+    profile = table.number("profile", max(PROFILES), USUAL_PROFILE)
     try:
         with open(path, "rb") as file:
             return {"module": file.read(MOST_MODULE_BYTES + 1).hex(), "profile": profile}
