@@ -101,7 +101,8 @@ def try_proving(report: Report, tree: pathlib.Path, room: pathlib.Path, env: dic
     is_older = (out / "ledger_cli").stat().st_mtime < at.source.stat().st_mtime
     report.case("what is edited meanwhile is newer", is_older)
     report.case("the log names the repository", f"rt: ledger_cli proved in {at.root}\n" in at.log())
-    report.case("what waits for all others has a run of its own", at.jobs() == ["1", ""], str(at.jobs()))
+    is_enough = proving.memory() >= proving.ENOUGH_MEMORY and shutil.disk_usage(room).free >= proving.LEAST_DISK
+    report.case("what waits for all others has a run of its own", at.jobs() == (["1", ""] if is_enough else [""]), str(at.jobs()))
     report.case("the copy goes", not at.left(), str(at.left()))
     interrupt(report, at, [signal.SIGINT])
     # As a terminal does that closes: the second while files are taken away.
