@@ -1,3 +1,4 @@
+# make test                                      runs every test that needs no proof, in some minutes; rt ci proves all of it
 # make install [PREFIX=/usr/local] [DESTDIR=..]   installs the proved program, the node and the clients. Nothing is begun, and in
 #                                                 /etc only the units of systemd are written
 # make users                                      makes the users that the units run as, with their folders below /var/lib
@@ -14,7 +15,7 @@ FILES = VERSION LICENSE Makefile CHANGELOG.md CONTRIBUTING.md README.md bench/RE
 	node/systemd/* examples/node/*) examples/page/template.html crates/cli_words/src/table.rt
 SCRIPTS = ledger node/certs.sh node/change.py $(wildcard node/bin/*)
 
-.PHONY: install users
+.PHONY: install users test
 install:
 	@test -x $(LEDGER) || { echo "there is no proved program $(LEDGER): ./ledger prove makes it" >&2; exit 1; }
 	@for file in $(FILES); do install -D -m 644 $$file $(LIB)/$$file || exit 1; done
@@ -33,3 +34,6 @@ users:
 		getent passwd $$name > /dev/null || \
 			useradd --system --create-home --home-dir /var/lib/$$name --shell /usr/sbin/nologin $$name || exit 1; \
 	done
+
+test:
+	@test/run

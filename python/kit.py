@@ -7,8 +7,16 @@ import subprocess
 import tempfile
 from collections.abc import Callable, Iterator
 
+# How a kit that keeps what `rt ci` proved lets it be proved again.
+ANEW = "--anew"
 # The signals that end what is done here.
 ENDINGS = (signal.SIGINT, signal.SIGTERM, signal.SIGHUP)
+
+
+def keeps_proofs() -> bool:
+    """Whether this kit's `rt ci` keeps what it proved, and takes it again: kits differ in that, and those that do say how to do without."""
+    asked = subprocess.run(["rt", "help"], stdin=subprocess.DEVNULL, capture_output=True, text=True, errors="replace", check=False)
+    return ANEW in asked.stdout + asked.stderr
 
 
 def run(words: list[str], room: pathlib.Path, settings: dict[str, str], say: Callable[[str], None]) -> int:

@@ -2,7 +2,7 @@
 
 The gate builds libraries of statements alone, which crates above read in half the time that whole ones take, takes the
 longest chain of crates first, and gives a crate the cores that no other needs, unless it is told how many there are (steps).
-What it proved stays beside the kit, where it may write there, so a run that was interrupted goes on by that. Wrong bodies are not
+Where the kit keeps what it proved, and may write beside itself, a run that was interrupted goes on by that. Wrong bodies are not
 copied: the gate alone tries them.
 """
 import os
@@ -62,12 +62,14 @@ def last_of(libraries: Libraries, program: str) -> set[str]:
 def steps(libraries: Libraries, program: str, cores: int) -> list[Step]:
     """The runs of the gate. `rt` reckons with three times the memory that high crates take, and so leaves cores idle, unless it is
     told to give each crate one core. Those beside which no other is proved would have one too: a second run proves these, on what
-    the first one kept. Who has told `rt` how many jobs it may use is heard."""
+    the first one kept. Where nothing is kept it would prove all again, so it is one run. Who has told `rt` how many jobs it may use is
+    heard."""
     crates = libraries.keys() & (below(libraries, program) | {program})
     last = last_of(libraries, program)
-    if crates > last and not os.environ.get("RT_JOBS") and memory() >= cores * ENOUGH_MEMORY and can_keep():
-        return [(crates - last, {"RT_JOBS": str(cores)}), (last, {})]
-    return [(crates, {})]
+    if not crates > last or os.environ.get("RT_JOBS") or memory() < cores * ENOUGH_MEMORY:
+        return [(crates, {})]
+    each = {"RT_JOBS": str(cores)}
+    return [(crates - last, each), (last, {})] if can_keep() else [(crates, each)]
 
 
 def memory() -> int:
@@ -77,7 +79,9 @@ def memory() -> int:
 
 
 def can_keep() -> bool:
-    """Whether `rt` can keep what it proves: in a folder of this user's beside the kit."""
+    """Whether `rt` keeps what it proves, and can: in a folder of this user's beside the kit."""
+    if not kit.keeps_proofs():
+        return False
     beside = pathlib.Path(shutil.which("rt") or "rt").resolve().parent.parent.parent
     kept = beside / "rattle-kept"
     place = kept if kept.exists() else beside

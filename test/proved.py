@@ -22,6 +22,7 @@ MANY = 1000
 # of a source, and ends as it is told to, or makes many files more and goes on.
 RT = """\
 #!/bin/sh
+[ "$1" = help ] && { echo "rt ci [$KEEPS]"; exit 0; }
 find . -type f > "$FOUND"
 echo "jobs: $RT_JOBS"
 echo "rt: left is kept: an earlier run on this machine proved the same files"
@@ -63,7 +64,7 @@ class Proving:
         (kit / "rt").write_text(RT)
         (kit / "rt").chmod(0o755)
         self.source = self.root / "crates/left/src/lib.rt"
-        self.env = {**env, "PATH": f"{kit}:{env['PATH']}", "FOUND": str(self.found), "SOURCE": str(self.source), "RT_JOBS": ""}
+        self.env = {**env, "PATH": f"{kit}:{env['PATH']}", "FOUND": str(self.found), "SOURCE": str(self.source), "RT_JOBS": "", "KEEPS": "--anew"}
 
     def prove(self, says: str, then: str, **env: str) -> tuple[list[str], Ran]:
         """What is told behind the first line where `rt` says this of the program, and ends so; without the minutes."""
@@ -103,6 +104,9 @@ def try_proving(report: Report, tree: pathlib.Path, room: pathlib.Path, env: dic
     report.case("the log names the repository", f"rt: ledger_cli proved in {at.root}\n" in at.log())
     is_enough = proving.memory() >= proving.ENOUGH_MEMORY and shutil.disk_usage(room).free >= proving.LEAST_DISK
     report.case("what waits for all others has a run of its own", at.jobs() == (["1", ""] if is_enough else [""]), str(at.jobs()))
+    told, ran = at.prove("proved", "true", KEEPS="")
+    report.case("a kit that keeps nothing proves once", ran.status == 0 and at.jobs() == (["1"] if proving.memory() >= proving.ENOUGH_MEMORY else [""]),
+                str(at.jobs()))
     report.case("the copy goes", not at.left(), str(at.left()))
     interrupt(report, at, [signal.SIGINT])
     # As a terminal does that closes: the second while files are taken away.

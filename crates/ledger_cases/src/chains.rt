@@ -160,7 +160,7 @@ fn nonce_at(height: usize, place: usize) -> [u8; 16] {
 }
 
 /// The header of the block that comes next, if one may. Its hashes are zeros.
-pub fn next_header(snapshot: &Snapshot) -> Option<Header>
+fn next_header(snapshot: &Snapshot) -> Option<Header>
     ensures { IfSome result (λ h. h.number ≡ length snapshot.now + 1) }
 {
     Some(Header {

@@ -1,9 +1,6 @@
-//! Calls of the WebAssembly crates and of the ledger's: cases as data, and with words calls that
-//! are timed, as `timed` names them. The exit status is 0 for done, 1 for a failure, which is
-//! printed, and 2 where the words name no task.
+//! Calls of the WebAssembly crates and of the ledger's: cases as data.
 //!
-//! Without words a line of the input is a case, and the line of the output with the same number is
-//! its answer. A line is a verb and its words, and may have a note behind ` #`. Lines that are empty
+//! A line of the input is a case, and the line of the output with the same number is its answer. A line is a verb and its words, and may have a note behind ` #`. Lines that are empty
 //! or begin with `#` are printed as they are, and `bad line` stands for what is no case. In HEX
 //! bytes are pieces with blanks between them; a piece with `*N` behind it stands N times.
 //!
@@ -91,45 +88,17 @@ mod simulations;
 mod steps;
 mod tags;
 mod texts;
-mod timed;
 mod transactions;
 
 use crate::cases::{answer_case, without_note};
-use crate::timed::{Done, Failure};
-use std::env;
 use std::io::{self, BufRead, BufReader, Write};
-use std::process::ExitCode;
 
-fn main(rt: HostRuntime) -> io::Result<ExitCode> {
-    let words: Vec<String> = env::args(&rt)?.skip(1).collect(rt.alloc())?;
-    if words.is_empty() {
-        return answer_lines(&rt);
-    }
-    let done = timed::time(&rt, rt.alloc(), &words);
-    report(&rt, done)
-}
-
-/// Prints what was done, or why nothing was.
-fn report(rt: &HostRuntime, done: Result<Done, Failure>) -> io::Result<ExitCode> {
-    match done {
-        Ok(done) => {
-            println!(rt; "{done}")?;
-            Ok(ExitCode::from(0))
-        }
-        Err(failure) => {
-            println!(rt; "{failure}")?;
-            Ok(ExitCode::from(failure.status()))
-        }
-    }
-}
-
-/// Answers each line of the input.
-fn answer_lines(rt: &HostRuntime) -> io::Result<ExitCode> {
+fn main(rt: HostRuntime) -> io::Result<()> {
     let alloc = rt.alloc();
     for line in BufReader::new(alloc, rt.reader())?.lines(alloc) {
-        answer_line(rt, line?.as_str())?;
+        answer_line(&rt, line?.as_str())?;
     }
-    Ok(ExitCode::from(0))
+    Ok(())
 }
 
 /// Answers a line: a comment by itself, a case by what it gives or by its fault.
