@@ -14,6 +14,7 @@ from .etcd import LogError
 from .fields import is_loopback
 from .filters import FilterEnded, TooLong
 from .proposals import Refused
+from .wire import Object
 
 Handler = Callable[[web.Request], Awaitable[web.StreamResponse]]
 
@@ -29,9 +30,11 @@ def answer(said: object, status: int = 200) -> web.Response:
 def chain_of(tls: ssl.SSLObject) -> list[bytes]:
     """The certificates by which a caller's own is trusted, that first and its authority's last."""
     if hasattr(tls, "get_verified_chain"):
-        return tls.get_verified_chain()
-    # Python 3.12 and before have it below this name alone.
-    return [ssl.PEM_cert_to_DER_cert(it.public_bytes()) for it in tls._sslobj.get_verified_chain() or []]
+        chain: list[bytes] = tls.get_verified_chain()
+        return chain
+    # Python 3.12 and before have it below this name alone, which is none that mypy knows.
+    inner = tls._sslobj  # type: ignore[attr-defined]
+    return [ssl.PEM_cert_to_DER_cert(it.public_bytes()) for it in inner.get_verified_chain() or []]
 
 
 class Access:
@@ -43,18 +46,18 @@ class Access:
 
     def caller(self, request: web.Request) -> str | None:
         """Whose certificate it is, where the organisation that it names has signed it."""
-        tls = request.transport and request.transport.get_extra_info("ssl_object")
+        tls: ssl.SSLObject | None = request.transport.get_extra_info("ssl_object") if request.transport else None
         if tls is None:
             return None
         if tls not in self.callers:
             self.callers[tls] = self.name_of(tls.getpeercert(), chain_of(tls))
         return self.callers[tls]
 
-    def name_of(self, certificate: dict | None, chain: list[bytes]) -> str | None:
+    def name_of(self, certificate: Object | None, chain: list[bytes]) -> str | None:
         """The caller that a certificate names. It has to be signed by that organisation's authority itself: no other one speaks for
         it, also not by an authority in between that bears its name."""
-        subject = dict(pair for part in (certificate or {}).get("subject", ()) for pair in part)
-        organisation, name = subject.get("organizationName"), subject.get("commonName")
+        subject: dict[str, str] = dict(pair for part in (certificate or {}).get("subject", ()) for pair in part)
+        organisation, name = subject.get("organizationName", ""), subject.get("commonName")
         is_own = len(chain) == 2 and chain[1] in self.authorities.get(organisation, set())
         return f"{organisation}/{name}" if name and is_own else None
 
@@ -75,7 +78,8 @@ class Access:
             if request.method == "POST" and request.content_type != "application/json":
                 # What a page of another site can make a browser send, with its certificate, has another type.
                 raise Refused(415, {"why": "a request has the type application/json"})
-            request["right"] = right
+            # Its connection may end before the request is answered, so that it is asked for its certificate here alone.
+            request["right"], request["caller"] = right, caller
             return await handler(request)
         return guarded
 

@@ -16,7 +16,7 @@ from .endorsing import Endorsing
 from .gateway import Gateway
 from .metrics import TYPE, Metrics
 from .proposals import DIGEST, Refused, bound_of, check, checked, matches, number_of, objects, seconds_of
-from .wire import id_of
+from .wire import Object, id_of
 
 PATIENCE, LONGEST_WAIT = 30.0, 600.0
 MOST_BLOCKS, MOST_ENTRIES, MOST_CALLS, HEARTBEAT = 200, 1000, 500, 15.0
@@ -29,7 +29,7 @@ Route = tuple[str, str, str, Handler]
 
 
 class Api:
-    def __init__(self, config: Config, chain: Chain, endorsing: Endorsing, gateway: Gateway, program: dict):
+    def __init__(self, config: Config, chain: Chain, endorsing: Endorsing, gateway: Gateway, program: Object):
         self.config, self.chain, self.endorsing, self.gateway = config, chain, endorsing, gateway
         # What `ledger version` says.
         self.program = program
@@ -124,8 +124,10 @@ class Api:
         return answer((await self.chain.query.ask_for("members"))[0])
 
     async def get_block(self, request: web.Request) -> web.Response:
-        line = await self.chain.block(number_of(request.match_info["number"], "a block's number", 1, ticks.LAST_BLOCK))
-        return web.Response(text=line, content_type="application/json") if line else self.found(None)
+        number = number_of(request.match_info["number"], "a block's number", 1, ticks.LAST_BLOCK)
+        if number > self.chain.height:
+            return self.found(None)
+        return web.Response(text=await self.chain.block(number), content_type="application/json")
 
     async def get_blocks(self, request: web.Request) -> web.Response:
         """Blocks, each as a line of JSON, so many at most."""
@@ -205,7 +207,7 @@ class Api:
         """One call, or a list of them, each answered by what it would be answered alone."""
         body = await body_of(request)
         patience = seconds_of(request.query.get("wait", str(PATIENCE)), LONGEST_WAIT)
-        caller = self.access.caller(request)
+        caller: str = request["caller"]
         with self.metrics.submits.time():
             if "calls" in body:
                 check(set(body) == {"calls"}, "a request with calls has nothing else")
@@ -221,7 +223,7 @@ class Api:
         is_one = set(body) <= {"proposals", "height"} and type(height) is int
         check(is_one, "a request has a list of proposals, and may have a height")
         proposals = [checked(it) for it in objects(body.get("proposals"), "proposals", MOST_CALLS)]
-        asker = self.access.caller(request)
+        asker: str = request["caller"]
         return answer({"answers": await self.endorsing.answers(asker, proposals, height)})
 
     async def agree(self, request: web.Request) -> web.Response:
@@ -230,7 +232,7 @@ class Api:
         check("chaincode" not in proposal, "a call needs no agreement: one agrees to an upgrade or an amendment")
         id = id_of(proposal)
         self.endorsing.agreed.add(id)
-        self.chain.say(f"{self.access.caller(request)} agrees to {id}: {dumps(proposal)}")
+        self.chain.say(f"{request['caller']} agrees to {id}: {dumps(proposal)}")
         return answer({"id": id})
 
     async def get_agreed(self, _request: web.Request) -> web.Response:
@@ -243,7 +245,7 @@ class Api:
         if not await self.chain.at_least(height, 5.0):
             raise Refused(503, {"why": f"this node has {self.chain.height} blocks, and not yet {height}"})
 
-    def found(self, said: dict | None) -> web.Response:
+    def found(self, said: Object | None) -> web.Response:
         return answer(said) if said is not None else answer({"why": "there is none", "height": self.chain.height}, 404)
 
 
@@ -262,11 +264,12 @@ def key_of(request: web.Request) -> str:
     return key
 
 
-async def body_of(request: web.Request) -> dict:
+async def body_of(request: web.Request) -> Object:
     """The JSON object that a request has."""
     try:
         body = await request.json()
     except (ValueError, RecursionError):
         raise Refused(400, {"why": "the body is no JSON"}) from None
-    check(isinstance(body, dict), "the body is a JSON object")
+    if not isinstance(body, dict):
+        raise Refused(400, {"why": "the body is a JSON object"})
     return body

@@ -23,10 +23,11 @@ import ssl
 import threading
 import time
 from collections.abc import Iterable, Iterator
+from typing import TypeVar
 from urllib.parse import quote, urlencode, urlsplit
 
 from .fields import url
-from .wire import id_of
+from .wire import Object, id_of
 
 # What is tried again: flags of a conflict and of a phantom, and the orderer's answers to a batch that has no legal order.
 CONFLICTS, ABORTED = (2, 3), (441, 442)
@@ -38,12 +39,14 @@ SILENCE = 45.0
 FAILURES = (OSError, http.client.HTTPException, ValueError)
 # The environment's names of the nodes' URLs, with commas between, and of the files of certificate, key and authorities.
 SETTINGS = ("REGTUMA_NODES", "REGTUMA_CERT", "REGTUMA_KEY", "REGTUMA_CA")
+# What an answer is: an object or a list.
+Kind = TypeVar("Kind")
 
 
 class Failed(Exception):
     """Something did not come about. `said` is what a node answered, if one did."""
 
-    def __init__(self, why: str, said: dict | None = None):
+    def __init__(self, why: str, said: Object | None = None):
         super().__init__(why)
         self.said = said or {}
 
@@ -51,7 +54,7 @@ class Failed(Exception):
 class Refused(Failed):
     """A node refused: the call is in no block. `status` is that of HTTP, `said["refused"]` the ledger's number, if it has one."""
 
-    def __init__(self, status: int, said: dict):
+    def __init__(self, status: int, said: Object):
         super().__init__(str(said.get("why", f"the node answers by status {status}")), said)
         self.status = status
 
@@ -71,7 +74,7 @@ class Link:
         self.client, self.turn = client, turn
         self.connection: http.client.HTTPSConnection | None = None
 
-    def begin(self, method: str, path: str, body: dict | None, seconds: float) -> http.client.HTTPResponse:
+    def begin(self, method: str, path: str, body: Object | None, seconds: float) -> http.client.HTTPResponse:
         """Begins a request, whose answer may be silent for so many seconds."""
         if self.connection is None:
             at = urlsplit(self.client.nodes[self.turn % len(self.client.nodes)])
@@ -104,7 +107,7 @@ class Client:
         self.own = threading.local()
 
     def submit(self, chaincode: str, *args: str, arg: bytes | None = None, organisations: list[str] | None = None,
-               tries: int = 1, nonce: str | None = None) -> dict:
+               tries: int = 1, nonce: str | None = None) -> Object:
         """Has a call committed: its id, block, place, flag and result once it is VALID. One that conflicts with another is made
         anew, `tries` times in all. `organisations` are to endorse, in place of those that the policy needs; a `nonce` of 32 hex
         digits names the transaction, where the caller has asked for it before."""
@@ -117,7 +120,7 @@ class Client:
                 break
         raise failure(said)
 
-    def outcome(self, call: dict) -> dict:
+    def outcome(self, call: Object) -> Object:
         """What becomes of a call or a change, whatever that is: an answer of the API with `valid`, `refused` or neither."""
         try:
             # Who asks again for the same call waits for it, or has it put where it is not under way.
@@ -127,7 +130,7 @@ class Client:
         except NoAnswer as error:
             raise NoAnswer(str(error), {"id": id_of(call)}) from None
 
-    def submit_all(self, calls: Iterable[dict]) -> list[dict]:
+    def submit_all(self, calls: Iterable[Object]) -> list[Object]:
         """Has several calls committed by one request, each of which `call_of` makes: the answer to each, in order, with `valid`,
         or with `refused` or `flag` and `why`. Calls of one request are simulated side by side, so they must not conflict."""
         calls = list(calls)
@@ -144,15 +147,17 @@ class Client:
         said = self.ask("GET", f"/state/{quote(key, safe='')}?height={height}", accept=(404,))
         return bytes.fromhex(said["value"]) if "value" in said else None
 
-    def state(self, start: str = "", end: str = "", limit: int = 64) -> list[dict]:
+    def state(self, start: str = "", end: str = "", limit: int = 64) -> list[Object]:
         """The first entries from a key on and below another one, each with `key`, `value` (both hex) and `version`."""
-        return self.ask("GET", "/state?" + urlencode({"start": start, "end": end, "limit": limit}))["entries"]
+        said = self.ask("GET", "/state?" + urlencode({"start": start, "end": end, "limit": limit}))
+        entries: list[Object] = said["entries"]
+        return entries
 
-    def history(self, key: str | bytes) -> list[dict]:
+    def history(self, key: str | bytes) -> list[Object]:
         """Each write of a VALID transaction to a key."""
-        return self.ask("GET", "/history/" + quote(key, safe=""))
+        return self._ask(list, "GET", "/history/" + quote(key, safe=""), None, ())
 
-    def status(self, id: str, wait: float = 0) -> dict:
+    def status(self, id: str, wait: float = 0) -> Object:
         """What became of a transaction, for which it waits so many seconds; `pending` where it is in no block."""
         until = time.monotonic() + wait
         while True:
@@ -162,15 +167,16 @@ class Client:
             if not said.get("pending") or not left:
                 return said
 
-    def members(self) -> dict:
+    def members(self) -> Object:
         """The membership that stands: `serial`, `members` and `policy`."""
         return self.ask("GET", "/members")
 
-    def agree(self, proposal: dict) -> str:
+    def agree(self, proposal: Object) -> str:
         """Lets the node endorse this very upgrade or amendment, by a person's decision. The id that its transaction has."""
-        return self.ask("POST", "/agreed", proposal)["id"]
+        id: str = self.ask("POST", "/agreed", proposal)["id"]
+        return id
 
-    def change(self, proposal: dict, organisations: list[str]) -> dict:
+    def change(self, proposal: Object, organisations: list[str]) -> Object:
         """Has an upgrade or an amendment committed, as `submit` a call, by organisations that have agreed to it."""
         said = self.outcome({**proposal, "organisations": organisations})
         if not said.get("valid"):
@@ -178,16 +184,17 @@ class Client:
         return said
 
     def height(self) -> int:
-        return self.ask("GET", "/height")["height"]
+        height: int = self.ask("GET", "/height")["height"]
+        return height
 
-    def block(self, number: int) -> dict:
+    def block(self, number: int) -> Object:
         return self.ask("GET", f"/blocks/{number}")
 
-    def health(self) -> dict:
+    def health(self) -> Object:
         """Whether a node is well: `ok`, and `wrong` and `warnings`, lists of sentences."""
         return self.ask("GET", "/healthz", accept=(503,))
 
-    def blocks(self, first: int | None = None) -> Iterator[dict]:
+    def blocks(self, first: int | None = None) -> Iterator[Object]:
         """Blocks from a number on, by default those that are still to come, for ever. Where a node ends the next one goes on; one
         that refuses ends it by `Refused`, and `NoAnswer` does where no node has answered for `seconds`."""
         link, until = Link(self, self._link().turn), 0.0
@@ -195,7 +202,7 @@ class Client:
             try:
                 answer = link.begin("GET", "/events" + ("" if first is None else f"?from={first}"), None, SILENCE)
                 if answer.status != 200:
-                    raise Refused(answer.status, json.loads(answer.read()))
+                    raise refusal(answer)
                 until = 0.0
                 for block in blocks_in(answer):
                     first = block["block"] + 1
@@ -208,16 +215,18 @@ class Client:
                 link.leave()
             time.sleep(PAUSE)
 
-    def ask(self, method: str, path: str, body: dict | None = None, accept: tuple[int, ...] = ()) -> dict | list:
-        """What a node answers. The next one is asked where one gives no answer, or cannot do it now (503)."""
+    def ask(self, method: str, path: str, body: Object | None = None, accept: tuple[int, ...] = ()) -> Object:
+        """The object that a node answers. The next one is asked where one gives none, or cannot do it now (503)."""
+        return self._ask(dict, method, path, body, accept)
+
+    def _ask(self, kind: type[Kind], method: str, path: str, body: Object | None, accept: tuple[int, ...]) -> Kind:
         link, until = self._link(), time.monotonic() + self.seconds
         while True:
             try:
                 answer = link.begin(method, path, body, self.seconds)
-                said = json.loads(answer.read())
                 if answer.status < 400 or answer.status in accept:
-                    return said
-                why: Failed = Refused(answer.status, said)
+                    return of_kind(kind, json.loads(answer.read()))
+                why: Failed = refusal(answer)
                 if is_final(why):
                     raise why
             except FAILURES as error:
@@ -246,20 +255,34 @@ class Client:
         """This thread's connection."""
         if not hasattr(self.own, "link"):
             self.own.link = Link(self)
-        return self.own.link
+        link: Link = self.own.link
+        return link
 
 
 def call_of(chaincode: str, args: Iterable[str] = (), arg: bytes | None = None, organisations: list[str] | None = None,
-            nonce: str | None = None) -> dict:
+            nonce: str | None = None) -> Object:
     """A call as the API takes it: its argument is `arg`, or the words `args` with spaces between."""
     data = " ".join(args).encode() if arg is None else arg
     call = {"chaincode": chaincode, "arg": data.hex(), "nonce": nonce or secrets.token_hex(16)}
     return {**call, "organisations": organisations} if organisations else call
 
 
-def blocks_in(answer: Iterable[bytes]) -> Iterator[dict]:
+def blocks_in(answer: Iterable[bytes]) -> Iterator[Object]:
     """The blocks of a stream's lines."""
     return (json.loads(line[6:]) for line in answer if line.startswith(b"data: "))
+
+
+def of_kind(kind: type[Kind], said: object) -> Kind:
+    """What is said, where it is of this kind."""
+    if not isinstance(said, kind):
+        raise ValueError("what answers there is no node")
+    return said
+
+
+def refusal(answer: http.client.HTTPResponse) -> Refused:
+    """What a node, or who answers in its place, refuses by."""
+    said = json.loads(answer.read())
+    return Refused(answer.status, said if isinstance(said, dict) else {})
 
 
 def is_final(why: Failed) -> bool:
@@ -267,7 +290,7 @@ def is_final(why: Failed) -> bool:
     return isinstance(why, Refused) and why.status != 503
 
 
-def failure(said: dict) -> Failed:
+def failure(said: Object) -> Failed:
     """The exception for an outcome that is not VALID."""
     return Invalid(said["why"], said) if "flag" in said else Refused(200, said)
 
@@ -278,5 +301,5 @@ def from_environment(seconds: float = 40.0) -> Client:
     if missing:
         raise Failed(f"the environment has no {' and no '.join(missing)}: REGTUMA_NODES are the nodes' URLs with commas between,"
                      " the others the files of the client's certificate, its key and the authorities")
-    nodes, *files = (os.environ[it] for it in SETTINGS)
-    return Client(nodes.split(","), *files, seconds=seconds)
+    nodes, certificate, key, authorities = (os.environ[it] for it in SETTINGS)
+    return Client(nodes.split(","), certificate, key, authorities, seconds)

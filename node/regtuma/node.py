@@ -12,6 +12,7 @@ import signal
 import socket
 import ssl
 import sys
+from typing import Any
 
 from aiohttp import web
 
@@ -23,6 +24,7 @@ from .endorsing import Endorsing
 from .etcd import Log, LogError
 from .filters import FilterEnded
 from .gateway import Gateway
+from .wire import Object
 
 # The number of the lines that filters read and print, as `ledger version` tells it, which this node speaks.
 LINES = 1
@@ -41,7 +43,7 @@ def tell_systemd(word: str) -> None:
             there.sendto(word.encode(), name.replace("@", "\0", 1))
 
 
-async def version_of(program: str) -> dict:
+async def version_of(program: str) -> Object:
     """What `ledger version` says. A program that speaks other lines is refused."""
     try:
         process = await asyncio.create_subprocess_exec(program, "version", stdout=asyncio.subprocess.PIPE)
@@ -49,7 +51,9 @@ async def version_of(program: str) -> dict:
     except OSError as error:
         raise FilterEnded(f"{program} cannot be run: {error.strerror}") from None
     except ValueError:
-        raise FilterEnded(f"{program} is no program of the ledger: `{program} version` tells no numbers") from None
+        said = None
+    if not isinstance(said, dict):
+        raise FilterEnded(f"{program} is no program of the ledger: `{program} version` tells no numbers")
     if said.get("lines") != LINES:
         raise FilterEnded(f"{program} speaks lines of number {said.get('lines')}, and this node those of number {LINES}")
     return said
@@ -63,7 +67,7 @@ class Node:
         self.endorsing = Endorsing(config, self.chain)
         self.gateway = Gateway(config, self.chain, self.endorsing)
         self.runners: list[web.AppRunner] = []
-        self.tasks: list[asyncio.Future] = []
+        self.tasks: list[asyncio.Future[Any]] = []
 
     async def run(self) -> None:
         """Serves until it is asked to end, which it may be while the store is read."""
@@ -89,7 +93,7 @@ class Node:
         for it in done:
             it.result()
 
-    async def begin(self) -> dict:
+    async def begin(self) -> Object:
         """Begins the filters, which read the store. What `ledger version` says."""
         program = await version_of(self.config.ledger.program)
         if promise := self.config.ticks.promise():
@@ -114,10 +118,10 @@ class Node:
 
     async def close(self) -> None:
         tell_systemd("STOPPING=1")
-        for it in self.runners:
-            await it.cleanup()
-        for it in self.tasks:
-            it.cancel()
+        for runner in self.runners:
+            await runner.cleanup()
+        for task in self.tasks:
+            task.cancel()
         await asyncio.gather(*self.tasks, return_exceptions=True)
         await asyncio.gather(self.gateway.close(), self.endorsing.close(), self.chain.close(), self.log.close())
 

@@ -1,6 +1,10 @@
 """The few bytes of the ledger that a node and a client spell themselves (docs/RULES.md, "Bytes of the ledger"): an id, and an
 envelope of several endorsements."""
 import hashlib
+from typing import Any
+
+# A JSON object, as those who make or check it know its values.
+Object = dict[str, Any]
 
 
 def text(said: str, places: int) -> bytes:
@@ -9,17 +13,17 @@ def text(said: str, places: int) -> bytes:
     return len(data).to_bytes(places, "big") + data
 
 
-def definition(it: dict) -> bytes:
-    return bytes([it["profile"]]) + bytes.fromhex(it["module"]) + it["fuel"].to_bytes(4, "big") + text(it["policy"], 2)
+def definition(it: Object) -> bytes:
+    return b"".join([bytes([it["profile"]]), bytes.fromhex(it["module"]), it["fuel"].to_bytes(4, "big"), text(it["policy"], 2)])
 
 
-def membership(it: dict) -> bytes:
+def membership(it: Object) -> bytes:
     keys = ((member["name"], bytes.fromhex(member.get("public", ""))) for member in it["members"])
     members = b"".join(text(name, 1) + (b"\1" + key if key else b"\0") for name, key in keys)
-    return b"\1" + it["serial"].to_bytes(4, "big") + bytes([len(it["members"])]) + members + text(it["policy"], 2)
+    return b"".join([b"\1", it["serial"].to_bytes(4, "big"), bytes([len(it["members"])]), members, text(it["policy"], 2)])
 
 
-def proposal_bytes(it: dict) -> bytes:
+def proposal_bytes(it: Object) -> bytes:
     """The bytes of a proposal: of a call, of an upgrade, or of an amendment."""
     nonce = bytes.fromhex(it["nonce"])
     if "chaincode" in it:
@@ -30,7 +34,7 @@ def proposal_bytes(it: dict) -> bytes:
     return b"\x80" + membership(it) + nonce
 
 
-def id_of(proposal: dict) -> str:
+def id_of(proposal: Object) -> str:
     """The id of the transaction that a proposal would be."""
     return hashlib.sha256(proposal_bytes(proposal)).hexdigest()
 

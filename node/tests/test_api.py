@@ -5,10 +5,10 @@ import io
 import json
 import re
 import unittest
+from typing import Any
 from unittest import mock
 
 import support
-from aiohttp import web
 from aiohttp.test_utils import TestClient, TestServer
 from regtuma import api, config, page
 from regtuma.chain import Awaited, Chain
@@ -20,8 +20,8 @@ from regtuma.ticks import LAST_BLOCK
 from test_chain import CALL, FakeLog, Says, Times
 
 ROW = re.compile(r"^\| `(GET|POST) (/[^`?\s]*)", re.MULTILINE)
-EMPTY = {"setting": {"ledger": 1}, "members": {"serial": 0}, "get": None, "range": [], "history": [], "transaction": None,
-         "call": {"result": "00"}}
+EMPTY: dict[str, Any] = {"setting": {"ledger": 1}, "members": {"serial": 0}, "get": None, "range": [], "history": [],
+                         "transaction": None, "call": {"result": "00"}}
 
 
 class Query:
@@ -76,7 +76,7 @@ class Case(unittest.IsolatedAsyncioTestCase):
 
 class Routes(Case):
     def routes(self) -> set[tuple[str, str]]:
-        return {(method, re.sub(r"{(\w+)[^}]*}", lambda it: it[1].upper().replace("NUMBER", "N"), path))
+        return {(method, re.sub(r"{(\w+)[^}]*}", lambda it: it[1].upper(), path).replace("NUMBER", "N"))
                 for method, path, _, _ in [*self.api.reads(), *self.api.calls()]}
 
     async def test_each_stands_in_the_documents(self):
@@ -261,6 +261,13 @@ class Calls(Case):
         self.assertEqual((status, await self.get("/agreed")), (200, (200, {"agreed": [said["id"]]})))
         self.assertIn(f"Maker/alice agrees to {said['id']}", self.said[0])
         self.assertEqual((await self.post("/agreed", CALL))[0], 400)
+
+    async def test_who_asks_is_known_behind_the_end_of_its_connection(self):
+        """The certificate is asked for once, when the right is: a connection that has ended has none."""
+        change = {"members": [{"name": "Maker"}], "policy": "'Maker'", "serial": 1, "nonce": "07" * 16}
+        self.api.access.caller = mock.Mock(side_effect=["Maker/alice", None])
+        status, said = await self.post("/agreed", change)
+        self.assertEqual((status, self.said[0].startswith(f"Maker/alice agrees to {said.get('id')}: ")), (200, True), self.said)
 
 
 class Loopback(Case):

@@ -47,12 +47,10 @@ def client_of(*nodes: str) -> Client:
 def told(*words: str, given: str = "", **answers) -> tuple[int, str]:
     """The status of the command line, and what it prints, over a client that answers so."""
     out, ledger = io.StringIO(), mock.Mock(**{f"{name}.return_value": it for name, it in answers.items()})
-    changed = (mock.patch.object(cli, "from_environment", return_value=ledger), mock.patch("sys.stdin", io.StringIO(given)),
-               contextlib.redirect_stdout(out), contextlib.redirect_stderr(out))
-    with contextlib.ExitStack() as stack:
-        for it in changed:
-            stack.enter_context(it)
-        return cli.main(list(words)), out.getvalue()
+    with (mock.patch.object(cli, "from_environment", return_value=ledger), mock.patch("sys.stdin", io.StringIO(given)),
+          contextlib.redirect_stdout(out), contextlib.redirect_stderr(out)):
+        status = cli.main(list(words))
+    return status, out.getvalue()
 
 
 class CommandLine(unittest.TestCase):
@@ -142,6 +140,22 @@ class Clients(unittest.TestCase):
                     next(client_of("https://1:1").blocks(first))
                 self.assertEqual(begin.call_args.args[1], path)
                 begin.return_value = Answer(400, b'{"why":"from is a number"}')
+
+    def test_what_no_node_answers(self):
+        """Where a list or a text comes in the place of an object, or an object in that of a list, a sentence says so."""
+        for status, body, failure, why in [
+                (200, b"[4]", NoAnswer, "^no node answers, of https://1:1: what answers there is no node$"),
+                (502, b'"no way"', Refused, "^the node answers by status 502$")]:
+            client = client_of("https://1:1")
+            client.seconds = 0.0
+            for ask in (client.height, client.health, lambda: client.get("a"), lambda: client.evaluate("assets", "x")):
+                with self.subTest(status=status), mock.patch.object(Link, "begin", return_value=Answer(status, body)):
+                    with self.assertRaisesRegex(failure, why):
+                        ask()
+        with mock.patch.object(Link, "begin", return_value=Answer(200, b"{}")), self.assertRaises(NoAnswer):
+            client.history("a")
+        with mock.patch.object(Link, "begin", return_value=Answer(502, b"[]")), self.assertRaisesRegex(Refused, "status 502$"):
+            next(client.blocks())
 
     def test_a_transaction_is_waited_for_in_parts(self):
         asked = []

@@ -47,7 +47,8 @@ class Starts(unittest.TestCase):
 
     def test_a_program_of_other_lines_is_refused(self):
         for script, told in [("echo '{\"lines\":2}'", "speaks lines of number 2, and this node those of number 1"),
-                             ("echo no", "is no program of the ledger"), ("exit 1", "is no program of the ledger")]:
+                             ("echo no", "is no program of the ledger"), ("exit 1", "is no program of the ledger"),
+                             ("echo 1", "is no program of the ledger"), ("echo '[]'", "is no program of the ledger")]:
             with self.subTest(script=script), self.assertRaisesRegex(FilterEnded, told):
                 asyncio.run(node.version_of(self.program(script)))
         with self.assertRaisesRegex(FilterEnded, "^/nowhere/ledger cannot be run: No such file or directory$"):
