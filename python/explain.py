@@ -51,7 +51,8 @@ def rows(page: str) -> Iterator[Row]:
 
 
 def has(row: Row, number: str) -> bool:
-    return number in NUMBERS.fullmatch(row.cell)[1].split(", ")
+    found = NUMBERS.fullmatch(row.cell)
+    return found is not None and number in found[1].split(", ")
 
 
 def explained(number: str) -> str:

@@ -21,11 +21,11 @@ def keeps_proofs() -> bool:
 
 def run(words: list[str], room: pathlib.Path, settings: dict[str, str], say: Callable[[str], None]) -> int:
     """Runs `rt` in a folder, with these settings in its environment, and hands on each line that it says. Its status."""
-    how = {"stdin": subprocess.DEVNULL, "stdout": subprocess.PIPE, "stderr": subprocess.STDOUT, "text": True, "errors": "replace",
-           "env": {**os.environ, "PYTHONUNBUFFERED": "1", **settings}}
-    with subprocess.Popen(["rt", *words], cwd=room, **how) as ran:
+    env = {**os.environ, "PYTHONUNBUFFERED": "1", **settings}
+    with subprocess.Popen(["rt", *words], cwd=room, env=env, stdin=subprocess.DEVNULL, stdout=subprocess.PIPE,
+                          stderr=subprocess.STDOUT, text=True, errors="replace") as ran:
         try:
-            for line in ran.stdout:
+            for line in ran.stdout or ():
                 say(line)
         except BaseException:
             # Interrupted, it would wait for the checks that it has begun. Killed, it takes them with it.

@@ -4,7 +4,7 @@ import json
 import re
 from collections.abc import Iterator
 
-from network import ORGS, Mistake, ask, quoted, reason, refusal, shown, smallest, wrong_policy
+from network import ORGS, Mistake, Object, ask, quoted, reason, refusal, shown, smallest, wrong_policy
 from policies import is_satisfied
 
 PUBLIC = re.compile("[0-9A-Fa-f]{64}")
@@ -39,7 +39,7 @@ class Ledger:
             raise Mistake(f"`{self.program} state {self.genesis} {self.store} --members` answers: {said.out.strip()}")
         return membership_of(json.loads(said.out), "the program")
 
-    def organisations(self) -> dict[str, dict]:
+    def organisations(self) -> dict[str, Object]:
         """The entries of the genesis file's `orgs`, by their names."""
         return {it["name"]: it for it in parsed(self.genesis)["orgs"]}
 
@@ -68,7 +68,7 @@ class Definition:
         return Definition(data[0], data[1:33].hex(), int.from_bytes(data[33:37], "big"), data[39:].decode("ascii"))
 
 
-def parsed(file: str) -> dict:
+def parsed(file: str) -> Object:
     """The JSON object of a file."""
     try:
         with open(file, encoding="utf-8") as source:
@@ -94,7 +94,7 @@ def member_of(entry: object, place: str) -> tuple[str, str | None]:
     return name, key and key.lower()
 
 
-def membership_of(value: dict, place: str) -> Membership:
+def membership_of(value: Object, place: str) -> Membership:
     """The one that JSON says, as `state --members` prints it."""
     members, serial, policy = (value.get(it) for it in ("members", "serial", "policy"))
     if not isinstance(members, list) or not isinstance(policy, str) or type(serial) is not int:

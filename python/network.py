@@ -9,6 +9,7 @@ import re
 import shlex
 import subprocess
 from collections.abc import Iterable, Iterator
+from typing import Any
 
 from program import find
 
@@ -34,6 +35,8 @@ SEED = re.compile("[0-9A-Fa-f]{64,}")
 # The smallest valid module: its header, and the sections of types, functions, exports and code. `invoke` returns 0.
 SMALLEST = "0061736d01000000" "0105016000017f" "03020100" "070a0106696e766f6b650000" "0a06010400" "41000b"
 OF_THE_FILE = "; the fields of the file stand above its first table"
+# A JSON object, as those who make or check it know its values.
+Object = dict[str, Any]
 
 
 class Mistake(Exception):
@@ -157,14 +160,14 @@ def genesis_file(file: str) -> str:
     network = Table(pathlib.Path(file).absolute().parent, quoted(file), parsed(file))
     orgs, rest = described(network)
     program = str(find())
-    genesis = {"orgs": with_public_keys(network, orgs, program), **rest}
+    genesis: Object = {"orgs": with_public_keys(network, orgs, program), **rest}
     number = refusal(program, genesis)
     if number:
         raise blamed(number, network, genesis, program)
     return text_of(genesis)
 
 
-def text_of(genesis: dict | list) -> str:
+def text_of(genesis: Object | list[Object]) -> str:
     return json.dumps(genesis, indent=1) + "\n"
 
 
@@ -202,7 +205,7 @@ def reason(error: Exception) -> str:
     return str(error.strerror) if isinstance(error, OSError) else "there is no such name"
 
 
-def described(network: Table) -> tuple[list[dict], dict[str, object]]:
+def described(network: Table) -> tuple[list[dict[str, str]], Object]:
     """The organisations, with the key file of each that has one, and the rest of the genesis file, in its order."""
     network.has_only(FIELDS)
     orgs = [organisation(name, table) for name, table in network.tables(ORGS).items()]
@@ -263,9 +266,10 @@ def module(table: Table) -> dict[str, object]:
         raise table.mistake(f"the module {quoted(path)} cannot be read: {reason(error)}") from error
 
 
-def with_public_keys(network: Table, orgs: list[dict], program: str) -> list[dict]:
+def with_public_keys(network: Table, orgs: list[dict[str, str]], program: str) -> list[dict[str, str]]:
     """The organisations, each with its key. No two have the same public one."""
-    tables, owners, made = network.tables(ORGS), {}, []
+    tables, made = network.tables(ORGS), []
+    owners: dict[str, str] = {}
     for org in orgs:
         if "keys" in org:
             org = {"name": org["name"], "public": public_key(tables[org["name"]], program)}
@@ -278,10 +282,9 @@ def with_public_keys(network: Table, orgs: list[dict], program: str) -> list[dic
 
 def public_key(table: Table, program: str) -> str:
     """The public key of the seed in an organisation's key file."""
-    path, keys = table.path("keys", KEYS), []
+    path = table.path("keys", KEYS)
     said = ask(program, "public", path)
-    if said.status == 0:
-        keys = re.findall("public ([0-9a-f]{64})\n", said.out)
+    keys: list[str] = re.findall("public ([0-9a-f]{64})\n", said.out) if said.status == 0 else []
     if len(keys) == 1:
         return keys[0]
     if keys:
@@ -311,14 +314,14 @@ def ask(program: str, *words: object, text: str = "") -> Said:
     return Said(ran.returncode, ran.stdout)
 
 
-def refusal(program: str, genesis: dict) -> str:
+def refusal(program: str, genesis: Object) -> str:
     """The number by which the program refuses a genesis file, if it does. It orders an empty log, so that shared keys are
     written to no disk."""
     said = ask(program, "order", "/dev/stdin", text=text_of(genesis))
     return said.number if said.status else ""
 
 
-def blamed(number: str, network: Table, genesis: dict, program: str) -> Mistake:
+def blamed(number: str, network: Table, genesis: Object, program: str) -> Mistake:
     """What the program refuses a genesis file for: the first part that it refuses by the same number alone."""
     for table, why, alone in parts(number, network, genesis):
         if refusal(program, alone) == number:
@@ -326,7 +329,7 @@ def blamed(number: str, network: Table, genesis: dict, program: str) -> Mistake:
     return network.mistake(f"the program refuses the genesis file of it ({number}): docs/INPUT.md says what that stands for")
 
 
-def parts(number: str, network: Table, genesis: dict) -> Iterator[tuple[Table, str, dict]]:
+def parts(number: str, network: Table, genesis: Object) -> Iterator[tuple[Table, str, Object]]:
     """What may be refused by this number: its table, what is then wrong, and the smallest genesis file that has it."""
     orgs, chaincodes = genesis["orgs"], list(zip(network.tables(CHAINCODES).values(), genesis["chaincodes"]))
     if number == "803":
@@ -343,7 +346,7 @@ def parts(number: str, network: Table, genesis: dict) -> Iterator[tuple[Table, s
             yield table, wrong_policy(field, policy, [it["name"] for it in orgs]), smallest(orgs, policy=policy)
 
 
-def module_of(it: dict) -> dict[str, object]:
+def module_of(it: Object) -> Object:
     return {name: it[name] for name in MODULE_FIELDS}
 
 
@@ -355,7 +358,7 @@ def wrong_policy(field: str, policy: str, orgs: list[str]) -> str:
     return f"{field} is no policy: docs/RULES.md says how one is written, as AND('A', OR('B', 'C'))"
 
 
-def smallest(orgs: list[dict], **fields: object) -> dict[str, object]:
+def smallest(orgs: list[dict[str, str]], **fields: object) -> Object:
     """A genesis file with these organisations and a chaincode with these fields, which is else as small as can be."""
     first = orgs[0]["name"]
     policy = f"'{first}'"

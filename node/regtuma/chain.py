@@ -8,7 +8,8 @@ import dataclasses
 import json
 import secrets
 import time
-from collections.abc import Callable
+from collections.abc import Callable, Coroutine
+from typing import Any
 
 from . import numbers, ticks
 from .config import Config
@@ -16,6 +17,7 @@ from .etcd import TICK, Lines, Log, LogError
 from .filters import Filter, FilterEnded, Query
 from .times import Times
 from .waiting import within
+from .wire import Object
 
 # An entry of etcd has at most 1.5 MiB, and so many envelopes at most.
 ENTRY_CHARACTERS, ENTRY_LINES = 1_000_000, 500
@@ -63,13 +65,13 @@ class Chain:
         # Numbers of committed blocks whose hashes are to be told.
         self.unsaid: asyncio.Queue[int] = asyncio.Queue()
         # Who waits for the flag of a transaction, by its id.
-        self.waiters: dict[str, list[asyncio.Future[dict]]] = {}
+        self.waiters: dict[str, list[asyncio.Future[Object]]] = {}
         # Ids of those that this node has put into the log, and that are in no block yet.
         self.in_log: set[str] = set()
         self.unput: list[tuple[str, asyncio.Future[None]]] = []
         self.put_wanted = asyncio.Event()
-        self.counts: collections.Counter[str] = collections.Counter()
-        self.newest: collections.OrderedDict[int, asyncio.Task[str | None]] = collections.OrderedDict()
+        self.counts: collections.defaultdict[str, float] = collections.defaultdict(float)
+        self.newest: collections.OrderedDict[int, asyncio.Task[str]] = collections.OrderedDict()
 
     async def start(self) -> None:
         """Begins the filters, and waits until the store is read."""
@@ -83,7 +85,7 @@ class Chain:
         self.times = Times(self.config.ledger.store + ".times")
         await asyncio.gather(self.order.start(), self.query.start())
 
-    def works(self) -> list:
+    def works(self) -> list[Coroutine[Any, Any, None]]:
         """What runs as long as the node does. None of them returns."""
         return [self.feed(), self.pass_blocks(), self.follow_commits(), self.keep_time(), self.put_envelopes(), self.probe(),
                 self.query.follow()]
@@ -144,7 +146,8 @@ class Chain:
                 case ["known", _]:
                     pass
                 case ["committed", number, "flags", *flags]:
-                    self.counts.update(f"flag {it}" for it in flags)
+                    for it in flags:
+                        self.counts[f"flag {it}"] += 1
                     await self.committed(int(number))
                 case ["forked", organisation, number]:
                     self.hear_fork(organisation, number)
@@ -197,7 +200,7 @@ class Chain:
         if self.read < self.given or awaited.since is None or self.forked or ticks.is_full(awaited.number):
             return False
         tries, at = (asking.tries, asking.at) if asking.number == awaited.number else (0, 0.0)
-        return now - max(awaited.since, at) >= self.config.ticks.seconds(awaited.number, now) * 2**tries
+        return now - max(awaited.since, at) >= self.config.ticks.seconds(awaited.number, now) * 2.0**tries
 
     async def tick(self, now: float) -> None:
         if self.is_due(now):
@@ -221,10 +224,8 @@ class Chain:
         async with self.grown:
             await self.grown.wait_for(lambda: self.height >= height)
 
-    async def block(self, number: int) -> str | None:
-        """The JSON of a block, and when it was committed here; none where there is no such block."""
-        if not 1 <= number <= self.height:
-            return None
+    async def block(self, number: int) -> str:
+        """The JSON of a block that the store has, and when it was committed here."""
         if number not in self.newest:
             self.newest[number] = asyncio.ensure_future(self._read_block(number))
             if len(self.newest) > NEWEST:
@@ -235,19 +236,19 @@ class Chain:
         text, _ = await self.query.text_of("block", number=number)
         return f'{{"at":{json.dumps(self.times.of(number))},{text[1:]}'
 
-    def wait_for(self, id: str) -> asyncio.Future[dict]:
-        waiter: asyncio.Future[dict] = asyncio.get_running_loop().create_future()
+    def wait_for(self, id: str) -> asyncio.Future[Object]:
+        waiter: asyncio.Future[Object] = asyncio.get_running_loop().create_future()
         self.waiters.setdefault(id, []).append(waiter)
         return waiter
 
-    def forget(self, id: str, waiter: asyncio.Future[dict]) -> None:
+    def forget(self, id: str, waiter: asyncio.Future[Object]) -> None:
         waiters = self.waiters.get(id, [])
         if waiter in waiters:
             waiters.remove(waiter)
             if not waiters:
                 del self.waiters[id]
 
-    def resolve(self, id: str, outcome: dict) -> None:
+    def resolve(self, id: str, outcome: Object) -> None:
         self.in_log.discard(id)
         for waiter in self.waiters.pop(id, []):
             if not waiter.done():

@@ -31,6 +31,7 @@ import sys
 from collections.abc import Callable
 
 from .client import Client, Failed, NoAnswer, from_environment
+from .wire import Object
 
 DONE, NOT_DONE, NO_TASK, UNANSWERED, INTERRUPTED = 0, 1, 2, 3, 130
 
@@ -49,12 +50,12 @@ def text_of(hex_: str) -> str:
     return printable(bytes.fromhex(hex_))
 
 
-def say(words: argparse.Namespace, said: dict | list, text: str) -> None:
+def say(words: argparse.Namespace, said: object, text: str) -> None:
     """Prints JSON, where that is asked for, or the same in words."""
     print(json.dumps(said) if words.json else text, flush=True)
 
 
-def outcome(said: dict) -> str:
+def outcome(said: Object) -> str:
     """What became of a transaction, in words."""
     place = f", block {said['block']}, place {said['place']}" if "block" in said else ""
     if said.get("valid"):
@@ -104,7 +105,7 @@ def history(ledger: Client, words: argparse.Namespace) -> int:
     return DONE
 
 
-def value_of(write: dict) -> str:
+def value_of(write: Object) -> str:
     return "deleted" if write["value"] is None else text_of(write["value"])
 
 
@@ -122,7 +123,7 @@ def watch(ledger: Client, words: argparse.Namespace) -> int:
     return DONE
 
 
-def call(tx: dict) -> str:
+def call(tx: Object) -> str:
     """What a transaction of a block asks for."""
     if "arg" in tx:
         return f"{tx['chaincode']} {text_of(tx['arg'])}"
@@ -153,7 +154,7 @@ def members(ledger: Client, words: argparse.Namespace) -> int:
     return DONE
 
 
-def proposal_in(file: str) -> dict:
+def proposal_in(file: str) -> Object:
     """The one line of a file, or of the standard input, which is -."""
     try:
         text = sys.stdin.read() if file == "-" else pathlib.Path(file).read_text(encoding="ascii")
@@ -199,13 +200,16 @@ def words_of(words: list[str]) -> argparse.Namespace:
                                      allow_abbrev=False)
     tasks = reader.add_subparsers(dest="task", required=True, metavar="TASK")
 
-    def task(do: Callable, **places: str) -> argparse.ArgumentParser:
+    def task(do: Callable[[Client, argparse.Namespace], int], **places: str) -> argparse.ArgumentParser:
         made = tasks.add_parser(do.__name__, allow_abbrev=False)
         made.set_defaults(do=do)
         made.add_argument("--json", action="store_true")
         made.add_argument("--seconds", type=seconds, default=40.0, metavar="N")
         for place, count in places.items():
-            made.add_argument(place, nargs=count or None, **({"default": ""} if count == "?" else {}))
+            if count:
+                made.add_argument(place, nargs=count, default="" if count == "?" else None)
+            else:
+                made.add_argument(place)
         return made
 
     made = task(submit, chaincode="", arg="+")
@@ -229,7 +233,8 @@ def words_of(words: list[str]) -> argparse.Namespace:
 def answered(asked: argparse.Namespace) -> int:
     """Does what is asked for, or says why not. The status."""
     try:
-        return asked.do(from_environment(asked.seconds), asked)
+        status: int = asked.do(from_environment(asked.seconds), asked)
+        return status
     except Failed as failed:
         said = {"why": str(failed), **failed.said}
         say(asked, said, outcome(said))

@@ -7,6 +7,7 @@ import ssl
 import stat
 import tomllib
 from collections.abc import Iterable
+from typing import Any
 
 from .fields import OF_ORGANISATIONS, ORGANISATION, TABLES, Field
 from .ticks import Ticks
@@ -14,6 +15,8 @@ from .ticks import Ticks
 CERTIFICATE = re.compile("-----BEGIN CERTIFICATE-----.+?-----END CERTIFICATE-----", re.DOTALL)
 # A seed, or a password as OPERATIONS.md makes it; and what a genesis file with a shared key has.
 SECRET, SHARED_KEY = re.compile("[0-9A-Fa-f]{32,}"), re.compile(rb'"key"\s*:')
+# A table of the file, each of whose values is what fields.py says of its name.
+Table = dict[str, Any]
 
 
 class Mistake(Exception):
@@ -86,7 +89,7 @@ class Config:
         tls = self._trusting(ssl.Purpose.CLIENT_AUTH, self.authorities.values())
         tls.minimum_version, tls.verify_mode = ssl.TLSVersion.TLSv1_3, ssl.CERT_REQUIRED
         # A session that is taken up again does not tell by which authority its certificate was trusted.
-        tls.num_tickets = 0
+        tls.num_tickets = 0  # type: ignore[attr-defined]  # It is there, and mypy does not know it.
         tls.load_cert_chain(self.tls.certificate, self.tls.key)
         return tls
 
@@ -134,7 +137,7 @@ class Reader:
         where = f", line {found}" if found else ""
         return Mistake(f"{self.path}{where}: {f'[{table}] ' if table else ''}{name} {why}")
 
-    def table(self, name: str) -> dict:
+    def table(self, name: str) -> Table:
         """A table of the file, each of whose values passes; by no name what stands in none."""
         tables = {*TABLES, *OF_ORGANISATIONS}
         value = self.given.get(name, {}) if name else {it: self.given[it] for it in self.given if it not in tables}
@@ -160,7 +163,7 @@ class Reader:
             raise self.mistake(table, name, f"is no name that is known here: possible are {', '.join(TABLES[table])}{tables}")
         return TABLES[table][name]
 
-    def near(self, table: str, values: dict, *names: str) -> dict:
+    def near(self, table: str, values: Table, *names: str) -> Table:
         """The values with names of files from where the configuration stands. Each but a store has to be a file."""
         found = dict(values)
         for name in names:
@@ -173,14 +176,14 @@ class Reader:
                     raise self.mistake(table, name, f"names {path}, and there is no such file")
         return found
 
-    def secret(self, table: str, values: dict, *names: str) -> None:
+    def secret(self, table: str, values: Table, *names: str) -> None:
         """Files with secrets are read by their owner alone."""
         for name in names:
             if name in values and stat.S_IMODE(pathlib.Path(values[name]).stat().st_mode) & 0o077:
                 file = values[name]
                 raise self.mistake(table, name, f"names {file}, which others than its owner may read: chmod 600 {file}")
 
-    def check_genesis(self, ledger: dict) -> None:
+    def check_genesis(self, ledger: Table) -> None:
         """One with a shared key is a file with secrets."""
         file = ledger["genesis"]
         try:
@@ -229,12 +232,13 @@ def check_organisations(reader: Reader, own: str, authorities: dict[str, str], n
 def subjects(reader: Reader, organisation: str, file: str) -> list[str | None]:
     """The organisations that the certificates of a file name."""
     tls = ssl.SSLContext(ssl.PROTOCOL_TLS_CLIENT)
+    found: list[Table] = []
     try:
         said = pathlib.Path(file).read_text(encoding="ascii")
         tls.load_verify_locations(cadata=said)
         found = tls.get_ca_certs()
     except (OSError, ValueError):
-        found, said = [], ""
+        said = ""
     if not found or len(found) != len(set(CERTIFICATE.findall(said))):
         raise reader.mistake("authorities", organisation, f"names {file}, which has to hold certificates of authorities alone")
     return [dict(pair for part in it["subject"] for pair in part).get("organizationName") for it in found]

@@ -3,14 +3,15 @@ agreed to, each by itself."""
 import asyncio
 import json
 import os
-from collections.abc import Awaitable
+from collections.abc import Awaitable, Coroutine
+from typing import Any
 
 from . import numbers
 from .chain import Chain
 from .config import Config
 from .etcd import LogError
 from .filters import Asked, FilterEnded
-from .wire import id_of
+from .wire import Object, id_of
 
 # What an endorser ends by where its organisation has no place in the ledger, as it may have later.
 NO_PLACE = {"refused 806": "the organisation is no member: not yet, or no more",
@@ -72,7 +73,7 @@ class Endorsing:
     async def start(self) -> None:
         await asyncio.gather(*(it.start() for it in [*self.endorsers, *([self.approver] if self.approver else [])]))
 
-    def works(self) -> list:
+    def works(self) -> list[Coroutine[Any, Any, None]]:
         """What runs as long as the node does."""
         return [self.tell(), *(self.follow(it) for it in self.endorsers), *([self.approver.follow()] if self.approver else [])]
 
@@ -104,7 +105,7 @@ class Endorsing:
 
     # ---------------------------------------------------------------- endorsements
 
-    async def answers(self, asker: str, proposals: list[dict], height: int = 0) -> list[dict]:
+    async def answers(self, asker: str, proposals: list[Object], height: int = 0) -> list[Object]:
         """What this organisation answers to proposals, each by its payload and endorsement on a state after so many blocks at
         least, as far as it comes up within a second; or why not.
 
@@ -123,14 +124,14 @@ class Endorsing:
         return [{"denied": why, "height": height} if line is None else await answer_of(line, height)
                 for line, why in zip(lines, denials)]
 
-    def line_of(self, proposal: dict) -> Awaitable[str]:
+    def line_of(self, proposal: Object) -> Awaitable[str]:
         """What an endorser will answer to a proposal."""
         if "chaincode" not in proposal:
             return self.changed(proposal)
         self.turn = (self.turn + 1) % len(self.endorsers)
         return self.endorsers[self.turn].ask(json.dumps(proposal))
 
-    def denial(self, proposal: dict) -> str | None:
+    def denial(self, proposal: Object) -> str | None:
         """Why a proposal is not even simulated, if so."""
         if self.chain.forked or self.out_of_place:
             return self.chain.forked or self.out_of_place
@@ -138,7 +139,7 @@ class Endorsing:
             return f"its operator has not agreed to {id}"
         return None
 
-    async def changed(self, proposal: dict) -> str:
+    async def changed(self, proposal: Object) -> str:
         """What an endorser begun for this one proposal answers, which agrees to amendments."""
         pipe = asyncio.subprocess.PIPE
         process = await asyncio.create_subprocess_exec(*self.command, "--agree", stdin=pipe, stdout=pipe)
@@ -186,7 +187,7 @@ def out_of_place(ended: FilterEnded) -> str | None:
     return next((words for refused, words in NO_PLACE.items() if refused in str(ended)), None)
 
 
-async def answer_of(line: Awaitable[str], height: int) -> dict:
+async def answer_of(line: Awaitable[str], height: int) -> Object:
     """An endorser's line as an answer."""
     try:
         said = await line

@@ -26,7 +26,7 @@ def text(value: object) -> bool:
 def number(least: float, most: float, whole: bool = True) -> Field:
     kinds = (int,) if whole else (int, float)
     words = f"{'a whole number' if whole else 'a number'} from {least:g} to {most:g}"
-    return Field(lambda it: type(it) in kinds and least <= it <= most, words)
+    return Field(lambda it: isinstance(it, (int, float)) and type(it) in kinds and least <= it <= most, words)
 
 
 def place(value: object) -> bool:
@@ -66,7 +66,7 @@ TABLES: dict[str, dict[str, Field]] = {
     "": {"organisation": Field(lambda it: isinstance(it, str) and ORGANISATION.fullmatch(it) is not None,
                                "a name of 1 to 32 letters, digits and _", True),
          "listen": Field(place, 'an address and a port, as "10.0.0.1:7051"', True),
-         "page": Field(lambda it: place(it) and is_loopback(it.rpartition(":")[0]),
+         "page": Field(lambda it: isinstance(it, str) and place(it) and is_loopback(it.rpartition(":")[0]),
                        'a place on the loopback, as "127.0.0.1:8080"')},
     "ledger": {"program": NEEDED_FILE, "genesis": NEEDED_FILE, "store": NEEDED_FILE, "keys": FILE, "modules": FILE,
                "template": FILE, "endorsers": number(1, 16), "seen": number(1, 65535),

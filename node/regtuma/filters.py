@@ -21,7 +21,7 @@ class TooLong(Exception):
 class Filter:
     def __init__(self, name: str, command: list[str]):
         self.name, self.command = name, command
-        self.process: asyncio.subprocess.Process | None = None
+        self.is_started = False
 
     async def start(self) -> None:
         # Lines that nobody has taken yet, the beginning of the next one, and whether it is too long, and left out.
@@ -32,15 +32,18 @@ class Filter:
             self.process = await asyncio.create_subprocess_exec(*self.command, stdin=pipe, stdout=pipe, limit=PIECE)
         except OSError as error:
             raise FilterEnded(f"{self.name}: {self.command[0]} cannot be run: {error.strerror}") from None
+        # Both are pipes.
+        assert self.process.stdin and self.process.stdout
+        self.stdin, self.stdout, self.is_started = self.process.stdin, self.process.stdout, True
         # Where it ends before it has read all, that is asked for here: else asyncio of Python 3.11.2 says that nobody did.
-        closed = asyncio.ensure_future(self.process.stdin.wait_closed())
+        closed = asyncio.ensure_future(self.stdin.wait_closed())
         closed.add_done_callback(lambda it: it.cancelled() or it.exception())
 
     async def write(self, *lines: bytes) -> None:
         """Hands lines on, and waits where the filter is behind."""
         try:
-            self.process.stdin.writelines(lines)
-            await self.process.stdin.drain()
+            self.stdin.writelines(lines)
+            await self.stdin.drain()
         except (BrokenPipeError, ConnectionResetError):
             # What it said last tells why, and is read by whoever reads it.
             pass
@@ -56,7 +59,7 @@ class Filter:
 
     async def _read(self) -> None:
         """Reads on: many lines at once, or a part of one."""
-        piece = await self.process.stdout.read(PIECE)
+        piece = await self.stdout.read(PIECE)
         if not piece:
             raise FilterEnded(f"{self.name} ended with status {await self.process.wait()}")
         *lines, rest = (self.begun + piece).split(b"\n")
@@ -69,10 +72,10 @@ class Filter:
 
     async def close(self) -> None:
         """It ends behind what it was given, within some seconds."""
-        if self.process is None:
+        if not self.is_started:
             return
         try:
-            self.process.stdin.close()
+            self.stdin.close()
             # What it says meanwhile is not needed, and must not hold it up.
             await asyncio.wait_for(asyncio.gather(self.process.wait(), self._drain()), LAST_SECONDS)
         except asyncio.TimeoutError:
@@ -80,7 +83,7 @@ class Filter:
             await self.process.wait()
 
     async def _drain(self) -> None:
-        while await self.process.stdout.read(1 << 16):
+        while await self.stdout.read(1 << 16):
             pass
 
 
@@ -139,7 +142,7 @@ class Asked(Filter):
 
     def _write(self) -> None:
         lines, self.unwritten = self.unwritten, []
-        self.process.stdin.write("".join(f"{it}\n" for it in lines).encode())
+        self.stdin.write("".join(f"{it}\n" for it in lines).encode())
 
     def is_last(self, line: str) -> bool:
         """Whether it ends by this line, which answers nothing: by a refusal that is not of what was asked (401 to 409)."""

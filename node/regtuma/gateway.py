@@ -11,7 +11,7 @@ from .etcd import LogError
 from .filters import FilterEnded
 from .links import Batches, Link
 from .proposals import Refused, call_of, check, checked, organisations_of
-from .wire import envelope, id_of
+from .wire import Object, envelope, id_of
 
 TOO_LARGE = 421
 TRIES = 12
@@ -39,7 +39,7 @@ class Gateway:
     async def close(self) -> None:
         await asyncio.gather(*(it.close() for it in self.links.values()))
 
-    async def evaluate(self, body: dict) -> dict:
+    async def evaluate(self, body: Object) -> Object:
         """What a call comes to on this node's state."""
         call = call_of(body)
         answer, height = await self.chain.query.ask_for("call", chaincode=call["chaincode"], arg=call["arg"].strip("-"))
@@ -47,18 +47,19 @@ class Gateway:
             raise Refused(422, numbers.in_words(f"refused {answer['refused']}"))
         return {**answer, "height": height}
 
-    async def submit_all(self, caller: str, calls: list[dict], patience: float) -> list[dict]:
+    async def submit_all(self, caller: str, calls: list[Object], patience: float) -> list[Object]:
         """The same of several calls, each answered as if it were alone."""
-        async def one(body: dict) -> dict:
+        async def one(body: Object) -> Object:
             try:
                 return await self.submit(caller, body, patience)
             except Refused as refused:
                 return refused.said
             except LogError as error:
                 return {"why": str(error)}
-        return await asyncio.gather(*(one(it) for it in calls))
+        answers: list[Object] = await asyncio.gather(*(one(it) for it in calls))
+        return answers
 
-    async def submit(self, caller: str, body: dict, patience: float) -> dict:
+    async def submit(self, caller: str, body: Object, patience: float) -> Object:
         """Has a call put into the log, and waits for its flag. A call of the same nonce is the same transaction, and is put
         into the log by this node once, however often it is asked for."""
         named = organisations_of(body)
@@ -103,18 +104,18 @@ class Gateway:
         if not task.cancelled():
             task.exception()
 
-    async def status(self, id: str) -> dict | None:
+    async def status(self, id: str) -> Object | None:
         """What became of a transaction, if it is in a block."""
         tx, _ = await self.chain.query.ask_for("transaction", id=id)
         return tx and await self.outcome(tx)
 
-    async def outcome(self, tx: dict) -> dict:
+    async def outcome(self, tx: Object) -> Object:
         if "refused" in tx:
             return {**tx, **numbers.in_words(f"refused {tx['refused']}")}
         words = {it: tx[it] for it in ("id", "block", "place", "flag", "result")}
         return {**words, "valid": tx["flag"] == 0, "why": await numbers.why(self.chain.query, tx)}
 
-    async def endorse_and_put(self, id: str, caller: str, proposal: dict, named: list[str] | None) -> None:
+    async def endorse_and_put(self, id: str, caller: str, proposal: Object, named: list[str] | None) -> None:
         made = await self.endorsed(caller, proposal, named)
         await self.check_size(made)
         await self.chain.put(id, made)
@@ -129,15 +130,15 @@ class Gateway:
 
     # ---------------------------------------------------------------- endorsements
 
-    async def endorsed(self, caller: str, proposal: dict, named: list[str] | None) -> str:
+    async def endorsed(self, caller: str, proposal: Object, named: list[str] | None) -> str:
         """The envelope of a proposal. It is begun again where a node is behind another one, or gives no answer."""
         height, why, lone = 0, "no organisation answers", 0
         for turn in range(TRIES):
             asked = named or await self.organisations(proposal)
             begun = [self.ask(it, caller, proposal, height) for it in asked]
-            answers = dict(zip(asked, [await it for it in begun]))
-            missing = [it for it, said in answers.items() if said is None]
-            if missing:
+            said = dict(zip(asked, [await it for it in begun]))
+            answers = {it: answer for it, answer in said.items() if answer is not None}
+            if missing := [it for it in asked if it not in answers]:
                 why = f"no answer of {', '.join(missing)}"
                 if named:
                     break
@@ -150,7 +151,7 @@ class Gateway:
             await asyncio.sleep(0.01 * turn)
         raise Refused(503, {"why": why})
 
-    def next_height(self, answers: dict[str, dict], asked: int) -> int:
+    def next_height(self, answers: dict[str, Object], asked: int) -> int:
         """The height on which all are asked anew, where some are behind: that of the one that is ahead.
 
         Who did not come up to the last one is passed over, as one whose node of etcd has lost the others, and so is who says that
@@ -165,19 +166,20 @@ class Gateway:
                 self.links[organisation].pass_over(f"it has {had} blocks, and not yet {asked}")
         return max((it for it in heights.values() if it <= most), default=self.chain.height)
 
-    def made(self, answers: dict[str, dict]) -> str | None:
+    def made(self, answers: dict[str, Object]) -> str | None:
         """The envelope of answers that agree; none where they do not."""
         for organisation, said in answers.items():
             if "denied" in said:
                 raise Refused(422, {"why": f"{organisation} does not endorse it: {said['denied']}"})
-        said = list(answers.values())
-        if len({(it.get("refused"), it.get("payload")) for it in said}) > 1:
+        all_said = list(answers.values())
+        first = all_said[0]
+        if len({(it.get("refused"), it.get("payload")) for it in all_said}) > 1:
             return None
-        if refusal := said[0].get("refused"):
+        if refusal := first.get("refused"):
             raise Refused(422, numbers.in_words(refusal))
-        return envelope(said[0]["payload"], [it["endorsement"] for it in said])
+        return envelope(first["payload"], [it["endorsement"] for it in all_said])
 
-    async def organisations(self, proposal: dict) -> list[str]:
+    async def organisations(self, proposal: Object) -> list[str]:
         """Who is asked: the fewest that satisfy the chaincode's policy, this one first, then those that answer soonest."""
         check("chaincode" in proposal, "a change of code or members names the organisations that have agreed to it: organisations")
         chaincode, now = proposal["chaincode"], time.monotonic()
@@ -201,12 +203,12 @@ class Gateway:
         return up
 
     async def satisfies(self, chaincode: str, organisations: list[str]) -> bool:
-        answer, _ = await self.chain.query.ask_for("satisfied", chaincode=chaincode, orgs=organisations)
+        answer: bool | None = (await self.chain.query.ask_for("satisfied", chaincode=chaincode, orgs=organisations))[0]
         if answer is None:
             raise Refused(422, numbers.in_words("refused 401"))
         return answer
 
-    def ask(self, organisation: str, caller: str, proposal: dict, height: int) -> Awaitable[dict | None]:
+    def ask(self, organisation: str, caller: str, proposal: Object, height: int) -> Awaitable[Object | None]:
         """What an organisation will answer; None where its node gives no answer."""
         if organisation == self.config.organisation:
             return self.own(caller).ask(proposal, height)
@@ -221,7 +223,7 @@ class Gateway:
         return self.owns[caller]
 
 
-def lone_refusal(answers: dict[str, dict]) -> Refused | None:
+def lone_refusal(answers: dict[str, Object]) -> Refused | None:
     """The refusal of those who refuse at one height what others endorse, as where a module is not at hand."""
     if len({it["height"] for it in answers.values()}) > 1:
         return None
@@ -239,7 +241,7 @@ class Own(Batches):
         super().__init__(requests=1_000_000)
         self.endorsing, self.caller = endorsing, caller
 
-    async def answers(self, proposals: list[dict], height: int) -> list[dict] | None:
+    async def answers(self, proposals: list[Object], height: int) -> list[Object] | None:
         try:
             return await self.endorsing.answers(self.caller, proposals, height)
         except FilterEnded:

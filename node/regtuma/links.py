@@ -3,12 +3,13 @@ import asyncio
 import json
 import re
 import time
-from collections.abc import Callable
+from collections.abc import Callable, Sequence
 
 import aiohttp
 
 from .config import Config
 from .proposals import is_hex, matches
+from .wire import Object
 
 ENDORSE_SECONDS, DOWN_SECONDS, CHANGE_SECONDS = 3.0, 5.0, 60.0
 # How many requests are under way to another node, how many proposals go into one, and in how many seconds they should be done.
@@ -19,7 +20,7 @@ SLACK = 4
 LONGEST = 64 << 20
 REFUSAL = re.compile(r"refused \d{1,3}( .*)?")
 # A proposal, the height on which it is simulated at least, and who waits for the answer.
-Waiting = tuple[dict, int, asyncio.Future[dict | None]]
+Waiting = tuple[Object, int, asyncio.Future[Object | None]]
 
 
 class Batches:
@@ -34,12 +35,12 @@ class Batches:
         """How many proposals go together."""
         return MOST_PROPOSALS
 
-    async def answers(self, proposals: list[dict], height: int) -> list[dict] | None:
+    async def answers(self, proposals: list[Object], height: int) -> list[Object] | None:
         """What is answered to proposals on a state after so many blocks at least, each by one; None where no answer came."""
         raise NotImplementedError
 
-    def ask(self, proposal: dict, height: int) -> asyncio.Future[dict | None]:
-        done: asyncio.Future[dict | None] = asyncio.get_running_loop().create_future()
+    def ask(self, proposal: Object, height: int) -> asyncio.Future[Object | None]:
+        done: asyncio.Future[Object | None] = asyncio.get_running_loop().create_future()
         self.waiting.append((proposal, height, done))
         if len(self.waiting) == 1:
             self._begin()
@@ -69,11 +70,11 @@ class Batches:
 
     async def _answer(self, batch: list[Waiting]) -> None:
         """Has a batch answered. Whatever fails, nobody waits for good."""
-        answers = None
+        answers: Sequence[Object | None] = [None] * len(batch)
         try:
-            answers = await self.answers([it for it, _, _ in batch], max(it for _, it, _ in batch))
+            answers = await self.answers([it for it, _, _ in batch], max(it for _, it, _ in batch)) or answers
         finally:
-            for (_, _, done), said in zip(batch, answers or [None] * len(batch)):
+            for (_, _, done), said in zip(batch, answers):
                 if not done.done():
                     done.set_result(said)
 
@@ -95,7 +96,7 @@ class Link(Batches):
         """A node that is slow gets fewer at a time."""
         return max(1, min(MOST_PROPOSALS, int(ENOUGH / self.each)))
 
-    async def answers(self, proposals: list[dict], height: int) -> list[dict] | None:
+    async def answers(self, proposals: list[Object], height: int) -> list[Object] | None:
         began, patience = time.monotonic(), ENDORSE_SECONDS + SLACK * self.each * len(proposals)
         if any("chaincode" not in it for it in proposals):
             # An endorser is begun for a change, which takes its time.
@@ -108,7 +109,7 @@ class Link(Batches):
             self.each = min(ENOUGH, SLACK * self.each)
         return answers
 
-    async def post(self, proposals: list[dict], height: int, patience: float) -> list[dict] | None:
+    async def post(self, proposals: list[Object], height: int, patience: float) -> list[Object] | None:
         """What the node answers to these, each by one."""
         try:
             body, timeout = {"proposals": proposals, "height": height}, aiohttp.ClientTimeout(total=patience)
@@ -137,7 +138,7 @@ async def whole(content: aiohttp.StreamReader) -> bytes:
     return bytes(data)
 
 
-def answers_of(status: int, said: object, count: int) -> list[dict]:
+def answers_of(status: int, said: object, count: int) -> list[Object]:
     """The answers to so many proposals that a node's answer has."""
     if not isinstance(said, dict) or status != 200:
         raise ValueError(said.get("why", status) if isinstance(said, dict) else status)

@@ -4,6 +4,7 @@ from collections.abc import Iterator
 
 import prometheus_client as prometheus
 from prometheus_client.core import CounterMetricFamily, GaugeMetricFamily
+from prometheus_client.registry import Collector
 
 from . import ticks
 from .chain import Chain
@@ -12,7 +13,7 @@ SECONDS = (.05, .1, .2, .5, 1, 2, 5, 10, 30, 60, 600)
 TYPE = prometheus.CONTENT_TYPE_LATEST
 
 
-class Metrics:
+class Metrics(Collector):
     def __init__(self, chain: Chain):
         self.chain, self.streams = chain, 0
         self.registry = prometheus.CollectorRegistry()

@@ -2,6 +2,7 @@
 import re
 
 from .filters import Query
+from .wire import Object
 
 FLAGS = {0: "VALID", 1: "ENDORSEMENT_POLICY_FAILURE", 2: "MVCC_READ_CONFLICT", 3: "PHANTOM_READ_CONFLICT", 4: "DUPLICATE_TXID"}
 POLICY, CONFLICT, PHANTOM, DUPLICATE = 1, 2, 3, 4
@@ -41,7 +42,7 @@ NUMBERS = {
 REFUSED = re.compile(r"\brefused (\d+)\b.*")
 
 
-def in_words(refusal: str) -> dict:
+def in_words(refusal: str) -> Object:
     """A line `refused <number> ..` as an answer."""
     _, number, *rest = refusal.split()
     why = NUMBERS.get(int(number), f"refused {number}")
@@ -64,7 +65,7 @@ def spelt(key: str) -> str:
     return bytes.fromhex(key).decode("utf-8", "backslashreplace")
 
 
-async def why(query: Query, tx: dict) -> str:
+async def why(query: Query, tx: Object) -> str:
     """Why a transaction of a block has its flag."""
     flag = tx["flag"]
     if flag == POLICY:

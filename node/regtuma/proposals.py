@@ -3,6 +3,7 @@ import re
 import secrets
 
 from .fields import ORGANISATION
+from .wire import Object
 
 KINDS = {"chaincode": {"chaincode", "arg", "nonce"}, "upgrade": {"upgrade", "module", "profile", "fuel", "policy", "nonce"},
          "members": {"members", "policy", "serial", "nonce"}}
@@ -16,7 +17,7 @@ PROFILES = (1, 2, 17, 18)
 class Refused(Exception):
     """The answer to a request that is not done, with its status."""
 
-    def __init__(self, status: int, said: dict):
+    def __init__(self, status: int, said: Object):
         super().__init__(said.get("why", status))
         self.status, self.said = status, said
 
@@ -36,21 +37,21 @@ def matches(pattern: re.Pattern[str], value: object) -> bool:
 
 
 def is_hex(value: object) -> bool:
-    return matches(DIGITS, value) and len(value) % 2 == 0
+    return isinstance(value, str) and matches(DIGITS, value) and len(value) % 2 == 0
 
 
 def whole(value: object, least: int, most: int) -> bool:
     return type(value) is int and least <= value <= most
 
 
-def objects(value: object, name: str, most: int) -> list[dict]:
+def objects(value: object, name: str, most: int) -> list[Object]:
     """A list of objects."""
-    is_so = isinstance(value, list) and 0 < len(value) <= most and all(isinstance(it, dict) for it in value)
-    check(is_so, f"{name} is a list of 1 to {most} objects")
-    return value
+    if isinstance(value, list) and 0 < len(value) <= most and all(isinstance(it, dict) for it in value):
+        return value
+    raise refuse(f"{name} is a list of 1 to {most} objects")
 
 
-def call_of(body: dict) -> dict:
+def call_of(body: Object) -> Object:
     """The proposal of a call: `arg` is hex, `args` are texts with a space between, and a nonce is made where none is given."""
     given = {it: body[it] for it in body if it != "organisations"}
     check(set(given) <= {"chaincode", "arg", "args", "nonce"} and not {"arg", "args"} <= set(given),
@@ -62,23 +63,23 @@ def call_of(body: dict) -> dict:
     return checked(proposal)
 
 
-def checked(proposal: dict) -> dict:
+def checked(proposal: Object) -> Object:
     """A proposal that has the form of one: a call, an upgrade or an amendment."""
-    kind = next((it for it in KINDS if it in proposal), None)
-    check(kind is not None, "a proposal has chaincode, upgrade or members")
+    kind = next((it for it in KINDS if it in proposal), "")
+    check(kind != "", "a proposal has chaincode, upgrade or members")
     check(set(proposal) == KINDS[kind], f"a proposal with {kind} has exactly the fields {', '.join(sorted(KINDS[kind]))}")
     check(matches(NONCE, proposal["nonce"]), "nonce is hex of 16 bytes")
     {"chaincode": check_call, "upgrade": check_upgrade, "members": check_amendment}[kind](proposal)
     return proposal
 
 
-def check_call(it: dict) -> None:
+def check_call(it: Object) -> None:
     check(matches(CHAINCODE, it["chaincode"]), "chaincode is a name of 1 to 32 lower-case letters, digits, _ and -")
     check(it["arg"] == "-" or is_hex(it["arg"]) and 0 < len(it["arg"]) <= 2 * MOST_ARG,
           f"an argument is hex of 1 to {MOST_ARG} bytes, or - for none")
 
 
-def check_upgrade(it: dict) -> None:
+def check_upgrade(it: Object) -> None:
     check(matches(CHAINCODE, it["upgrade"]), "upgrade is a name of 1 to 32 lower-case letters, digits, _ and -")
     check(matches(DIGEST, it["module"]), "module is the digest of one, hex of 32 bytes")
     check(type(it["profile"]) is int and it["profile"] in PROFILES, "profile is 1, 2, 17 or 18")
@@ -86,7 +87,7 @@ def check_upgrade(it: dict) -> None:
     check(matches(POLICY, it["policy"]), "policy is a text of 1 to 1,024 characters")
 
 
-def check_amendment(it: dict) -> None:
+def check_amendment(it: Object) -> None:
     for member in objects(it["members"], "members", MOST_MEMBERS):
         check(set(member) <= {"name", "public"} and matches(ORGANISATION, member.get("name")),
               "a member has a name of 1 to 32 letters, digits and _, and may have public")
@@ -95,7 +96,7 @@ def check_amendment(it: dict) -> None:
     check(whole(it["serial"], 0, MOST_SERIAL), "serial is a number from 0 on")
 
 
-def organisations_of(body: dict) -> list[str] | None:
+def organisations_of(body: Object) -> list[str] | None:
     """Whose endorsements are asked for, where the caller says so."""
     named = body.get("organisations")
     check(named is None or isinstance(named, list) and 0 < len(named) <= 32 and all(matches(ORGANISATION, it) for it in named),
