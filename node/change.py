@@ -157,8 +157,8 @@ def upgrade(words: argparse.Namespace) -> None:
 
 
 def words_of(words: list[str]) -> argparse.Namespace:
-    how = {"formatter_class": argparse.RawDescriptionHelpFormatter, "allow_abbrev": False}
-    reader = argparse.ArgumentParser(prog="regtuma-change", description=__doc__, **how)
+    reader = argparse.ArgumentParser(prog="regtuma-change", description=__doc__, allow_abbrev=False,
+                                     formatter_class=argparse.RawDescriptionHelpFormatter)
     commands = reader.add_subparsers(required=True, metavar="COMMAND")
     made = {}
     for do, places in [(members, "genesis store"), (upgrade, "genesis store chaincode digest")]:

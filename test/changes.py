@@ -3,6 +3,7 @@ import json
 import pathlib
 import re
 import sys
+from typing import Any
 
 from networks import NO_POINT, SMALL_ORDER
 from report import Ran, Report
@@ -13,7 +14,7 @@ SECONDS = 120
 TWO_OF_ALL = "OutOf(2,'Carrier','Depot','Maker','Shop')"
 KEPT = [{"name": "Carrier"}, {"name": "Maker"}, {"name": "Shop"}]
 # Words, and what is told of what they make.
-MISTAKES = [
+MISTAKES: list[tuple[Any, ...]] = [
     ((), "that is what stands already"),
     (("--policy", "OutOf(2,'Maker','Carrier','Shop')"), "that is what stands already"),
     (("--remove", "Nobody"), "Nobody is no member"),
@@ -54,7 +55,7 @@ class Changes:
             (self.room / f"{name}.json").write_text(self.run("ledger", "keygen", f"{name}.key", org).out)
         self.depot, self.maker2 = (json.loads((self.room / f"{it}.json").read_text())["public"] for it in ("depot", "maker2"))
         first = json.loads(self.genesis.read_text())["orgs"][0]["public"]
-        stands = {"members": KEPT, "policy": "'Shop'", "serial": 0}
+        stands: dict[str, Any] = {"members": KEPT, "policy": "'Shop'", "serial": 0}
         for name, value in [
                 ("same", {"name": "Depot", "public": first}), ("small", {"name": "Depot", "public": SMALL_ORDER}),
                 ("none", {"name": "Depot", "public": NO_POINT}), ("kept", {"name": "Depot"}),
@@ -97,8 +98,8 @@ def try_changes(report: Report, tree: pathlib.Path, room: pathlib.Path, env: dic
             "warning: these members do not meet", "nobody can call assets")
     at.made(("--to", "to.json"), KEPT, "'Shop'", "not met without Shop")
     at.made(("--add", "depot.json", "--policy", "'Depot'", "--keys", "depot.key"), four, "'Depot'", "not met without Depot")
-    told = at.members("--add", "depot.json", "--policy", TWO_OF_ALL).err
-    report.case("nothing is warned of without a reason", told != "" and "warning" not in told, told)
+    said = at.members("--add", "depot.json", "--policy", TWO_OF_ALL).err
+    report.case("nothing is warned of without a reason", said != "" and "warning" not in said, said)
     for words, *told in MISTAKES:
         ran = at.members(*words)
         last = ran.err.splitlines()[-1:] or [""]

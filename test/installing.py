@@ -120,7 +120,8 @@ def try_certs(at: Installing) -> None:
         ran = at.run(certs, *words)
         at.case(f"refused: {' '.join(words)}", fails_in_words(ran) and ran.err.count("\n") == 1, ran)
     at.report.case("an authority is not written over", (at.certs / "maker" / "ca.key").read_bytes() == kept)
-    for words in ([], ["node", "maker"], ["nothing"]):
+    usages: list[list[str]] = [[], ["node", "maker"], ["nothing"]]
+    for words in usages:
         ran = at.run(certs, *words)
         at.case(f"usage: regtuma-certs {' '.join(words)}", ran.status == 2 and "regtuma-certs ca DIR ORG" in ran.err, ran)
 

@@ -1,13 +1,14 @@
 """./ledger modules: the modules file that it prints, which the program reads, and what it refuses."""
 import json
 import pathlib
+from typing import Any
 
 from networks import EXTEND, SECONDS
 from report import Ran, Report
 from tree import run_ledger
 
 # Words, and the modules of the file that is printed: by their files and profiles.
-MADE = [
+MADE: list[tuple[tuple[str, ...], list[tuple[str, int]]]] = [
     ((), []),
     (("kv.wasm",), [("kv.wasm", 1)]),
     (("kv.wasm:1",), [("kv.wasm", 1)]),
@@ -17,7 +18,7 @@ MADE = [
     (("kv.wasm",) * 64, [("kv.wasm", 1)] * 64),
 ]
 # Words that are refused, and what is told.
-MISTAKES = [
+MISTAKES: list[tuple[Any, ...]] = [
     (("none.wasm",), "the module", "none.wasm cannot be read: No such file or directory"),
     (("kv.wasm", "none.wasm:2"), "none.wasm cannot be read: No such file or directory"),
     ((".",), "cannot be read: Is a directory"),

@@ -138,10 +138,9 @@ class Networks:
         self.report.case(what, is_told, f"status {ran.status}\n{ran.out}{ran.err}\nand it has to tell {told}")
 
 
-def small(**fields: object) -> dict:
+def small(module: bytes, **fields: object) -> dict:
     """What is made of the small network, with other values of these fields."""
-    module = fields.pop("bytes").hex()
-    chaincode = {"name": "kv", "module": module, "policy": "'A'", "fuel": 100000, "profile": 1}
+    chaincode = {"name": "kv", "module": module.hex(), "policy": "'A'", "fuel": 100000, "profile": 1}
     made = {name: usual for name, usual, _ in USUAL}
     return {"orgs": [{"name": "A", "key": "4a65"}], **made, "chaincodes": [chaincode], "upgrade": "'A'", **fields}
 
@@ -165,7 +164,8 @@ def try_files(at: Networks) -> None:
     at.refused("a key file", "no TOML", "line 1, column 65", words=("one.key",))
     (at.room / "latin.toml").write_bytes("# 1\n# \u00c4\u00c4".encode() + "\u00c4".encode("latin1"))
     at.refused("a file in Latin 1", "not UTF-8 at line 2, column 5", words=("latin.toml",))
-    for words in [], ["network.toml", "network.toml"], ["--help"]:
+    usages: list[list[str]] = [[], ["network.toml", "network.toml"], ["--help"]]
+    for words in usages:
         ran = at.ledger("genesis", *words)
         at.report.case(f"genesis {words}: its usage", ran.status == 2 and ran.err.startswith("usage: ") and not ran.out, ran.err)
 
@@ -173,11 +173,11 @@ def try_files(at: Networks) -> None:
 def try_fields(at: Networks) -> None:
     """What is left out is as if it stood there, and another value is kept."""
     module = (at.room / "kv.wasm").read_bytes()
-    at.report.case("what is left out", at.made("the small network", SMALL) == small(bytes=module))
+    at.report.case("what is left out", at.made("the small network", SMALL) == small(module))
     for name, usual, other in USUAL:
         for value in (usual, other) if other is not None else (usual,):
             made = at.made(f"{name} {value}", f"{name} = {json.dumps(value)}\n{SMALL}")
-            at.report.case(f"{name} is {value}", made == small(bytes=module, **{name: value}), str(made))
+            at.report.case(f"{name} is {value}", made == small(module, **{name: value}), str(made))
     for name, usual, other in USUAL_OF_A_CHAINCODE:
         for value in (usual, other):
             made = at.made(f"{name} {value}", f"{SMALL}{name} = {value}\n")

@@ -146,7 +146,8 @@ class Operating:
         self.everywhere("systemctl enable --now regtuma-node")
         calls = self.block("export REGTUMA_NODES")
         for machine in self.machines:
-            machine.env.update(it.split("=", 1) for line in machine.own(calls[0].text).splitlines()[:2] for it in line.split()[1:])
+            settings = (it.partition("=") for line in machine.own(calls[0].text).splitlines()[:2] for it in line.split()[1:])
+            machine.env.update((name, value) for name, _, value in settings)
         self.well()
         self.maker.type(self.report, *calls)
         self.maker.type(self.report, *self.block("regtuma health"))

@@ -29,7 +29,8 @@ BAD = [
     '{"ask":"setting"} {"ask":"setting"}', '{"ask":"satisfied","chaincode":"assets","orgs":"Maker"}',
 ]
 RANGES = [("", "", 1000), ("", "", 1), ("61", "", 3), ("", "62", 1000), ("6100", "63", 2), ("00", "", 1000), ("00", "0061", 5), ("63", "61", 9)]
-ORGS = [[], ["Maker"], ["Shop"], ["Maker", "Carrier"], ["Carrier", "Shop"], ["Maker", "Carrier", "Shop", "Nobody"]]
+ORGS: list[list[str]] = [
+    [], ["Maker"], ["Shop"], ["Maker", "Carrier"], ["Carrier", "Shop"], ["Maker", "Carrier", "Shop", "Nobody"]]
 ARGUMENTS = ["", "726561642070616c6c65742d37", "6c697374"]
 WORDS = {"AND": lambda *a: all(a), "OR": lambda *a: any(a), "OutOf": lambda count, *a: sum(a) >= count}
 
@@ -99,6 +100,7 @@ def questions(asked: Asked) -> Iterator[tuple[dict, object]]:
 
 def asked_in_turn(process: subprocess.Popen, lines: list[str]) -> list[str]:
     """What a running `query` prints to these lines, one each."""
+    assert process.stdin and process.stdout
     process.stdin.write("".join(it + "\n" for it in lines))
     process.stdin.flush()
     return [process.stdout.readline().rstrip("\n") for _ in lines]
@@ -131,7 +133,7 @@ def try_questions(report: Report, tree: pathlib.Path, room: pathlib.Path, env: d
         odd.odd_chain(at, ROUNDS - 1, seed)
         growing.write_bytes(store.read_bytes())
         genesis = at / "odd_genesis.json"
-        command = [tree / "ledger", "query", genesis, growing]
+        command: list[str | pathlib.Path] = [tree / "ledger", "query", genesis, growing]
         with subprocess.Popen(command, cwd=at, env={**os.environ, **env}, stdin=subprocess.PIPE, stdout=subprocess.PIPE,
                               stderr=subprocess.DEVNULL, text=True) as process:
             try_chain(report, f"chain {seed}", Asked(tree, genesis, growing, env), process)
@@ -145,6 +147,7 @@ def try_questions(report: Report, tree: pathlib.Path, room: pathlib.Path, env: d
             try_chain(report, f"chain {seed}, longer", Asked(tree, genesis, growing, env), process)
             for number, line in enumerate(asked_in_turn(process, BAD)):
                 report.case(f"chain {seed}: {BAD[number]!r}", line.startswith("bad line "), line[:200])
+            assert process.stdin
             process.stdin.close()
             report.case(f"chain {seed}: query ends", process.wait(SECONDS) == 0)
 

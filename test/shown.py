@@ -6,7 +6,7 @@ import pathlib
 import re
 import sys
 from collections.abc import Callable, Iterator
-from typing import TypeVar
+from typing import Any, TypeVar
 
 from tree import ROOT
 
@@ -305,7 +305,7 @@ def are_names(names: object) -> bool:
 
 
 # The fields of each question, and what each may hold.
-QUESTIONS = {
+QUESTIONS: dict[str, dict[str, Callable[[Any], object]]] = {
     "setting": {},
     "members": {},
     "block": {"number": lambda it: is_number(it, 65535)},
@@ -416,8 +416,8 @@ def stated(line: str, folder: pathlib.Path) -> tuple[list[str], int]:
     return [it if isinstance(it, str) else json.dumps(it, separators=(",", ":"), sort_keys=True) for it in lines], status
 
 
-def is_shown(words: list[str], lines: list[str], status: int, folder: pathlib.Path) -> bool:
+def is_shown(words: list[str], lines: list[str], status: int | None, folder: pathlib.Path) -> bool:
     """Whether the lines of a command are worked out here: it is carried out, and no file is refused."""
-    if words[0] not in ("show", "state", "marks", "query") or status > 1 or not (folder / words[2]).exists():
+    if words[0] not in ("show", "state", "marks", "query") or status is None or status > 1 or not (folder / words[2]).exists():
         return False
     return not lines or not lines[0].startswith(("refused 8", "refused 703"))

@@ -18,7 +18,8 @@ LEDGER = HERE.parent.parent / "ledger"
 
 def run(genesis: pathlib.Path) -> list[str]:
     """The lines that the events print with this genesis file."""
-    command = [LEDGER, "run", genesis, HERE / "events.jsonl", "--keys", HERE / "example_keys" / "all.key"]
+    keys = HERE / "example_keys" / "all.key"
+    command: list[str | pathlib.Path] = [LEDGER, "run", genesis, HERE / "events.jsonl", "--keys", keys]
     return subprocess.run(command, stdout=subprocess.PIPE, text=True).stdout.splitlines()
 
 

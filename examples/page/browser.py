@@ -31,8 +31,8 @@ class Browser:
             for number, end in enumerate(ends, 3):
                 os.dup2(end, number)
 
-        quiet = {"stdin": subprocess.DEVNULL, "stdout": subprocess.DEVNULL, "stderr": subprocess.DEVNULL}
-        self.process = subprocess.Popen(words, close_fds=False, preexec_fn=place, **quiet)
+        self.process = subprocess.Popen(words, close_fds=False, preexec_fn=place, stdin=subprocess.DEVNULL,
+                                        stdout=subprocess.DEVNULL, stderr=subprocess.DEVNULL)
         os.close(to_child)
         os.close(from_child)
         self.left, self.number, self.session = b"", 0, ""

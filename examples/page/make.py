@@ -239,8 +239,9 @@ class Chain:
     def add(self, *proposed: dict) -> None:
         """Puts transactions into the next block."""
         number = len(self.blocks) + 1
-        txs = [{**tx, "endorsements": [{**it, "right": self.is_right(it["org"], it["tag"])} for it in tx["endorsements"]]}
-               for tx in proposed]
+        txs: list[dict] = [
+            {**tx, "endorsements": [{**it, "right": self.is_right(it["org"], it["tag"])} for it in tx["endorsements"]]}
+            for tx in proposed]
         for place, tx in enumerate(txs):
             tx["flag"] = self.flag(tx)
             self.ids.add(tx["id"])

@@ -12,6 +12,7 @@ import pathlib
 import random
 import subprocess
 import sys
+from typing import Any
 
 import make
 
@@ -23,7 +24,8 @@ EXAMPLE = json.loads((ROOT / "examples/assets/genesis.json").read_text())
 EXAMPLE_KEYS = ROOT / "examples/assets/example_keys"
 SHARED_KEY = b"maker's key"
 SEEDS = {name: bytes.fromhex((EXAMPLE_KEYS / f"{name.lower()}.key").read_text()) for name in ("Carrier", "Shop")}
-GENESIS = {**EXAMPLE, "orgs": [{"name": "Maker", "key": SHARED_KEY.hex()}, *EXAMPLE["orgs"][1:]], "peers": ["Maker"], "count": 40}
+GENESIS: dict[str, Any] = {**EXAMPLE, "peers": ["Maker"], "count": 40,
+                           "orgs": [{"name": "Maker", "key": SHARED_KEY.hex()}, *EXAMPLE["orgs"][1:]]}
 DIGESTS = [hashlib.sha256(bytes.fromhex(it["module"])).hexdigest() for it in EXAMPLE["chaincodes"] + EXAMPLE["modules"]]
 ORGS = [org["name"] for org in GENESIS["orgs"]]
 NAMES = ["assets", "other", "third"]
@@ -140,9 +142,10 @@ class Odd:
         profile, fuel = self.chance.choices([1, 17, 2, 18], weights=[6, 5, 1, 1])[0], self.chance.choice([1, 71, 10000000])
         definition = {"profile": profile, "module": module, "fuel": fuel, "policy": policy}
         put = make.definition_bytes(definition if self.often(0.95) else {**definition, "fuel": 5})
-        tx = {"chaincode": name, "upgrade": definition, "nonce": "%032x" % self.made, "result": "" if self.often(0.95) else "00",
-              "reads": [{"key": own.hex(), "version": self.version(own)}], "ranges": [] if self.often(0.95) else self.ranges(),
-              "writes": [{"key": own.hex(), "value": put.hex()}]}
+        tx: dict[str, Any] = {
+            "chaincode": name, "upgrade": definition, "nonce": "%032x" % self.made, "result": "" if self.often(0.95) else "00",
+            "reads": [{"key": own.hex(), "version": self.version(own)}], "ranges": [] if self.often(0.95) else self.ranges(),
+            "writes": [{"key": own.hex(), "value": put.hex()}]}
         if not self.often(0.95):
             tx["reads"].append({"key": b"a".hex(), "version": self.version(b"a")})
         if not self.often(0.95):
@@ -180,9 +183,10 @@ class Odd:
         amend, own = {"serial": serial, "members": listed, "policy": policy}, make.MEMBERSHIP_KEY
         put = make.membership_bytes(amend)
         self.memberships[put] = amend
-        tx = {"amend": amend, "nonce": "%032x" % self.made, "result": "" if self.often(0.95) else "00",
-              "reads": [{"key": own.hex(), "version": self.version(own)}], "ranges": [] if self.often(0.95) else self.ranges(),
-              "writes": [{"key": own.hex(), "value": put.hex()}]}
+        tx: dict[str, Any] = {
+            "amend": amend, "nonce": "%032x" % self.made, "result": "" if self.often(0.95) else "00",
+            "reads": [{"key": own.hex(), "version": self.version(own)}], "ranges": [] if self.often(0.95) else self.ranges(),
+            "writes": [{"key": own.hex(), "value": put.hex()}]}
         if not self.often(0.95):
             tx["writes"].append({"key": b"b".hex(), "value": "00"})
         return tx
@@ -200,7 +204,7 @@ def run(room: pathlib.Path, lines: list[dict], store: pathlib.Path) -> list[str]
     """What `./ledger run` prints on these lines."""
     events = room / "odd.jsonl"
     events.write_text("".join(json.dumps(line) + "\n" for line in lines))
-    command = [ROOT / "ledger", "run", room / "odd_genesis.json", events, "--store", store]
+    command: list[str | pathlib.Path] = [ROOT / "ledger", "run", room / "odd_genesis.json", events, "--store", store]
     return subprocess.run(command, stdout=subprocess.PIPE, stderr=subprocess.DEVNULL, text=True).stdout.splitlines()
 
 

@@ -17,8 +17,10 @@ TEMPLATE = pathlib.Path(__file__).resolve().parent / "template.html"
 def sealed(page: str) -> str:
     """The page with the hashes of what stands in it."""
     for name in ("style", "script"):
-        content = re.search(rf"<{name}>(.*?)</{name}>", page, re.DOTALL)[1]
-        digest = base64.b64encode(hashlib.sha256(content.encode()).digest()).decode()
+        found = re.search(rf"<{name}>(.*?)</{name}>", page, re.DOTALL)
+        if found is None:
+            sys.exit(f"{TEMPLATE} has no {name}")
+        digest = base64.b64encode(hashlib.sha256(found[1].encode()).digest()).decode()
         page = re.sub(rf"{name}-src '[^']*'", f"{name}-src 'sha256-{digest}'", page, count=1)
     return page
 

@@ -160,7 +160,7 @@ class World:
         # Who joins later is known to the others before.
         others = [it for it in (*ORGS, DEPOT) if it != org]
         endpoints = [f"https://{self.etcd_at(it, place)}" for it in sorted(ORGS, key=lambda it: it != org)]
-        parts = {
+        parts: dict[str, dict[str, object]] = {
             "": {"organisation": org, "listen": f"{self.address[place]}:{PORT}", "page": f"{self.address[place]}:{PAGE}"},
             "ledger": {"program": self.program, "genesis": "genesis.json", "store": "chain.store", "keys": "secret.key", "seen": 4,
                        "template": str(ROOT / "examples" / "page" / "template.html")},
@@ -324,10 +324,10 @@ class World:
         made.load_cert_chain(self.room(org) / "alice.pem", self.room(org) / "alice.key")
         return made
 
-    def ledger(self, *words: object, given: str | None = None) -> tuple[int, str]:
+    def ledger(self, *words: object, given: str = "") -> tuple[int, str]:
         """The status of the program, and what it prints."""
-        how = {"stdin": subprocess.DEVNULL} if given is None else {"input": given}
-        ran = subprocess.run([self.program, *map(str, words)], text=True, stdout=subprocess.PIPE, stderr=subprocess.DEVNULL, **how)
+        command = [self.program, *map(str, words)]
+        ran = subprocess.run(command, text=True, input=given, stdout=subprocess.PIPE, stderr=subprocess.DEVNULL)
         return ran.returncode, ran.stdout
 
 

@@ -1,4 +1,4 @@
-"""What the tests of the node share."""
+"""What the tests of the node share. Those that import it find the modules of the node."""
 import functools
 import logging
 import pathlib

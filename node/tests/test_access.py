@@ -25,11 +25,11 @@ class Certificates:
 
     def make(self, name: str, subject: str, by: str = "", extension: str = "basicConstraints=critical,CA:false") -> None:
         """One of this name, signed by another one or by itself."""
-        key = ["-newkey", "ec", "-pkeyopt", "ec_paramgen_curve:P-256", "-nodes", "-keyout", self.room / f"{name}.key"]
-        signed = ["-CA", self.room / f"{by}.pem", "-CAkey", self.room / f"{by}.key"] if by else []
+        key = ["-newkey", "ec", "-pkeyopt", "ec_paramgen_curve:P-256", "-nodes", "-keyout", f"{name}.key"]
+        signed = ["-CA", f"{by}.pem", "-CAkey", f"{by}.key"] if by else []
         words = ["openssl", "req", "-x509", *key, *signed, "-subj", subject, "-addext", extension, "-addext", "subjectAltName=IP:127.0.0.1",
-                 "-out", self.room / f"{name}.pem"]
-        subprocess.run(words, check=True, stderr=subprocess.DEVNULL)
+                 "-out", f"{name}.pem"]
+        subprocess.run(words, cwd=self.room, check=True, stderr=subprocess.DEVNULL)
 
     def behind(self, name: str, *more: str) -> None:
         """Puts the certificates of others behind one, as a caller sends them."""

@@ -25,7 +25,8 @@ class Says:
     """A filter that says these lines, and keeps what it is given."""
 
     def __init__(self, *lines: str):
-        self.lines, self.given = list(lines), []
+        self.lines = list(lines)
+        self.given: list[bytes | str] = []
 
     async def line(self) -> str:
         if not self.lines:
@@ -44,7 +45,8 @@ class FakeLog:
     """Takes entries, or fails."""
 
     def __init__(self, failure: str = ""):
-        self.failure, self.entries, self.why = failure, {}, "no leader"
+        self.failure, self.why = failure, "no leader"
+        self.entries: dict[str, list[str]] = {}
 
     async def append(self, name: str, marks: list[str], _patience: float = 0) -> bool:
         if self.failure:

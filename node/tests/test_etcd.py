@@ -10,7 +10,8 @@ from aiohttp import web
 from regtuma import etcd
 from regtuma.etcd import Lines, Log, LogError, base64_of
 
-DONE, NOT_DONE = (200, {"succeeded": True}), (200, {"header": {}})
+DONE: tuple[int, dict] = (200, {"succeeded": True})
+NOT_DONE: tuple[int, dict] = (200, {"header": {}})
 NO_LEADER = (503, {"error": "etcdserver: no leader", "code": 14})
 BAD_TOKEN, NO_ACCESS = (401, {"error": "etcdserver: invalid auth token"}), (403, {"error": "etcdserver: permission denied"})
 TOKEN = (200, {"token": "t"})
@@ -38,7 +39,7 @@ class Node:
         await self.runner.setup()
         site = web.TCPSite(self.runner, "127.0.0.1", 0, shutdown_timeout=0.1)
         await site.start()
-        self.url = "http://127.0.0.1:%d" % site._server.sockets[0].getsockname()[1]
+        self.url = "http://127.0.0.1:%d" % self.runner.addresses[0][1]
         return self
 
     async def __aexit__(self, *_) -> None:
@@ -48,6 +49,7 @@ class Node:
         self.asked.append((request.path, await request.json(), request.headers.get("Authorization")))
         answer = self.answers.pop(0) if self.answers else (500, {"error": "there is no more answer"})
         if answer is None:
+            assert request.transport
             request.transport.close()
             return web.Response()
         if answer == "nothing":

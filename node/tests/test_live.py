@@ -43,7 +43,8 @@ class Looking(threading.Thread):
 
     def __init__(self, url: str):
         super().__init__(daemon=True)
-        self.url, self.found, self.opened, self.go = url, [], threading.Event(), threading.Event()
+        self.url, self.opened, self.go = url, threading.Event(), threading.Event()
+        self.found: list[tuple[str, str]] = []
 
     def run(self) -> None:
         with Browser() as browser:
@@ -67,7 +68,7 @@ class Live(Case):
         await runner.setup()
         site = web.TCPSite(runner, "127.0.0.1", 0, shutdown_timeout=1)
         await site.start()
-        looking = Looking("http://127.0.0.1:%d/" % site._server.sockets[0].getsockname()[1])
+        looking = Looking("http://127.0.0.1:%d/" % runner.addresses[0][1])
         looking.start()
         await asyncio.to_thread(looking.opened.wait, 90)
         for number in (5, 6):

@@ -2,7 +2,6 @@
 import unittest
 
 import support
-from regtuma import proposals
 from regtuma.links import is_answer
 from regtuma.proposals import Refused, bound_of, call_of, checked, number_of, organisations_of, seconds_of
 

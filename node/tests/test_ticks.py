@@ -1,4 +1,5 @@
 """When blocks are asked for, over simulated years, and what is told of a chain that comes to its end."""
+import dataclasses
 import random
 import unittest
 
@@ -11,7 +12,8 @@ BEGINS = float(DAY)
 
 def chain(rule: Ticks, arrivals: list[float], block: int = 512) -> tuple[int, list[float]]:
     """The number of the block behind those that calls at these times make, and how long each call waits, sorted."""
-    number, waits, pending = 1, [], []
+    number, waits = 1, []
+    pending: list[float] = []
     for at in arrivals:
         if pending and at >= (due := pending[0] + rule.seconds(number, pending[0])):
             waits += [due - it for it in pending]
@@ -31,7 +33,7 @@ def office(days: int, calls_a_day: int) -> list[float]:
 
 
 def plan(days: int, **more) -> Ticks:
-    return Ticks(**{"begins": BEGINS, "lasts_days": days, "burst": 1000, "longest": 600.0, **more})
+    return dataclasses.replace(Ticks(begins=BEGINS, lasts_days=days, burst=1000, longest=600.0), **more)
 
 
 class Years(unittest.TestCase):

@@ -434,9 +434,9 @@ write("marks.log", lines[:20])
 write("another.log", [f"1.0 genesis {'00' * 32}", "1.1 tick"])
 # First lines: the digest behind another word, cut short, and missing; no word; an envelope that is too large; and a block
 # that was seen.
-FIRST = {"upper": f"GENESIS {LIMITED}", "short": f"genesis {LIMITED[:-1]}", "bare": "genesis", "blank": ""}
-FIRST |= {"too-large": sized(3, 141), "seen": f"seen A 1 {SEEN}", "tick": "tick"}
-for name, mark in FIRST.items():
+FIRST_LINES = {"upper": f"GENESIS {LIMITED}", "short": f"genesis {LIMITED[:-1]}", "bare": "genesis", "blank": ""}
+FIRST_LINES |= {"too-large": sized(3, 141), "seen": f"seen A 1 {SEEN}", "tick": "tick"}
+for name, mark in FIRST_LINES.items():
     write(f"first-{name}.log", [f"1.0 {mark}", "1.1 GENESIS"])
 
 # The batches of orders.jsonl.
@@ -808,8 +808,9 @@ write("one-question.jsonl", [one])
 # A question, a line that is no text, and a question without its line's end.
 (HERE / "part-questions.jsonl").write_bytes(one.encode() + b"\n\xff\n" + one.encode())
 # Of the chain of members-keys.store: tags of B under the old key and the new one, and of C.
-called = hashlib.sha256(b"\2kv\0\0" + bytes.fromhex("%032x" % 4)).hexdigest()
-questions = [{"ask": "members"}, {"ask": "block", "number": 6}, {"ask": "block", "number": 7}, {"ask": "transaction", "id": called}]
+of_call = hashlib.sha256(b"\2kv\0\0" + bytes.fromhex("%032x" % 4)).hexdigest()
+questions = [{"ask": "members"}, {"ask": "block", "number": 6}, {"ask": "block", "number": 7}]
+questions += [{"ask": "transaction", "id": of_call}]
 questions += [{"ask": "block", "number": 10}, {"ask": "get", "key": "00"}, {"ask": "history", "key": "00"}]
 questions += [{"ask": "range", "start": "", "end": "", "limit": 1000}, {"ask": "satisfied", "chaincode": "kv", "orgs": ["A"]}]
 write("members-questions.jsonl", map(json.dumps, questions))
