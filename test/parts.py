@@ -3,6 +3,7 @@ import hashlib
 import pathlib
 import re
 import sys
+import tomllib
 from collections.abc import Callable
 
 import changes
@@ -22,7 +23,7 @@ from calling import find_pieces
 from pages import Block, Typist, blocks_of
 from report import Ran, Report, children, end, is_alive, run, start
 from seeing import comes_to_be
-from tree import ENVIRONMENT, program
+from tree import ENVIRONMENT, UNPROVED, program
 
 # How long a script may take to say how it is used, and how long tests may take, in seconds.
 SHORT, LONG = 30, 550
@@ -130,8 +131,7 @@ def scripts(report: Report, at: Setting) -> None:
 
 def run_script(at: Setting, script: pathlib.Path, word: str) -> Ran:
     """Runs a script with a word, in another folder."""
-    is_python = script.read_bytes().startswith((b'"""', b"#!/usr/bin/env python3"))
-    return run([*([sys.executable] if is_python else []), script, word], pathlib.Path("/"), SHORT, at.env)
+    return run([*([sys.executable] if is_python(script) else []), script, word], pathlib.Path("/"), SHORT, at.env)
 
 
 def made(report: Report, at: Setting) -> None:
@@ -253,11 +253,11 @@ def query(report: Report, at: Setting) -> None:
 
 
 def reasons(report: Report, at: Setting) -> None:
-    sentences.try_reasons(report, at.tree, at.room, at.tree / program())
+    sentences.try_reasons(report, at.tree, at.room, at.tree / (program() or UNPROVED))
 
 
 def lines(report: Report, at: Setting) -> None:
-    typed_lines.try_lines(report, at.tree, at.room, at.tree / program())
+    typed_lines.try_lines(report, at.tree, at.room, at.tree / (program() or UNPROVED))
 
 
 def calling(report: Report, at: Setting) -> None:
@@ -273,7 +273,23 @@ def timed(report: Report, _at: Setting) -> None:
     timed_words.try_timed(report)
 
 
+def types(report: Report, at: Setting) -> None:
+    """The Python passes mypy: each script, and the modules of python/ strictly."""
+    told = tomllib.loads((at.tree / "pyproject.toml").read_text())["tool"]["mypy"]
+    scripts = {it for it in at.tree.glob("**/*") if it.is_file() and is_python(it)}
+    left = scripts.difference(*(at.tree.glob(it) for it in told["files"]))
+    report.case("pyproject.toml has each script", len(scripts) > 90 and not left, " ".join(map(str, left)))
+    strict = {it for row in told["overrides"] for it in row["module"]}
+    loose = {it.stem for it in (at.tree / "python").glob("*.py")} - strict
+    report.case("mypy is strict in python/", not loose, " ".join(loose))
+    at.run(report, "mypy", ["/usr/bin/python3", "-m", "mypy", "--cache-dir", at.room / "mypy"])
+
+
+def is_python(file: pathlib.Path) -> bool:
+    return file.suffix == ".py" or file.read_bytes().startswith(b"#!/usr/bin/env python3")
+
+
 Part = Callable[[Report, Setting], None]
 # Those that take long come first.
 PARTS: list[Part] = [demo, operations, page, query, chaincode, node, tutorial, readme, formats, network, modules, change, lines, reasons, made,
-                     numbers, keys, install, prove, growths, timed, scripts, calling]
+                     numbers, keys, install, prove, growths, timed, scripts, calling, types]

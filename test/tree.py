@@ -11,7 +11,7 @@ ROOT = pathlib.Path(__file__).resolve().parent.parent
 BUILT = pathlib.Path("crates", "ledger_cli", "out")
 PROVED, UNPROVED = BUILT / "ledger_cli", BUILT / "unproved" / "ledger_cli"
 # What is not copied: what is no source, and the crates, which nothing here changes.
-LEFT_OUT = shutil.ignore_patterns(".git", "crates", "out", "target", "__pycache__")
+LEFT_OUT = shutil.ignore_patterns(".git", "crates", "out", "target", "__pycache__", ".mypy_cache")
 # What has to be there, and the package of Debian that has it.
 PACKAGES = {
     "/usr/bin/clang": "clang", "/usr/bin/wasm-ld": "lld", "/usr/bin/wat2wasm": "wabt", "/usr/bin/xxd": "xxd", "/usr/bin/jq": "jq",
@@ -21,6 +21,7 @@ PACKAGES = {
     "/usr/lib/python3/dist-packages/prometheus_client": "python3-prometheus-client",
     "/usr/bin/make": "make", "/usr/bin/curl": "curl", "/usr/bin/node": "nodejs",
     "/usr/lib/rustlib/wasm32-unknown-unknown/lib": "libstd-rust-dev-wasm32",
+    "/usr/bin/mypy": "mypy",
 }
 # What ./ledger says of the program that it runs.
 ABOUT_THE_PROGRAM = ("ledger: unproved", "ledger: sources are newer")
