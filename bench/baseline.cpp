@@ -1,12 +1,10 @@
-// The baseline of the ledger's calls: the same asset register, compiled for this machine, over std::map. It keeps what
-// the ledger keeps (read set with versions, write set, ids of transactions), and no more. `sort` sorts the keys of a
-// batch of 512 transactions, six of each, so many times.
-// usage: baseline simulate|flags COUNT, baseline sort KEYS COUNT
-#include <algorithm>
+// The baseline of an audit: the same asset register, compiled for this machine, over std::map. It keeps what the ledger
+// keeps (read set with versions, write set, ids of transactions), and no more. `simulate` simulates so many blocks of
+// transfers, `audit` flags each of them too.
+// usage: baseline simulate|audit BLOCKS CALLS
+#include <openssl/sha.h>
+
 #include <array>
-#include <cmath>
-#include <cstdint>
-#include <cstdio>
 #include <cstdlib>
 #include <cstring>
 #include <map>
@@ -18,9 +16,6 @@
 extern "C" int invoke(void);
 
 namespace {
-
-constexpr unsigned assets = 1000;
-constexpr unsigned batch = 500;
 
 struct Version {
     unsigned block, place;
@@ -34,65 +29,11 @@ struct Entry {
 
 using Id = std::array<unsigned char, 32>;
 
-// SHA-256 (FIPS 180-4). Its constants are bits of the roots of the first primes.
-class Sha256 {
-  public:
-    Sha256() {
-        unsigned found = 0;
-        for (unsigned prime = 2; found < 64; ++prime) {
-            bool divided = false;
-            for (unsigned i = 2; i * i <= prime; ++i) divided |= prime % i == 0;
-            if (divided) continue;
-            if (found < 8) first[found] = bits(std::sqrt(static_cast<long double>(prime)));
-            constants[found++] = bits(std::cbrt(static_cast<long double>(prime)));
-        }
-    }
-
-    Id operator()(std::string text) const {
-        std::uint64_t length = text.size() * 8;
-        text.push_back(static_cast<char>(0x80));
-        text.resize((text.size() + 8 + 63) / 64 * 64);
-        for (int i = 0; i < 8; ++i) text[text.size() - 1 - i] = static_cast<char>(length >> 8 * i);
-        std::uint32_t state[8];
-        std::copy(first, first + 8, state);
-        for (std::size_t at = 0; at < text.size(); at += 64)
-            compress(state, reinterpret_cast<const unsigned char *>(&text[at]));
-        Id id;
-        for (int i = 0; i < 32; ++i) id[i] = static_cast<unsigned char>(state[i / 4] >> (24 - 8 * (i % 4)));
-        return id;
-    }
-
-  private:
-    std::uint32_t first[8], constants[64];
-
-    static std::uint32_t bits(long double root) {
-        return static_cast<std::uint32_t>((root - std::floor(root)) * 4294967296.0L);
-    }
-
-    static std::uint32_t rotate(std::uint32_t x, int n) { return x >> n | x << (32 - n); }
-
-    void compress(std::uint32_t *state, const unsigned char *block) const {
-        std::uint32_t schedule[64];
-        for (int t = 0; t < 16; ++t, block += 4)
-            schedule[t] = static_cast<std::uint32_t>(block[0]) << 24 | block[1] << 16 | block[2] << 8 | block[3];
-        for (int t = 16; t < 64; ++t) {
-            std::uint32_t a = schedule[t - 15], b = schedule[t - 2];
-            schedule[t] = schedule[t - 16] + (rotate(a, 7) ^ rotate(a, 18) ^ a >> 3) + schedule[t - 7] +
-                          (rotate(b, 17) ^ rotate(b, 19) ^ b >> 10);
-        }
-        std::uint32_t a = state[0], b = state[1], c = state[2], d = state[3];
-        std::uint32_t e = state[4], f = state[5], g = state[6], h = state[7];
-#pragma clang loop unroll_count(8)
-        for (int t = 0; t < 64; ++t) {
-            std::uint32_t more =
-                h + (rotate(e, 6) ^ rotate(e, 11) ^ rotate(e, 25)) + ((e & f) ^ (~e & g)) + constants[t] + schedule[t];
-            std::uint32_t last = (rotate(a, 2) ^ rotate(a, 13) ^ rotate(a, 22)) + ((a & b) ^ (a & c) ^ (b & c));
-            h = g, g = f, f = e, e = d + more, d = c, c = b, b = a, a = more + last;
-        }
-        const std::uint32_t v[8] = {a, b, c, d, e, f, g, h};
-        for (int i = 0; i < 8; ++i) state[i] += v[i];
-    }
-};
+Id sha256(const std::string &text) {
+    Id id;
+    SHA256(reinterpret_cast<const unsigned char *>(text.data()), text.size(), id.data());
+    return id;
+}
 
 struct Payload {
     std::string proposal;
@@ -101,7 +42,6 @@ struct Payload {
     std::string result;
 };
 
-const Sha256 sha256;
 std::map<std::string, Entry> state;
 std::set<Id> known;
 std::string argument;
@@ -115,9 +55,7 @@ Payload simulate(std::string text) {
     return std::move(payload);
 }
 
-std::string transfer(unsigned i) {
-    return "transfer asset" + std::to_string(i % assets) + " bob";
-}
+std::string transfer(unsigned asset) { return "transfer asset" + std::to_string(asset) + " bob"; }
 
 bool is_current(const Payload &transaction, const std::map<std::string, std::optional<Version>> &written) {
     for (const auto &[key, version] : transaction.reads) {
@@ -146,23 +84,6 @@ unsigned flags(const std::vector<Payload> &block, unsigned number) {
         }
     }
     return valid;
-}
-
-int sort_keys(unsigned keys, unsigned rounds) {
-    std::uint64_t random = 1;
-    std::vector<std::string> batch;
-    for (unsigned i = 0; i < 512 * 6; ++i) {
-        random = random * 6364136223846793005u + 1442695040888963407u;
-        char number[9];
-        std::snprintf(number, sizeof number, "%08u", static_cast<unsigned>((random >> 32) % keys));
-        batch.push_back(std::string("account:") + number);
-    }
-    for (unsigned i = 0; i < rounds; ++i) {
-        std::vector<std::string> sorted = batch;
-        std::sort(sorted.begin(), sorted.end());
-        if (sorted.front() > sorted.back()) return 1;
-    }
-    return 0;
 }
 
 unsigned number(const char *word) { return static_cast<unsigned>(std::atoi(word)); }
@@ -206,21 +127,19 @@ int set_result(const void *result, unsigned length) {
 }
 
 int main(int count, char **words) {
-    if (count == 4 && std::strcmp(words[1], "sort") == 0) return sort_keys(number(words[2]), number(words[3]));
-    if (count != 3) return 2;
+    if (count != 4) return 2;
+    const bool audits = std::strcmp(words[1], "audit") == 0;
+    const unsigned blocks = number(words[2]), calls = number(words[3]), assets = 2 * calls;
     for (unsigned i = 0; i < assets; ++i) {
         Payload created = simulate("create asset" + std::to_string(i) + " alice");
-        for (const auto &[key, value] : created.writes) state[key] = {*value, {1 + i / batch, i % batch}};
+        for (const auto &[key, value] : created.writes) state[key] = {*value, {1 + i / calls, i % calls}};
         known.insert(sha256(created.proposal));
     }
-    unsigned rounds = number(words[2]);
-    if (std::strcmp(words[1], "simulate") == 0) {
-        for (unsigned i = 0; i < rounds; ++i) simulate(transfer(i));
-        return 0;
-    }
-    std::vector<Payload> block;
-    for (unsigned i = 0; i < batch; ++i) block.push_back(simulate(transfer(i)));
     unsigned valid = 0;
-    for (unsigned i = 0; i < rounds / batch; ++i) valid += flags(block, 3);
-    return valid == rounds ? 0 : 1;
+    for (unsigned i = 0; i < blocks; ++i) {
+        std::vector<Payload> block;
+        for (unsigned j = 0; j < calls; ++j) block.push_back(simulate(transfer((i * calls + j) % assets)));
+        valid += audits ? flags(block, 3) : calls;
+    }
+    return valid == blocks * calls ? 0 : 1;
 }

@@ -1,76 +1,139 @@
-"""Writes genesis.json and events.jsonl into a folder: blocks of calls of the asset register, all of which end VALID. Two of three
-organisations endorse each.
-
-    python3 bench/chain.py MODULE FOLDER [BLOCKS CALLS]    (1,000 blocks of 20 calls)
-"""
+"""Chains that the program itself makes, and the files of them that its commands read."""
+import dataclasses
+import itertools
 import json
 import pathlib
-import re
-import sys
-from collections.abc import Iterator
+from collections.abc import Iterable, Iterator
 
-ASSETS = 1000
-ORGANISATIONS = ["A", "B", "C"]
-ENDORSERS = [0, 1]
-POLICY = "OutOf(2, 'A', 'B', 'C')"
+from measure import ORGANISATIONS, ROOT, fail, genesis, said
+
+TWO_OF_THREE = "OutOf(2, 'A', 'B', 'C')"
+# The seeds of the organisations, where they sign.
+SEEDS = [(name * 32).encode() for name in ORGANISATIONS]
+KEYS_MODULE = ROOT / "bench/keys.wasm"
+# A chaincode may write so many keys.
+MOST_WRITES = 64
+# The arguments of the calls of a block.
+Block = list[bytes]
 
 
 def line(do: str, **fields: object) -> str:
     return json.dumps({"do": do, **fields}, separators=(",", ":")) + "\n"
 
 
-def endorse(call: int) -> Iterator[str]:
-    """Simulates a call at its endorsers, and submits what they endorsed."""
-    verb = "create" if call < ASSETS else "transfer"
-    argument = f"{verb} asset{call % ASSETS} owner{call}".encode().hex()
-    for peer in ENDORSERS:
-        yield line("begin", peer=peer, seat=0, chaincode="assets", arg=argument, nonce="%032x" % call)
-        yield line("finish", peer=peer, seat=0, **{"as": ORGANISATIONS[peer]})
-    yield line("submit", use=[ORGANISATIONS[peer] for peer in ENDORSERS])
+def endorse(chaincode: str, argument: bytes, number: int, endorsers: int) -> Iterator[str]:
+    """Simulates a call at its endorsers, and has what they endorsed taken."""
+    names = ORGANISATIONS[:endorsers]
+    for peer, name in enumerate(names):
+        yield line("begin", peer=peer, seat=0, chaincode=chaincode, arg=argument.hex(), nonce=f"{number:032x}")
+        yield line("finish", peer=peer, seat=0, **{"as": name})
+    yield line("submit", use=names)
     yield line("take")
 
 
-def events(blocks: int, calls: int) -> Iterator[str]:
-    """Blocks of so many calls each."""
-    for block in range(blocks):
-        for place in range(calls):
-            yield from endorse(block * calls + place)
-        for peer in ENDORSERS:
+def events(chaincode: str, blocks: Iterable[Block], endorsers: int) -> Iterator[str]:
+    """The calls of each block are simulated on the state before it."""
+    numbers = itertools.count(1)
+    for block in blocks:
+        for argument in block:
+            yield from endorse(chaincode, argument, next(numbers), endorsers)
+        yield line("tick")
+        for peer in range(endorsers):
             yield line("commit", peer=peer)
 
 
-def genesis(module: bytes, calls: int) -> dict[str, object]:
-    chaincode = {"name": "assets", "module": module.hex(), "policy": POLICY, "fuel": 100000, "profile": 1}
-    return {
-        "orgs": [{"name": name, "key": (name * 32).encode().hex()} for name in ORGANISATIONS],
-        "peers": ORGANISATIONS,
-        "seats": 1,
-        "queue": 1,
-        "count": calls,
-        "preferred": 524288,
-        "absolute": 524288,
-        "reorder": False,
-        "chaincodes": [chaincode],
-        "modules": [],
-        "upgrade": POLICY,
-    }
+def transfers(blocks: int, calls: int) -> Iterator[Block]:
+    """Two blocks make assets, and the others give each a new owner in turn."""
+    for number in range(blocks):
+        at = range(number * calls, (number + 1) * calls)
+        yield [f"{'create' if number < 2 else 'transfer'} asset{call % (2 * calls)} owner{call}".encode() for call in at]
 
 
-def main(words: list[str]) -> int:
-    if len(words) not in (2, 4) or not all(re.fullmatch("[1-9][0-9]{0,8}", it) for it in words[2:]):
-        is_help = words in (["--help"], ["-h"])
-        print(__doc__, file=sys.stdout if is_help else sys.stderr)
-        return 0 if is_help else 2
-    module, folder = map(pathlib.Path, words[:2])
-    blocks, calls = map(int, words[2:] or (1000, 20))
-    try:
-        (folder / "genesis.json").write_text(json.dumps(genesis(module.read_bytes(), calls)))
-        (folder / "events.jsonl").write_text("".join(events(blocks, calls)))
-    except OSError as error:
-        print(f"bench/chain.py: {error.filename}: {error.strerror}", file=sys.stderr)
-        return 1
-    return 0
+def proposals(count: int) -> Iterator[str]:
+    """Lines for `endorse`: calls that make assets."""
+    for at in range(count):
+        argument = f"create asset{at} owner".encode().hex()
+        yield json.dumps({"arg": argument, "chaincode": "assets", "nonce": f"{at:032x}"}, separators=(",", ":")) + "\n"
 
 
-if __name__ == "__main__":
-    sys.exit(main(sys.argv[1:]))
+def drawn(keys: int) -> Iterator[int]:
+    """Numbers of keys, the same in every run, by a linear congruential generator (Knuth's MMIX)."""
+    random = 1
+    while True:
+        random = (random * 6364136223846793005 + 1442695040888963407) % 2**64
+        yield random // 2**32 % keys
+
+
+def item(letter: bytes, number: int) -> bytes:
+    return letter + number.to_bytes(8, "big")
+
+
+def touching(keys: int, reads: int, writes: int, calls: int) -> Iterator[Block]:
+    """Blocks without end, of calls that read and write so many keys each."""
+    numbers = drawn(keys)
+    letters = reads * [b"r"] + writes * [b"w"]
+    while True:
+        yield [b"".join(item(letter, next(numbers)) for letter in letters) for _ in range(calls)]
+
+
+def filling(keys: int, calls: int) -> Iterator[Block]:
+    """Blocks that write each of so many keys."""
+    numbers = range(0, keys, MOST_WRITES)
+    arguments = [b"".join(item(b"w", it) for it in range(first, min(keys, first + MOST_WRITES))) for first in numbers]
+    for first in range(0, len(arguments), calls):
+        yield arguments[first:first + calls]
+
+
+@dataclasses.dataclass
+class Chain:
+    """The files of a chain: its genesis, its store, a log of its marks, and its blocks as `order` prints them. Then the flags of
+    its transactions."""
+    genesis: pathlib.Path
+    store: pathlib.Path
+    log: pathlib.Path
+    blocks: pathlib.Path
+    flags: list[str] = dataclasses.field(default_factory=list)
+
+
+def make(program: pathlib.Path, room: pathlib.Path, setting: dict, blocks: Iterable[Block]) -> Chain:
+    """The chain of such calls of the only chaincode of a genesis, each endorsed by as many organisations as it has peers."""
+    room.mkdir()
+    chain = Chain(room / "genesis.json", room / "chain.store", room / "log", room / "blocks")
+    asked, seeds = room / "events.jsonl", write_seeds(room / "all.key")
+    chain.genesis.write_text(json.dumps(setting))
+    with asked.open("w") as lines:
+        lines.writelines(events(setting["chaincodes"][0]["name"], blocks, len(setting["peers"])))
+    done = said([program, "run", chain.genesis, asked, "--store", chain.store, "--keys", seeds])
+    # Each peer commits each block.
+    committed = [it.split()[3:] for it in done if it.startswith("committed ")][::len(setting["peers"])]
+    chain.flags += [flag for flags in committed for flag in flags]
+    marks = said([program, "marks", chain.genesis, chain.store])
+    chain.log.write_text("".join(f"1.{at} {mark}\n" for at, mark in enumerate(marks)))
+    ordered = said([program, "order", chain.genesis], chain.log)
+    chain.blocks.write_text("".join(f"{it}\n" for it in ordered if it.startswith("block ")))
+    return chain
+
+
+def write_seeds(file: pathlib.Path) -> pathlib.Path:
+    file.write_text("".join(f"{seed.hex()}\n" for seed in SEEDS))
+    file.chmod(0o600)
+    return file
+
+
+def register(program: pathlib.Path, room: pathlib.Path, module: bytes, blocks: int, calls: int,
+             are_signed: bool = False) -> Chain:
+    """So many blocks of calls of the asset register, which two of three organisations endorse, and which all end VALID."""
+    setting = genesis("assets", module, TWO_OF_THREE, 100_000, count=calls, peers=ORGANISATIONS[:2])
+    if are_signed:
+        public = said([program, "public", write_seeds(room.with_suffix(".key"))])
+        setting["orgs"] = [{"name": name, "public": it.split()[1]} for name, it in zip(ORGANISATIONS, public)]
+    chain = make(program, room, setting, transfers(blocks, calls))
+    if chain.flags != ["0"] * (blocks * calls):
+        fail(f"{len(chain.flags)} flags, not all of them 0")
+    return chain
+
+
+def of_keys(program: pathlib.Path, room: pathlib.Path, blocks: Iterable[Block], calls: int, reorder: bool = False) -> Chain:
+    """The chain of these blocks of calls that read and write keys, which one organisation endorses."""
+    setting = genesis("keys", KEYS_MODULE.read_bytes(), count=calls, reorder=reorder, peers=ORGANISATIONS[:1])
+    return make(program, room, setting, blocks)

@@ -30,8 +30,8 @@ SHORT, LONG = 30, 550
 # The scripts that people run.
 SCRIPTS = ["ledger", "docs/definitions", "docs/stands-on", "test/documents", "test/questions.py", "examples/chaincode/build.sh",
            "examples/assets/*.py", "examples/page/make.py", "examples/page/seal.py", "examples/page/test", "examples/roles/plain",
-           "bench/*.py", "bench/build.sh", "bench/compare", "bench/gate", "bench/hostile", "bench/instructions", "bench/node",
-           "bench/plants", "bench/plot", "bench/roles", "bench/run", "bench/state", "bench/threads", "bench/untuned/build.sh",
+           "bench/build.sh", "bench/gate", "bench/hostile", "bench/instructions", "bench/node", "bench/plants", "bench/plot",
+           "bench/run", "bench/state", "bench/threads", "bench/untuned/build.sh",
            "node/bin/*", "node/certs.sh", "node/change.py", "node/demo/run", "node/demo/demo.py", "node/demo/traffic.py"]
 # Scripts that say whether a file is as they would write it; and those that write, with the files.
 CHECKS = ["docs/definitions --check", "docs/stands-on --check", "examples/page/seal.py --check"]
@@ -269,8 +269,9 @@ def growths(report: Report, at: Setting) -> None:
     growing.growths(report, at.room)
 
 
-def timed(report: Report, _at: Setting) -> None:
-    timed_words.try_timed(report)
+def timed(report: Report, at: Setting) -> None:
+    """What bench/ times, with small amounts."""
+    timed_words.try_timed(report, at.tree, at.tree / program(), at.env)
 
 
 def types(report: Report, at: Setting) -> None:

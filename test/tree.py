@@ -19,7 +19,7 @@ PACKAGES = {
     "/usr/bin/cargo": "cargo", "/usr/bin/rustc": "rustc", "/usr/bin/openssl": "openssl",
     "/usr/lib/python3/dist-packages/aiohttp": "python3-aiohttp",
     "/usr/lib/python3/dist-packages/prometheus_client": "python3-prometheus-client",
-    "/usr/bin/make": "make", "/usr/bin/curl": "curl", "/usr/bin/node": "nodejs",
+    "/usr/include/openssl/evp.h": "libssl-dev", "/usr/bin/make": "make", "/usr/bin/curl": "curl", "/usr/bin/node": "nodejs",
     "/usr/lib/rustlib/wasm32-unknown-unknown/lib": "libstd-rust-dev-wasm32",
     "/usr/bin/mypy": "mypy",
 }

@@ -5,18 +5,17 @@ from tree import ROOT
 
 LONG = "too long"
 MEASURES = "measures, and no test depends on it"
+SMALL = "measures; the part timed tries it with small amounts"
 # The first line of a block, and why it is not typed.
 REASONS = {
     ("README.md", "rt ci"): f"{LONG}: it is the gate, behind which this test runs",
     ("docs/OPERATIONS.md", "tar -C /"): "changes the machine; the part install unpacks the same tarball",
-    ("bench/README.md", "bench/run"): MEASURES,
+    ("bench/README.md", "bench/run"): SMALL,
     ("bench/README.md", "bench/build.sh"): "makes what bench/run measures",
     ("bench/README.md", "bench/untuned/build.sh"): "makes what bench/run measures",
-    ("bench/README.md", "bench/compare"): MEASURES,
     ("bench/README.md", "bench/plot"): "draws figures, which the part made compares",
-    ("bench/README.md", "bench/state"): MEASURES,
-    ("bench/README.md", "bench/threads"): MEASURES,
-    ("bench/README.md", "bench/roles"): MEASURES,
+    ("bench/README.md", "bench/state"): SMALL,
+    ("bench/README.md", "bench/threads"): SMALL,
     ("bench/README.md", "bench/node"): MEASURES,
     ("bench/README.md", "bench/instructions"): f"{MEASURES}; it needs a build of ed25519_cases",
     ("bench/README.md", "bench/gate"): LONG,
