@@ -1,4 +1,4 @@
-"""The kit's command `rt`, run so that what it has begun ends with the one that asked for it; and folders for its copies."""
+"""The kit's command `rt`, run so that what it has begun ends with the one that asked for it; folders for its copies; its edits."""
 import contextlib
 import os
 import pathlib
@@ -13,10 +13,31 @@ ANEW = "--anew"
 ENDINGS = (signal.SIGINT, signal.SIGTERM, signal.SIGHUP)
 
 
+class BadEdit(Exception):
+    """An edit that cannot be applied."""
+
+
 def keeps_proofs() -> bool:
     """Whether this kit's `rt ci` keeps what it proved, and takes it again: kits differ in that, and those that do say how to do without."""
     asked = subprocess.run(["rt", "help"], stdin=subprocess.DEVNULL, capture_output=True, text=True, errors="replace", check=False)
     return ANEW in asked.stdout + asked.stderr
+
+
+def edited(crate: pathlib.Path, edit: pathlib.Path) -> dict[str, str]:
+    """The texts of the files that an edit of a crate changes, as it leaves them."""
+    texts: dict[str, str] = {}
+    file = old = ""
+    for line in edit.read_text(encoding="utf-8").split("\n"):
+        if line.startswith("file: "):
+            file = line.removeprefix("file: ").strip()
+            texts.setdefault(file, (crate / file).read_text(encoding="utf-8"))
+        elif line.startswith("old: "):
+            old = line.removeprefix("old: ")
+            if texts[file].count(old) != 1:
+                raise BadEdit(f"in {file} this stands {texts[file].count(old)} times, and has to stand there once: {old}")
+        elif line.startswith("new:"):
+            texts[file] = texts[file].replace(old, line.removeprefix("new:").removeprefix(" "))
+    return texts
 
 
 def run(words: list[str], room: pathlib.Path, settings: dict[str, str], say: Callable[[str], None]) -> int:

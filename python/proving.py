@@ -4,6 +4,8 @@ The gate builds libraries of statements alone, which crates above read in half t
 longest chain of crates first, and gives a crate the cores that no other needs, unless it is told how many there are (steps).
 Where the kit keeps what it proved, and may write beside itself, a run that was interrupted goes on by that. Wrong bodies are not
 copied: the gate alone tries them.
+
+    RT_JOBS=$(python3 python/proving.py) rt ci      runs the gate by the same rule (jobs)
 """
 import os
 import pathlib
@@ -59,17 +61,24 @@ def last_of(libraries: Libraries, program: str) -> set[str]:
     return last
 
 
+def jobs(cores: int) -> str:
+    """How many checks the gate is told to do side by side, for RT_JOBS. `rt` reckons with three times the memory that high crates take,
+    and so leaves cores idle, unless it is told to give each check one core. Nothing where there is too little memory for that: `rt`
+    chooses then. Who has told it how many jobs it may use is heard."""
+    return os.environ.get("RT_JOBS") or (str(cores) if memory() >= cores * ENOUGH_MEMORY else "")
+
+
 def steps(libraries: Libraries, program: str, cores: int) -> list[Step]:
-    """The runs of the gate. `rt` reckons with three times the memory that high crates take, and so leaves cores idle, unless it is
-    told to give each crate one core. Those beside which no other is proved would have one too: a second run proves these, on what
-    the first one kept. Where nothing is kept it would prove all again, so it is one run. Who has told `rt` how many jobs it may use is
-    heard."""
+    """The runs of the gate: one, or two where each crate gets one core. Those beside which no other is proved would have one too: a
+    second run proves these, on what the first one kept. Where nothing is kept it would prove all again, so it is one run."""
     crates = libraries.keys() & (below(libraries, program) | {program})
     last = last_of(libraries, program)
-    if not crates > last or os.environ.get("RT_JOBS") or memory() < cores * ENOUGH_MEMORY:
+    each = {"RT_JOBS": jobs(cores)}
+    if not crates > last:
         return [(crates, {})]
-    each = {"RT_JOBS": str(cores)}
-    return [(crates - last, each), (last, {})] if can_keep() else [(crates, each)]
+    if os.environ.get("RT_JOBS") or not each["RT_JOBS"] or not can_keep():
+        return [(crates, each)]
+    return [(crates - last, each), (last, {})]
 
 
 def memory() -> int:
@@ -139,3 +148,7 @@ def prove(root: pathlib.Path, program: str, cores: int, log: TextIO, tell: Tell)
         out = pathlib.Path("crates", program, "out")
         put(room / out / program, root / out, begun)
     return True
+
+
+if __name__ == "__main__":
+    print(jobs(len(os.sched_getaffinity(0))))

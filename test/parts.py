@@ -1,5 +1,6 @@
 """The parts of the test: each types what some documents say, or runs what they send people to."""
 import hashlib
+import os
 import pathlib
 import re
 import sys
@@ -18,7 +19,11 @@ import operating
 import proved
 import questions
 import reasons as sentences
+import running
+import sources
 import timed as timed_words
+import unproved
+import untyped
 from calling import find_pieces
 from pages import Block, Typist, blocks_of
 from report import Ran, Report, children, end, is_alive, run, start
@@ -28,7 +33,7 @@ from tree import ENVIRONMENT, UNPROVED, program
 # How long a script may take to say how it is used, and how long tests may take, in seconds.
 SHORT, LONG = 30, 550
 # The scripts that people run.
-SCRIPTS = ["ledger", "docs/definitions", "docs/stands-on", "test/documents", "test/questions.py", "examples/chaincode/build.sh",
+SCRIPTS = ["ledger", "docs/definitions", "docs/stands-on", "test/run", "test/documents", "test/questions.py", "examples/chaincode/build.sh",
            "examples/assets/*.py", "examples/page/make.py", "examples/page/seal.py", "examples/page/test", "examples/roles/plain",
            "bench/build.sh", "bench/gate", "bench/hostile", "bench/instructions", "bench/node", "bench/plants", "bench/plot",
            "bench/run", "bench/state", "bench/threads", "bench/untuned/build.sh",
@@ -75,8 +80,7 @@ class Setting:
 
 
 def readme(report: Report, at: Setting) -> None:
-    blocks = [it for it in blocks_of(at.tree, "README.md") if it.text != "rt ci"]
-    at.type(report, blocks)
+    at.type(report, typed_of(at.tree, "README.md"))
     page = at.tree / "chain.html"
     report.case("README.md: the page is whole", page.exists() and page.read_text().rstrip().endswith("</html>"))
 
@@ -105,10 +109,15 @@ def follow(report: Report, at: Setting) -> None:
     report.case("examples/roles/plain --follow", is_whole and has_ended, said)
 
 
+def typed_of(tree: pathlib.Path, document: str) -> list[Block]:
+    """The blocks of a document, but for the commands that are not typed, for a reason."""
+    return [it for it in blocks_of(tree, document) if not it.is_command() or untyped.reason(it) is None]
+
+
 def formats(report: Report, at: Setting) -> None:
     store = "formats.store"
     at.run(report, "a store to show", ["./ledger", *RUN, "--store", store])
-    at.type(report, blocks_of(at.tree, "docs/OUTPUT.md"), instead={"GENESIS": str(EXAMPLE / "genesis.json"), "STORE": store})
+    at.type(report, typed_of(at.tree, "docs/OUTPUT.md"), instead={"GENESIS": str(EXAMPLE / "genesis.json"), "STORE": store})
 
 
 def scripts(report: Report, at: Setting) -> None:
@@ -135,7 +144,8 @@ def run_script(at: Setting, script: pathlib.Path, word: str) -> Ran:
 
 
 def made(report: Report, at: Setting) -> None:
-    """What scripts write is what is kept."""
+    """What scripts write is what is kept, and the page is whole."""
+    sources.try_page(report, at.tree / "examples/page/template.html")
     for command in CHECKS:
         at.run(report, command, command.split())
     for script, patterns in WRITTEN.items():
@@ -271,7 +281,7 @@ def growths(report: Report, at: Setting) -> None:
 
 def timed(report: Report, at: Setting) -> None:
     """What bench/ times, with small amounts."""
-    timed_words.try_timed(report, at.tree, at.tree / program(), at.env)
+    timed_words.try_timed(report, at.tree, at.tree / (program() or UNPROVED), at.env)
 
 
 def types(report: Report, at: Setting) -> None:
@@ -290,7 +300,51 @@ def is_python(file: pathlib.Path) -> bool:
     return file.suffix == ".py" or file.read_bytes().startswith(b"#!/usr/bin/env python3")
 
 
+def cases(report: Report, _at: Setting) -> None:
+    unproved.try_cases(report, "ledger_cases")
+
+
+def signatures(report: Report, _at: Setting) -> None:
+    unproved.try_cases(report, "ed25519_cases")
+
+
+def tests(report: Report, at: Setting) -> None:
+    """Each test takes two cores, since some have threads."""
+    unproved.try_tests(report, at.room, "ledger_tests", max(1, len(os.sched_getaffinity(0)) // 2))
+
+
+def layout(report: Report, _at: Setting) -> None:
+    sources.try_layout(report)
+
+
+def edits(report: Report, _at: Setting) -> None:
+    sources.try_edits(report)
+
+
+def itself(report: Report, at: Setting) -> None:
+    running.try_running(report, at.tree, at.room, at.env)
+
+
 Part = Callable[[Report, Setting], None]
-# Those that take long come first.
-PARTS: list[Part] = [demo, operations, page, query, chaincode, node, tutorial, readme, formats, network, modules, change, lines, reasons, made,
-                     numbers, keys, install, prove, growths, timed, scripts, calling, types]
+LEDGER = ("ledger_cli",)
+# What test/run does, without a proof: first what needs no program. In each list those that take long come first.
+WITHOUT_PROGRAM: list[Part] = [itself, layout, types, made, prove, edits, calling]
+WITH_LEDGER: list[Part] = [lines, node, reasons, network, modules, change, readme, formats, numbers, keys, scripts]
+# The programs that are compiled for it, the dearest first, and for which parts.
+COMPILED: dict[Part, unproved.Compiled] = {**dict.fromkeys(WITH_LEDGER, LEDGER), tests: ("ledger_tests", "--test"), cases: ("ledger_cases",),
+                                           signatures: ("ed25519_cases",)}
+QUICK: list[Part] = [*WITHOUT_PROGRAM, tests, cases, signatures, *WITH_LEDGER]
+# What test/documents does behind the gate: what needs the programs as they were proved, a browser, etcd, a Rust compiler, or many signatures.
+BEHIND: list[Part] = [demo, operations, page, query, chaincode, tutorial, lines, install, growths, timed]
+DOCUMENTS: list[Part] = [*BEHIND, *(it for it in [*WITH_LEDGER, made, prove, calling, types] if it not in BEHIND)]
+# The documents all of whose commands test/run types.
+TYPED_BEFORE = {readme: "README.md", formats: "docs/OUTPUT.md"}
+# The packages of Debian that parts of test/run need.
+OF_NODE = ["openssl", "nodejs", "python3-aiohttp", "python3-prometheus-client"]
+PACKAGES: dict[Part, list[str]] = {types: ["mypy", *OF_NODE[2:]], formats: ["jq"], keys: ["openssl"], node: OF_NODE,
+                                   scripts: ["etcd-server", "etcd-client", "curl", *OF_NODE]}
+
+
+def typed_before(tree: pathlib.Path) -> set[Block]:
+    """The commands that test/run types."""
+    return {it for document in TYPED_BEFORE.values() for it in typed_of(tree, document) if it.is_command()}

@@ -102,11 +102,15 @@ def try_proving(report: Report, tree: pathlib.Path, room: pathlib.Path, env: dic
     is_older = (out / "ledger_cli").stat().st_mtime < at.source.stat().st_mtime
     report.case("what is edited meanwhile is newer", is_older)
     report.case("the log names the repository", f"rt: ledger_cli proved in {at.root}\n" in at.log())
-    is_enough = proving.memory() >= proving.ENOUGH_MEMORY and shutil.disk_usage(room).free >= proving.LEAST_DISK
-    report.case("what waits for all others has a run of its own", at.jobs() == (["1", ""] if is_enough else [""]), str(at.jobs()))
+    is_enough, has_disk = proving.memory() >= proving.ENOUGH_MEMORY, shutil.disk_usage(room).free >= proving.LEAST_DISK
+    wanted = ["1", ""] if is_enough and has_disk else ["1" if is_enough else ""]
+    report.case("what waits for all others has a run of its own", at.jobs() == wanted, f"{at.jobs()}\nwanted {wanted}")
+    goes_on = "goes on by what was proved" if has_disk else "begins anew"
+    report.case("on a kit that keeps proofs it goes on", ran.err.splitlines()[0].endswith(f"; interrupted, it {goes_on}"), ran.err)
     told, ran = at.prove("proved", "true", KEEPS="")
-    report.case("a kit that keeps nothing proves once", ran.status == 0 and at.jobs() == (["1"] if proving.memory() >= proving.ENOUGH_MEMORY else [""]),
-                str(at.jobs()))
+    wanted = ["1" if is_enough else ""]
+    report.case("on a kit that keeps nothing it is one run", ran.status == 0 and at.jobs() == wanted, f"{at.jobs()}\nwanted {wanted}")
+    report.case("on that kit it begins anew", ran.err.splitlines()[0].endswith("; interrupted, it begins anew"), ran.err)
     report.case("the copy goes", not at.left(), str(at.left()))
     interrupt(report, at, [signal.SIGINT])
     # As a terminal does that closes: the second while files are taken away.

@@ -4,10 +4,20 @@ import os
 import pathlib
 import signal
 import subprocess
+import sys
+import threading
 import time
 
 # How long a process may take to end once it is asked to, in seconds.
 GRACE = 20
+# So many failures of a part are printed.
+MOST_SHOWN = 20
+# Set where the test is to end: each part ends at its next case.
+STOPPED = threading.Event()
+
+
+class Stopped(Exception):
+    """The test takes too long, or somebody ends it."""
 
 
 @dataclasses.dataclass
@@ -19,25 +29,39 @@ class Ran:
 
 
 class Report:
-    """The cases of one part."""
+    """The cases of one part, and the command that does it alone."""
 
-    def __init__(self, part: str):
-        self.part, self.passed = part, 0
+    def __init__(self, part: str, alone: str = ""):
+        self.part, self.alone, self.passed = part, alone, 0
         self.failures: list[str] = []
         self.began = time.monotonic()
 
-    def case(self, name: str, is_so: bool, why: str = "") -> bool:
-        """Counts a case."""
+    def case(self, name: str, is_so: bool, why: str = "", alone: str = "") -> bool:
+        """Counts a case. Where it fails, `alone` is a command that shows it, and else the part's."""
+        if STOPPED.is_set():
+            raise Stopped
+        self.count(name, is_so, why, alone)
+        return is_so
+
+    def count(self, name: str, is_so: bool, why: str = "", alone: str = "") -> None:
+        """Counts a case, also where the test is to end."""
         if is_so:
             self.passed += 1
-        else:
-            self.failures.append(f"{name}\n{why}".rstrip().replace("\n", "\n    "))
-        return is_so
+            return
+        again = alone or self.alone
+        self.failures.append(f"{name}\n{why}".rstrip().replace("\n", "\n    ") + (f"\n    again: {again}" if again else ""))
 
     def summary(self) -> str:
         took = time.monotonic() - self.began
-        lines = [f"{self.part}: FAILED: {it}" for it in self.failures]
-        return "\n".join([*lines, f"{self.part}: {self.passed} passed, {len(self.failures)} failed, {took:.1f} s"])
+        lines = [f"{self.part}: FAILED: {it}" for it in self.failures[:MOST_SHOWN]]
+        more = [f"{self.part}: {len(self.failures) - MOST_SHOWN} more failed"] if len(self.failures) > MOST_SHOWN else []
+        return "\n".join([*lines, *more, f"{self.part}: {self.passed} passed, {len(self.failures)} failed, {took:.1f} s"])
+
+
+def say(text: str) -> None:
+    """Prints lines at once, those of other threads before or behind them."""
+    sys.stdout.write(f"{text}\n")
+    sys.stdout.flush()
 
 
 def start(command: list, folder: pathlib.Path, env: dict[str, str] | None = None) -> subprocess.Popen[str]:

@@ -35,9 +35,9 @@ def adopt_orphans() -> None:
     ctypes.CDLL(None).prctl(PR_SET_CHILD_SUBREAPER, 1, 0, 0, 0)
 
 
-def missing() -> list[str]:
-    """The packages of which something is not there."""
-    return [package for file, package in PACKAGES.items() if not os.path.exists(file)]
+def missing(needed: list[str] | None = None) -> list[str]:
+    """Those of some packages, or of all, of which something is not there."""
+    return [package for file, package in PACKAGES.items() if (needed is None or package in needed) and not os.path.exists(file)]
 
 
 def install() -> str:
@@ -86,3 +86,8 @@ def files(root: pathlib.Path) -> dict[str, tuple[int, int]]:
             at = os.lstat(os.path.join(folder, name))
             found[os.path.relpath(os.path.join(folder, name), root)] = (at.st_size, at.st_mtime_ns)
     return found
+
+
+if __name__ == "__main__":
+    # As .ci/run begins: the packages that all parts need.
+    sys.exit(install() or 0)

@@ -6,9 +6,13 @@ from tree import ROOT
 LONG = "too long"
 MEASURES = "measures, and no test depends on it"
 SMALL = "measures; the part timed tries it with small amounts"
-# The first line of a block, and why it is not typed.
+# The first line of a block, in any document, and why it is not typed.
+ANYWHERE = {
+    "rt ci": f"{LONG}: it is the gate, behind which test/documents runs",
+    "make test": "it is the test that types the others",
+}
+# The same in one document.
 REASONS = {
-    ("README.md", "rt ci"): f"{LONG}: it is the gate, behind which this test runs",
     ("docs/OPERATIONS.md", "tar -C /"): "changes the machine; the part install unpacks the same tarball",
     ("bench/README.md", "bench/run"): SMALL,
     ("bench/README.md", "bench/build.sh"): "makes what bench/run measures",
@@ -32,12 +36,13 @@ def documents() -> list[str]:
 
 
 def reason(block: Block) -> str | None:
-    found = (why for (document, word), why in REASONS.items() if block.document == document and block.text.startswith(word))
+    everywhere = [((block.document, word), why) for word, why in ANYWHERE.items()]
+    found = (why for (document, word), why in [*everywhere, *REASONS.items()] if block.document == document and block.text.startswith(word))
     return next(found, None)
 
 
 def compare(report: Report, typed: set[Block]) -> None:
-    """Lists the commands that were not typed. Each has to have a reason, and each reason a command."""
+    """Lists the commands that neither test types. Each has to have a reason, and each reason a command."""
     commands = [it for name in documents() for it in blocks_of(ROOT, name) if it.is_command()]
     places = {(it.document, it.line) for it in typed}
     for command in commands:
@@ -47,6 +52,6 @@ def compare(report: Report, typed: set[Block]) -> None:
             report.case(f"typed, or with a reason: {command}", why is not None)
     for words, why in WITHIN_TEXT.items():
         print(f"not typed: {words}: {why}")
-    for document, word in REASONS:
-        is_there = any(it.document == document and it.text.startswith(word) for it in commands)
+    for document, word in [*(("", word) for word in ANYWHERE), *REASONS]:
+        is_there = any(document in ("", it.document) and it.text.startswith(word) for it in commands)
         report.case(f"a reason for what is there: {document}: {word}", is_there)
