@@ -8,6 +8,7 @@ import tomllib
 from collections.abc import Callable
 
 import changes
+import debugging
 import explaining
 import growths as growing
 import installing
@@ -250,6 +251,10 @@ def network(report: Report, at: Setting) -> None:
     networks.try_networks(report, at.tree, at.room, at.env)
 
 
+def debug(report: Report, at: Setting) -> None:
+    debugging.try_debugging(report, at.tree, at.room, at.env)
+
+
 def modules(report: Report, at: Setting) -> None:
     modules_files.try_modules(report, at.tree, at.room, at.env)
 
@@ -329,7 +334,7 @@ Part = Callable[[Report, Setting], None]
 LEDGER = ("ledger_cli",)
 # What test/run does, without a proof: first what needs no program. In each list those that take long come first.
 WITHOUT_PROGRAM: list[Part] = [itself, layout, types, made, prove, edits, calling]
-WITH_LEDGER: list[Part] = [lines, node, reasons, network, modules, change, readme, formats, numbers, keys, scripts]
+WITH_LEDGER: list[Part] = [lines, node, reasons, debug, network, modules, change, readme, formats, numbers, keys, scripts]
 # The programs that are compiled for it, the dearest first, and for which parts.
 COMPILED: dict[Part, unproved.Compiled] = {**dict.fromkeys(WITH_LEDGER, LEDGER), tests: ("ledger_tests", "--test"), cases: ("ledger_cases",),
                                            signatures: ("ed25519_cases",)}
