@@ -9,6 +9,7 @@ from collections.abc import Callable
 
 import changes
 import debugging
+import developing
 import explaining
 import growths as growing
 import installing
@@ -231,6 +232,15 @@ def node(report: Report, at: Setting) -> None:
     at.run(report, "the node's tests", tests)
 
 
+def dev(report: Report, at: Setting) -> None:
+    """A network on one machine."""
+    blocks = blocks_of(at.tree, "docs/OPERATIONS.md")
+    place = next(place for place, it in enumerate(blocks) if it.text.startswith("./ledger dev "))
+    # It runs as long as nobody ends it, and is begun by other words.
+    at.typist.typed.add(blocks[place])
+    developing.try_developing(developing.Developing(report, at.tree, at.room, at.env), at.typist, blocks[place + 2:place + 4])
+
+
 def keys(report: Report, at: Setting) -> None:
     keygen.try_keygen(report, at.tree, at.room, at.env)
 
@@ -340,7 +350,7 @@ COMPILED: dict[Part, unproved.Compiled] = {**dict.fromkeys(WITH_LEDGER, LEDGER),
                                            signatures: ("ed25519_cases",)}
 QUICK: list[Part] = [*WITHOUT_PROGRAM, tests, cases, signatures, *WITH_LEDGER]
 # What test/documents does behind the gate: what needs the programs as they were proved, a browser, etcd, a Rust compiler, or many signatures.
-BEHIND: list[Part] = [demo, operations, page, query, chaincode, tutorial, lines, install, growths, timed]
+BEHIND: list[Part] = [demo, operations, dev, page, query, chaincode, tutorial, lines, install, growths, timed]
 DOCUMENTS: list[Part] = [*BEHIND, *(it for it in [*WITH_LEDGER, made, prove, calling, types] if it not in BEHIND)]
 # The documents all of whose commands test/run types.
 TYPED_BEFORE = {readme: "README.md", formats: "docs/OUTPUT.md"}

@@ -15,8 +15,8 @@ PATIENCE = 60
 ASSET = "<b>live</b>"
 
 
-def comes_to_be(is_so: Callable[[], bool]) -> bool:
-    until = time.monotonic() + PATIENCE
+def comes_to_be(is_so: Callable[[], bool], seconds: float = PATIENCE) -> bool:
+    until = time.monotonic() + seconds
     while not (is_there := is_so()) and time.monotonic() < until:
         time.sleep(0.2)
     return is_there

@@ -3,6 +3,7 @@
  *
  *     const ledger = new Client(["https://10.0.0.1:7051"]);              // a browser, with its own certificate
  *     const ledger = await fromEnvironment();                            // Node.js: REGTUMA_NODES, _CERT, _KEY, _CA
+ *     const ledger = new Client(["http://127.0.0.1:7051"]);              // nodes of `ledger dev`
  *     const { block, place } = await ledger.submit("assets", ["create", "pallet-7", "Maker"]);
  *     const owner = text(await ledger.evaluate("assets", ["read", "pallet-7"]));
  *     for await (const { block, txs } of ledger.blocks({ from: 1 })) console.log(block, txs.map(tx => tx.flag));
@@ -15,6 +16,8 @@
 const CONFLICTS = [2, 3], ABORTED = [441, 442];
 /** How long to wait before the next node is asked, and how long a stream of blocks may be silent, in milliseconds. */
 const PAUSE = 200, SILENCE = 45_000;
+/** The URL of a node on this machine, which asks for no certificate. */
+const LOCAL = /^http:\/\/(localhost|127(\.\d{1,3}){3}|\[::1\]):\d+\/?$/;
 
 export const hex = bytes => Array.from(bytes, it => it.toString(16).padStart(2, "0")).join("");
 export const bytes = hex => Uint8Array.from(hex.match(/../g) ?? [], it => parseInt(it, 16));
@@ -192,9 +195,14 @@ export class Client {
   }
 }
 
-/** The client that the environment's REGTUMA_NODES, REGTUMA_CERT, REGTUMA_KEY and REGTUMA_CA name, for Node.js. */
+/**
+ * The client that the environment's REGTUMA_NODES, REGTUMA_CERT, REGTUMA_KEY and REGTUMA_CA name, for Node.js; where all nodes are
+ * on this machine, as those of `ledger dev`, whose URLs begin with http, by the first alone.
+ */
 export async function fromEnvironment(options) {
   const { readFileSync } = await import("node:fs"), { env } = await import("node:process");
+  const own = env.REGTUMA_NODES?.split(",") ?? [];
+  if (own.length && own.every(it => LOCAL.test(it))) return new Client(own.map(it => it.replace(/\/$/, "")), undefined, options);
   const names = ["REGTUMA_NODES", "REGTUMA_CERT", "REGTUMA_KEY", "REGTUMA_CA"], missing = names.filter(it => !env[it]);
   if (missing.length) throw new Error(`the environment has no ${missing.join(" and no ")}`);
   const nodes = env.REGTUMA_NODES.split(","), wrong = nodes.find(it => !/^https:\/\/[^/\s]+:\d+\/?$/.test(it));

@@ -1,6 +1,9 @@
-"""Who asks, and what they may. A caller is known by a certificate: its organisation and its name, as Maker/alice."""
+"""Who asks, and what they may. A caller is known by a certificate: its organisation and its name, as Maker/alice. On one machine,
+where the log is a file, there are no certificates: all callers are programs of the node's own user."""
+import asyncio
 import fnmatch
 import json
+import os
 import re
 import ssl
 import weakref
@@ -10,9 +13,10 @@ import prometheus_client as prometheus
 from aiohttp import web
 
 from .config import Config
-from .etcd import LogError
-from .fields import is_loopback
+from .entries import LogError
+from .fields import CALLER, CALLER_HEADER, is_loopback
 from .filters import FilterEnded, TooLong
+from .owners import owner_of
 from .proposals import Refused
 from .wire import Object
 
@@ -37,15 +41,23 @@ def chain_of(tls: ssl.SSLObject) -> list[bytes]:
     return [ssl.PEM_cert_to_DER_cert(it.public_bytes()) for it in inner.get_verified_chain() or []]
 
 
+def by_loopback(request: web.Request) -> bool:
+    """Whether a request names this machine by a name of the loopback."""
+    return is_loopback(re.sub(r":\d*$", "", request.host))
+
+
 class Access:
     def __init__(self, config: Config, requests: prometheus.Counter):
         self.config, self.requests = config, requests
         self.authorities = config.authority_certificates()
-        # Callers by their connections.
+        # Callers by their connections, and on one machine the users at their other ends.
         self.callers: weakref.WeakKeyDictionary[ssl.SSLObject, str | None] = weakref.WeakKeyDictionary()
+        self.users: weakref.WeakKeyDictionary[asyncio.BaseTransport, int | None] = weakref.WeakKeyDictionary()
 
     def caller(self, request: web.Request) -> str | None:
-        """Whose certificate it is, where the organisation that it names has signed it."""
+        """Whose certificate it is, where the organisation that it names has signed it; on one machine who it says it is."""
+        if self.config.is_local:
+            return request.headers.get(CALLER_HEADER, f"{self.config.organisation}/dev")
         tls: ssl.SSLObject | None = request.transport.get_extra_info("ssl_object") if request.transport else None
         if tls is None:
             return None
@@ -66,11 +78,14 @@ class Access:
         return caller is not None and any(fnmatch.fnmatchcase(caller, it) for it in self.config.rights.get(right, []))
 
     def may_go_on(self, request: web.Request) -> bool:
-        """Whether who reads a stream has the right to it still. The loopback asks for none."""
+        """Whether who reads a stream has the right to it still. The loopback asks for none, and neither does one machine."""
         return "right" not in request or self.has(self.caller(request), request["right"])
 
     def needing(self, right: str, handler: Handler) -> Handler:
-        """A handler for those alone who have a right."""
+        """A handler for those alone who have a right; on one machine for this user's own programs."""
+        if self.config.is_local:
+            return self.of_own_user(handler)
+
         async def guarded(request: web.Request) -> web.StreamResponse:
             caller = self.caller(request)
             if not self.has(caller, right):
@@ -83,11 +98,36 @@ class Access:
             return await handler(request)
         return guarded
 
+    def of_own_user(self, handler: Handler) -> Handler:
+        """A handler for this user's own programs, and for no other site's page in this user's browser: that has an origin of its
+        own, or a name of its own for this machine, and cannot send JSON without being allowed to first."""
+        async def guarded(request: web.Request) -> web.StreamResponse:
+            origin = request.headers.get("Origin")
+            if not by_loopback(request) or origin not in (None, f"http://{request.host}"):
+                raise Refused(403, {"why": "this node is for programs of this machine, and for its own page"})
+            if request.method == "POST" and request.content_type != "application/json":
+                raise Refused(415, {"why": "a request has the type application/json"})
+            if self.user(request) != os.getuid():
+                raise Refused(403, {"why": f"this node is for the user {os.getuid()} of this machine alone"})
+            if not CALLER.fullmatch(caller := self.caller(request) or "") or "*" in caller:
+                raise Refused(400, {"why": f"{CALLER_HEADER} is an organisation and a name, as Maker/alice"})
+            request["caller"] = caller
+            return await handler(request)
+        return guarded
+
+    def user(self, request: web.Request) -> int | None:
+        """Which user of this machine has the other end of a connection."""
+        if (transport := request.transport) is None:
+            return None
+        if transport not in self.users:
+            self.users[transport] = owner_of(transport.get_extra_info("peername"), transport.get_extra_info("sockname"))
+        return self.users[transport]
+
     def on_loopback(self, _right: str, handler: Handler) -> Handler:
         """A handler for all on this machine: it is asked by a name of the loopback, so that no other site's page reads through a
         name of its own."""
         async def guarded(request: web.Request) -> web.StreamResponse:
-            if not is_loopback(re.sub(r":\d*$", "", request.host)):
+            if not by_loopback(request):
                 raise Refused(403, {"why": "this listener is for the loopback"})
             return await handler(request)
         return guarded

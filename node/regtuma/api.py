@@ -22,7 +22,7 @@ PATIENCE, LONGEST_WAIT = 30.0, 600.0
 MOST_BLOCKS, MOST_ENTRIES, MOST_CALLS, HEARTBEAT = 200, 1000, 500, 15.0
 # The longest body: calls or proposals of the longest argument, in hex.
 BODY = 5 << 20
-# How long it may take until it is told that something is wrong: envelopes that wait, and a majority of etcd; lines that are unread.
+# How long it may take until it is told that something is wrong: envelopes that wait, a log that takes none; lines that are unread.
 STUCK, UNLED, BEHIND = 30.0, 15.0, 10_000
 # Method, path, the right that it needs, and what answers.
 Route = tuple[str, str, str, Handler]
@@ -80,9 +80,9 @@ class Api:
         if chain.forked:
             wrong.append(f"forked: {chain.forked}. Compare the hash of that block with each organisation, not through the log")
         if awaited.since and now - awaited.since > STUCK + self.config.ticks.seconds(awaited.number, now) and not chain.is_full:
-            wrong.append("envelopes wait, and no tick comes: etcd may have no majority")
+            wrong.append("envelopes wait, and no tick comes: the log may take none")
         if (unled := time.monotonic() - chain.led) > UNLED:
-            wrong.append(f"no majority of etcd was seen for {unled:.0f} s: {chain.log.why}")
+            wrong.append(f"the log could take no entry for {unled:.0f} s: {chain.log.why}")
         if (unread := chain.given - chain.read) > BEHIND:
             wrong.append(f"{unread} lines of the log are unread")
         if chain.is_full:

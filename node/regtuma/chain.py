@@ -1,6 +1,6 @@
 """The organisation's part in the chain: its replica of the orderer, its committer, and the state that its store has.
 
-    etcd ─ lines ─▶ ledger order ─ blocks ─▶ ledger commit ─▶ store ─▶ ledger query, ledger endorse
+    the log ─ lines ─▶ ledger order ─ blocks ─▶ ledger commit ─▶ store ─▶ ledger query, ledger endorse
 """
 import asyncio
 import collections
@@ -13,7 +13,7 @@ from typing import Any
 
 from . import numbers, ticks
 from .config import Config
-from .etcd import TICK, Lines, Log, LogError
+from .entries import TICK, Lines, Log, LogError
 from .filters import Filter, FilterEnded, Query
 from .times import Times
 from .waiting import within
@@ -22,11 +22,11 @@ from .wire import Object
 # An entry of etcd has at most 1.5 MiB, and so many envelopes at most.
 ENTRY_CHARACTERS, ENTRY_LINES = 1_000_000, 500
 FULL, NO_MARK = 422, 300
-# How often etcd is asked whether a majority of it is there, and how long it may take for a tick, in seconds.
+# How often the log is asked whether it takes entries, and how long it may take for a tick, in seconds.
 PROBE, SHORT_PATIENCE = 3.0, 3.0
 # The JSON of so many blocks is kept for those who watch.
 NEWEST = 16
-# So many blocks may be of lines that etcd has told other nodes and not yet this one.
+# So many blocks may be of lines that the log has told other nodes and not yet this one.
 AHEAD = 100
 
 
@@ -57,7 +57,7 @@ class Chain:
         self.height, self.grown = 0, asyncio.Condition()
         # Who has another block, as long as nobody has looked into it: nothing is endorsed or put meanwhile.
         self.forked: str | None = None
-        # When a majority of etcd was seen last.
+        # When the log was seen last to take entries.
         self.led = time.monotonic()
         # Where the log is; how many of its lines the replica of the orderer was given, and how many it has read.
         self.revision = self.given = self.read = 0
@@ -108,11 +108,11 @@ class Chain:
     async def feed(self) -> None:
         """Hands the log's lines to the replica of the orderer."""
         lines = Lines()
-        async for events in self.log.watch():
-            made = lines.of(events)
+        async for entries in self.log.watch():
+            made = lines.of(entries)
             self.given += len(made)
             await self.order.write(*made)
-            self.revision = int(events[-1]["kv"]["mod_revision"])
+            self.revision = entries[-1].revision
 
     async def pass_blocks(self) -> None:
         """Hands the replica's blocks to the committer, and keeps in mind what waits."""
@@ -177,7 +177,7 @@ class Chain:
                 self.resolve(id, {"id": id, "refused": FULL})
 
     async def keep_time(self) -> None:
-        """Asks for blocks. Where etcd does not do it, it is asked again after a rest."""
+        """Asks for blocks. Where the log does not take it, it is asked again after a rest."""
         while True:
             await asyncio.sleep(0.05)
             try:
@@ -187,7 +187,7 @@ class Chain:
                 await asyncio.sleep(1)
 
     async def probe(self) -> None:
-        """Asks etcd again and again whether a majority is there."""
+        """Asks the log again and again whether it takes entries."""
         while True:
             if await self.log.is_led():
                 self.led = time.monotonic()

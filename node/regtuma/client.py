@@ -26,7 +26,7 @@ from collections.abc import Iterable, Iterator
 from typing import TypeVar
 from urllib.parse import quote, urlencode, urlsplit
 
-from .fields import url
+from .fields import local_url, url
 from .wire import Object, id_of
 
 # What is tried again: flags of a conflict and of a phantom, and the orderer's answers to a batch that has no legal order.
@@ -72,13 +72,16 @@ class Link:
 
     def __init__(self, client: "Client", turn: int = 0):
         self.client, self.turn = client, turn
-        self.connection: http.client.HTTPSConnection | None = None
+        self.connection: http.client.HTTPConnection | None = None
 
     def begin(self, method: str, path: str, body: Object | None, seconds: float) -> http.client.HTTPResponse:
         """Begins a request, whose answer may be silent for so many seconds."""
         if self.connection is None:
             at = urlsplit(self.client.nodes[self.turn % len(self.client.nodes)])
-            self.connection = http.client.HTTPSConnection(at.netloc, timeout=seconds, context=self.client.tls)
+            if at.scheme == "http":
+                self.connection = http.client.HTTPConnection(at.netloc, timeout=seconds)
+            else:
+                self.connection = http.client.HTTPSConnection(at.netloc, timeout=seconds, context=self.client.tls)
         self.connection.request(method, path, json.dumps(body) if body else None, {"Content-Type": "application/json"})
         return self.connection.getresponse()
 
@@ -92,19 +95,21 @@ class Link:
 class Client:
     """For any number of threads: each has a connection of its own, and so has each stream of blocks."""
 
-    def __init__(self, nodes: list[str], certificate: str, key: str, authorities: str, seconds: float = 40.0):
-        """`nodes` are URLs, asked in turn; files are in PEM. After `seconds` without an answer a call fails."""
-        self.nodes, self.seconds = nodes, seconds
+    def __init__(self, nodes: list[str], certificate: str = "", key: str = "", authorities: str = "", seconds: float = 40.0):
+        """`nodes` are URLs, asked in turn; files are in PEM, and needed unless all nodes are this user's own, as those of `ledger
+        dev`, whose URLs begin with http. After `seconds` without an answer a call fails."""
+        self.nodes, self.seconds, self.own = nodes, seconds, threading.local()
         for it in nodes:
-            if not url(it):
-                raise Failed(f"{it} is no URL of a node with its port, as https://10.0.0.1:7051")
+            if not url(it) and not local_url(it):
+                raise Failed(f"{it} is no URL of a node with its port, as https://10.0.0.1:7051, or here http://127.0.0.1:7051")
+        if are_local(nodes):
+            return
         try:
             self.tls = ssl.create_default_context(cafile=authorities)
             self.tls.load_cert_chain(certificate, key)
         except OSError as error:
             files = f"{certificate}, {key}, {authorities}"
             raise Failed(f"the certificate, its key or the authorities cannot be used ({files}): {error.strerror or error}") from None
-        self.own = threading.local()
 
     def submit(self, chaincode: str, *args: str, arg: bytes | None = None, organisations: list[str] | None = None,
                tries: int = 1, nonce: str | None = None) -> Object:
@@ -295,11 +300,19 @@ def failure(said: Object) -> Failed:
     return Invalid(said["why"], said) if "flag" in said else Refused(200, said)
 
 
+def are_local(nodes: list[str]) -> bool:
+    """Whether all nodes are of this machine, and ask for no certificate."""
+    return all(it.startswith("http://") for it in nodes)
+
+
 def from_environment(seconds: float = 40.0) -> Client:
-    """The client that the environment's REGTUMA_NODES, REGTUMA_CERT, REGTUMA_KEY and REGTUMA_CA name."""
+    """The client that the environment's REGTUMA_NODES, REGTUMA_CERT, REGTUMA_KEY and REGTUMA_CA name; where all URLs begin with
+    http, by the first alone."""
+    if are_local(nodes := os.environ.get("REGTUMA_NODES", "").split(",")):
+        return Client(nodes, seconds=seconds)
     missing = [it for it in SETTINGS if not os.environ.get(it)]
     if missing:
         raise Failed(f"the environment has no {' and no '.join(missing)}: REGTUMA_NODES are the nodes' URLs with commas between,"
                      " the others the files of the client's certificate, its key and the authorities")
-    nodes, certificate, key, authorities = (os.environ[it] for it in SETTINGS)
-    return Client(nodes.split(","), certificate, key, authorities, seconds)
+    certificate, key, authorities = (os.environ[it] for it in SETTINGS[1:])
+    return Client(nodes, certificate, key, authorities, seconds)

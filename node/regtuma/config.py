@@ -9,9 +9,16 @@ import tomllib
 from collections.abc import Iterable
 from typing import Any
 
-from .fields import OF_ORGANISATIONS, ORGANISATION, TABLES, Field
+from .entries import Log
+from .etcd import EtcdLog
+from .fields import LOCAL_URL, OF_ORGANISATIONS, ORGANISATION, TABLES, Field, is_loopback
+from .filed import FileLog
 from .ticks import Ticks
 
+# Files that need not be there.
+MADE = (("ledger", "store"), ("log", "file"))
+# What there is none of where [log] is.
+OF_CERTIFICATES = ("tls", "authorities", "etcd", "rights")
 CERTIFICATE = re.compile("-----BEGIN CERTIFICATE-----.+?-----END CERTIFICATE-----", re.DOTALL)
 # A seed, or a password as OPERATIONS.md makes it; and what a genesis file with a shared key has.
 SECRET, SHARED_KEY = re.compile("[0-9A-Fa-f]{32,}"), re.compile(rb'"key"\s*:')
@@ -66,6 +73,9 @@ class Config:
     listen: str
     page: str
     ledger: Ledger
+    # The file that is the log; no name where etcd keeps it. Where it is a file, all nodes and callers are one person's, on this
+    # machine, and there are no certificates and no rights.
+    log_file: str
     tls: Files
     etcd: Etcd
     # Each organisation's authority: what its certificates are signed by.
@@ -76,6 +86,27 @@ class Config:
     rights: dict[str, list[str]]
     ticks: Ticks
 
+    @property
+    def is_local(self) -> bool:
+        """Whether this is a node of one person's network on one machine."""
+        return self.log_file != ""
+
+    @property
+    def organisations(self) -> list[str]:
+        return [self.organisation, *self.nodes] if self.is_local else list(self.authorities)
+
+    def log(self) -> Log:
+        if self.is_local:
+            return FileLog(self.log_file)
+        return EtcdLog(self.etcd.endpoints, self.etcd.user, self.password(), self.etcd_tls())
+
+    def check_files(self) -> None:
+        """Reads certificates, keys and the password, so that a bad one is told before anything is begun."""
+        self.server_tls()
+        if not self.is_local:
+            self.etcd_tls()
+            self.password()
+
     def password(self) -> str:
         return pathlib.Path(self.etcd.password_file).read_text(encoding="utf-8").strip() if self.etcd.password_file else ""
 
@@ -84,8 +115,10 @@ class Config:
         tls = {it: self._trusting(ssl.Purpose.CLIENT_AUTH, [file]) for it, file in self.authorities.items()}
         return {it: set(tls[it].get_ca_certs(binary_form=True)) for it in tls}
 
-    def server_tls(self) -> ssl.SSLContext:
-        """For those who come: each has to show a certificate of some organisation's authority."""
+    def server_tls(self) -> ssl.SSLContext | None:
+        """For those who come: each has to show a certificate of some organisation's authority. None on one machine."""
+        if self.is_local:
+            return None
         tls = self._trusting(ssl.Purpose.CLIENT_AUTH, self.authorities.values())
         tls.minimum_version, tls.verify_mode = ssl.TLSVersion.TLSv1_3, ssl.CERT_REQUIRED
         # A session that is taken up again does not tell by which authority its certificate was trusted.
@@ -98,8 +131,10 @@ class Config:
         tls.load_cert_chain(self.etcd.certificate, self.etcd.key)
         return tls
 
-    def node_tls(self, organisation: str) -> ssl.SSLContext:
-        """For the node of an organisation, which no other one's authority can speak for."""
+    def node_tls(self, organisation: str) -> ssl.SSLContext | None:
+        """For the node of an organisation, which no other one's authority can speak for. None on one machine."""
+        if self.is_local:
+            return None
         tls = self._trusting(ssl.Purpose.SERVER_AUTH, [self.authorities[organisation]])
         tls.load_cert_chain(self.tls.certificate, self.tls.key)
         return tls
@@ -135,7 +170,8 @@ class Reader:
                 found = line
                 break
         where = f", line {found}" if found else ""
-        return Mistake(f"{self.path}{where}: {f'[{table}] ' if table else ''}{name} {why}")
+        what = " ".join(it for it in (f"[{table}]" if table else "", name, why) if it)
+        return Mistake(f"{self.path}{where}: {what}")
 
     def table(self, name: str) -> Table:
         """A table of the file, each of whose values passes; by no name what stands in none."""
@@ -157,22 +193,23 @@ class Reader:
         if table in OF_ORGANISATIONS:
             if not ORGANISATION.fullmatch(name):
                 raise self.mistake(table, name, "is no name of an organisation")
-            return OF_ORGANISATIONS[table]
+            return LOCAL_URL if table == "nodes" and "log" in self.given else OF_ORGANISATIONS[table]
         if name not in TABLES[table]:
             tables = "" if table else f", or a table of {', '.join([*filter(None, TABLES), *OF_ORGANISATIONS])}"
             raise self.mistake(table, name, f"is no name that is known here: possible are {', '.join(TABLES[table])}{tables}")
         return TABLES[table][name]
 
     def near(self, table: str, values: Table, *names: str) -> Table:
-        """The values with names of files from where the configuration stands. Each but a store has to be a file."""
+        """The values with names of files from where the configuration stands. Each has to be a file, but what is made."""
         found = dict(values)
         for name in names:
             if name in values:
                 path = self.path.parent / values[name]
                 found[name] = str(path)
-                if name == "store" and not path.parent.is_dir():
+                is_made = (table, name) in MADE
+                if is_made and not path.parent.is_dir():
                     raise self.mistake(table, name, f"names {path}, and there is no such folder")
-                if name != "store" and not path.is_file():
+                if not is_made and not path.is_file():
                     raise self.mistake(table, name, f"names {path}, and there is no such file")
         return found
 
@@ -199,6 +236,8 @@ def read(file: str) -> Config:
     reader = Reader(file)
     top = reader.table("")
     ledger = reader.near("ledger", reader.table("ledger"), "program", "genesis", "store", "keys", "modules", "template")
+    if "log" in reader.given:
+        return read_local(reader, top, ledger)
     tls = reader.near("tls", reader.table("tls"), "certificate", "key")
     etcd = reader.near("etcd", reader.table("etcd"), "certificate", "key", "password_file")
     for table, values in (("ledger", ledger), ("tls", tls), ("etcd", etcd)):
@@ -212,14 +251,31 @@ def read(file: str) -> Config:
     check_organisations(reader, organisation, authorities, nodes)
     urls = {it: nodes[it].rstrip("/") for it in nodes}
     return Config(file=file, organisation=organisation, listen=top["listen"], page=top.get("page", ""), ledger=Ledger(**ledger),
-                  tls=Files(**tls), etcd=Etcd(**etcd), authorities=authorities, nodes=urls, rights=reader.table("rights"),
+                  log_file="", tls=Files(**tls), etcd=Etcd(**etcd), authorities=authorities, nodes=urls, rights=reader.table("rights"),
                   ticks=ticks_of(reader))
+
+
+def read_local(reader: Reader, top: Table, ledger: Table) -> Config:
+    """The same of a node of one person's network on one machine."""
+    for table in OF_CERTIFICATES:
+        if table in reader.given:
+            raise reader.mistake(table, "", "is not for a node on one machine, as this is by [log]: take one of the two away")
+    if not is_loopback(top["listen"].rpartition(":")[0]):
+        raise reader.mistake("", "listen", "has to be a place on the loopback where [log] is, as there are no certificates")
+    if "page" in top:
+        raise reader.mistake("", "page", "is not for a node on one machine: what listens there serves the page")
+    reader.secret("ledger", ledger, "keys")
+    reader.check_genesis(ledger)
+    nodes = reader.table("nodes")
+    check_others(reader, top["organisation"], nodes)
+    return Config(file=str(reader.path), organisation=top["organisation"], listen=top["listen"], page="", ledger=Ledger(**ledger),
+                  log_file=reader.near("log", reader.table("log"), "file")["file"], tls=Files("", ""), etcd=Etcd("", "", []),
+                  authorities={}, nodes={it: nodes[it].rstrip("/") for it in nodes}, rights={}, ticks=ticks_of(reader))
 
 
 def check_organisations(reader: Reader, own: str, authorities: dict[str, str], nodes: dict[str, str]) -> None:
     """Whether each organisation has an authority of its own name."""
-    if own in nodes:
-        raise reader.mistake("nodes", own, "is this organisation itself: name the others' nodes alone")
+    check_others(reader, own, nodes)
     for organisation in [own, *nodes]:
         if organisation not in authorities:
             raise reader.mistake("authorities", organisation, "is missing: name the file with its authority's certificate")
@@ -227,6 +283,11 @@ def check_organisations(reader: Reader, own: str, authorities: dict[str, str], n
         for name in subjects(reader, organisation, file):
             if name != organisation:
                 raise reader.mistake("authorities", organisation, f"names {file}, with an authority of {name!r:.100}")
+
+
+def check_others(reader: Reader, own: str, nodes: dict[str, str]) -> None:
+    if own in nodes:
+        raise reader.mistake("nodes", own, "is this organisation itself: name the others' nodes alone")
 
 
 def subjects(reader: Reader, organisation: str, file: str) -> list[str | None]:

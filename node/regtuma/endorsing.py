@@ -9,7 +9,7 @@ from typing import Any
 from . import numbers
 from .chain import Chain
 from .config import Config
-from .etcd import LogError
+from .entries import LogError
 from .filters import Asked, FilterEnded
 from .wire import Object, id_of
 

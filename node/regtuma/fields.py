@@ -9,6 +9,8 @@ from urllib.parse import urlsplit
 RIGHTS = ("read", "observe", "evaluate", "submit", "endorse", "agree")
 ORGANISATION = re.compile("[A-Za-z0-9_]{1,32}")
 CALLER = re.compile(r"[A-Za-z0-9_*]{1,32}/[A-Za-z0-9_.*@-]{1,64}")
+# By which a caller says who it is where there are no certificates.
+CALLER_HEADER = "Regtuma-Caller"
 
 
 @dataclasses.dataclass(frozen=True)
@@ -42,12 +44,17 @@ def is_loopback(host: str) -> bool:
         return False
 
 
-def url(value: object) -> bool:
+def url(value: object, scheme: str = "https") -> bool:
     try:
         at = urlsplit(value) if isinstance(value, str) else None
-        return at is not None and at.scheme == "https" and bool(at.hostname) and at.port is not None and at.path in ("", "/")
+        return at is not None and at.scheme == scheme and bool(at.hostname) and at.port is not None and at.path in ("", "/")
     except ValueError:
         return False
+
+
+def local_url(value: object) -> bool:
+    """Whether this is the URL of a node that answers this machine alone."""
+    return isinstance(value, str) and url(value, "http") and is_loopback(urlsplit(value).hostname or "")
 
 
 def listed(passes: Callable[[object], bool]) -> Callable[[object], bool]:
@@ -60,6 +67,7 @@ def date(value: object) -> bool:
 
 NEEDED_FILE, FILE = Field(text, "the name of a file", True), Field(text, "the name of a file")
 URL = Field(url, 'a URL with a port, as "https://10.0.0.2:7051"')
+LOCAL_URL = Field(local_url, 'a URL on the loopback with a port, as "http://127.0.0.1:7052", where [log] is')
 CALLERS = Field(listed(lambda it: isinstance(it, str) and CALLER.fullmatch(it) is not None),
                 'a list of names of certificates, as ["Maker/alice", "Maker/*"]')
 TABLES: dict[str, dict[str, Field]] = {
@@ -72,6 +80,8 @@ TABLES: dict[str, dict[str, Field]] = {
                "template": FILE, "endorsers": number(1, 16), "seen": number(1, 65535),
                "approver": Field(listed(text), "a command, as a list of words"),
                "past_forks": Field(lambda it: isinstance(it, bool), "true or false")},
+    # In the place of [tls], [authorities], [etcd] and [rights], for nodes of one person on one machine.
+    "log": {"file": NEEDED_FILE},
     "tls": {"certificate": NEEDED_FILE, "key": NEEDED_FILE},
     "etcd": {"endpoints": Field(lambda it: listed(url)(it) and it != [], "a list of URLs with ports, one at least", True),
              "user": Field(text, "the name of a user of etcd"), "password_file": FILE,

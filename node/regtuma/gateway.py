@@ -7,7 +7,7 @@ from . import numbers
 from .chain import FULL, Chain
 from .config import Config
 from .endorsing import Endorsing
-from .etcd import LogError
+from .entries import LogError
 from .filters import FilterEnded
 from .links import Batches, Link
 from .proposals import Refused, call_of, check, checked, organisations_of

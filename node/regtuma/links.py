@@ -8,6 +8,7 @@ from collections.abc import Callable, Sequence
 import aiohttp
 
 from .config import Config
+from .fields import CALLER_HEADER
 from .proposals import is_hex, matches
 from .wire import Object
 
@@ -85,7 +86,10 @@ class Link(Batches):
     def __init__(self, organisation: str, config: Config, say: Callable[[str], None]):
         super().__init__(REQUESTS)
         self.organisation, self.url, self.say = organisation, config.nodes[organisation], say
-        self.http = aiohttp.ClientSession(connector=aiohttp.TCPConnector(ssl=config.node_tls(organisation), limit_per_host=8))
+        connector = aiohttp.TCPConnector(ssl=config.node_tls(organisation), limit_per_host=8)
+        # Where there are no certificates, a node says who it is.
+        headers = {CALLER_HEADER: f"{config.organisation}/node"} if config.is_local else {}
+        self.http = aiohttp.ClientSession(connector=connector, headers=headers)
         # How long it took for a call of late, in seconds, and until when it is passed over.
         self.each, self.down = 0.01, 0.0
 

@@ -22,7 +22,7 @@ from . import config as configuration
 from . import numbers
 from .chain import ENTRY_CHARACTERS
 from .config import Config, Mistake
-from .etcd import TICK, Log, LogError
+from .entries import TICK, Log, LogError
 
 
 class NotDone(Exception):
@@ -40,7 +40,7 @@ def asked(config: Config, *words: str) -> list[str]:
 
 
 def entries(marks: Iterable[str]) -> Iterator[list[str]]:
-    """Marks in entries that etcd takes."""
+    """Marks in entries that a log takes."""
     entry: list[str] = []
     size = 0
     for mark in marks:
@@ -74,7 +74,7 @@ async def put_module(log: Log, config: Config, file: str, profile: str) -> str:
 
 async def fetch(log: Log, config: Config, digest: str) -> bytes:
     """The bytes of a module, whichever organisation put it: they have the digest."""
-    for organisation in config.authorities:
+    for organisation in config.organisations:
         line = await log.read(f"{organisation}/module-{digest}")
         try:
             data = bytes.fromhex(line.split(" ")[-1]) if line else b""
@@ -87,7 +87,7 @@ async def fetch(log: Log, config: Config, digest: str) -> bytes:
 
 async def work(config: Config, words: list[str]) -> str | bytes:
     """Does what the words say. What is printed."""
-    log = Log(config.etcd.endpoints, config.etcd.user, config.password(), config.etcd_tls())
+    log = config.log()
     try:
         match words:
             case ["begin"]:

@@ -34,9 +34,9 @@ class Metrics(Collector):
             "waiting": ("Envelopes that wait for a block", awaited.waiting),
             "unput": ("Envelopes not yet in the log", len(chain.unput)),
             "oldest_seconds": ("How long the first of them has waited", time.time() - awaited.since if awaited.since else 0),
-            "log_unled_seconds": ("Since a majority of etcd was seen", time.monotonic() - chain.led),
+            "log_unled_seconds": ("Since the log was seen to take entries", time.monotonic() - chain.led),
             "behind": ("Lines of the log not yet read", chain.given - chain.read),
-            "log_revision": ("The revision of etcd that was read", chain.revision),
+            "log_revision": ("Where the log was read to", chain.revision),
             "forked": ("Whether somebody says that a block is another one", int(chain.forked is not None)),
             "streams": ("Readers of /events", self.streams),
         }

@@ -2,7 +2,7 @@
 
     regtuma-node node.toml
 
-It runs the ledger's filters as its children, follows the log in etcd, and answers HTTP (api.py). It ends where something is
+It runs the ledger's filters as its children, follows the log, and answers HTTP (api.py). It ends where something is
 wrong, says what, and is to be begun again by whatever keeps services running; it can be killed at any time.
 """
 import asyncio
@@ -21,7 +21,7 @@ from .api import Api
 from .chain import Chain
 from .config import Config, Mistake
 from .endorsing import Endorsing
-from .etcd import Log, LogError
+from .entries import LogError
 from .filters import FilterEnded
 from .gateway import Gateway
 from .wire import Object
@@ -62,7 +62,7 @@ async def version_of(program: str) -> Object:
 class Node:
     def __init__(self, config: Config):
         self.config = config
-        self.log = Log(config.etcd.endpoints, config.etcd.user, config.password(), config.etcd_tls())
+        self.log = config.log()
         self.chain = Chain(config, self.log, say)
         self.endorsing = Endorsing(config, self.chain)
         self.gateway = Gateway(config, self.chain, self.endorsing)
@@ -127,7 +127,11 @@ class Node:
 
 
 async def serve(config: Config) -> int:
-    node = Node(config)
+    try:
+        node = Node(config)
+    except LogError as error:
+        say(f"ended: {error}")
+        return 1
     try:
         await node.run()
         return 0
@@ -147,8 +151,7 @@ def main(words: list[str]) -> int:
         return 2
     try:
         config = configuration.read(words[0])
-        # Certificates, keys and the password are read here, so that a bad one is told before anything is begun.
-        config.server_tls(), config.etcd_tls(), config.password()
+        config.check_files()
     except Mistake as mistake:
         print(f"regtuma-node: {mistake}", file=sys.stderr)
         return 2

@@ -51,6 +51,27 @@ read = ["Maker/*"]
 wait = 0.5
 """
 
+# The same of a node on one machine.
+LOCAL = """\
+organisation = "Maker"
+listen = "127.0.0.1:7051"
+
+[log]
+file = "log"
+
+[ledger]
+program = "ledger"
+genesis = "genesis.json"
+store = "chain.store"
+keys = "maker.key"
+
+[nodes]
+Carrier = "http://127.0.0.1:7052"
+
+[ticks]
+wait = 0.1
+"""
+
 
 class Folder:
     """A folder with a configuration, the files that it names, and two authorities."""
@@ -72,9 +93,8 @@ class Folder:
         name.write_text(text)
         return str(name)
 
-    def config(self, *changes: tuple[str, str]) -> config.Config:
+    def config(self, *changes: tuple[str, str], text: str = CONFIGURATION) -> config.Config:
         """The configuration in which each of these texts stands for another one."""
-        text = CONFIGURATION
         for old, new in changes:
             assert old in text, old
             text = text.replace(old, new, 1)

@@ -60,6 +60,7 @@ class Callers(unittest.IsolatedAsyncioTestCase):
         self.room = pathlib.Path(folder.name)
         made(self.room)
         config = mock.Mock(spec=Config, authorities={"Maker": str(self.room / "maker.pem"), "Shop": str(self.room / "shop.pem")})
+        config.is_local = False
         config.tls = mock.Mock(certificate=str(self.room / "node.pem"), key=str(self.room / "node.key"))
         config._trusting = lambda *words: Config._trusting(config, *words)
         config.authority_certificates = lambda: Config.authority_certificates(config)

@@ -206,7 +206,7 @@ class Health(Case):
     async def test_what_is_wrong(self):
         for told, changes in [("forked: Shop says", {"forked": "Shop says that it has another block 4"}),
                               ("envelopes wait, and no tick comes", {"awaited": Awaited(5, 1, 1.0)}),
-                              ("no majority of etcd was seen for", {"led": -1e6}), ("20000 lines of the log are unread", {"given": 20000}),
+                              ("the log could take no entry for", {"led": -1e6}), ("20000 lines of the log are unread", {"given": 20000}),
                               ("the chain is full", {"awaited": Awaited(LAST_BLOCK + 1)})]:
             with self.subTest(told=told), contextlib.ExitStack() as changed:
                 for name, value in changes.items():
@@ -216,7 +216,7 @@ class Health(Case):
 
     async def test_why_etcd_has_no_majority(self):
         self.chain.led = -1e6
-        self.assertRegex((await self.get("/healthz"))[1]["wrong"][0], r"^no majority of etcd was seen for \d+ s: no leader$")
+        self.assertRegex((await self.get("/healthz"))[1]["wrong"][0], r"^the log could take no entry for \d+ s: no leader$")
 
     async def test_what_people_should_know(self):
         self.chain.height, self.api.endorsing.out_of_place = LAST_BLOCK - 9, "refused 806"

@@ -10,7 +10,7 @@ from regtuma import chain as chains
 from regtuma import config, endorsing, filters, gateway
 from regtuma.chain import Asking, Awaited, Chain
 from regtuma.endorsing import Agreed, Approver, Endorsing
-from regtuma.etcd import LogError
+from regtuma.entries import LogError
 from regtuma.filters import Asked, Filter, FilterEnded
 from regtuma.gateway import Gateway
 from regtuma.proposals import Refused

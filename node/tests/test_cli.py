@@ -170,7 +170,7 @@ class Clients(unittest.TestCase):
 
     def test_a_node_has_a_url(self):
         for it in ("10.0.0.1:7051", "http://10.0.0.1:7051", "https://10.0.0.1", "https://[::1", ""):
-            with self.subTest(it=it), self.assertRaisesRegex(Failed, f"^{re.escape(it)} is no URL of a node with its port, as https://10.0.0.1:7051$"):
+            with self.subTest(it=it), self.assertRaisesRegex(Failed, f"^{re.escape(it)} is no URL of a node with its port, as https://10.0.0.1:7051"):
                 Client([it], "none.pem", "none.key", "none.pem")
 
     def test_a_call_is_made_once_at_least(self):

@@ -14,7 +14,7 @@ MISTAKES = [
     ('listen = "127.0.0.1:7051"', 'listen = 7051', "line 2: listen has to be an address and a port"),
     ('page = "127.0.0.1:8080"', 'page = "10.0.0.1:8080"', "line 3: page has to be a place on the loopback"),
     ('page = "127.0.0.1:8080"', 'pages = "127.0.0.1:8080"', "line 3: pages is no name that is known here: possible are organisation, "
-     "listen, page, or a table of ledger, tls, etcd, ticks, rights, nodes, authorities"),
+     "listen, page, or a table of ledger, log, tls, etcd, ticks, rights, nodes, authorities"),
     ('[ticks]\n', '[tick]\n', "tick is no name that is known here"),
     ('program = "ledger"\n', "", "line 5: [ledger] program is missing: it has to be the name of a file"),
     ('genesis = "genesis.json"', 'genesis = "other.json"', "line 7: [ledger] genesis names "),
@@ -48,6 +48,25 @@ MISTAKES = [
     ('organisation = "Maker"', 'organisation = "Maker"\nledger = 1', "node.toml is no TOML: "),
 ]
 
+# The same of the configuration of a node on one machine.
+LOCAL_MISTAKES = [
+    ('[log]\nfile = "log"\n', '', "[tls] certificate is missing"),
+    ('file = "log"\n', '', "line 4: [log] file is missing: it has to be the name of a file"),
+    ('file = "log"', 'file = "nowhere/log"', "line 5: [log] file names "),
+    ('[ledger]', '[etcd]\nendpoints = ["https://127.0.0.1:2379"]\n\n[ledger]', "line 7: [etcd] is not for a node on one machine"),
+    ('[ledger]', '[tls]\n\n[ledger]', "line 7: [tls] is not for a node on one machine"),
+    ('[ledger]', '[authorities]\n\n[ledger]', "line 7: [authorities] is not for a node on one machine"),
+    ('[ticks]', '[rights]\nread = ["Maker/*"]\n\n[ticks]', "line 16: [rights] is not for a node on one machine"),
+    ('"127.0.0.1:7051"', '"0.0.0.0:7051"', "line 2: listen has to be a place on the loopback where [log] is"),
+    ('"127.0.0.1:7051"', '"[::]:7051"', "line 2: listen has to be a place on the loopback where [log] is"),
+    ('"127.0.0.1:7051"', '"10.0.0.1:7051"', "line 2: listen has to be a place on the loopback where [log] is"),
+    ('"127.0.0.1:7051"', '"regtuma.example:7051"', "line 2: listen has to be a place on the loopback where [log] is"),
+    ('[log]', 'page = "127.0.0.1:8080"\n\n[log]', "line 4: page is not for a node on one machine"),
+    ('"http://127.0.0.1:7052"', '"http://10.0.0.1:7052"', "[nodes] Carrier has to be a URL on the loopback with a port"),
+    ('"http://127.0.0.1:7052"', '"https://127.0.0.1:7052"', "[nodes] Carrier has to be a URL on the loopback with a port"),
+    ('Carrier =', 'Maker =', "[nodes] Maker is this organisation itself"),
+]
+
 
 class Mistakes(unittest.TestCase):
     def setUp(self):
@@ -70,6 +89,26 @@ class Mistakes(unittest.TestCase):
                 # No secret is told that stands in the place of a file's name.
                 self.assertNotIn("5e5e", said)
                 self.assertIn("node.toml", said)
+
+    def test_each_mistake_on_one_machine_is_one_sentence(self):
+        for old, new, told in LOCAL_MISTAKES:
+            with self.subTest(new=new):
+                with self.assertRaises(config.Mistake) as raised:
+                    self.folder.config((old, new), text=support.LOCAL)
+                self.assertIn(told, str(raised.exception))
+                self.assertNotIn("\n", str(raised.exception))
+
+    def test_a_node_on_one_machine_needs_no_certificate(self):
+        for name in ("node.pem", "node.key", "etcd.password"):
+            (self.folder.path / name).unlink()
+        for listen in ("127.0.0.1:7051", "[::1]:7051", "localhost:7051"):
+            found = self.folder.config(("127.0.0.1:7051", listen), text=support.LOCAL)
+            found.check_files()
+            self.assertEqual((found.is_local, found.organisations), (True, ["Maker", "Carrier"]))
+            self.assertEqual((found.server_tls(), found.node_tls("Carrier"), found.log_file), (None, None, str(self.folder.path / "log")))
+        (self.folder.path / "maker.key").chmod(0o640)
+        with self.assertRaisesRegex(config.Mistake, "maker.key, which others than its owner may read: chmod 600 "):
+            self.folder.config(text=support.LOCAL)
 
     def test_secrets_are_the_owners_alone(self):
         for name in ("maker.key", "node.key", "etcd.password"):

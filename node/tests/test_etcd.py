@@ -8,7 +8,9 @@ from unittest import mock
 import support
 from aiohttp import web
 from regtuma import etcd
-from regtuma.etcd import Lines, Log, LogError, base64_of
+from regtuma.entries import Lines, LogError
+from regtuma.etcd import EtcdLog as Log
+from regtuma.etcd import base64_of, entry_of, is_first
 
 DONE: tuple[int, dict] = (200, {"succeeded": True})
 NOT_DONE: tuple[int, dict] = (200, {"header": {}})
@@ -20,6 +22,10 @@ TOKEN = (200, {"token": "t"})
 def event(revision: int, text: str, version: int = 1, key: str = "log/Maker/x", **more: str) -> dict:
     kv = {"key": base64_of(key), "mod_revision": str(revision), "version": str(version), "value": base64_of(text)}
     return {"kv": kv, **more}
+
+
+def entries(events: list[dict]) -> list:
+    return [entry_of(it) for it in events if is_first(it)]
 
 
 def told(*events: dict) -> dict:
@@ -209,19 +215,19 @@ class Failures(unittest.IsolatedAsyncioTestCase):
 class LinesOfEvents(unittest.TestCase):
     def test_only_the_first_version_of_a_key_counts(self):
         events = [event(7, "00\nff"), event(7, "x"), event(8, "y", 2), event(9, "", type="DELETE"), event(10, "")]
-        self.assertEqual(Lines().of(events), [b"7.0 00\n", b"7.1 ff\n", b"7.2 x\n", b"10.0 \n"])
+        self.assertEqual(Lines().of(entries(events)), [b"7.0 00\n", b"7.1 ff\n", b"7.2 x\n", b"10.0 \n"])
 
     def test_an_organisation_speaks_for_itself(self):
         events = [event(7, "seen Maker 1 00\n00", key="log/Shop/a"), event(8, "seen Maker 1 00"), event(9, "seen Maker"), event(10, "seen")]
-        self.assertEqual(Lines().of(events), [b"7.1 00\n", b"8.0 seen Maker 1 00\n", b"9.0 seen Maker\n", b"10.0 seen\n"])
+        self.assertEqual(Lines().of(entries(events)), [b"7.1 00\n", b"8.0 seen Maker 1 00\n", b"9.0 seen Maker\n", b"10.0 seen\n"])
 
     def test_ticks_count_in_entries_of_ticks(self):
         events = [event(7, "tick\n00"), event(8, "tick", key="log/tick-4"), event(9, "00\ntick", key="log/tick-refill-1")]
-        self.assertEqual(Lines().of(events), [b"7.1 00\n", b"8.0 tick\n", b"9.0 00\n", b"9.1 tick\n"])
+        self.assertEqual(Lines().of(entries(events)), [b"7.1 00\n", b"8.0 tick\n", b"9.0 00\n", b"9.1 tick\n"])
 
     def test_any_byte_is_a_character(self):
         kv = event(7, "")["kv"] | {"value": base64.b64encode(b"\xff\x80").decode()}
-        self.assertEqual(Lines().of([{"kv": kv}]), [b"7.0 \xc3\xbf\xc2\x80\n"])
+        self.assertEqual(Lines().of(entries([{"kv": kv}])), [b"7.0 \xc3\xbf\xc2\x80\n"])
 
 
 if __name__ == "__main__":

@@ -8,7 +8,8 @@ from unittest import mock
 
 import support
 from regtuma import config, links, log
-from regtuma.etcd import Log, base64_of
+from regtuma.etcd import EtcdLog as Log
+from regtuma.etcd import base64_of
 from regtuma.links import Link
 from test_chain import CALL, ENDORSED
 from test_etcd import DONE, NOT_DONE, Node
