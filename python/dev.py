@@ -22,7 +22,7 @@ import time
 from collections.abc import Iterator
 
 import kit
-from folder import GENESIS, KEY, NETWORK, STORE
+from folder import GENESIS, KEY, LOG, NETWORK, STORE
 from network import Mistake
 from program import ROOT, find, say
 
@@ -39,7 +39,7 @@ PYTHON, PACKAGES = "/usr/bin/python3", {"aiohttp": "python3-aiohttp", "prometheu
 # A program that prints which of its words are no packages that are there.
 LACKING = "import importlib.util as it, sys; print(*(word for word in sys.argv[1:] if not it.find_spec(word)))"
 # Files of the folder beside the chain, and of each organisation's; and what is put behind the name of a store that is of no use.
-LOG, URL, CONFIGURATION, OUTPUT, ASIDE = "log", "url", "node.toml", "node.out", ".aside"
+URL, CONFIGURATION, OUTPUT, ASIDE = "url", "node.toml", "node.out", ".aside"
 # Where nodes listen, from the first of these ports on that are free.
 HOST, PORTS = "127.0.0.1", range(7051, 8051)
 # A block is asked for after so many seconds.

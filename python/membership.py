@@ -134,6 +134,11 @@ def at_hand(ledger: Ledger, it: Membership, files: list[str]) -> list[str]:
         if said.status:
             raise Mistake(f"{quoted(file)} is not read as a key file ({said.number})")
         publics.update(re.findall("public ([0-9a-f]{64})", said.out))
+    return owners(ledger, it, publics)
+
+
+def owners(ledger: Ledger, it: Membership, publics: set[str]) -> list[str]:
+    """The members for whom somebody can endorse that has the seeds of these public keys."""
     listed = ledger.organisations()
     keys = {name: key or listed[name].get("public") for name, key in it.members.items()}
     return [name for name, key in keys.items() if key is None or key.lower() in publics]

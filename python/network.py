@@ -156,8 +156,10 @@ def hint(name: str) -> str:
 
 
 def genesis_file(file: str) -> str:
-    """The text of the genesis file. The program that ./ledger runs reads keys and the text."""
-    network = Table(pathlib.Path(file).absolute().parent, quoted(file), parsed(file))
+    """The text of the genesis file of a network file, or of the standard input for `-`. The program that ./ledger runs reads keys
+    and the text."""
+    place = "the standard input" if file == "-" else quoted(file)
+    network = Table(pathlib.Path(file).absolute().parent, place, parsed(file))
     orgs, rest = described(network)
     program = str(find())
     genesis: Object = {"orgs": with_public_keys(network, orgs, program), **rest}
@@ -178,7 +180,7 @@ def parsed(file: str) -> dict[str, object]:
     except ModuleNotFoundError as error:
         raise Mistake(f"{quoted(file)} cannot be read by this Python, since 3.11 is the first that reads TOML") from error
     try:
-        with open(file, "rb") as source:
+        with open("/dev/stdin" if file == "-" else file, "rb") as source:
             data = source.read(MOST_BYTES + 1)
     except (OSError, ValueError) as error:
         raise Mistake(f"{quoted(file)} cannot be read: {reason(error)}") from error

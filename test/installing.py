@@ -53,9 +53,26 @@ def try_installed(at: Installing) -> None:
     ran = at.run(ledger, "version")
     at.case("the installed program", ran.status == 0 and ran.out.startswith('{"lines":') and not ran.err, ran)
     at.case("numbers are explained", "docs/" in (ran := at.run(ledger, "explain", "703")).out, ran)
+    try_chaincode(at, ledger)
     for word in ("prove", "dist"):
         ran = at.run(ledger, word)
         at.case(f"an installed tree has nothing for ledger {word}", fails_in_words(ran), ran)
+
+
+def try_chaincode(at: Installing, ledger: pathlib.Path) -> None:
+    """What chaincode is built with is there, and a call can be made; so are the man page and completion."""
+    local = at.root / "usr/local"
+    chaincode = local / "lib/regtuma/examples/chaincode"
+    files = ["fabric_test.h", "shim/Cargo.toml", "shim/src/lib.rs", "escrow/src/lib.rs", "escrow_test.c", "build.sh"]
+    missing = [it for it in files if not (chaincode / it).is_file()]
+    at.report.case("sources of chaincode, installed", not missing, " ".join(missing))
+    ran = at.run(ledger, "cc", chaincode / "escrow.c")
+    at.case("ledger cc, installed", ran.status == 0 and ran.out.startswith("valid functions="), ran)
+    ran = at.run("sh", "-c", f"{ledger} new demo && {ledger} call demo assets create pallet-7 Maker")
+    at.case("a network and a call, installed", ran.out.startswith("write asset/pallet-7 put Maker\nVALID in block 1, "), ran)
+    for name, begins in {"man/man1/ledger.1": ".TH LEDGER 1", "bash-completion/completions/ledger": "_ledger() {"}.items():
+        text = (local / "share" / name).read_text()
+        at.report.case(name, text.startswith(begins) and stat.S_IMODE((local / "share" / name).stat().st_mode) == 0o644, text[:80])
 
 
 def try_units(at: Installing) -> None:

@@ -164,7 +164,7 @@ def try_files(at: Networks) -> None:
     at.refused("a key file", "no TOML", "line 1, column 65", words=("one.key",))
     (at.room / "latin.toml").write_bytes("# 1\n# \u00c4\u00c4".encode() + "\u00c4".encode("latin1"))
     at.refused("a file in Latin 1", "not UTF-8 at line 2, column 5", words=("latin.toml",))
-    usages: list[list[str]] = [[], ["network.toml", "network.toml"], ["--help"]]
+    usages: list[list[str]] = [[], ["network.toml", "network.toml"], ["--no"]]
     for words in usages:
         ran = at.ledger("genesis", *words)
         at.report.case(f"genesis {words}: its usage", ran.status == 2 and ran.err.startswith("usage: ") and not ran.out, ran.err)

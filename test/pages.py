@@ -10,10 +10,12 @@ import re
 from report import Report, run
 
 # The words with which a block of commands begins, beside paths (`./ledger`) and settings (`name=value`).
-COMMANDS = {"cat", "cd", "clang", "cmp", "cp", "echo", "etcd", "etcdctl", "export", "install", "ledger", "ln", "machine", "make", "mkdir",
-            "regtuma", "regtuma-audit", "regtuma-certs", "regtuma-change", "regtuma-log", "rt", "sed", "set", "systemctl", "tar", "test",
+COMMANDS = {"cat", "cc", "cd", "clang", "cmp", "cp", "echo", "etcd", "etcdctl", "export", "install", "ledger", "ln", "machine", "make",
+            "mkdir", "regtuma", "regtuma-audit", "regtuma-certs", "regtuma-change", "regtuma-log", "rt", "sed", "set", "systemctl", "tar", "test",
             "wasm-objdump"}
 PATH = re.compile(r"(\./|bench/|docs/|examples/|node/|test/|/)\S+|[A-Za-z_]+=.*")
+# What is printed where a command ends with status 1.
+FAILS = re.compile(r"refused |(?!VALID )[A-Z_]+ in block ")
 # How long all the commands of a page may take, in seconds.
 SECONDS = 550
 
@@ -114,8 +116,7 @@ class Typist:
             report.case(str(command), False, "it did not end")
             return
         status, out, err = (it.read_text(errors="replace") for it in files)
-        # What is refused is a status of 1.
-        is_refused = any(line.startswith("refused ") for text in wanted for line in text.splitlines())
+        is_refused = any(FAILS.match(line) for text in wanted for line in text.splitlines())
         is_right = int(status) == is_refused and all(fits(it, out) for it in wanted)
         told = "\n".join(wanted)
         report.case(str(command), is_right, f"status {status}the page prints\n{told}\nand it prints\n{out[-800:]}{err[-800:]}")

@@ -7,10 +7,14 @@ import sys
 import tomllib
 from collections.abc import Callable
 
+import asking as asked
+import calls as called
 import changes
 import debugging
 import developing
+import escrows
 import explaining
+import founding
 import growths as growing
 import installing
 import keygen
@@ -137,7 +141,7 @@ def scripts(report: Report, at: Setting) -> None:
     report.case("ledger --help begins with the program's usage", said.startswith("usage:") and asked.startswith(said), said + asked)
     for word in ("prove", "dist"):
         ran = run([at.tree / "ledger", word, "0"], at.tree, SHORT, at.env)
-        report.case(f"ledger {word} 0: its usage", ran.status == 2 and ran.err.startswith(f"usage: ./ledger {word}"), ran.out + ran.err)
+        report.case(f"ledger {word} 0: its usage", ran.status == 2 and ran.err.startswith(f"usage: ledger {word}"), ran.out + ran.err)
 
 
 def run_script(at: Setting, script: pathlib.Path, word: str) -> Ran:
@@ -285,6 +289,22 @@ def lines(report: Report, at: Setting) -> None:
     typed_lines.try_lines(report, at.tree, at.room, at.tree / (program() or UNPROVED))
 
 
+def escrow(report: Report, at: Setting) -> None:
+    escrows.try_escrows(report, at.tree, at.room, at.env)
+
+
+def folders(report: Report, at: Setting) -> None:
+    founding.try_folders(report, at.tree, at.room, at.env)
+
+
+def asking(report: Report, at: Setting) -> None:
+    asked.try_asking(report, at.tree, at.room, at.env)
+
+
+def calls(report: Report, at: Setting) -> None:
+    called.try_calls(report, at.tree, at.room, at.env)
+
+
 def calling(report: Report, at: Setting) -> None:
     find_pieces(report, at.tree, blocks_of(at.tree, "docs/CALLING.md"))
 
@@ -344,13 +364,13 @@ Part = Callable[[Report, Setting], None]
 LEDGER = ("ledger_cli",)
 # What test/run does, without a proof: first what needs no program. In each list those that take long come first.
 WITHOUT_PROGRAM: list[Part] = [itself, layout, types, made, prove, edits, calling]
-WITH_LEDGER: list[Part] = [lines, node, reasons, debug, network, modules, change, readme, formats, numbers, keys, scripts]
+WITH_LEDGER: list[Part] = [lines, node, reasons, debug, network, modules, change, folders, asking, readme, formats, numbers, keys, scripts]
 # The programs that are compiled for it, the dearest first, and for which parts.
 COMPILED: dict[Part, unproved.Compiled] = {**dict.fromkeys(WITH_LEDGER, LEDGER), tests: ("ledger_tests", "--test"), cases: ("ledger_cases",),
                                            signatures: ("ed25519_cases",)}
 QUICK: list[Part] = [*WITHOUT_PROGRAM, tests, cases, signatures, *WITH_LEDGER]
 # What test/documents does behind the gate: what needs the programs as they were proved, a browser, etcd, a Rust compiler, or many signatures.
-BEHIND: list[Part] = [demo, operations, dev, page, query, chaincode, tutorial, lines, install, growths, timed]
+BEHIND: list[Part] = [demo, operations, dev, calls, escrow, page, query, chaincode, tutorial, lines, install, growths, timed]
 DOCUMENTS: list[Part] = [*BEHIND, *(it for it in [*WITH_LEDGER, made, prove, calling, types] if it not in BEHIND)]
 # The documents all of whose commands test/run types.
 TYPED_BEFORE = {readme: "README.md", formats: "docs/OUTPUT.md"}

@@ -6,8 +6,14 @@ if (!receiver) {
   console.error("usage: node transfer.mjs PALLET RECEIVER");
   process.exit(2);
 }
+let ledger;
 try {
-  const ledger = await fromEnvironment();
+  ledger = await fromEnvironment();
+} catch (error) {
+  console.error(`nothing was sent: ${error.message}`);
+  process.exit(1);
+}
+try {
   const { flag, block } = await ledger.submit("assets", ["transfer", pallet, receiver], { tries: 3 });
   console.log(`flag ${flag}: ${pallet} is ${receiver}'s, by block ${block}`);
   process.exit(0);

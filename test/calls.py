@@ -1,0 +1,256 @@
+"""./ledger call: its lines and refusals, a nonce that was used, calls at once, and calls that are killed."""
+import json
+import os
+import pathlib
+import shutil
+import signal
+import subprocess
+import time
+
+from report import Ran, Report, start
+from seeing import comes_to_be
+from tree import UNPROVED, program, run_ledger
+
+# How long a command may take, in seconds.
+SECONDS = 120
+NONCE = "000102030405060708090a0b0c0d0e0f"
+POLICY = "OutOf(2, 'Maker', 'Carrier', 'Shop')"
+# Modules by the code of `invoke`, which traps, branches for ever, or returns 7.
+ENDS = {"trap": "0a05010300000b", "loop": "0a0b010900" "03400c000b41000b", "seven": "0a0601040041070b"}
+# Calls of stores of test/cases: the words, the refusal, and what its sentence tells.
+REFUSED = [
+    ("open.json open.store kv", "refused 406", "is at hand"),
+    ("open.json open.store kv --modules modules-bad.json", "refused 801", "modules-bad.json"),
+    ("put.json damaged.store kv", "refused 702 block 1", "record 1 is damaged"),
+    ("put.json put.json kv", "refused 702 block 1", "put.json: it is no store: it begins as a genesis file does (702)"),
+    ("put.json put.wasm kv", "refused 702 block 1", "put.wasm: it is no store: it begins as a module does (702)"),
+    ("put.json asked.txt kv", "refused 702 block 1", "asked.txt: it is no store: it begins as a text does (702)"),
+    ("put.json unlinked.store kv", "refused 602 block 2", "it is another ledger's"),
+    ("put.json wrong.store kv", "refused 603 block 2", "(603)"),
+    ("put.json older.store kv", "refused 711 block 1", "(711)"),
+    ("put.json . kv", "refused 703", ".: it is a folder (703)"),
+    ("put.json none/new.store kv", "refused 703", "there is no folder for it"),
+    ("none.json new.store kv", "refused 703", "none.json: there is no such file"),
+    ("bad.json new.store kv", "refused 802", "bad.json"),
+    ("text.json new.store kv", "refused 801", "text.json"),
+    ("signed.json signed.store kv", "refused 808", "kv needs AND('A','B'); name a key file by --keys (808)"),
+    ("signed.json signed.store kv --keys other.keys", "refused 808", "the seeds in other.keys are those of A (808)"),
+    ("signed.json signed.store kv --keys short.keys", "refused 809", "short.keys: it is no key file"),
+    ("signed.json signed.store kv --keys none.keys", "refused 703", "none.keys: there is no such file"),
+    ("small.json small.store kv", "refused 421", "(421)"),
+    ("put.json whole.store kw", "refused 401", 'there is no chaincode "kw"; did you mean "kv"? (401)'),
+    ("put.json whole.store other", "refused 401", 'there is no chaincode "other"; there is kv (401)'),
+    ("put.json whole.store KV", "refused 401", 'there is no chaincode "KV"'),
+    ("put.json whole.store kw --dry-run", "refused 401", 'did you mean "kv"? (401)'),
+    ("open.json open.store kv --dry-run", "refused 406", "is at hand"),
+    ("put.json damaged.store kv --dry-run", "refused 702 block 1", "record 1 is damaged"),
+    ("put.json whole.store kv --orgs Nobody", "refused 806", "Nobody: no organisation of that name"),
+]
+# Words that name no call, and what is told.
+WRONG: list[tuple[list[str], str]] = [
+    ([], "GENESIS is missing"), (["g", "s"], "CHAINCODE is missing"), (["g", "s", "c", "--nonce", "00"], "16 bytes of hex"),
+    (["g", "s", "c", "--hex"], "one ARG, of hex"), (["g", "s", "c", "--hex", "0"], "one ARG, of hex"),
+    (["g", "s", "c", "--hex", "00", "00"], "one ARG"), (["g", "s", "c", "--orgs", "A,"], "names with a comma"),
+    (["g", "s", "c", "--orgs"], "the value NAME,.. of --orgs is missing"),
+    (["g", "s", "c", "-5"], "what stands behind -- is no option"), (["g", "s", "c", "--dry"], 'did you mean "--dry-run"?'),
+    (["g", "s", "c", "--hex=1"], "--hex has no value"), (["g", "s", "c", "--keys", "k", "--keys", "k"], "--keys stands twice"),
+    (["g", "s", "c", "x" * 4097], "up to 4,096 bytes, and this one has 4,097"), (["g", "s", "c", "\udcff"], "no UTF-8"),
+]
+# A program that ends who began it, where it is asked for this: as the command begins, or behind its block is on the disk.
+KILLER = """#!/usr/bin/python3
+import os, signal, subprocess, sys
+real, step = {real!r}, os.environ.get("STEP")
+if sys.argv[1] == step:
+    os.kill(os.getppid(), signal.SIGKILL)
+if sys.argv[1] != "commit" or step != "written":
+    os.execv(real, [real, *sys.argv[1:]])
+with subprocess.Popen([real, *sys.argv[1:]], stdout=subprocess.PIPE, text=True) as child:
+    for line in child.stdout:
+        if line.startswith("committed "):
+            os.kill(os.getppid(), signal.SIGKILL)
+        else:
+            print(line, end="", flush=True)
+"""
+STEPS = ["commit", "query", "public", "endorse", "marks", "order", "written"]
+
+
+class Calls:
+    """A folder of networks, and calls of their chaincodes."""
+
+    def __init__(self, report: Report, tree: pathlib.Path, room: pathlib.Path, env: dict[str, str]):
+        self.report, self.tree, self.room, self.env = report, tree, room / "calls", env
+        shutil.copytree(tree / "test" / "cases" / "data", self.room)
+        for name, code in ENDS.items():
+            head = "0061736d01000000" "0105016000017f" "03020100" "070a0106696e766f6b650000"
+            (self.room / f"{name}.wasm").write_bytes(bytes.fromhex(head + code))
+        small = json.loads((self.room / "put.json").read_text())
+        (self.room / "small.json").write_text(json.dumps({**small, "absolute": 40}))
+        for keys in self.room.glob("*.keys"):
+            keys.chmod(0o600)
+
+    def ledger(self, *words: object) -> Ran:
+        return run_ledger([self.tree / "ledger", *words], self.room, SECONDS, self.env)
+
+    def call(self, *words: object) -> Ran:
+        return self.ledger("call", *words)
+
+    def case(self, name: str, is_so: bool, ran: Ran) -> bool:
+        return self.report.case(name, is_so, f"status {ran.status}\n{ran.out}{ran.err}")
+
+    def is_valid(self, name: str, block: int, *words: object) -> None:
+        """A call that is VALID in this block."""
+        ran = self.call(*words)
+        self.case(name, ran.status == 0 and f"\nVALID in block {block}, tx " in "\n" + ran.out, ran)
+
+    def is_refused(self, name: str, line: str, told: str, *words: object) -> None:
+        """A call that is refused by a line and a sentence. The store is as it was; a new one is empty."""
+        store = self.room / str(words[1])
+        before = store.read_bytes() if store.is_file() else b""
+        ran = self.call(*words)
+        after = store.read_bytes() if store.is_file() else b""
+        is_told = ran.status == 1 and ran.out == f"{line}\n" and told in ran.err and "Traceback" not in ran.err
+        self.case(name, is_told and before == after, ran)
+
+    def blocks(self, folder: str) -> int:
+        """How many blocks a folder's chain has, which has to be whole and agree."""
+        ran = self.ledger("audit", folder)
+        self.case(f"{folder}: the store is one", ran.status == 0 and ran.out.endswith("audit agrees\n"), ran)
+        return int(ran.out.split()[1]) if ran.out.startswith("blocks ") else -1
+
+
+def try_calls(report: Report, tree: pathlib.Path, room: pathlib.Path, env: dict[str, str]) -> None:
+    at = Calls(report, tree, room, env)
+    for said, line, told in REFUSED:
+        at.is_refused(said, line, told, *said.split())
+    for words, told in WRONG:
+        ran = at.call(*words)
+        is_told = ran.status == 2 and not ran.out and told in ran.err.splitlines()[-1]
+        at.case(f"words that name no call: {words!a}"[:80], is_told and ran.err.startswith("usage: ledger call GENESIS"), ran)
+    words = ["--chaincode", f"assets={tree}/examples/chaincode/asset_register.wasm"]
+    words += [it for name in ENDS for it in ("--chaincode", f"{name}={name}.wasm")]
+    ran = at.ledger("new", "net", *words, "--policy", POLICY)
+    at.case("a network is made", ran.status == 0, ran)
+    # A loop is to end soon.
+    genesis = at.room / "net" / "genesis.json"
+    genesis.write_text(genesis.read_text().replace('"fuel": 1000000', '"fuel": 10000'))
+    try_lines(at)
+    try_ends(at)
+    try_nonces(at)
+    try_torn(at)
+    try_at_once(at)
+    try_kills(at)
+
+
+def try_lines(at: Calls) -> None:
+    """What a call prints, to the letter, and what a dry run does."""
+    ran = at.call("net", "assets", "create", "pallet-7", "Maker", "--dry-run")
+    is_so = ran.status == 0 and ran.out == "write asset/pallet-7 put Maker\n" and "the empty state" in ran.err
+    at.case("a dry run on no store", is_so and not (at.room / "net/chain.store").exists(), ran)
+    ran = at.call("net", "assets", "create", "pallet-7", "Maker")
+    first, last = (ran.out.splitlines() + ["", ""])[:2]
+    is_so = first == "write asset/pallet-7 put Maker" and last.startswith("VALID in block 1, tx ") and len(last) == 85
+    at.case("the first call", is_so and ran.status == 0 and ran.out.count("\n") == 2 and "is a new store" in ran.err, ran)
+    ran = at.call("net", "assets", "create", "pallet-8", "Maker")
+    at.case("the second one: nothing else is told", ran.out.endswith("\n") and not ran.err, ran)
+    ran = at.call("net", "assets", "list", "--dry-run")
+    at.case("each line of a result", ran.out == "result pallet-7 Maker\nresult pallet-8 Maker\n", ran)
+    ran = at.call("net", "assets", "--hex", b"list".hex(), "--dry-run")
+    at.case("a result in hex", ran.out == f"result {b'pallet-7 Maker'.hex()}0a{b'pallet-8 Maker'.hex()}0a\n", ran)
+    ran = at.call("net", "assets", "--hex", b"create \xff y".hex(), "--dry-run")
+    at.case("a write in hex", ran.out == f"write {b'asset/'.hex()}ff put 79\n", ran)
+    ran = at.call("net", "assets", "create", "\u202e", "0x", "--dry-run")
+    at.case("what is no plain text is in hex", ran.out == f"write 0x{b'asset/'.hex()}e280ae put 0x3078\n", ran)
+    ran = at.call("net", "assets", "delete", "pallet-8", "--orgs", "Shop,Maker")
+    at.case("those who are named endorse", ran.out.startswith("write asset/pallet-8 delete\nVALID in block 3, tx "), ran)
+    ran = at.call("net", "assets", "delete", "pallet-7", "--orgs", "Maker")
+    is_so = ran.status == 1 and ran.out.startswith("ENDORSEMENT_POLICY_FAILURE in block 4, tx ") and ran.out.count("\n") == 1
+    at.case("too few endorse", is_so and "(flag 1)" in ran.err, ran)
+    shown = [json.loads(it) for it in at.ledger("show", "net").out.splitlines()]
+    orgs = [[it["org"] for it in block["txs"][0]["endorsements"]] for block in shown[1:-1]]
+    wanted = [["Maker", "Carrier"]] * 2 + [["Shop", "Maker"], ["Maker"]]
+    at.report.case("the fewest endorse, the first ones", orgs == wanted, str(orgs))
+
+
+def try_ends(at: Calls) -> None:
+    """Calls that the chaincode does not do, and keys that do not suffice."""
+    files = ["net/genesis.json", "net/chain.store"]
+    keys = ["--keys", "net/all.key"]
+    at.is_refused("a trap", "refused 402 trap 1", "(402)", *files, "trap", *keys)
+    at.is_refused("no fuel", "refused 403", "(403)", *files, "loop", *keys)
+    at.is_refused("a status", "refused 404 status 7", "the status 7", *files, "seven", *keys)
+    delete = [*files, "assets", "delete", "pallet-7", "--keys", "net/Shop/key"]
+    told = f"assets needs {POLICY}; the seeds in net/Shop/key are those of Shop (808)"
+    at.is_refused("a key short", "refused 808", told, *delete)
+    at.is_refused("one that is named, whose key is not at hand", "refused 808", "Maker: no seed", *delete, "--orgs", "Shop,Maker")
+    ran = at.call(*files, "assets", "--", "--dry-run")
+    at.case("behind -- stands no option", ran.out == "refused 808\n", ran)
+    ran = at.call("open.json", "open.store", "kv", "--modules", "modules.json")
+    at.case("a module of an open definition", ran.out.startswith("write a put 1\nVALID in block 4, tx "), ran)
+
+
+def try_nonces(at: Calls) -> None:
+    """A call of a nonce that was used has its first outcome, and is in no new block."""
+    words = ["net", "assets", "create", "pallet-9", "Shop", "--nonce", NONCE]
+    first, second = at.call(*words), at.call(*words[:-1], NONCE.upper())
+    at.case("a nonce for the first time", first.status == 0 and "VALID in block 5, " in first.out, first)
+    at.case("a nonce again", second.status == 0 and second.out == first.out and "stands in block 5 already" in second.err, second)
+    words = ["net", "assets", "create", "pallet-10", "Shop", "--nonce", NONCE]
+    first, second = at.call(*words, "--orgs", "Shop"), at.call(*words)
+    at.case("of another call the nonce is another one", first.out.startswith("ENDORSEMENT_POLICY_FAILURE in block 6, tx "), first)
+    at.case("what failed has failed", second.status == 1 and second.out == first.out, second)
+    at.report.case("nothing was written for a nonce again", at.blocks("net") == 6)
+
+
+def try_torn(at: Calls) -> None:
+    """A part of a record is cut off, and told of."""
+    ran = at.call("put.json", "torn.store", "kv")
+    is_so = ran.out.startswith("write a put 1\nVALID in block 2, tx ") and "bytes of a part of a record were cut off" in ran.err
+    at.case("a torn end", is_so and ran.status == 0, ran)
+
+
+def try_at_once(at: Calls) -> None:
+    """The store is one call's alone. A dry run reads beside it."""
+    holder = subprocess.Popen([at.tree / (program() or UNPROVED), "commit", "net/genesis.json", "net/chain.store"], cwd=at.room, text=True,
+                              stdin=subprocess.PIPE, stdout=subprocess.PIPE, stderr=subprocess.DEVNULL)
+    assert holder.stdin and holder.stdout
+    holder.stdout.readline()
+    at.is_refused("the store is another one's", "refused 703", "another process has it: a node, a commit or a run; ask the node",
+                  "net/genesis.json", "net/chain.store", "assets", "list")
+    ran = at.call("net", "assets", "read", "pallet-7", "--dry-run")
+    at.case("a dry run beside another process", ran.status == 0 and ran.out == "result Maker\n", ran)
+    holder.stdin.close()
+    holder.wait()
+    before = at.blocks("net")
+    words = [at.tree / "ledger", "call", "net", "assets", "create"]
+    begun = [start([*words, f"pallet-2{it}", "Maker"], at.room, at.env) for it in range(3)]
+    said = [it.communicate(timeout=SECONDS) for it in begun]
+    done = [out for out, _ in said if "\nVALID in block " in out]
+    is_so = len(done) >= 1 and all(out in done or out == "refused 703\n" and "another process has it" in err for out, err in said)
+    at.report.case("calls at once: the store is one's", is_so, str(said))
+    at.report.case("calls at once: what was told is there", at.blocks("net") == before + len(done), str(said))
+
+
+def try_kills(at: Calls) -> None:
+    """Killed at any step a call leaves a store, in which all is that was told."""
+    # An installed tree's program is taken before others.
+    killer = at.tree / "ledger_cli"
+    killer.write_text(KILLER.format(real=str(at.tree / (program() or UNPROVED))))
+    killer.chmod(0o755)
+    count = at.blocks("net")
+    for number, step in enumerate(STEPS):
+        words = ["call", "net", "assets", "create", f"pallet-3{number}", "Maker"]
+        began = start([at.tree / "ledger", *words], at.room, {**at.env, "STEP": step})
+        out, err = began.communicate(timeout=SECONDS)
+        is_killed = began.returncode == -signal.SIGKILL and not out
+        at.report.case(f"killed at {step}", is_killed, f"status {began.returncode}\n{out}{err}")
+        before, count = count, at.blocks("net")
+        at.report.case(f"killed at {step}: the blocks", count == before + (step == "written"), f"{before} and {count}")
+    killer.unlink()
+    for number, seconds in enumerate((0.2, 0.6, 1.2)):
+        began = start([at.tree / "ledger", "call", "net", "assets", "create", f"pallet-4{number}", "Maker"], at.room, at.env)
+        time.sleep(seconds)
+        os.killpg(began.pid, signal.SIGKILL)
+        out, _ = began.communicate(timeout=SECONDS)
+        is_free = comes_to_be(lambda: at.call("net", "assets", "create", f"pallet-5{number}", "Maker").status == 0)
+        least, most, count = count + 1 + ("VALID" in out), count + 2, at.blocks("net")
+        at.report.case(f"killed after {seconds} s: a call goes on", is_free and least <= count <= most, f"{least} {count}\n{out}")
