@@ -207,7 +207,7 @@ def end_early(at: Developing) -> None:
 def refuse(at: Developing) -> None:
     """Words and folders that are of no network."""
     no_network = "nowhere has no genesis.json: ./ledger new nowhere makes a network"
-    cases: list[tuple[list[str], int, str]] = [([], 2, "usage: ./ledger dev DIR"), (["nowhere"], 1, no_network)]
+    cases: list[tuple[list[str], int, str]] = [([], 2, "DIR is missing (usage)"), (["nowhere"], 1, no_network)]
     for words, status, told in cases:
         ran = at.run("./ledger", "dev", *words)
         is_told = ran.status == status and told in ran.err and "Traceback" not in ran.err
