@@ -58,6 +58,8 @@ class Proving:
             (self.root / name).write_text(text)
         shutil.copy2(tree / "ledger", self.root)
         shutil.copytree(tree / "python", self.root / "python")
+        # The script reads the table of the program's commands.
+        shutil.copytree(tree / "crates/cli_words/src", self.root / "crates/cli_words/src")
         # As in a kit, so that beside it something can be kept.
         kit = room / "kit/rattle/bin"
         kit.mkdir(parents=True)
