@@ -58,7 +58,8 @@ class Proving:
             (self.root / name).write_text(text)
         shutil.copy2(tree / "ledger", self.root)
         shutil.copytree(tree / "python", self.root / "python")
-        # The script reads the table of the program's commands.
+        # The script reads its version, and the table of the program's commands.
+        shutil.copy2(tree / "VERSION", self.root)
         shutil.copytree(tree / "crates/cli_words/src", self.root / "crates/cli_words/src")
         # As in a kit, so that beside it something can be kept.
         kit = room / "kit/rattle/bin"
