@@ -54,6 +54,6 @@ def try_modules(report: Report, tree: pathlib.Path, room: pathlib.Path, env: dic
         is_told = ran.status == 1 and not ran.out and ran.err.count("\n") == 1 and "Traceback" not in ran.err
         is_told = is_told and all(it in ran.err for it in told)
         report.case(f"modules {' '.join(words)[:80]}", is_told, f"status {ran.status}\n{ran.out[:400]}{ran.err}\nand it has to tell {told}")
-    for words in ("--help",), ("kv.wasm", "--modules"):
+    for words in ("--no",), ("kv.wasm", "--modules"):
         ran = ledger("modules", *words)
         report.case(f"modules {words}: its usage", ran.status == 2 and ran.err.startswith("usage: ") and not ran.out, ran.err)
