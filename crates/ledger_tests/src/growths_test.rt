@@ -1,9 +1,8 @@
-//! Calls of a system and of a peer that are refused one growth of memory, if any: they answer that
-//! they are, and the same call then answers as if nothing had been.
+//! Calls that are refused one growth of memory, if any: they answer that they are, and the same call
+//! then answers as if nothing had been.
 //!
 //! `rt ci` runs these tests with memory enough, and `test/documents growths` once for each of their
-//! growths, with that one refused. Calls without a state are case lines, which it asks in the same
-//! way.
+//! growths, with that one refused.
 
 ghost use Rattle.std.specs.Prelude.{◌≡◌};
 ghost use Rattle.peer_node.specs.Seats.{peer_of};
