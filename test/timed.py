@@ -7,7 +7,6 @@ those of TEST 1 of RFC 8032, section 7.1; the signature of 64 zeros is that of a
 import pathlib
 import re
 import subprocess
-import sys
 
 from report import Report, run
 from tree import ROOT
@@ -50,7 +49,7 @@ def try_scripts(report: Report, tree: pathlib.Path, program: pathlib.Path, env: 
     """Each script prints its rows; bench/run with a second program beside the first."""
     for name, rows in ROWS.items():
         beside = ["--beside", program] if name == "run" else []
-        ran = run([sys.executable, tree / "bench" / name, "1", "--small", "--program", program, *beside], tree, LONG, env)
+        ran = run([tree / "bench" / name, "1", "--small", "--program", program, *beside], tree, LONG, env)
         report.case(f"bench/{name} ends", ran.status == 0, f"status {ran.status}\n{ran.out}{ran.err}"[-1500:])
         for row in rows:
             report.case(f"bench/{name}: {row}", re.search(f"^ *{row}", ran.out, re.MULTILINE) is not None, ran.out)
