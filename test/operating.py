@@ -144,7 +144,7 @@ class Operating:
         self.everywhere("cp /usr/local/lib/regtuma/node/node.toml.example")
         self.maker.type(self.report, *self.block("regtuma-log node.toml begin"))
         self.everywhere("systemctl enable --now regtuma-node")
-        calls = self.block("export REGTUMA_NODES")
+        calls = self.block("export REGTUMA_NODES=https")
         for machine in self.machines:
             settings = (it.partition("=") for line in machine.own(calls[0].text).splitlines()[:2] for it in line.split()[1:])
             machine.env.update((name, value) for name, _, value in settings)
