@@ -8,7 +8,6 @@ MEASURES = "measures, and no test depends on it"
 SMALL = "measures; the part timed tries it with small amounts"
 # The first line of a block, in any document, and why it is not typed.
 ANYWHERE = {
-    "rt ci": f"{LONG}: it is the gate, behind which test/documents runs",
     "make test": "it is the test that types the others",
 }
 # The same in one document.
@@ -27,7 +26,8 @@ REASONS = {
     ("bench/README.md", "bench/hostile"): LONG,
 }
 # Commands within the text.
-WITHIN_TEXT = {"./ledger prove": LONG, "rt check, rt try, rt tidy ..": "for those who change crates; the gate does as much"}
+WITHIN_TEXT = {"./ledger prove": LONG, "rt ci": f"{LONG}: it is the gate, behind which test/documents runs",
+               "rt check, rt try, rt tidy ..": "for those who change crates; the gate does as much"}
 
 
 def documents() -> list[str]:
