@@ -60,14 +60,20 @@ WRONG: list[tuple[list[str], str]] = [
 KILLER = """#!/usr/bin/python3
 import os, signal, subprocess, sys
 real, step = {real!r}, os.environ.get("STEP")
+def end():
+    # Where the call has ended already, the test has its place.
+    parent = os.getppid()
+    with open(f"/proc/{{parent}}/cmdline", "rb") as it:
+        if b"ledger\\0call\\0" in it.read():
+            os.kill(parent, signal.SIGKILL)
 if sys.argv[1] == step:
-    os.kill(os.getppid(), signal.SIGKILL)
+    end()
 if sys.argv[1] != "commit" or step != "written":
     os.execv(real, [real, *sys.argv[1:]])
 with subprocess.Popen([real, *sys.argv[1:]], stdout=subprocess.PIPE, text=True) as child:
     for line in child.stdout:
         if line.startswith("committed "):
-            os.kill(os.getppid(), signal.SIGKILL)
+            end()
         else:
             print(line, end="", flush=True)
 """
