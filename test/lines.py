@@ -6,6 +6,7 @@ input, which else is empty, and behind a store's name how many of its bytes ther
 """
 import contextlib
 import dataclasses
+import os
 import pathlib
 import re
 import shutil
@@ -82,10 +83,10 @@ def made(case: Case, data: pathlib.Path) -> tuple[list[str], bytes]:
 
 
 @contextlib.contextmanager
-def as_it_was(files: list[pathlib.Path]) -> Iterator[None]:
+def as_it_was(files: list[pathlib.Path]) -> Iterator[dict[pathlib.Path, bytes | None]]:
     """Lets files be written, and gives them back what they had."""
     before = {it: it.read_bytes() if it.is_file() else None for it in files}
-    yield
+    yield before
     for file, had in before.items():
         if had is not None:
             file.write_bytes(had)
@@ -129,6 +130,18 @@ def try_shown(report: Report, case: Case, now: Ran, data: pathlib.Path) -> None:
         report.case(f"{case.line}: what the store's bytes say", (lines, now.status) == wanted, f"{lines}\nwanted {wanted}"[:4000])
 
 
+def try_pipe(report: Report, program: pathlib.Path, data: pathlib.Path) -> None:
+    """A store that is a pipe gets what a file gets, and stays a pipe."""
+    words, pipe, file = ["run", "get.json", "race.jsonl", "--store"], data / "written.pipe", data / "written.store"
+    os.mkfifo(pipe)
+    with subprocess.Popen(["timeout", str(SECONDS), "cat", pipe], stdout=subprocess.PIPE) as reader:
+        now = ran(program, [*words, pipe.name], data)
+        read = reader.communicate()[0]
+    ran(program, [*words, file.name], data)
+    is_so = now.status == 0 and pipe.is_fifo() and read == file.read_bytes()
+    report.case("run with a pipe for a store", is_so, f"{now}\n{read!r}")
+
+
 def try_lines(report: Report, tree: pathlib.Path, room: pathlib.Path, program: pathlib.Path) -> None:
     cases = list(cases_of((tree / "test/cases/lines").read_text(encoding="utf-8")))
     for built in (program, program.with_name(f"{program.name}.by-rattle")):
@@ -141,3 +154,4 @@ def try_lines(report: Report, tree: pathlib.Path, room: pathlib.Path, program: p
             if built == program:
                 try_sentences(report, case, now)
                 try_shown(report, case, now, data)
+        try_pipe(report, built, data)

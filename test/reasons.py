@@ -25,14 +25,16 @@ def rows_of(tree: pathlib.Path, name: str) -> list[dict]:
 
 
 def try_words(report: Report, program: pathlib.Path, tree: pathlib.Path, data: pathlib.Path) -> None:
-    """Each row of a file: words, what stands on the standard input, who has a file, and the sentences."""
+    """Each row of a file: words, what stands on the standard input, which file another has or stays, and the sentences."""
     for row in rows_of(tree, "wrong_words"):
         held = (data / row["held"]).open() if "held" in row else None
         if held:
             fcntl.flock(held, fcntl.LOCK_EX)
         words = row["words"].split()
-        with as_it_was([data / it for it in words]):
+        with as_it_was([data / it for it in words]) as before:
             err = ran(program, words, data, row.get("input", "").encode()).err
+            if stays := row.get("stays"):
+                report.case(f"{row['words']}: {stays} stays", (data / stays).read_bytes() == before[data / stays])
         if held:
             held.close()
         said = [it.removeprefix("ledger: ") for it in err.splitlines() if it.startswith("ledger: ")]

@@ -1,8 +1,8 @@
 """In the place of systemctl: starts and stops what the units of systemd below a folder say, as processes of their own.
 
-    units.py ROOT enable [--now] [--no-block] UNIT.. | start UNIT.. | stop UNIT.. | reload UNIT..
+    units.py ROOT enable [--now] [--no-block] UNIT.. | start UNIT.. | stop UNIT.. | restart UNIT.. | reload UNIT..
 
-The folder stands for a machine: names below /etc/regtuma, /var/lib and /usr/local are looked for in it. What a unit prints is in
+The folder stands for a machine: names below /etc/regtuma, /run, /var/lib and /usr/local are looked for in it. What a unit prints is in
 ROOT/UNIT.out, its process in ROOT/UNIT.pid.
 """
 import os
@@ -20,7 +20,7 @@ SECONDS = 60
 
 def laid(text: str, root: pathlib.Path) -> str:
     """A text with the names of files on the machine."""
-    return re.sub(r"/(?=(?:etc/regtuma|var/lib/regtuma|usr/local)\b)", f"{root}/", text)
+    return re.sub(r"/(?=(?:etc/regtuma|run/regtuma|var/lib/regtuma|usr/local)\b)", f"{root}/", text)
 
 
 def settings_of(root: pathlib.Path, unit: str) -> dict[str, str]:
@@ -41,10 +41,13 @@ def start(root: pathlib.Path, unit: str) -> None:
     settings = settings_of(root, unit)
     values = environment(root, settings)
     command = re.sub(r"\$\{(\w+)\}", lambda it: values[it[1]], laid(settings["ExecStart"], root))
-    if name := settings.get("StateDirectory"):
-        (root / "var/lib" / name).mkdir(mode=0o700, parents=True, exist_ok=True)
+    for place, setting in (("var/lib", "StateDirectory"), ("run", "RuntimeDirectory")):
+        if name := settings.get(setting):
+            (root / place).mkdir(parents=True, exist_ok=True)
+            (root / place / name).mkdir(mode=0o750, exist_ok=True)
     with open(root / f"{unit}.out", "ab") as out:
-        begun = subprocess.Popen(shlex.split(command), stdin=subprocess.DEVNULL, stdout=out, stderr=out, start_new_session=True)
+        begun = subprocess.Popen(shlex.split(command), stdin=subprocess.DEVNULL, stdout=out, stderr=out, start_new_session=True,
+                                 env={**os.environ, **values})
     (root / f"{unit}.pid").write_text(str(begun.pid))
 
 
@@ -68,6 +71,11 @@ def stop(root: pathlib.Path, unit: str) -> None:
         time.sleep(0.05)
 
 
+def restart(root: pathlib.Path, unit: str) -> None:
+    stop(root, unit)
+    start(root, unit)
+
+
 def reload(root: pathlib.Path, unit: str) -> None:
     if number := process_of(root, unit):
         os.kill(number, signal.SIGHUP)
@@ -75,7 +83,7 @@ def reload(root: pathlib.Path, unit: str) -> None:
 
 def main(words: list[str]) -> int:
     root, task = pathlib.Path(words[0]), words[1]
-    tasks = {"enable": start, "start": start, "stop": stop, "reload": reload}
+    tasks = {"enable": start, "start": start, "stop": stop, "restart": restart, "reload": reload}
     units = [it if "." in it else f"{it}.service" for it in words[2:] if not it.startswith("--")]
     for unit in units:
         tasks[task](root, unit)

@@ -1,5 +1,5 @@
 -- What files hold, and where that goes which is written under a name.
-use Rattle.std.specs.Prelude.{◌≡◌, ◌≢◌, ℕ, Bool, true, List, Option, string_bytes}
+use Rattle.std.specs.Prelude.{◌≡◌, ◌≢◌, ℕ, Bool, true, List, Option, None, string_bytes}
 use Rattle.std.specs.List.{AllByRecursion}
 use Rattle.cli_lines.specs.declared.files.Target.{Target}
 use Rattle.cli_lines.specs.declared.files.Target.TheVariants.{File, NewFile, Device}
@@ -17,3 +17,9 @@ abbrev pub IsFileOf : List ℕ → Target → Type 0
 IsFileOf name (File path) = string_bytes path ≡ name
 IsFileOf name (NewFile path) = string_bytes path ≡ name
 IsFileOf name (Device path) = ⊥
+
+-- where a new file is to be, none has its name
+abbrev pub IsFree : FilesHeld → Target → Type 0
+IsFree held (File path) = Unit {0}
+IsFree held (NewFile path) = held (string_bytes path) ≡ None
+IsFree held (Device path) = Unit {0}

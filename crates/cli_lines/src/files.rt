@@ -1,7 +1,7 @@
 //! The files that the program is given.
 
 ghost use Rattle.std.specs.Prelude.{◌≡◌, ◌∷◌, ℕ, Bool, true, false, [], List, Option, Some, None, IfSome, IfOk, IsTrue, OnOk, take};
-ghost use Rattle.cli_lines.specs.Places.{ChangesOnly, FilesHeld, IsFileOf};
+ghost use Rattle.cli_lines.specs.Places.{ChangesOnly, FilesHeld, IsFileOf, IsFree};
 ghost use Rattle.cli_lines.specs.Told.{IsHeld};
 
 use std::alloc::{AllocError, Global};
@@ -46,6 +46,7 @@ pub trait Files {
     /// leads nowhere, and where it cannot be looked at.
     fn target(&mut self, alloc: Global, name: &str) -> Result<Target, FileFault>
         ensures file { is_known ≡ true → IfOk result (IsFileOf name.now) }
+        ensures free { is_known ≡ true → IfOk result (IsFree (bytes self.old)) }
         ensures kept { bytes self.new ≡ bytes self.old }
         ensures input { input_bytes self.new ≡ input_bytes self.old };
 

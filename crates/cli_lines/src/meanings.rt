@@ -73,9 +73,11 @@ fn order_meaning(number: u16) -> &'static str {
 pub fn simulation_words(alloc: Global, refusal: &SimRefusal) -> Result<String, AllocError> {
     let number = refusal.number();
     match refusal {
-        SimRefusal::Trapped { kind, .. } => {
+        SimRefusal::Trapped { kind, used } => {
             let (trap, kind) = (trap_name(kind.number()), kind.number());
-            format!(in alloc; "the chaincode trapped by trap {kind}, {trap} ({number})")
+            format!(in alloc;
+                "the chaincode trapped by trap {kind}, {trap}, with {used} of fuel used ({number})"
+            )
         }
         SimRefusal::Status(word) => {
             let status = (*word).cast_signed();

@@ -7,20 +7,23 @@ use Rattle.cli_words.specs.declared.task.Task.{Task}
 use Rattle.cli_words.specs.declared.task.Task.TheVariants as task
 use Rattle.cli_words.specs.declared.task.Work.{Work}
 use Rattle.cli_words.specs.declared.task.Work.TheVariants as work
-use Rattle.cli_session.specs.Stored.{store_names}
+use Rattle.cli_session.specs.Stored.{WhereNoStore, store_names}
+use Rattle.cli_session.proofs.Stored.{where_all}
 use Rattle.cli_program.specs.Leaving.{Leaves, LeavesFiles}
 
 pub leaves_all : (known : Bool) (w : Work) (before after : FilesHeld) → after ≡ before → Leaves known w before after
 leaves_all known (work.Run events None) before after same = same
-leaves_all known (work.Run events (Some store)) before after same = changes_none known (store_names store.now) before after same
+leaves_all known (work.Run events (Some store)) before after same =
+    (changes_none known (store_names store.now) before after same, where_all known before store.now (after ≡ before) same)
 leaves_all known (work.Commit store) before after same = changes_none known (store.now ∷ []) before after same
 leaves_all known w before after same = same
 
--- a run leaves all files where it has no store, and else all but that
+-- a run leaves all files where it has no store, and else all but that, or all where no store begins there
 pub leaves_run : (known : Bool) (events : Bor (List ℕ)) (store : Option (Bor (List ℕ))) (before after : FilesHeld) → (store ≡ None → after ≡ before) →
-    IfSome store (λ s. ChangesOnly known (store_names s.now) before after) → Leaves known (work.Run events store) before after
-leaves_run known events None before after kept others = kept refl
-leaves_run known events (Some store) before after kept others = others
+    IfSome store (λ s. ChangesOnly known (store_names s.now) before after) → IfSome store (λ s. WhereNoStore known before s.now (after ≡ before)) →
+    Leaves known (work.Run events store) before after
+leaves_run known events None before after kept others spares = kept refl
+leaves_run known events (Some store) before after kept others spares = (others, spares)
 
 -- so does a task
 pub leaves_files : (known : Bool) (t : Task) (before after : FilesHeld) → after ≡ before → LeavesFiles known t before after

@@ -66,17 +66,18 @@ usage_kept ws (Err words.Memory) k t u r is h = ap (λ (v : Told). v.failed) h.1
 usage_kept ws (Err words.Usage) k t u r is h = ap (λ (v : Told). v.failed) h.2
 
 -- where a text failed behind that, its status is that of other failures
-pub lost_status : (f : Failure) (t v : Told) → PrintsLast f t v → (f ≡ failure.Usage → t.failed ≡ false) → v.failed ≡ true → failure_status f ≡ 1
-lost_status failure.Usage t v prints whole lost = absurd (true≢false (sym lost ∙ prints.whole ∙ whole refl))
-lost_status _ t v prints whole lost = refl
+pub lost_status : (command : List ℕ) (f : Failure) (t v : Told) → PrintsLast command f t v → (f ≡ failure.Usage → t.failed ≡ false) →
+    v.failed ≡ true → failure_status f ≡ 1
+lost_status command failure.Usage t v prints whole lost = absurd (true≢false (sym lost ∙ prints.whole ∙ whole refl))
+lost_status command _ t v prints whole lost = refl
 
 -- the same of a failure that could be told, or not
-pub lost_by : (f : Failure) (t v : Told) (b : Bool) (status : ℕ) → (b ≡ true → status ≡ failure_status f) → (b ≡ false → status ≡ 1) →
-    (b ≡ true → PrintsLast f t v) → (f ≡ failure.Usage → t.failed ≡ false) → v.failed ≡ true → status ≡ 1
-lost_by f t v true status told lost line usage failed = told refl ∙ lost_status f t v (line refl) usage failed
-lost_by f t v false status told lost line usage failed = lost refl
+pub lost_by : (command : List ℕ) (f : Failure) (t v : Told) (b : Bool) (status : ℕ) → (b ≡ true → status ≡ failure_status f) → (b ≡ false → status ≡ 1) →
+    (b ≡ true → PrintsLast command f t v) → (f ≡ failure.Usage → t.failed ≡ false) → v.failed ≡ true → status ≡ 1
+lost_by command f t v true status told lost line usage failed = told refl ∙ lost_status command f t v (line refl) usage failed
+lost_by command f t v false status told lost line usage failed = lost refl
 
-pub ended_by : (f : Failure) (t v : Told) (b : Bool) (status : ℕ) → (b ≡ true → status ≡ failure_status f) → (b ≡ false → v.failed ≡ true) →
-    (b ≡ true → PrintsLast f t v) → v.failed ≡ false → (status ≡ failure_status f) × PrintsLast f t v
-ended_by f t v true status told lost line whole = (told refl, line refl)
-ended_by f t v false status told lost line whole = absurd (true≢false (sym (lost refl) ∙ whole))
+pub ended_by : (command : List ℕ) (f : Failure) (t v : Told) (b : Bool) (status : ℕ) → (b ≡ true → status ≡ failure_status f) → (b ≡ false → v.failed ≡ true) →
+    (b ≡ true → PrintsLast command f t v) → v.failed ≡ false → (status ≡ failure_status f) × PrintsLast command f t v
+ended_by command f t v true status told lost line whole = (told refl, line refl)
+ended_by command f t v false status told lost line whole = absurd (true≢false (sym (lost refl) ∙ whole))

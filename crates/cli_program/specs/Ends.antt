@@ -1,5 +1,5 @@
 -- How the program ends.
-use Rattle.std.specs.Prelude.{◌≡◌, ℕ, List, [], Result, Ok, Err, unwrap_or}
+use Rattle.std.specs.Prelude.{◌≡◌, ◌∷◌, ℕ, List, [], Result, Ok, Err, unwrap_or}
 use Rattle.cli_lines.specs.Texts.{last_line}
 use Rattle.cli_lines.specs.Told.{Told, Prints}
 use Rattle.cli_lines.specs.declared.failure.Failure.{Failure}
@@ -11,21 +11,26 @@ use Rattle.cli_words.specs.declared.task.WordsFault.{WordsFault}
 use Rattle.cli_words.specs.declared.task.WordsFault.TheVariants as words
 use Rattle.cli_program.specs.Tasks.{KnownFiles, Comes}
 
--- the last text of a failure: the usage, or the line by which it is told, if it is not told yet
-abbrev pub last_text : Failure → List ℕ
-last_text failure.Usage = usage_text
-last_text f = unwrap_or (last_line f) []
+-- the name of the command that words begin with
+abbrev pub command_in : List (List ℕ) → List ℕ
+command_in [] = []
+command_in (command ∷ ws) = command
 
-abbrev pub PrintsLast : Failure → (before after : Told) → Type 0
-PrintsLast f before after = Prints before after (last_text f)
+-- the last text of a failure: the usage of the command, or the line by which it is told, if it is not told yet
+abbrev pub last_text : (command : List ℕ) → Failure → List ℕ
+last_text command failure.Usage = usage_text command
+last_text command f = unwrap_or (last_line f) []
+
+abbrev pub PrintsLast : (command : List ℕ) → Failure → (before after : Told) → Type 0
+PrintsLast command f before after = Prints before after (last_text command f)
 
 -- what stands behind that which a task printed: the last text of its failure, if it failed
-abbrev pub end_text : Result (Unit {0}) Failure → List ℕ
-end_text (Ok done) = []
-end_text (Err f) = last_text f
+abbrev pub end_text : (command : List ℕ) → Result (Unit {0}) Failure → List ℕ
+end_text command (Ok done) = []
+end_text command (Err f) = last_text command f
 
-abbrev pub PrintsEnd : Result (Unit {0}) Failure → (before after : Told) → Type 0
-PrintsEnd answer before after = Prints before after (end_text answer)
+abbrev pub PrintsEnd : (command : List ℕ) → Result (Unit {0}) Failure → (before after : Told) → Type 0
+PrintsEnd command answer before after = Prints before after (end_text command answer)
 
 -- 2 where the words name no task
 abbrev pub failure_status : Failure → ℕ
@@ -51,6 +56,6 @@ pub record Ends (ws : List (List ℕ)) (k : KnownFiles) (before after : Told) (s
   pub answer : Result (Unit {0}) Failure
   pub mid : Told
   pub carries : CarriesOut ws k before mid answer
-  pub end : PrintsEnd answer mid after
+  pub end : PrintsEnd (command_in ws) answer mid after
   pub status_is : status ≡ status_of answer
   pub told : answer ≡ Err failure.Output → ⊥

@@ -6,11 +6,13 @@ use Rattle.cli_words.specs.declared.task.Task.{Task}
 use Rattle.cli_words.specs.declared.task.Task.TheVariants as task
 use Rattle.cli_words.specs.declared.task.Work.{Work}
 use Rattle.cli_words.specs.declared.task.Work.TheVariants as work
-use Rattle.cli_session.specs.Stored.{store_names}
+use Rattle.cli_session.specs.Stored.{WhereNoStore, store_names}
 
--- All of them; where a store is written, all but the store's, if it is known what is written
+-- All of them; where a store is written, all but the store's, if it is known what is written. A run leaves that too, where it holds bytes with which no
+-- store begins
 abbrev pub Leaves : (known : Bool) → Work → (before after : FilesHeld) → Type 0
-Leaves known (work.Run events (Some store)) before after = ChangesOnly known (store_names store.now) before after
+Leaves known (work.Run events (Some store)) before after =
+    ChangesOnly known (store_names store.now) before after × WhereNoStore known before store.now (after ≡ before)
 Leaves known (work.Commit store) before after = ChangesOnly known (store.now ∷ []) before after
 Leaves known w before after = after ≡ before
 

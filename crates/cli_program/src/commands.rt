@@ -3,9 +3,9 @@
 ghost use Rattle.std.specs.Prelude.{◌≡◌, ◌<◌, [], true, false, None, IfSome, OnErr, OnOk, map, option_map, string_bytes};
 ghost use Rattle.cli_lines.specs.Places.{ChangesOnly};
 ghost use Rattle.cli_lines.specs.Told.{Answers, Begins, IsMore, IsTold, Prints, Says, Tells, Told};
-ghost use Rattle.cli_program.specs.Ends.{CarriesOut, Ends, PrintsLast, failure_status};
+ghost use Rattle.cli_program.specs.Ends.{CarriesOut, Ends, PrintsLast, command_in, failure_status};
 ghost use Rattle.cli_program.specs.Leaving.{KeepsFiles, Leaves, LeavesFiles};
-ghost use Rattle.cli_session.specs.Stored.{store_names};
+ghost use Rattle.cli_session.specs.Stored.{WhereNoStore, store_names};
 ghost use Rattle.cli_session.specs.Whole.{RunBegins};
 ghost use Rattle.cli_program.specs.Tasks.{Comes, IsPart, Runs, WithGenesis, Works, known_files};
 ghost use Rattle.cli_lines.specs.Told.{IsHandedOn};
@@ -65,16 +65,28 @@ pub fn program<R: Threads + Wait + Sync + Send + Copy + 'static, F: Files, W: Wr
         (known_files F.is_known (F.bytes files.old) (F.bytes files.new)
         (F.input_bytes files.old)) out.old out.new result }
     // Only a run with a store and a commit write files, and none but the store's, where it is known
-    // what is written.
+    // what is written; and a run none, where that holds bytes with which no store begins.
     ensures files { KeepsFiles F.is_known (map string_bytes words.now) (F.bytes files.old)
         (F.bytes files.new) }
 {
     match carry_out(Machine { rt, alloc }, words, files, out) {
         Ok(()) => done(out),
         Err(failure) => {
+            // On a terminal the sentence stands last.
+            let status = refused(command_in(words), failure, out);
             explain_refusal(alloc, files, words, &failure);
-            refused(failure, out)
+            status
         }
+    }
+}
+
+/// The name of the command that words begin with. Empty where there are none.
+fn command_in(words: &[String]) -> &str
+    ensures { result.now ≡ command_in (map string_bytes words.now) }
+{
+    match words.first() {
+        Some(command) => command.as_str(),
+        None => "",
     }
 }
 
@@ -106,32 +118,32 @@ fn done<W: Write>(out: &mut Printer<'_, W>) -> u8
 
 /// The status of a task that was not done: 2, where the words name none. Prints why, where that is
 /// not printed yet.
-fn refused<W: Write>(failure: Failure, out: &mut Printer<'_, W>) -> u8
+fn refused<W: Write>(command: &str, failure: Failure, out: &mut Printer<'_, W>) -> u8
     ensures status { (0 < result) × (result < 3) }
     ensures told { (before : Told) → IsMore before out.old → Says before out.old failure
         → IsTold before out.new }
     ensures lost { (failure ≡ Failure.Usage → out.old.failed ≡ false)
         → out.new.failed ≡ true → result ≡ 1 }
     ensures ended { out.new.failed ≡ false
-        → (result ≡ failure_status failure) × PrintsLast failure out.old out.new }
+        → (result ≡ failure_status failure) × PrintsLast command.now failure out.old out.new }
     ensures more { IsMore out.old out.new }
     ensures handed_on { IsHandedOn out.new }
 {
-    let is_told = tell_and_hand_on(failure, out);
+    let is_told = tell_and_hand_on(command, failure, out);
     status_of(failure, is_told)
 }
 
 /// Prints why a task was not done, where that is not printed yet, and hands it on. Whether both
 /// could be done.
-fn tell_and_hand_on<W: Write>(failure: Failure, out: &mut Printer<'_, W>) -> bool
+fn tell_and_hand_on<W: Write>(command: &str, failure: Failure, out: &mut Printer<'_, W>) -> bool
     ensures told { (before : Told) → IsMore before out.old → Says before out.old failure
         → IsTold before out.new }
-    ensures line { result ≡ true → PrintsLast failure out.old out.new }
+    ensures line { result ≡ true → PrintsLast command.now failure out.old out.new }
     ensures lost { result ≡ false → out.new.failed ≡ true }
     ensures more { IsMore out.old out.new }
     ensures handed_on { IsHandedOn out.new }
 {
-    let told = tell(failure, out);
+    let told = tell(command, failure, out);
     let is_handed_on = hand_on(out);
     match told {
         Ok(()) => is_handed_on,
@@ -173,16 +185,16 @@ fn hand_on<W: Write>(out: &mut Printer<'_, W>) -> bool
 }
 
 /// Prints why a task was not done, where that is not printed yet.
-fn tell<W: Write>(failure: Failure, out: &mut Printer<'_, W>) -> Result<(), Failure>
+fn tell<W: Write>(command: &str, failure: Failure, out: &mut Printer<'_, W>) -> Result<(), Failure>
     ensures told { (before : Told) → IsMore before out.old → Says before out.old failure
         → IsTold before out.new }
-    ensures line { OnOk result (PrintsLast failure out.old out.new) }
+    ensures line { OnOk result (PrintsLast command.now failure out.old out.new) }
     ensures lost { OnErr result (out.new.failed ≡ true) }
     ensures more { IsMore out.old out.new }
 {
     match failure {
         Failure::Printed | Failure::Output => Ok(()),
-        Failure::Usage => write!(out, "{Usage}"),
+        Failure::Usage => write!(out, "{}", Usage { command }),
         failure => writeln!(out, "{failure}"),
     }
 }
@@ -341,6 +353,9 @@ fn run_events<T: Threads + Sync, F: Files, W: Write>(
     ensures kept { names.now.store ≡ None → F.bytes files.new ≡ F.bytes files.old }
     ensures others { IfSome names.now.store
         (λ s. ChangesOnly F.is_known (store_names s.now) (F.bytes files.old) (F.bytes files.new)) }
+    ensures spares { IfSome names.now.store
+        (λ s. WhereNoStore F.is_known (F.bytes files.old) s.now
+        (F.bytes files.new ≡ F.bytes files.old)) }
 {
     answer_of(run(workers, alloc, files, genesis, names, out))
 }

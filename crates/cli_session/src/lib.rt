@@ -9,6 +9,7 @@ mod explaining;
 mod lines;
 mod placing;
 mod reading;
+mod replacing;
 mod replies;
 mod session;
 mod storing;

@@ -1,9 +1,11 @@
 //! The place of the store that a run writes.
 
-ghost use Rattle.std.specs.Prelude.{◌≡◌, ◌++◌, true, IfErr, IfOk, codes, string_bytes};
+ghost use Rattle.std.specs.Prelude.{◌≡◌, ◌++◌, true, IfErr, IfOk, IfSome, OnOk, codes, string_bytes};
 ghost use Rattle.cli_lines.specs.Places.{IsFileOf};
 ghost use Rattle.cli_lines.specs.Told.{IsBrokenOff, IsSilent};
+ghost use Rattle.cli_session.specs.Stored.{BeginsNoStore, HasStore};
 
+use crate::replacing::{Replaced, take_file};
 use crate::session::RunFiles;
 use cli_lines::{
     Access, Failure, FileFault, Files, Location, Target, explain_numbered, explain_trouble,
@@ -14,14 +16,31 @@ use std::alloc::{AllocError, Global};
 #[derive(Drop)]
 pub(crate) struct Place<L: Drop> {
     pub target: Target,
-    /// The file in whose place the store comes, where there is one. Nobody else has it.
-    _lock: Option<L>,
+    /// The file in whose place the store comes, where there is one.
+    replaced: Option<Replaced<L>>,
+}
+
+impl<L: Drop> Place<L> {
+    /// Says that the store of this name was replaced, if a run that ended so has done that.
+    pub(crate) fn explain_replaced<F: Files>(
+        &self,
+        alloc: Global,
+        files: &mut F,
+        name: &str,
+        ran: &Result<bool, Failure>,
+    )
+        ensures kept { F.bytes files.new ≡ F.bytes files.old }
+    {
+        if let (Ok(_), Some(replaced)) = (ran, &self.replaced) {
+            replaced.explain(alloc, files, name);
+        }
+    }
 }
 
 /// The place of the store of this name.
 ///
-/// Refused where no store can have the name, where its file is one that the run reads, and where
-/// another one has the file.
+/// Refused where no store can have the name, where its file is one that the run reads, where
+/// another one has it, and where it holds bytes with which no store begins.
 pub(crate) fn place_of<F: Files>(
     alloc: Global,
     files: &mut F,
@@ -31,6 +50,9 @@ pub(crate) fn place_of<F: Files>(
     ensures silent { IfErr result IsSilent }
     ensures lost { IfErr result IsBrokenOff }
     ensures file { F.is_known ≡ true → IfOk result (λ p. IsFileOf store.now p.target) }
+    ensures store { F.is_known ≡ true
+        → OnOk result
+        (IfSome (F.bytes files.old store.now) (λ held. ¬ BeginsNoStore held)) }
     ensures kept { F.bytes files.new ≡ F.bytes files.old }
 {
     let found = files.target(alloc, store);
@@ -40,14 +62,8 @@ pub(crate) fn place_of<F: Files>(
         explain_numbered(alloc, files, &Location::file(store), IS_READ, 703);
         return Err(Failure::File);
     }
-    let lock = match &target {
-        Target::File(name) => Some(lock_of(alloc, files, name)?),
-        Target::NewFile(_) | Target::Device(_) => None,
-    };
-    Ok(Place {
-        target,
-        _lock: lock,
-    })
+    let replaced = replaced_at(alloc, files, &target, store)?;
+    Ok(Place { target, replaced })
 }
 
 /// What is wrong with a name of a store whose file the run reads.
@@ -67,17 +83,23 @@ fn explain_target<F: Files>(
     }
 }
 
-/// Takes the file of a name for the program alone. Refused where another one has it.
-fn lock_of<F: Files>(alloc: Global, files: &mut F, name: &str) -> Result<F::Lock, Failure>
+/// The file in whose place a store comes, if there is one, taken for the program alone. Sentences
+/// call it by the name that is shown.
+fn replaced_at<F: Files>(
+    alloc: Global,
+    files: &mut F,
+    target: &Target,
+    shown: &str,
+) -> Result<Option<Replaced<F::Lock>>, Failure>
     ensures silent { IfErr result IsSilent }
     ensures lost { IfErr result IsBrokenOff }
+    ensures store { OnOk result (HasStore (F.bytes files.old) target.now) }
     ensures kept { F.bytes files.new ≡ F.bytes files.old }
 {
-    let Some(lock) = files.lock(name) else {
-        explain_trouble(alloc, files, name, Access::Write);
-        return Err(Failure::File);
-    };
-    Ok(lock)
+    match target {
+        Target::File(name) => Ok(Some(take_file(alloc, files, name, shown)?)),
+        Target::NewFile(_) | Target::Device(_) => Ok(None),
+    }
 }
 
 /// The name under which a store is written before it takes the place of the file of a name.

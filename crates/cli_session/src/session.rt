@@ -13,7 +13,7 @@ ghost use Rattle.cli_lines.specs.Told.{Answers, Begins, IsBrokenOff, Prints, Pri
 ghost use Rattle.cli_session.specs.Replies.{begin_text, endorsed_text, finish_text, reply_text};
 ghost use Rattle.cli_session.specs.Running.{Does, DoesAll, DoesFirst, IsBadLine, IsBytes, IsLine, IsNamed, IsUnbound, MeetsBadLine, StopsAt};
 ghost use Rattle.cli_session.specs.Stages.{DoesPrint, Gets, IsStepOf, Stay, StepsTo, first_chain, stage_at};
-ghost use Rattle.cli_session.specs.Stored.{ChangesPlaced, HoldsAsked, HoldsPlaced, store_names};
+ghost use Rattle.cli_session.specs.Stored.{ChangesPlaced, HoldsAsked, HoldsPlaced, IsNotRun, WhereNoStore, store_names};
 ghost use Rattle.cli_session.specs.Whole.{BeginsFrom, ComesTo, EndsPrinted, IsEnd, LinesBegin, LinesComeTo, RunBegins};
 
 use crate::explaining::{Refused, explain_line, next_explained, refused_by};
@@ -70,8 +70,9 @@ pub struct RunFiles<'a> {
 /// The file is read as the run goes. A line that stands for nothing ends the run, and then no store
 /// is written. The run is refused before the file is opened where a peer's seed is not at hand
 /// (808). The store's name is looked at before the first line is read: refused (703) where its
-/// file is one that the run reads, and where another one has it. The run has the file for itself
-/// alone until it ends. However many workers check the envelopes of blocks, it prints the same.
+/// file is one that the run reads, where another one has it, and where it holds bytes with which no
+/// store begins. The run has the file for itself alone until it ends. However many workers check the
+/// envelopes of blocks, it prints the same.
 pub fn run<T: Threads + Sync, F: Files, W: Write>(
     workers: &Workers<'_, T>,
     alloc: Global,
@@ -95,6 +96,12 @@ pub fn run<T: Threads + Sync, F: Files, W: Write>(
     ensures kept { names.now.store ≡ None → F.bytes files.new ≡ F.bytes files.old }
     ensures others { IfSome names.now.store
         (λ s. ChangesOnly F.is_known (store_names s.now) (F.bytes files.old) (F.bytes files.new)) }
+    // Where its file holds bytes with which no store begins, no file is written, and nothing is run.
+    ensures spares { IfSome names.now.store
+        (λ s. WhereNoStore F.is_known (F.bytes files.old) s.now
+        (F.bytes files.new ≡ F.bytes files.old)) }
+    ensures refuses { IfSome names.now.store
+        (λ s. WhereNoStore F.is_known (F.bytes files.old) s.now (IsNotRun result)) }
 {
     need_seeds(alloc, files, genesis, &genesis.peers)?;
     let Some(events) = files.open(names.events) else {
@@ -124,11 +131,16 @@ fn run_read<T: Threads + Sync, F: Files, B: BufRead, W: Write>(
     ensures kept { names.now.store ≡ None → F.bytes files.new ≡ F.bytes files.old }
     ensures others { IfSome names.now.store
         (λ s. ChangesOnly F.is_known (store_names s.now) (F.bytes files.old) (F.bytes files.new)) }
+    ensures spares { IfSome names.now.store
+        (λ s. WhereNoStore F.is_known (F.bytes files.old) s.now
+        (F.bytes files.new ≡ F.bytes files.old)) }
+    ensures refuses { IfSome names.now.store
+        (λ s. WhereNoStore F.is_known (F.bytes files.old) s.now (IsNotRun result)) }
 {
     match names.store {
         Some(store) => {
             let place = place_of(alloc, files, names, store)?;
-            run_into(
+            let ran = run_into(
                 workers,
                 alloc,
                 files,
@@ -137,7 +149,9 @@ fn run_read<T: Threads + Sync, F: Files, B: BufRead, W: Write>(
                 lines,
                 Some(&place.target),
                 out,
-            )
+            );
+            place.explain_replaced(alloc, files, store, &ran);
+            ran
         }
         None => run_into(
             workers,

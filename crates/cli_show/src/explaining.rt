@@ -3,12 +3,14 @@
 ghost use Rattle.std.specs.Prelude.{◌≡◌};
 
 use crate::missing::first_missing;
-use crate::showing::fault_of;
+use crate::showing::{Asked, Shown, fault_of};
+use crate::span::Span;
 use block_store::{End, RecordReader};
 use cli_lines::{
     Access, Failure, Files, Location, TAKE_AGAIN, block_words, explain, explain_trouble,
     flags_words,
 };
+use fab_types::limits::LAST_BLOCK;
 use ledger_setting::Genesis;
 use std::alloc::{AllocError, Global};
 use std::io::Read;
@@ -82,6 +84,65 @@ pub(crate) fn explain_findings<F: Files>(
         (None, None) => explain_missing(alloc, files, genesis, name, replayed),
     }
     explain_end(alloc, files, name, replayed.blocks, replayed.end);
+}
+
+/// Says the same of a store whose blocks are shown, and that none is among those that were asked
+/// for, where the store has none of them.
+pub(crate) fn explain_shown<F: Files>(
+    alloc: Global,
+    files: &mut F,
+    genesis: &Genesis,
+    shown: &Shown<'_>,
+    replayed: &Replayed,
+)
+    ensures kept { F.bytes files.new ≡ F.bytes files.old }
+{
+    explain_findings(alloc, files, genesis, shown.store, replayed);
+    let Span { from, to } = shown.span;
+    if from <= to {
+        return explain_absent(alloc, files, shown.store, from, replayed);
+    }
+    let name = shown.store;
+    if let Ok(words) = format!(in alloc; "{name}: there is no block from {from} to {to}") {
+        files.remark(&words);
+    }
+}
+
+/// Says why the state that is asked for is not told, if it is not, and that a store has no block of
+/// the number, where it is told after the last one.
+pub(crate) fn explain_asked<F: Files>(
+    alloc: Global,
+    files: &mut F,
+    asked: &Asked<'_>,
+    replayed: &Replayed,
+)
+    ensures kept { F.bytes files.new ≡ F.bytes files.old }
+{
+    explain_fault(alloc, files, asked.store, replayed);
+    if asked.at < LAST_BLOCK as usize && fault_of(replayed).is_none() {
+        explain_absent(alloc, files, asked.store, asked.at, replayed);
+    }
+}
+
+/// Says that a chain has no block of a number, if it has none.
+fn explain_absent<F: Files>(
+    alloc: Global,
+    files: &mut F,
+    name: &str,
+    number: usize,
+    replayed: &Replayed,
+)
+    ensures kept { F.bytes files.new ≡ F.bytes files.old }
+{
+    let height = replayed.snapshot.height();
+    if number <= height {
+        return;
+    }
+    if let Ok(words) = format!(in alloc;
+        "{name}: there is no block {number}; the last is {height}"
+    ) {
+        files.remark(&words);
+    }
 }
 
 /// Says which block has other flags than the table's, with what stands on the standard output for

@@ -10,7 +10,7 @@ ghost use Rattle.cli_show.specs.Lines.{AreFirstLines, HasLines, PrintsFirst, cha
 
 use crate::chain::print_chain;
 use crate::entries::print_state;
-use crate::explaining::{explain_fault, explain_findings};
+use crate::explaining::{explain_asked, explain_shown};
 use crate::findings::{ends_with, print_ending};
 use crate::members::print_members;
 use crate::replaying::replayed;
@@ -74,7 +74,7 @@ pub fn show<T: Threads + Sync, F: Files, W: Write>(
     ensures kept { F.bytes files.new ≡ F.bytes files.old }
 {
     let replayed = replayed(workers, alloc, files, genesis, shown.store)?;
-    explain_findings(alloc, files, genesis, shown.store, &replayed);
+    explain_shown(alloc, files, genesis, shown, &replayed);
     print_shown(alloc, genesis, &replayed, shown.span, out)
 }
 
@@ -121,7 +121,7 @@ pub fn state<T: Threads + Sync, F: Files, W: Write>(
     ensures kept { F.bytes files.new ≡ F.bytes files.old }
 {
     let replayed = replayed(workers, alloc, files, genesis, asked.store)?;
-    explain_fault(alloc, files, asked.store, &replayed);
+    explain_asked(alloc, files, asked, &replayed);
     print_asked(alloc, &genesis.rules, &replayed, asked.at, asked.part, out)
 }
 

@@ -2,3 +2,4 @@ pub mod Behind
 pub mod Words
 pub mod Parts
 pub mod Reading
+pub mod Rows

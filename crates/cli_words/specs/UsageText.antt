@@ -1,7 +1,8 @@
--- The usage of the program, by the rows of the table of commands.
-use Rattle.std.specs.Prelude.{◌==◌, ◌++◌, ◌^◌, ◌-◌, ℕ, List, [], ◌∷◌, codes, length, if◌then◌else◌}
+-- The usage of the program and of each command, by the rows of the table of commands.
+use Rattle.std.specs.Prelude.{◌==◌, ◌++◌, ◌^◌, ◌-◌, ℕ, Bool, List, [], ◌∷◌, Option, Some, None, codes, length, if◌then◌else◌}
 use Rattle.std.specs.Fmt.{format_spec, styled_text}
-use Rattle.std.specs.List.{flat_map}
+use Rattle.std.specs.List.{find, flat_map}
+use Rattle.std.specs.Str.{bytes_eq}
 use Rattle.std.specs.Str.Lines.{lines}
 use Rattle.cli_words.specs.Table.{TableRow, table}
 
@@ -50,5 +51,17 @@ explanations_text rows = flat_map explanation_text rows
 abbrev pub usage_of : List TableRow → List ℕ
 usage_of rows = lines_text rows ++ explanations_text rows
 
-abbrev pub usage_text : List ℕ
-usage_text = usage_of table
+-- ---- of one command; of all where none has the name
+
+abbrev pub has_name : List ℕ → TableRow → Bool
+has_name name row = bytes_eq row.name name
+
+abbrev pub alone_or : List TableRow → Option TableRow → List TableRow
+alone_or rows None = rows
+alone_or rows (Some row) = row ∷ []
+
+abbrev pub rows_for : (name : List ℕ) → List TableRow → List TableRow
+rows_for name rows = alone_or rows (find (has_name name) rows)
+
+abbrev pub usage_text : (name : List ℕ) → List ℕ
+usage_text name = usage_of (rows_for name table)

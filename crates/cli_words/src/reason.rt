@@ -1,14 +1,12 @@
 //! Why words name no task, in words.
 
 use crate::table::{Form, rows};
-use crate::usage::FormUsage;
 use crate::values::{is_right, rule_of};
 use nearest_word::nearest;
 use std::alloc::{AllocError, Global};
 use std::fmt::{self, Display, Formatter, Write};
 
-/// Why words name no task: a sentence that ends with `(usage)`. Behind it stands, in lines of its
-/// own, the usage of the command that the words begin with, if it is one. The last line has no end.
+/// Why words name no task: a sentence that ends with `(usage)`.
 pub fn words_reason(alloc: Global, words: &[String]) -> Result<String, AllocError> {
     let [command, words @ ..] = words else {
         return format!(in alloc; "a command is needed, in UTF-8: {Commands} (usage)");
@@ -36,7 +34,7 @@ fn unknown_command(alloc: Global, word: &str) -> Result<String, AllocError> {
     }
 }
 
-/// Why the words behind a command are none of it, and its usage.
+/// Why the words behind a command are none of it.
 fn reason_of(alloc: Global, form: &Form, words: &[String]) -> Result<String, AllocError> {
     let mut reading = Reading {
         form,
@@ -49,10 +47,8 @@ fn reason_of(alloc: Global, form: &Form, words: &[String]) -> Result<String, All
         Some(fault) => fault,
         None => String::from_str(alloc, "the words are none of this command")?,
     };
-    let (name, usage) = (form.name, FormUsage(form));
-    let mut reason = format!(in alloc; "{name}: {fault} (usage)\n{usage}")?;
-    reason.pop();
-    Ok(reason)
+    let name = form.name;
+    format!(in alloc; "{name}: {fault} (usage)")
 }
 
 /// What was read of the words behind a command.

@@ -5,6 +5,9 @@
 
 ghost use Rattle.std.specs.Prelude.{◌≡◌, map};
 ghost use Rattle.cli_words.specs.Table.{row_of, row_of_tuple, table};
+ghost use Rattle.cli_words.specs.UsageText.{has_name, rows_for};
+
+use std::slice::from_ref;
 
 /// A command.
 #[derive(Clone, Copy)]
@@ -52,6 +55,25 @@ pub(crate) fn rows() -> &'static [Row]
     ensures { map row_of_tuple result.now ≡ table }
 {
     &COMMANDS
+}
+
+/// The row of the command of a name, or all where none has it.
+pub(crate) fn rows_for(name: &str) -> &'static [Row]
+    ensures { map row_of_tuple result.now ≡ rows_for name.now table }
+{
+    let rows = rows();
+    for row in rows {
+        if has_name(row, name) {
+            return from_ref(row);
+        }
+    }
+    rows
+}
+
+fn has_name(row: &Row, name: &str) -> bool
+    ensures { result ≡ has_name name.now (row_of_tuple row.now) }
+{
+    row.0 == name
 }
 
 static COMMANDS: [Row; 16] = [

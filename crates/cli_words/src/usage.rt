@@ -1,4 +1,4 @@
-//! The usage of the program.
+//! The usage of the program, and of each command.
 
 ghost use Rattle.std.specs.Prelude.{map};
 ghost use Rattle.std.specs.Fmt.{WritesOnOk};
@@ -6,34 +6,26 @@ ghost use Rattle.std.specs.List.{flat_map};
 ghost use Rattle.cli_words.specs.Table.{pairs, row_of, row_of_tuple, texts};
 ghost use Rattle.cli_words.specs.UsageText.{explanation_text, explanations_text, line_text, lines_text, named_option, option_text, word_text};
 
-use crate::table::{Form, Row, rows};
+use crate::table::{Form, Row, rows_for};
 use std::fmt::{self, Display, Formatter, Write};
 
-/// The usage of the program, as `{}` prints it: a line for each command with its words and options,
-/// and then what each does. The last line has its end.
+/// The usage of the command of a name, or of all where none has it, as `{}` prints it: a line for
+/// each command with its words and options, and then what each does. The last line has its end.
 #[derive(Clone, Copy)]
-pub struct Usage;
+pub struct Usage<'a> {
+    pub command: &'a str,
+}
 
-impl Display for Usage {
+impl Display for Usage<'_> {
     ghost use Rattle.std.specs.Prelude.{Some};
     ghost use Rattle.cli_words.specs.UsageText.{usage_text};
 
-    ghost output = { λ _. Some usage_text };
+    ghost output = { λ u. Some (usage_text u.command.now) };
 
     fn fmt<W: Write>(&self, f: &mut Formatter<W>) -> fmt::Result {
-        write_lines(rows(), f)?;
-        write_explanations(rows(), f)
-    }
-}
-
-/// The usage of one command, as `{}` prints it. The last line has its end.
-#[derive(Clone, Copy)]
-pub(crate) struct FormUsage<'a>(pub(crate) &'a Form);
-
-impl Display for FormUsage<'_> {
-    fn fmt<W: Write>(&self, f: &mut Formatter<W>) -> fmt::Result {
-        write_line("usage:", self.0, f)?;
-        write_explanation(self.0, f)
+        let rows = rows_for(self.command);
+        write_lines(rows, f)?;
+        write_explanations(rows, f)
     }
 }
 

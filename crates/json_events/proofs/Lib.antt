@@ -2,5 +2,6 @@ mod Texts
 mod Together
 mod Forms
 mod Memberships
+pub mod Arguments
 mod OneProposal
 mod OneAction

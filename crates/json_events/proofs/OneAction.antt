@@ -1,16 +1,18 @@
--- A line spells at most one action.
-use Rattle.std.proofs.Common.{◌≡◌, ℕ, List, [], ◌∷◌, map, Bool, ◌||◌, String, Global, string_bytes, codes, refl, sym, ap, subst, ◌∙◌, if◌then◌else◌}
+-- A line spells at most one action, and that of a begun call no other.
+use Rattle.std.proofs.Common.{◌≡◌, ℕ, List, [], Bool, ◌||◌, codes, refl, sym, ap, subst, ◌∙◌, if◌then◌else◌}
 use Rattle.std.specs.Str.{bytes_eq}
-use Rattle.serde_json.specs.Data.{Data, null, object, number, unsigned, Members, member, no_members, Items, no_items, item}
+use Rattle.serde_json.specs.Data.{Data, array, null, object, number, unsigned, Members, member, no_members}
 use Rattle.json_fields.proofs.Rests.{members_in, rest, first, text_in}
+use Rattle.fab_types.specs.declared.proposal.Call.{Call}
 use Rattle.fab_types.specs.declared.proposal.Proposal.{Proposal}
 use Rattle.fab_types.specs.declared.proposal.Proposal.TheVariants as proposal
 use Rattle.json_events.specs.declared.action.Action.{Action}
 use Rattle.json_events.specs.declared.action.Action.TheVariants.{Begin, Finish, SubmitEndorsed, SubmitBytes, Take, Tick, Commit}
 use Rattle.json_events.specs.Same.{AsksSame}
-use Rattle.json_events.specs.Spelling.{AreTexts, IsAction, IsHex, IsProposal, Spells, begin_object}
+use Rattle.json_events.specs.Spelling.{AreTexts, IsAction, IsCall, IsHex, IsProposal, Spells, begin_object, call_members}
 use Rattle.json_events.proofs.Memberships.{same_ok}
-use Rattle.json_events.proofs.OneProposal.{one_proposal, one_data}
+use Rattle.json_events.proofs.OneProposal.{no_call, one_proposal, one_data}
+use Rattle.json_events.proofs.Texts.{one_texts}
 
 abbrev key : Members → List ℕ
 key no_members = []
@@ -19,7 +21,8 @@ key (member k d ms) = k
 -- the form of a line, by the names of its first fields and its word
 abbrev form_by : List ℕ → List ℕ → List ℕ → ℕ
 form_by first word second =
-    if bytes_eq first (codes "arg") then 0 else if bytes_eq first (codes "as") then 1 else if bytes_eq word (codes "begin") then 0
+    if bytes_eq first (codes "arg") || bytes_eq first (codes "args") then 0 else if bytes_eq first (codes "as") then 1
+    else if bytes_eq word (codes "begin") then 0
     else if bytes_eq word (codes "submit") then (if bytes_eq second (codes "use") then 2 else 3)
     else if bytes_eq word (codes "take") then 4 else if bytes_eq word (codes "tick") then 5 else 6
 
@@ -45,9 +48,14 @@ Begun = ℕ × Members × Data × Data
 abbrev begun_in : Data → Begun
 begun_in d = (form_in d, not_added (members_in d), at (codes "peer") (members_in d), at (codes "seat") (members_in d))
 
+of_a_call : (peer seat : ℕ) (arg : Data) (chaincode nonce : List ℕ) → begun_in (begin_object peer seat (call_members arg chaincode nonce))
+    ≡ (0, call_members arg chaincode nonce, number (unsigned peer), number (unsigned seat))
+of_a_call peer seat (array texts) chaincode nonce = refl
+of_a_call peer seat arg chaincode nonce = refl
+
 of_a_begin : (peer seat : ℕ) (ms : Members) (p : Proposal) → IsProposal (object ms) p
     → begun_in (begin_object peer seat ms) ≡ (0, ms, number (unsigned peer), number (unsigned seat))
-of_a_begin peer seat ms (proposal.Call c) h = rw (ap members_in h.3) refl
+of_a_begin peer seat ms (proposal.Call c) h = rw (ap members_in h.3) (of_a_call peer seat h.0 h.1 h.2)
 of_a_begin peer seat ms (proposal.Upgrade u) h = rw (ap members_in h.6) refl
 of_a_begin peer seat ms (proposal.Amend a) h = rw (ap members_in h.4) refl
 
@@ -82,17 +90,17 @@ of_its_form d Take h = ap form_in h
 of_its_form d Tick h = ap form_in h
 of_its_form d (Commit peer) h = ap form_in h
 
-one_list : (ds : Items) (xs ys : List (String Global)) → AreTexts ds xs → AreTexts ds ys → map string_bytes xs ≡ map string_bytes ys
-one_list no_items [] [] h k = refl
-one_list no_items [] (y ∷ ys) h k = elim k [ ]
-one_list no_items (x ∷ xs) ys h k = elim h [ ]
-one_list (item d ds) [] ys h k = elim h [ ]
-one_list (item d ds) (x ∷ xs) [] h k = elim k [ ]
-one_list (item d ds) (x ∷ xs) (y ∷ ys) h k =
-    let e = sym h.0 ∙ k.0 in
-    let first : string_bytes x ≡ string_bytes y = cc in
-    let others = one_list ds xs ys h.1 k.1 in
-    rw (first, others) refl
+-- where the fields of a begun call hold none, the data spell no action
+pub no_begun_call : (d : Data) (peer seat : ℕ) (arg : Data) (chaincode nonce : List ℕ) → d ≡ begin_object peer seat (call_members arg chaincode nonce)
+    → ((c : Call) → ¬ IsCall arg chaincode nonce c) → (a : Action) → ¬ IsAction d a
+no_begun_call d peer seat arg chaincode nonce is none (Begin p s q) h =
+    let e = sym (begun d p s q h) ∙ ap begun_in is ∙ of_a_call peer seat arg chaincode nonce in
+    let members : h.0 ≡ call_members arg chaincode nonce = ap (λ x. x.1) e in
+    no_call (object h.0) arg chaincode nonce (ap object members) none q h.2
+no_begun_call d peer seat arg chaincode nonce is none a h =
+    let begins = ap (λ b. b.0) (ap begun_in is ∙ of_a_call peer seat arg chaincode nonce) in
+    let same = sym begins ∙ of_its_form d a h in
+    cc
 
 one_action : (d : Data) (a b : Action) → IsAction d a → IsAction d b → form_of a ≡ form_of b → AsksSame a b
 one_action d (Begin p s a) (Begin q t b) h k same = one_begin d p q s t a b h k
@@ -100,7 +108,7 @@ one_action d (Finish p s a) (Finish q t b) h k same = let e = sym h ∙ k in (a,
 one_action d (SubmitEndorsed a) (SubmitEndorsed b) h k same =
     let e = sym h.1 ∙ k.1 in
     let texts : h.0 ≡ k.0 = cc in
-    (a, refl, one_list k.0 a.items b.items (subst (λ ds. AreTexts ds a.items) texts h.2.0) k.2.0)
+    (a, refl, one_texts k.0 a.items b.items (subst (λ ds. AreTexts ds a.items) texts h.2.0) k.2.0)
 one_action d (SubmitBytes a) (SubmitBytes b) h k same =
     let e = sym h.1 ∙ k.1 in
     let text : h.0 ≡ k.0 = cc in

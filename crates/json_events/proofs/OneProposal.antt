@@ -1,6 +1,6 @@
--- A line spells at most one proposal.
-use Rattle.std.proofs.Common.{◌≡◌, ℕ, List, codes, Some, Ok, sym, ap, subst, ◌∙◌, inl, inr}
-use Rattle.serde_json.specs.Data.{Data}
+-- A line spells at most one proposal, and that of a call no other.
+use Rattle.std.proofs.Common.{◌≡◌, ℕ, List, Some, Ok, sym, ap, subst, ◌∙◌}
+use Rattle.serde_json.specs.Data.{Data, object}
 use Rattle.serde_json.specs.Read.{read}
 use Rattle.hex.specs.Hex.{decode_sized}
 use Rattle.fab_types.specs.declared.definition.Definition.{Definition}
@@ -9,19 +9,10 @@ use Rattle.fab_types.specs.declared.proposal.Call.{Call}
 use Rattle.fab_types.specs.declared.proposal.Upgrade.{Upgrade}
 use Rattle.fab_types.specs.declared.proposal.Proposal.{Proposal}
 use Rattle.fab_types.specs.declared.proposal.Proposal.TheVariants as proposal
-use Rattle.json_events.specs.Spelling.{IsArgument, IsDefinition, IsHex, IsMembership, IsProposal, SpellsProposal}
+use Rattle.json_events.specs.Spelling.{IsArgumentOrDash, IsCall, IsDefinition, IsMembership, IsProposal, SpellsProposal, call_members}
+use Rattle.json_events.proofs.Arguments.{one_argument}
 use Rattle.json_events.proofs.Forms.{one_form}
 use Rattle.json_events.proofs.Memberships.{one_membership, same_ok}
-
--- `-` is no hex
-no_hex : (bytes : List ℕ) → ¬ IsHex (codes "-") bytes
-no_hex bytes h = cc
-
-one_argument : (text a b : List ℕ) → IsArgument text a → IsArgument text b → a ≡ b
-one_argument text a b ((inl h), small) ((inl k), also) = h.1 ∙ sym k.1
-one_argument text a b ((inl h), small) ((inr k), also) = absurd (no_hex b (subst (λ t. IsHex t b) h.0 k))
-one_argument text a b ((inr h), small) ((inl k), also) = absurd (no_hex a (subst (λ t. IsHex t a) k.0 h))
-one_argument text a b ((inr h), small) ((inr k), also) = same_ok _ a b h k
 
 same_call : (a b : Call) → a.chaincode ≡ b.chaincode → a.argument ≡ b.argument → a.nonce ≡ b.nonce → a ≡ b
 same_call a b c x n =
@@ -43,9 +34,22 @@ one_call d a b h k =
     let arg : h.0 ≡ k.0 = cc in
     let chaincode : h.1 ≡ k.1 = cc in
     let nonce : h.2 ≡ k.2 = cc in
-    let argument = one_argument k.0 _ _ (subst (λ x. IsArgument x a.argument) arg h.4.2) k.4.2 in
+    let argument = one_argument k.0 _ _ (subst (λ x. IsArgumentOrDash x a.argument) arg h.4.2) k.4.2 in
     let bytes = same_ok _ _ _ (subst (λ x. decode_sized x 16 ≡ Ok a.nonce) nonce h.4.3) k.4.3 in
     same_call a b (h.4.0 ∙ chaincode ∙ sym k.4.0) argument bytes
+
+-- where the fields of a call hold none, the data spell no proposal
+pub no_call : (d arg : Data) (chaincode nonce : List ℕ) → d ≡ object (call_members arg chaincode nonce) → ((c : Call) → ¬ IsCall arg chaincode nonce c)
+    → (p : Proposal) → ¬ IsProposal d p
+no_call d arg chaincode nonce is none (proposal.Call c) h =
+    let e = sym h.3 ∙ is in
+    let args : h.0 ≡ arg = cc in
+    let chaincodes : h.1 ≡ chaincode = cc in
+    let nonces : h.2 ≡ nonce = cc in
+    let spelled : IsCall arg chaincode nonce c = rw (sym args, sym chaincodes, sym nonces) h.4 in
+    none c spelled
+no_call d arg chaincode nonce is none (proposal.Upgrade u) h = let e = sym h.6 ∙ is in cc
+no_call d arg chaincode nonce is none (proposal.Amend a) h = let e = sym h.4 ∙ is in cc
 
 one_definition : (fuel : ℕ) (digest policy : List ℕ) (profile : ℕ) (a b : Definition)
     → IsDefinition fuel digest policy profile a → IsDefinition fuel digest policy profile b → a ≡ b

@@ -2,6 +2,7 @@
 -- object has each of its members once, in the order of their names; so an object with exactly some fields is written
 -- out in that order.
 use Rattle.std.specs.Prelude.{◌≡◌, ◌≤◌, ◌<◌, ◌^◌, ◌⊎◌, ℕ, List, [], length, codes, Some, Ok, String, string_bytes}
+use Rattle.std.specs.List.{join_by}
 use Rattle.std.specs.declared.alloc.Global.{Global}
 use Rattle.serde_json.specs.Data.{Data, object, member, no_members, Members, Items, array, put, string, number, unsigned}
 use Rattle.serde_json.specs.Read.{read}
@@ -28,14 +29,32 @@ use Rattle.json_events.specs.declared.action.Action.TheVariants.{Begin, Finish, 
 abbrev pub IsHex : List ℕ → List ℕ → Type 0
 IsHex text bytes = decode_of text ≡ Ok bytes
 
--- an argument is hex, or `-` for no bytes
-abbrev pub IsArgument : List ℕ → List ℕ → Type 0
-IsArgument text bytes = (((text ≡ codes "-") × (bytes ≡ [])) ⊎ IsHex text bytes) × IsValue bytes
+-- the strings that the items are
+abbrev pub AreTexts : Items → List (String Global) → Type 0
+AreTexts ds xs = AreItems (λ d x. d ≡ string (string_bytes x)) ds xs
 
--- the call of these texts; a nonce has 16 bytes
-abbrev pub IsCall : List ℕ → List ℕ → List ℕ → Call → Type 0
+-- the bytes of these strings, with one space between
+abbrev pub AreJoined : Items → List ℕ → Type 0
+AreJoined ds bytes = (texts : List (String Global)) × AreTexts ds texts × (bytes ≡ join_by string_bytes (codes " ") texts)
+
+-- the bytes that hex or a list of texts stands for
+abbrev pub StandsFor : Data → List ℕ → Type 0
+StandsFor (string hex) bytes = IsHex hex bytes
+StandsFor (array texts) bytes = AreJoined texts bytes
+StandsFor d bytes = ⊥
+
+-- an argument is hex or a list of texts
+abbrev pub IsArgument : Data → List ℕ → Type 0
+IsArgument d bytes = StandsFor d bytes × IsValue bytes
+
+-- the same, or `-` for no bytes
+abbrev pub IsArgumentOrDash : Data → List ℕ → Type 0
+IsArgumentOrDash d bytes = ((d ≡ string (codes "-")) × (bytes ≡ [])) ⊎ IsArgument d bytes
+
+-- the call of this argument and these texts; a nonce has 16 bytes
+abbrev pub IsCall : Data → List ℕ → List ℕ → Call → Type 0
 IsCall arg chaincode nonce c =
-    (c.chaincode ≡ chaincode) × IsName chaincode × IsArgument arg c.argument × (decode_sized nonce 16 ≡ Ok c.nonce)
+    (c.chaincode ≡ chaincode) × IsName chaincode × IsArgumentOrDash arg c.argument × (decode_sized nonce 16 ≡ Ok c.nonce)
 
 -- the definition of a fuel and these texts, whose first byte is the number in "profile"; a digest has 32 bytes
 abbrev pub IsDefinition : ℕ → List ℕ → List ℕ → ℕ → Definition → Type 0
@@ -73,10 +92,6 @@ IsMembership members policy serial s =
 abbrev pub IsAmend : Items → List ℕ → List ℕ → ℕ → Amend → Type 0
 IsAmend members nonce policy serial a = IsMembership members policy serial a.membership × (decode_sized nonce 16 ≡ Ok a.nonce)
 
--- the strings that the items are
-abbrev pub AreTexts : Items → List (String Global) → Type 0
-AreTexts ds xs = AreItems (λ d x. d ≡ string (string_bytes x)) ds xs
-
 -- the names that a submit uses
 abbrev pub AreNames : Items → List (String Global) → Type 0
 AreNames ds xs = AreTexts ds xs × (1 ≤ length xs) × (length xs ≤ 32)
@@ -85,10 +100,15 @@ AreNames ds xs = AreTexts ds xs × (1 ≤ length xs) × (length xs ≤ 32)
 abbrev pub seat_members : ℕ → ℕ → Members
 seat_members peer seat = member (codes "peer") (number (unsigned peer)) (member (codes "seat") (number (unsigned seat)) no_members)
 
--- "arg":"-", "chaincode":"kv", "nonce":".."
-abbrev pub call_members : List ℕ → List ℕ → List ℕ → Members
+-- a list of texts has the name "args", and hex "arg"
+abbrev pub argument_name : Data → List ℕ
+argument_name (array texts) = codes "args"
+argument_name d = codes "arg"
+
+-- "arg":"-", "chaincode":"kv", "nonce":".."; or "args":["put","a"], and the others
+abbrev pub call_members : Data → List ℕ → List ℕ → Members
 call_members arg chaincode nonce =
-    member (codes "arg") (string arg) (member (codes "chaincode") (string chaincode) (member (codes "nonce") (string nonce) no_members))
+    member (argument_name arg) arg (member (codes "chaincode") (string chaincode) (member (codes "nonce") (string nonce) no_members))
 
 -- "fuel":141, "module":"..", "nonce":"..", "policy":"..", "profile":1, "upgrade":"kv"
 abbrev pub upgrade_members : ℕ → List ℕ → List ℕ → List ℕ → ℕ → List ℕ → Members
@@ -130,7 +150,7 @@ commit_object peer = object (member (codes "do") (string (codes "commit")) (memb
 -- the proposal that the data of a line spells
 abbrev pub IsProposal : Data → Proposal → Type 0
 IsProposal d (proposal.Call c) =
-    (arg : List ℕ) × (chaincode : List ℕ) × (nonce : List ℕ) × (d ≡ object (call_members arg chaincode nonce)) × IsCall arg chaincode nonce c
+    (arg : Data) × (chaincode : List ℕ) × (nonce : List ℕ) × (d ≡ object (call_members arg chaincode nonce)) × IsCall arg chaincode nonce c
 IsProposal d (proposal.Upgrade u) =
     (fuel : ℕ) × (digest : List ℕ) × (nonce : List ℕ) × (policy : List ℕ) × (profile : ℕ) × (chaincode : List ℕ)
     × (d ≡ object (upgrade_members fuel digest nonce policy profile chaincode)) × IsUpgrade fuel digest nonce policy profile chaincode u

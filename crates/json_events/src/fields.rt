@@ -1,12 +1,12 @@
 //! The fields of each form of a line, which are taken in the order of their names.
 
 ghost use Rattle.std.specs.Prelude.{◌≡◌, ◌≢◌, ℕ, List, MatchOption, MatchBool};
-ghost use Rattle.serde_json.specs.Data.{Items, Members, array, member, number, object, string, unsigned};
+ghost use Rattle.serde_json.specs.Data.{Data, Items, Members, array, member, number, object, string, unsigned};
 ghost use Rattle.serde_json.specs.View.{view, items_view, members_view};
-ghost use Rattle.json_events.specs.Spelling.{amend_members, begin_object, call_members, commit_object, finish_object, hex_object, seat_members, upgrade_members, use_object, word_object};
+ghost use Rattle.json_events.specs.Spelling.{amend_members, argument_name, begin_object, call_members, commit_object, finish_object, hex_object, seat_members, upgrade_members, use_object, word_object};
 ghost use Rattle.json_events.specs.Spelling.{kept_object};
 
-use json_fields::{Fields, fields, is_end, take_list, take_number, take_text, take_word};
+use json_fields::{Fields, fields, is_end, items, take_list, take_number, take_text, take_word};
 use serde_json::Value;
 
 /// A peer and one of its seats.
@@ -30,10 +30,36 @@ fn last_place(left: &mut Fields<'_>) -> Option<Place>
     }
 }
 
+/// The name that an argument has.
+fn argument_name(value: &Value) -> &'static str
+    ensures { result.now ≡ argument_name (view value.now) }
+{
+    match items(value) {
+        Some(_) => "args",
+        None => "arg",
+    }
+}
+
+/// Takes the first field that is left, which is `args` and holds a list, or `arg` and holds
+/// something else. None in every other case; what is left after that is not said.
+pub fn take_argument<'a>(fields: &mut Fields<'a>) -> Option<&'a Value>
+    ensures { MatchOption result
+        ((d : Data) (rest : Members) → members_view fields.old ≢ member (argument_name d) d rest)
+        (λ v. members_view fields.old
+        ≡ member (argument_name (view v.now)) (view v.now) (members_view fields.new)) }
+{
+    let (key, value) = fields.next()?;
+    if key.as_str() == argument_name(value) {
+        Some(value)
+    } else {
+        None
+    }
+}
+
 /// What the fields of a call hold.
 #[derive(Clone, Copy)]
 pub(crate) struct CallFields<'a> {
-    pub arg: &'a str,
+    pub arg: &'a Value,
     pub chaincode: &'a str,
     pub nonce: &'a str,
 }
@@ -41,12 +67,13 @@ pub(crate) struct CallFields<'a> {
 /// The fields of a call. None where the line is of another form.
 pub(crate) fn call_fields(value: &Value) -> Option<CallFields<'_>>
     ensures { MatchOption result
-        ((arg chaincode nonce : List ℕ) →
+        ((arg : Data) (chaincode nonce : List ℕ) →
         view value.now ≢ object (call_members arg chaincode nonce))
-        (λ f. view value.now ≡ object (call_members f.arg.now f.chaincode.now f.nonce.now)) }
+        (λ f. view value.now
+        ≡ object (call_members (view f.arg.now) f.chaincode.now f.nonce.now)) }
 {
     let mut left = fields(value)?;
-    let arg = take_text(&mut left, "arg")?;
+    let arg = take_argument(&mut left)?;
     let chaincode = take_text(&mut left, "chaincode")?;
     let nonce = take_text(&mut left, "nonce")?;
     if !is_end(&mut left) {
@@ -62,14 +89,14 @@ pub(crate) fn call_fields(value: &Value) -> Option<CallFields<'_>>
 /// The fields of a begin of a call. None where the line is of another form.
 pub(crate) fn begun_call_fields(value: &Value) -> Option<(Place, CallFields<'_>)>
     ensures { MatchOption result
-        ((arg chaincode nonce : List ℕ) (peer seat : ℕ) →
+        ((arg : Data) (chaincode nonce : List ℕ) (peer seat : ℕ) →
         view value.now ≢ begin_object peer seat (call_members arg chaincode nonce))
         (λ b. view value.now
         ≡ begin_object b.0.peer b.0.seat
-        (call_members b.1.arg.now b.1.chaincode.now b.1.nonce.now)) }
+        (call_members (view b.1.arg.now) b.1.chaincode.now b.1.nonce.now)) }
 {
     let mut left = fields(value)?;
-    let arg = take_text(&mut left, "arg")?;
+    let arg = take_argument(&mut left)?;
     let chaincode = take_text(&mut left, "chaincode")?;
     if !take_word(&mut left, "do", "begin") {
         return None;

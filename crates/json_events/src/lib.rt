@@ -4,8 +4,8 @@
 //! and `read_proposal` the proposal, which has the fields of a begin but for `do`, `peer` and
 //! `seat`. A line spells at most one (`a_line_spells_one_action`, `a_line_spells_one_proposal`).
 //! `Bindings` keeps what a run's finishes gave under the names of their `as`, and makes the
-//! envelope that a `use` asks for. `value_of`, `bytes_of` and `name` read what lines of other forms
-//! have too.
+//! envelope that a `use` asks for. `value_of`, `take_argument`, `argument`, `bytes_of` and `name`
+//! read what lines of other forms have too.
 #![tactic(auto)]
 
 mod action;
@@ -18,6 +18,7 @@ mod values;
 
 pub use action::{Action, BadLine};
 pub use bindings::{Bindings, Endorsed};
+pub use fields::take_argument;
 pub use laws::{a_line_spells_one_action, a_line_spells_one_proposal};
 pub use line::{read_event, read_proposal, value_of};
-pub use values::{bytes_of, name};
+pub use values::{argument, bytes_of, name};

@@ -1,12 +1,13 @@
 //! What the fields of a line hold.
 
-ghost use Rattle.std.specs.Prelude.{◌≡◌, ◌≢◌, ℕ, List, IfOk, IfErr, MatchOption};
-ghost use Rattle.serde_json.specs.View.{items_view};
+ghost use Rattle.std.specs.Prelude.{◌≡◌, ◌≢◌, ℕ, List, codes, IfOk, IfErr, MatchOption, MatchBool};
+ghost use Rattle.serde_json.specs.Data.{string};
+ghost use Rattle.serde_json.specs.View.{items_view, view};
 ghost use Rattle.fab_types.specs.Limits.{IsFuel, IsName, IsPolicyText};
 ghost use Rattle.fab_types.specs.Spelling.{form_of};
 ghost use Rattle.fab_types.specs.declared.definition.Definition.{Definition};
 ghost use Rattle.json_events.specs.Refused.{NoneIs};
-ghost use Rattle.json_events.specs.Spelling.{AreNames, AreTexts, IsArgument, IsCall, IsDefinition, IsHex, IsUpgrade};
+ghost use Rattle.json_events.specs.Spelling.{AreJoined, AreNames, AreTexts, IsArgument, IsArgumentOrDash, IsCall, IsDefinition, IsHex, IsUpgrade, StandsFor};
 
 use crate::action::BadLine;
 use crate::fields::{CallFields, UpgradeFields};
@@ -31,19 +32,61 @@ pub fn bytes_of(alloc: Global, text: &str) -> Result<Vec<u8>, BadLine>
     }
 }
 
-/// The argument of a text: hex, or `-` for no bytes.
-fn argument(alloc: Global, text: &str) -> Result<Bytes, BadLine>
-    ensures ok { IfOk result (λ v. IsArgument text.now v) }
-    ensures refused { IfErr result (λ r. NoneIs (IsArgument text.now) r) }
+/// The bytes of the texts that the items of a list are, with one space between.
+fn joined(alloc: Global, items: &[Value]) -> Result<Vec<u8>, BadLine>
+    ensures ok { IfOk result (λ bytes. AreJoined (items_view items.now) bytes.items) }
+    ensures refused { IfErr result (λ r. NoneIs (AreJoined (items_view items.now)) r) }
 {
-    let bytes = if text == "-" {
-        Vec::new(alloc)
-    } else {
-        bytes_of(alloc, text)?
-    };
-    match Bytes::new(bytes) {
+    let texts = texts(alloc, items)?;
+    let text = texts.join(alloc, " ")?;
+    Ok(text.into_bytes())
+}
+
+/// The bytes that hex or a list of texts stands for.
+fn bytes_for(alloc: Global, value: &Value) -> Result<Vec<u8>, BadLine>
+    ensures ok { IfOk result (λ bytes. StandsFor (view value.now) bytes.items) }
+    ensures refused { IfErr result (λ r. NoneIs (StandsFor (view value.now)) r) }
+{
+    match value {
+        Value::String(hex) => bytes_of(alloc, hex.as_str()),
+        Value::Array(items) => joined(alloc, items),
+        _ => Err(BadLine::NoForm),
+    }
+}
+
+/// The argument that a value is: hex, or a list of texts. `NoForm` only where it is none.
+pub fn argument(alloc: Global, value: &Value) -> Result<Bytes, BadLine>
+    ensures ok { IfOk result (λ v. IsArgument (view value.now) v) }
+    ensures refused { IfErr result (λ r. NoneIs (IsArgument (view value.now)) r) }
+{
+    match Bytes::new(bytes_for(alloc, value)?) {
         Some(bytes) => Ok(bytes),
         None => Err(BadLine::NoForm),
+    }
+}
+
+/// The argument that a value is, or that of no bytes where it is `-`.
+fn argument_or_dash(alloc: Global, value: &Value) -> Result<Bytes, BadLine>
+    ensures ok { IfOk result (λ v. IsArgumentOrDash (view value.now) v) }
+    ensures refused { IfErr result (λ r. NoneIs (IsArgumentOrDash (view value.now)) r) }
+{
+    if !is_dash(value) {
+        return argument(alloc, value);
+    }
+    match Bytes::new(Vec::new(alloc)) {
+        Some(bytes) => Ok(bytes),
+        None => Err(BadLine::NoForm),
+    }
+}
+
+/// Whether a value is the text `-`.
+fn is_dash(value: &Value) -> bool
+    ensures { MatchBool result (view value.now ≡ string (codes "-"))
+        (view value.now ≢ string (codes "-")) }
+{
+    match json_fields::text(value) {
+        Some(text) => text == "-",
+        None => false,
     }
 }
 
@@ -62,16 +105,16 @@ pub fn name(text: &str) -> Result<Name, BadLine>
 /// The call that these fields hold.
 pub(crate) fn call(alloc: Global, fields: &CallFields<'_>) -> Result<Call, BadLine>
     ensures ok { IfOk result
-        (λ c. IsCall fields.now.arg.now fields.now.chaincode.now fields.now.nonce.now c) }
+        (λ c. IsCall (view fields.now.arg.now) fields.now.chaincode.now fields.now.nonce.now c) }
     ensures refused { IfErr result
         (λ r. NoneIs
-        (IsCall fields.now.arg.now fields.now.chaincode.now fields.now.nonce.now) r) }
+        (IsCall (view fields.now.arg.now) fields.now.chaincode.now fields.now.nonce.now) r) }
 {
     let Ok(nonce) = <[u8; 16]>::from_hex(fields.nonce) else {
         return Err(BadLine::NoForm);
     };
     let chaincode = name(fields.chaincode)?;
-    let argument = argument(alloc, fields.arg)?;
+    let argument = argument_or_dash(alloc, fields.arg)?;
     Ok(Call {
         chaincode,
         argument,

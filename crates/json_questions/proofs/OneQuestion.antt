@@ -1,17 +1,19 @@
--- A line spells at most one question.
+-- A line spells at most one question, and that of a call no other.
 use Rattle.std.proofs.Common.{◌≡◌, ℕ, List, [], codes, Result, Some, Ok, refl, sym, ap, subst, ◌∙◌, if◌then◌else◌}
 use Rattle.std.proofs.lemmas.List.{map-id}
 use Rattle.std.specs.Str.{bytes_eq}
 use Rattle.hex.specs.Hex.{decode_sized}
-use Rattle.serde_json.specs.Data.{Data, Items, Members as Fields, member, no_members}
+use Rattle.serde_json.specs.Data.{Data, Items, Members as Fields, array, member, no_members}
 use Rattle.serde_json.specs.Read.{read}
 use Rattle.json_fields.specs.Lists.{AreItems}
 use Rattle.json_fields.proofs.ReadItems.{AreItems-same}
 use Rattle.json_fields.proofs.Rests.{members_in, rest, first, text_in}
-use Rattle.json_events.specs.Spelling.{IsHex}
+use Rattle.fab_types.specs.Limits.{IsName}
+use Rattle.json_events.specs.Spelling.{IsArgument, IsHex}
+use Rattle.json_events.proofs.Arguments.{one_standing}
 use Rattle.json_questions.specs.declared.question.Question.{Question}
 use Rattle.json_questions.specs.declared.question.Question.TheVariants.{Setting, Members, Block, Get, Range, History, Transaction, Satisfied, Call}
-use Rattle.json_questions.specs.Spelling.{IsOrg, IsQuestion, SpellsQuestion}
+use Rattle.json_questions.specs.Spelling.{IsOrg, IsQuestion, SpellsQuestion, call_object}
 
 same_ok : {A E : Type 0} (r : Result A E) (a b : A) → r ≡ Ok a → r ≡ Ok b → a ≡ b
 same_ok {A} {E} r a b e f = let h = sym e ∙ f in cc
@@ -45,6 +47,10 @@ form_of (Transaction id) = 5
 form_of (Satisfied chaincode orgs) = 6
 form_of (Call chaincode argument) = 7
 
+of_a_call : (arg : Data) (chaincode : List ℕ) → form_in (call_object arg chaincode) ≡ 7
+of_a_call (array texts) chaincode = refl
+of_a_call arg chaincode = refl
+
 of_its_form : (d : Data) (q : Question) → IsQuestion d q → form_in d ≡ form_of q
 of_its_form d Setting h = ap form_in h
 of_its_form d Members h = ap form_in h
@@ -54,7 +60,17 @@ of_its_form d (Range start end limit) h = ap form_in h.2
 of_its_form d (History k) h = ap form_in h.1
 of_its_form d (Transaction id) h = ap form_in h.1
 of_its_form d (Satisfied chaincode orgs) h = ap form_in h.1
-of_its_form d (Call chaincode argument) h = ap form_in h.1
+of_its_form d (Call chaincode argument) h = ap form_in h.1 ∙ of_a_call h.0 chaincode
+
+-- where the fields of a call hold none, it spells no question
+pub no_call : (arg : Data) (chaincode : List ℕ) → ((a : List ℕ) → IsName chaincode → ¬ IsArgument arg a)
+    → (q : Question) → ¬ IsQuestion (call_object arg chaincode) q
+no_call arg chaincode none (Call c a) h =
+    let e = h.1 in
+    let args : h.0 ≡ arg = cc in
+    let names : c ≡ chaincode = cc in
+    none a (subst IsName names h.2) (subst (λ d. IsArgument d a) args h.3)
+no_call arg chaincode none q h = let same = sym (of_a_call arg chaincode) ∙ of_its_form (call_object arg chaincode) q h in cc
 
 one_hex : (s t a b : List ℕ) → s ≡ t → IsHex s a → IsHex t b → a ≡ b
 one_hex s t a b same h k = same_ok _ a b (subst (λ x. IsHex x a) same h) k
@@ -97,9 +113,9 @@ one_question d (Satisfied c a) (Satisfied f b) h k same =
     cc
 one_question d (Call c a) (Call f b) h k same =
     let e = sym h.1 ∙ k.1 in
-    let hex : h.0 ≡ k.0 = cc in
+    let arg : h.0 ≡ k.0 = cc in
     let names : c ≡ f = cc in
-    let arguments : a ≡ b = one_hex h.0 k.0 a b hex h.3.0 k.3.0 in
+    let arguments : a ≡ b = one_standing k.0 a b (subst (λ d. IsArgument d a) arg h.3).0 k.3.0 in
     cc
 one_question d q r h k same = cc
 

@@ -5,8 +5,8 @@ use Rattle.serde_json.specs.Data.{Data, object, member, no_members, Items, array
 use Rattle.serde_json.specs.Read.{read}
 use Rattle.json_fields.specs.Lists.{AreItems}
 use Rattle.hex.specs.Hex.{decode_sized}
-use Rattle.fab_types.specs.Limits.{IsBlockNumber, IsBound, IsKey, IsName, IsOrgName, IsValue}
-use Rattle.json_events.specs.Spelling.{IsHex}
+use Rattle.fab_types.specs.Limits.{IsBlockNumber, IsBound, IsKey, IsName, IsOrgName}
+use Rattle.json_events.specs.Spelling.{IsArgument, IsHex, argument_name}
 use Rattle.json_questions.specs.declared.question.Question.{Question}
 use Rattle.json_questions.specs.declared.question.Question.TheVariants.{Setting, Members, Block, Get, Range, History, Transaction, Satisfied, Call}
 
@@ -33,10 +33,10 @@ abbrev pub satisfied_object : List ℕ → Items → Data
 satisfied_object chaincode orgs =
     object (member (codes "ask") (string (codes "satisfied")) (member (codes "chaincode") (string chaincode) (member (codes "orgs") (array orgs) no_members)))
 
--- {"arg":"6b","ask":"call","chaincode":"kv"}
-abbrev pub call_object : (arg chaincode : List ℕ) → Data
+-- {"arg":"6b","ask":"call","chaincode":"kv"}, and the same with "args":["put","a"]
+abbrev pub call_object : (arg : Data) → (chaincode : List ℕ) → Data
 call_object arg chaincode =
-    object (member (codes "arg") (string arg) (member (codes "ask") (string (codes "call")) (member (codes "chaincode") (string chaincode) no_members)))
+    object (member (argument_name arg) arg (member (codes "ask") (string (codes "call")) (member (codes "chaincode") (string chaincode) no_members)))
 
 -- the key that a text of hex stands for
 abbrev pub IsKeyOf : List ℕ → List ℕ → Type 0
@@ -45,10 +45,6 @@ IsKeyOf text key = IsHex text key × IsKey key
 -- the bound that a text of hex stands for
 abbrev pub IsBoundOf : List ℕ → List ℕ → Type 0
 IsBoundOf text bound = IsHex text bound × IsBound bound
-
--- the argument that a text of hex stands for
-abbrev pub IsArgumentOf : List ℕ → List ℕ → Type 0
-IsArgumentOf text argument = IsHex text argument × IsValue argument
 
 -- so many entries at most may be asked for
 abbrev pub IsLimit : ℕ → Type 0
@@ -72,7 +68,7 @@ IsQuestion d (Range start end limit) =
 IsQuestion d (History key) = (hex : List ℕ) × (d ≡ text_object (codes "history") (codes "key") hex) × IsKeyOf hex key
 IsQuestion d (Transaction id) = (hex : List ℕ) × (d ≡ text_object (codes "transaction") (codes "id") hex) × (decode_sized hex 32 ≡ Ok id)
 IsQuestion d (Satisfied chaincode orgs) = (ds : Items) × (d ≡ satisfied_object chaincode ds) × IsName chaincode × AreOrgs ds orgs
-IsQuestion d (Call chaincode argument) = (hex : List ℕ) × (d ≡ call_object hex chaincode) × IsName chaincode × IsArgumentOf hex argument
+IsQuestion d (Call chaincode argument) = (arg : Data) × (d ≡ call_object arg chaincode) × IsName chaincode × IsArgument arg argument
 
 -- the question that a line spells
 abbrev pub SpellsQuestion : List ℕ → Question → Type 0

@@ -1,10 +1,11 @@
 //! The fields of each form of a line, which are taken in the order of their names.
 
 ghost use Rattle.std.specs.Prelude.{◌≡◌, ◌≢◌, ℕ, List, MatchOption, MatchBool};
-ghost use Rattle.serde_json.specs.Data.{Items};
+ghost use Rattle.serde_json.specs.Data.{Data, Items};
 ghost use Rattle.serde_json.specs.View.{view, items_view};
 ghost use Rattle.json_questions.specs.Spelling.{block_object, call_object, range_object, satisfied_object, text_object, word_object};
 
+use json_events::take_argument;
 use json_fields::{fields, is_end, take_list, take_number, take_text, take_word};
 use serde_json::Value;
 
@@ -110,18 +111,18 @@ pub(crate) fn satisfied_fields(value: &Value) -> Option<SatisfiedFields<'_>>
 /// What the fields of a call hold.
 #[derive(Clone, Copy)]
 pub(crate) struct CallFields<'a> {
-    pub arg: &'a str,
+    pub arg: &'a Value,
     pub chaincode: &'a str,
 }
 
 /// The fields of a call. None where the line is of another form.
 pub(crate) fn call_fields(value: &Value) -> Option<CallFields<'_>>
     ensures { MatchOption result
-        ((arg chaincode : List ℕ) → view value.now ≢ call_object arg chaincode)
-        (λ f. view value.now ≡ call_object f.arg.now f.chaincode.now) }
+        ((arg : Data) (chaincode : List ℕ) → view value.now ≢ call_object arg chaincode)
+        (λ f. view value.now ≡ call_object (view f.arg.now) f.chaincode.now) }
 {
     let mut left = fields(value)?;
-    let arg = take_text(&mut left, "arg")?;
+    let arg = take_argument(&mut left)?;
     if !take_word(&mut left, "ask", "call") {
         return None;
     }

@@ -1,19 +1,19 @@
 //! What the fields of a line hold.
 
 ghost use Rattle.std.specs.Prelude.{◌≡◌, ℕ, IfOk, IfErr, MatchOption, Ok};
-ghost use Rattle.serde_json.specs.View.{items_view};
+ghost use Rattle.serde_json.specs.View.{items_view, view};
 ghost use Rattle.hex.specs.Hex.{decode_sized};
 ghost use Rattle.fab_types.specs.Limits.{IsBlockNumber};
 ghost use Rattle.json_events.specs.Refused.{NoneIs};
-ghost use Rattle.json_questions.specs.Spelling.{IsArgumentOf, IsBoundOf, IsKeyOf, IsLimit, IsQuestion};
+ghost use Rattle.json_questions.specs.Spelling.{IsBoundOf, IsKeyOf, IsLimit, IsQuestion};
 ghost use Rattle.json_questions.specs.Spelling.{call_object, range_object, satisfied_object};
 
 use crate::fields::{CallFields, RangeFields, SatisfiedFields};
 use crate::orgs::orgs;
 use crate::question::Question;
-use fab_types::{BlockNumber, Bound, Key, Value};
+use fab_types::{BlockNumber, Bound, Key};
 use hex::FromHex;
-use json_events::{BadLine, bytes_of, name};
+use json_events::{BadLine, argument, bytes_of, name};
 use std::alloc::Global;
 
 /// How many entries may be asked for at most.
@@ -67,17 +67,6 @@ fn bound(alloc: Global, text: &str) -> Result<Bound, BadLine>
     }
 }
 
-/// The argument that a text of hex stands for.
-fn argument(alloc: Global, text: &str) -> Result<Value, BadLine>
-    ensures ok { IfOk result (λ a. IsArgumentOf text.now a) }
-    ensures refused { IfErr result (λ r. NoneIs (IsArgumentOf text.now) r) }
-{
-    match Value::new(bytes_of(alloc, text)?) {
-        Some(argument) => Ok(argument),
-        None => Err(BadLine::NoForm),
-    }
-}
-
 /// How many entries are asked for, where that is within the limits.
 fn limit(count: u64) -> Option<usize>
     ensures { MatchOption result (¬ IsLimit count) (λ n. (n ≡ count) × IsLimit count) }
@@ -121,9 +110,10 @@ pub(crate) fn satisfied(alloc: Global, fields: &SatisfiedFields<'_>) -> Result<Q
 /// The call that these fields ask for.
 pub(crate) fn call(alloc: Global, fields: &CallFields<'_>) -> Result<Question, BadLine>
     ensures ok { IfOk result
-        (IsQuestion (call_object fields.now.arg.now fields.now.chaincode.now)) }
+        (IsQuestion (call_object (view fields.now.arg.now) fields.now.chaincode.now)) }
     ensures refused { IfErr result
-        (λ r. NoneIs (IsQuestion (call_object fields.now.arg.now fields.now.chaincode.now)) r) }
+        (λ r. NoneIs
+        (IsQuestion (call_object (view fields.now.arg.now) fields.now.chaincode.now)) r) }
 {
     let chaincode = name(fields.chaincode)?;
     let argument = argument(alloc, fields.arg)?;

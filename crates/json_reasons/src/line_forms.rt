@@ -22,6 +22,9 @@ pub(crate) struct Action {
     pub forms: &'static [Form<Content>],
 }
 
+/// How many bytes an argument has at most.
+pub(crate) const MOST_ARGUMENT_BYTES: u64 = 4_096;
+
 const ANY_NUMBER: Rule = Rule::Number(0, u64::MAX);
 
 const CHAINCODE_NAME: Rule = Rule::Letters(Letters::Chaincode, 32);
@@ -37,7 +40,16 @@ const SEAT: Field = ("seat", Content::One(ANY_NUMBER));
 
 const CHAINCODE: Field = ("chaincode", Content::One(CHAINCODE_NAME));
 
-const ARG: Field = ("arg", Content::One(Rule::Argument(4_096)));
+const ARG: Field = ("arg", Content::One(Rule::Argument(MOST_ARGUMENT_BYTES)));
+
+const ARGS: Field = (
+    "args",
+    Content::List(List {
+        least: 0,
+        greatest: u64::MAX,
+        items: Items::Ones(Rule::Text),
+    }),
+);
 
 const NONCE: Field = ("nonce", Content::One(Rule::Hex(16, 16)));
 
@@ -77,7 +89,7 @@ const MEMBER: &[Form<Rule>] = &[
     },
 ];
 
-/// A proposal: an upgrade, an amendment or a call.
+/// A proposal: an upgrade, an amendment, or a call by texts or by hex.
 pub(crate) const PROPOSAL: &[Form<Content>] = &[
     Form {
         by: Some("upgrade"),
@@ -86,6 +98,10 @@ pub(crate) const PROPOSAL: &[Form<Content>] = &[
     Form {
         by: Some("members"),
         fields: &[MEMBERS, POLICY, SERIAL, NONCE],
+    },
+    Form {
+        by: Some("args"),
+        fields: &[CHAINCODE, ARGS, NONCE],
     },
     Form {
         by: None,
@@ -102,6 +118,10 @@ const BEGIN: &[Form<Content>] = &[
     Form {
         by: Some("members"),
         fields: &[DO, PEER, SEAT, MEMBERS, POLICY, SERIAL, NONCE],
+    },
+    Form {
+        by: Some("args"),
+        fields: &[DO, PEER, SEAT, CHAINCODE, ARGS, NONCE],
     },
     Form {
         by: None,
@@ -229,10 +249,20 @@ const ASK_SATISFIED: &[Form<Content>] = &[Form {
     ],
 }];
 
-const ASK_CALL: &[Form<Content>] = &[Form {
-    by: None,
-    fields: &[ASK, CHAINCODE, ("arg", Content::One(Rule::Hex(0, 4_096)))],
-}];
+const ASK_CALL: &[Form<Content>] = &[
+    Form {
+        by: Some("args"),
+        fields: &[ASK, CHAINCODE, ARGS],
+    },
+    Form {
+        by: None,
+        fields: &[
+            ASK,
+            CHAINCODE,
+            ("arg", Content::One(Rule::Hex(0, MOST_ARGUMENT_BYTES))),
+        ],
+    },
+];
 
 /// What a question may ask for.
 pub(crate) const QUESTIONS: Words = Words {

@@ -1,11 +1,12 @@
 //! Why a line is no event, no proposal or no question.
 
-use crate::complaint::Kind;
+use crate::complaint::{Kind, Span, Thing};
 use crate::forms::{Content, Form};
 use crate::json_text::{Read, read_json};
-use crate::line_forms::{EVENTS, PROPOSAL, QUESTIONS, Words};
+use crate::line_forms::{EVENTS, MOST_ARGUMENT_BYTES, PROPOSAL, QUESTIONS, Words};
 use crate::names::{items_of, text_of};
-use crate::place::Item;
+use crate::place::{Item, Place};
+use crate::rule::counted;
 use crate::search::Search;
 use crate::shown::{front, listed};
 use nearest_word::nearest;
@@ -107,16 +108,20 @@ fn unknown_word(
     format!(in alloc; "unknown {noun} {shown:?}; there are {there}")
 }
 
-/// The first fault of a line by these forms, or else of the order of its members, in words.
+/// The first fault of a line by these forms, or else of the order of its members, or of the bytes
+/// that its texts have together, in words.
 fn fault_of(
     alloc: Global,
     forms: &'static [Form<Content>],
     value: &Value,
 ) -> Result<Option<String>, AllocError> {
     let search = Search { alloc, asked: None };
-    match search.whole(forms, value)? {
+    if let Some(words) = search.whole(forms, value)? {
+        return Ok(Some(words));
+    }
+    match out_of_order(alloc, value)? {
         Some(words) => Ok(Some(words)),
-        None => out_of_order(alloc, value),
+        None => too_long(alloc, value),
     }
 }
 
@@ -132,4 +137,25 @@ fn out_of_order(alloc: Global, value: &Value) -> Result<Option<String>, AllocErr
         last = name;
     }
     Ok(None)
+}
+
+/// That the texts of an argument, with one space between, have too many bytes, in words.
+fn too_long(alloc: Global, value: &Value) -> Result<Option<String>, AllocError> {
+    let mut bytes = 0_usize;
+    for item in items_of(value, "args") {
+        if let Value::String(text) = item {
+            bytes = bytes.saturating_add(text.len()).saturating_add(1);
+        }
+    }
+    let span = Span {
+        least: 0,
+        greatest: MOST_ARGUMENT_BYTES,
+    };
+    match counted(bytes.saturating_sub(1), Thing::Byte, span) {
+        Some(complaint) => {
+            let place = Place::Field("args");
+            format!(in alloc; "{place}{complaint}").map(Some)
+        }
+        None => Ok(None),
+    }
 }

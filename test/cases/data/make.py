@@ -1,8 +1,8 @@
 #!/usr/bin/env python3
 """Writes orders*, sizes*, names*, ends.json, scans.jsonl, stranger.jsonl, bytes.jsonl, upgrades*, versions.jsonl,
 predicted.jsonl, profiles*, seatless.json, nobody.json, doubled.json, look.json, extend.wasm, signed*, alone*, second.json,
-forged.jsonl, seen*, asked.txt, open*, modules*, members*, *questions.jsonl, calls.jsonl, proposals.jsonl, logs, blocks for
-`commit` (*.txt), key files and stores beside this file: events with envelopes, genesis files, modules files, modules and
+forged.jsonl, seen*, asked.txt, open*, modules*, members*, *questions.jsonl, calls.jsonl, proposals.jsonl, args*, logs, blocks
+for `commit` (*.txt), key files and stores beside this file: events with envelopes, genesis files, modules files, modules and
 stores that are laid out here, by docs/RULES.md.
 
 older.store is not among them: the program wrote it when calls did not read their definitions yet. It has the blocks of
@@ -168,8 +168,8 @@ genesis("sizes.json", count=3, preferred=100, absolute=140)
 # Names that are bound again, and what two names stand for together.
 
 
-def begin(peer, nonce, seat=0, chaincode="kv", arg="-"):
-    return event("begin", peer=peer, seat=seat, chaincode=chaincode, arg=arg, nonce="%032x" % nonce)
+def begin(peer, nonce, seat=0, chaincode="kv", **argument):
+    return event("begin", peer=peer, seat=seat, chaincode=chaincode, **(argument or {"arg": "-"}), nonce="%032x" % nonce)
 
 
 def upgrade(peer, nonce, code, fuel=400, policy="'A'", chaincode="kv", profile=1):
@@ -195,6 +195,11 @@ names = [begin(0, 1), finish(0, "e1"), begin(1, 2), finish(1, "e2"), begin(0, 2)
 names += use("e1", "e2") + use("e2", "e1") + [begin(0, 1), finish(0, "e3")] + use("e3")
 write("names.jsonl", names + [event("commit", peer=0)] * 3)
 genesis("names.json", policy="AND('A', 'B')")
+
+# Calls by texts on peer 1, which are those by hex on peer 0: one payload with two endorsements.
+same = [begin(0, 1, arg="612062"), finish(0, "e1"), begin(1, 1, args=["a", "b"]), finish(1, "e2"), *use("e1", "e2")]
+same += [begin(0, 2), finish(0, "e3"), begin(1, 2, args=[]), finish(1, "e4"), *use("e3", "e4")]
+write("args.jsonl", same + [event("commit", peer=0)] * 2)
 
 
 # Ends of calls: a trap, a status, and a range and a delete that are told.
@@ -379,8 +384,9 @@ first, link = record(1, NO_LINK)
 second, _ = record(2, link)
 STORES = {
     "whole": first + second,
-    # Its last byte is missing.
+    # Its last byte is missing; and that of a store of one block.
     "torn": first + second[:-1],
+    "part": first[:-1],
     # The second block's flag is 2.
     "differs": first + record(2, link, flag=2)[0],
     # The second block is behind no other.
@@ -397,6 +403,10 @@ STORES = {
 }
 for name, store in STORES.items():
     (HERE / f"{name}.store").write_bytes(store)
+
+# A file that is no store, and events after which a store has no block.
+write("notes.txt", ["Pallet 7 is with the carrier.", "Pallet 9 is not."])
+write("no-events.jsonl", [])
 
 # Logs: lines of an index and a mark. Of the limits of sizes.json: each kind of mark and of line, two that end two blocks,
 # and at the end a part of a line.
@@ -474,6 +484,9 @@ def proposal(begun):
 calls = [proposal(begin(0, at, chaincode=name)) for at, name in enumerate(("kv", "trap", "status", "zero", "none"))]
 calls += [proposal(upgrade(0, 6, PUT_A)), proposal(upgrade(0, 7, b"another module")), begin(0, 1), "{}", "", calls[0]]
 write("proposals.jsonl", calls)
+# By texts, and by hex; and by both, by a number among the texts, and by no list.
+arguments: list[dict[str, object]] = [{"args": ["a", "b"]}, {"arg": "612062"}, {"args": ["a"], "arg": "61"}, {"args": ["a", 1]}, {"args": "a"}]
+write("args-asked.jsonl", [proposal(begin(0, 1, **it)) for it in arguments])
 
 # Public keys: those of the seeds of RFC 8032, section 7.1, tests 1 and 2. B has the first, A a shared key.
 SEEDS = [
@@ -801,8 +814,12 @@ none = [
 ]
 lines = [json.dumps(it) for it in questions + none]
 write("questions.jsonl", [*lines, "", "[]", "{", lines[0]])
-calls = [json.dumps({"ask": "call", "chaincode": name, "arg": ""}) for name in ("status", "trap", "zero", "kv")]
-write("calls.jsonl", calls)
+calls = [{"chaincode": name, "arg": ""} for name in ("status", "trap", "zero", "kv")]
+# By texts; and by both, by a number among the texts, by no list, by a list as hex, and by more bytes than there may be.
+calls += [{"chaincode": "kv", "args": texts} for texts in (["a", "b"], [])]
+calls += [{"chaincode": "kv", "args": [], "arg": ""}, {"chaincode": "kv", "args": ["a", 1]}, {"chaincode": "kv", "args": "a"}]
+calls += [{"chaincode": "kv", "arg": ["a"]}, {"chaincode": "kv", "args": ["a" * 2048, "b" * 2048]}]
+write("calls.jsonl", [json.dumps({"ask": "call", **it}) for it in calls])
 one = json.dumps({"ask": "history", "key": "61"})
 write("one-question.jsonl", [one])
 # A question, a line that is no text, and a question without its line's end.

@@ -34,7 +34,7 @@ returns-in-Run-clause-files g c =
     let old = g.F.Files.bytes c.args.files.now in
     let new = g.F.Files.bytes r.new.files in
     subst (λ (w : Work). Leaves known w old new) (sym c.in-Run.is)
-    (leaves_run known c.in-Run.events c.in-Run.store old new r.ensures.kept r.ensures.others)
+    (leaves_run known c.in-Run.events c.in-Run.store old new r.ensures.kept r.ensures.others r.ensures.spares)
 
 pub returns-in-Commit-clause-files : goal.returns-in-Commit-clause-files
 returns-in-Commit-clause-files g c =

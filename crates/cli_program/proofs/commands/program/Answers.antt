@@ -1,7 +1,7 @@
-use Rattle.std.proofs.Common.{Ok, Err, ap, map, string_bytes, subst, sym, ◌∙◌}
+use Rattle.std.proofs.Common.{ℕ, List, Ok, Err, ap, map, string_bytes, subst, sym, ◌∙◌}
 use Rattle.cli_lines.specs.Places.{FilesHeld}
 use Rattle.cli_lines.proofs.Silence.{and_more}
-use Rattle.cli_program.specs.Ends.{CarriesOut}
+use Rattle.cli_program.specs.Ends.{CarriesOut, PrintsLast}
 use Rattle.cli_program.specs.Leaving.{KeepsFiles}
 use Rattle.cli_program.specs.Tasks.{KnownFiles}
 use Rattle.cli_program.proofs.Beginning.{same_after}
@@ -22,18 +22,20 @@ returns-in-Err-clause-answers g c =
     let f = c.in-Err.failure in
     let mid = c.carry_out.new.out in
     let carries = subst (λ (k : KnownFiles). CarriesOut words k c.args.out.now mid (Err f)) same c.in-Err.ensures.carries in
-    λ whole. let end = c.refused.ensures.ended whole in
-    let told = not_output c.args.out.now mid c.refused.new.out f c.in-Err.ensures.tells.1 c.refused.ensures.more whole in
-    record { answer = Err f; mid = mid; carries = carries; end = end.1; status_is = end.0; told = λ is. told (cc is) }
+    let refused = c.refused-status in
+    λ whole. let end = refused.ensures.ended whole in
+    let told = not_output c.args.out.now mid refused.new.out f c.in-Err.ensures.tells.1 refused.ensures.more whole in
+    let printed = subst (λ (command : List ℕ). PrintsLast command f mid refused.new.out) c.command_in.ensures end.1 in
+    record { answer = Err f; mid = mid; carries = carries; end = printed; status_is = end.0; told = λ is. told (cc is) }
 
 pub returns-in-Ok-clause-more : goal.returns-in-Ok-clause-more
 returns-in-Ok-clause-more g c = and_more c.args.out.now c.carry_out.new.out c.done.new.out c.in-Ok.ensures.tells.0 c.done.ensures.more
 
 pub returns-in-Err-clause-more : goal.returns-in-Err-clause-more
-returns-in-Err-clause-more g c = and_more c.args.out.now c.carry_out.new.out c.refused.new.out c.in-Err.ensures.tells.0 c.refused.ensures.more
+returns-in-Err-clause-more g c = and_more c.args.out.now c.carry_out.new.out c.refused-status.new.out c.in-Err.ensures.tells.0 c.refused-status.ensures.more
 
 pub returns-in-Err-clause-told : goal.returns-in-Err-clause-told
-returns-in-Err-clause-told g c = λ positive. c.refused.ensures.told c.args.out.now c.in-Err.ensures.tells.0 c.in-Err.ensures.tells.1
+returns-in-Err-clause-told g c = λ positive. c.refused-status.ensures.told c.args.out.now c.in-Err.ensures.tells.0 c.in-Err.ensures.tells.1
 
 pub returns-in-Err-clause-files : goal.returns-in-Err-clause-files
 returns-in-Err-clause-files g c =
@@ -45,4 +47,4 @@ pub returns-in-Ok-clause-lost : goal.returns-in-Ok-clause-lost
 returns-in-Ok-clause-lost g c = λ whole lost. c.done.ensures.lost (c.in-Ok.ensures.tells.1 ∙ whole) lost
 
 pub returns-in-Err-clause-lost : goal.returns-in-Err-clause-lost
-returns-in-Err-clause-lost g c = λ whole lost. c.refused.ensures.lost (λ is. c.in-Err.ensures.usage (ap Err is) ∙ whole) lost
+returns-in-Err-clause-lost g c = λ whole lost. c.refused-status.ensures.lost (λ is. c.in-Err.ensures.usage (ap Err is) ∙ whole) lost

@@ -40,3 +40,6 @@ returns-clause-kept g c = c.run.ensures.kept
 
 pub returns-clause-others : goal.returns-clause-others
 returns-clause-others g c = c.run.ensures.others
+
+pub returns-clause-spares : goal.returns-clause-spares
+returns-clause-spares g c = c.run.ensures.spares

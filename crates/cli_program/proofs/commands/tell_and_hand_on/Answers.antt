@@ -17,7 +17,7 @@ pub returns-in-Ok-clause-line : goal.returns-in-Ok-clause-line
 returns-in-Ok-clause-line g c =
     let u = c.tell-told.new.out in
     let h = c.hand_on-is_handed_on in
-    λ handed. last_kept c.args.failure c.args.out.now u h.new.out c.in-Ok.ensures.line (h.ensures.kept handed)
+    λ handed. last_kept c.args.command.now c.args.failure c.args.out.now u h.new.out c.in-Ok.ensures.line (h.ensures.kept handed)
 
 pub returns-in-Err-clause-lost : goal.returns-in-Err-clause-lost
 returns-in-Err-clause-lost g c = λ not. c.hand_on-is_handed_on.ensures.more.fails c.in-Err.ensures.lost

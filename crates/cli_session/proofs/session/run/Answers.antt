@@ -9,7 +9,7 @@ use Rattle.cli_lines.specs.Told.{Answers, Begins}
 use Rattle.cli_session.specs.Stored.{HoldsAsked}
 use Rattle.cli_session.specs.Whole.{LinesBegin, LinesComeTo, RunBegins}
 use Rattle.cli_session.proofs.Pieces.{fresh_reader}
-use Rattle.cli_session.proofs.Stored.{asked_behind, asked_kept}
+use Rattle.cli_session.proofs.Stored.{asked_all, asked_behind, asked_kept, refuses_behind, spares_behind}
 use Rattle.cli_session.proofs.Whole.{with_seeds}
 use Rattle.cli_session.proofs.session.run.Goals as goal
 
@@ -27,6 +27,8 @@ returns-in_err-need_seeds g c =
       kept = λ none. c.in_err-need_seeds.ensures.kept;
       others = asked_kept g.F.Files.is_known c.args.names.now.store (g.F.Files.bytes c.args.files.now) (g.F.Files.bytes c.need_seeds.new.files)
           c.in_err-need_seeds.ensures.kept;
+      spares = asked_all g.F.Files.is_known c.args.names.now.store (g.F.Files.bytes c.args.files.now) _ c.in_err-need_seeds.ensures.kept;
+      refuses = asked_all g.F.Files.is_known c.args.names.now.store (g.F.Files.bytes c.args.files.now) _ (inr e.only);
     })
 
 pub returns-in_default-clause-others : goal.returns-in_default-clause-others
@@ -44,6 +46,35 @@ returns-clause-others g c =
     let bytes = g.F.Files.bytes in
     asked_behind g.F.Files.is_known c.args.names.now.store (bytes c.args.files.now) (bytes c.open.new.self) (bytes c.run_read.new.files)
     (c.open.ensures.kept ∙ c.need_seeds.ensures.kept) c.run_read.ensures.others
+
+pub returns-in_default-clause-spares : goal.returns-in_default-clause-spares
+returns-in_default-clause-spares g c =
+    asked_all g.F.Files.is_known c.args.names.now.store (g.F.Files.bytes c.args.files.now) _
+    (c.explain_trouble.ensures.kept ∙ c.open.ensures.kept ∙ c.need_seeds.ensures.kept)
+
+pub returns-in_default-clause-refuses : goal.returns-in_default-clause-refuses
+returns-in_default-clause-refuses g c = asked_all g.F.Files.is_known c.args.names.now.store (g.F.Files.bytes c.args.files.now) _ (inl tt)
+
+pub returns-in_err-lines-clause-spares : goal.returns-in_err-lines-clause-spares
+returns-in_err-lines-clause-spares g c =
+    asked_all g.F.Files.is_known c.args.names.now.store (g.F.Files.bytes c.args.files.now) _ (c.open.ensures.kept ∙ c.need_seeds.ensures.kept)
+
+pub returns-in_err-lines-clause-refuses : goal.returns-in_err-lines-clause-refuses
+returns-in_err-lines-clause-refuses g c =
+    let p = err_from_is_err_and c.from_residual-in_err-lines.result c.from_residual-in_err-lines.ensures.1 in
+    rw p.1 (asked_all g.F.Files.is_known c.args.names.now.store (g.F.Files.bytes c.args.files.now) _ (inl p.2.1))
+
+pub returns-clause-spares : goal.returns-clause-spares
+returns-clause-spares g c =
+    let bytes = g.F.Files.bytes in
+    spares_behind g.F.Files.is_known c.args.names.now.store (bytes c.args.files.now) (bytes c.open.new.self) (bytes c.run_read.new.files)
+    (c.open.ensures.kept ∙ c.need_seeds.ensures.kept) c.run_read.ensures.spares
+
+pub returns-clause-refuses : goal.returns-clause-refuses
+returns-clause-refuses g c =
+    let bytes = g.F.Files.bytes in
+    refuses_behind g.F.Files.is_known c.args.names.now.store (bytes c.args.files.now) (bytes c.open.new.self) _
+    (c.open.ensures.kept ∙ c.need_seeds.ensures.kept) c.run_read.ensures.refuses
 
 pub returns-clause-answers : goal.returns-clause-answers
 returns-clause-answers g c =

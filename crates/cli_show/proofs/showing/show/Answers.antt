@@ -38,7 +38,7 @@ returns-clause-begins g c =
     (λ text h. (r, c.in_ok-replayed.ensures.replayed, h)) last.ensures.begins
 
 pub returns-clause-kept : goal.returns-clause-kept
-returns-clause-kept g c = c.explain_findings.ensures.kept ∙ c.in_ok-replayed.ensures.kept
+returns-clause-kept g c = c.explain_shown.ensures.kept ∙ c.in_ok-replayed.ensures.kept
 
 pub returns-clause-tells : goal.returns-clause-tells
 returns-clause-tells g c = c.print_shown.ensures.tells

@@ -39,7 +39,7 @@ returns-clause-begins g c =
     c.in_ok-replayed.ensures.replayed last.ensures.refused first
 
 pub returns-clause-kept : goal.returns-clause-kept
-returns-clause-kept g c = c.explain_fault.ensures.kept ∙ c.in_ok-replayed.ensures.kept
+returns-clause-kept g c = c.explain_asked.ensures.kept ∙ c.in_ok-replayed.ensures.kept
 
 pub returns-clause-tells : goal.returns-clause-tells
 returns-clause-tells g c = c.print_asked.ensures.tells

@@ -1,16 +1,21 @@
 use Rattle.std.proofs.Common.{ap, arith, refl, ◌∙◌}
+use Rattle.std.proofs.lemmas.Result.{err_from_is_err_and}
 use Rattle.json_fields.proofs.Rests.{members_in}
-use Rattle.serde_json.specs.View.{items_view}
+use Rattle.serde_json.specs.View.{items_view, view}
 use Rattle.fab_types.specs.declared.proposal.Proposal.TheVariants as proposal
 use Rattle.json_events.specs.Spelling.{amend_members, begin_object, call_members, upgrade_members}
 use Rattle.json_events.specs.declared.action.Action.TheVariants.{Begin, Finish, SubmitEndorsed, SubmitBytes, Take, Tick, Commit}
+use Rattle.json_events.proofs.OneAction.{no_begun_call}
 use Rattle.json_events.proofs.line.action_of.Goals as goal
 
 pub returns-in-Some-clause-ok : goal.returns-in-Some-clause-ok
 returns-in-Some-clause-ok c =
     let f = c.in-Some.fields in
-    rw c.begun.ensures
-    (call_members f.arg.now f.chaincode.now f.nonce.now, c.in-Some.ensures, (f.arg.now, f.chaincode.now, f.nonce.now, refl, c.in_ok-call.ensures.ok))
+    rw c.begun.ensures (
+      call_members (view f.arg.now) f.chaincode.now f.nonce.now,
+      c.in-Some.ensures,
+      (view f.arg.now, f.chaincode.now, f.nonce.now, refl, c.in_ok-call.ensures.ok),
+    )
 
 pub returns-in-Some-begun_upgrade_fields-clause-ok : goal.returns-in-Some-begun_upgrade_fields-clause-ok
 returns-in-Some-begun_upgrade_fields-clause-ok c =
@@ -30,6 +35,11 @@ returns-in-Some-begun_amend_fields-clause-ok c =
       c.in-Some-begun_amend_fields.ensures,
       (ds, f.nonce.now, f.policy.now, f.serial, refl, c.in_ok-amend.ensures.ok),
     )
+
+pub returns-in_err-call-clause-refused : goal.returns-in_err-call-clause-refused
+returns-in_err-call-clause-refused c =
+    let p = err_from_is_err_and c.from_residual.result c.from_residual.ensures.1 in
+    rw (p.1, p.2) (λ real. no_begun_call _ _ _ _ _ _ c.in-Some.ensures (c.in_err-call.ensures.refused real))
 
 pub returns-clause-refused : goal.returns-clause-refused
 returns-clause-refused c real (Begin peer seat (proposal.Call call)) h =
