@@ -14,7 +14,7 @@ COMPLETION = $(DESTDIR)$(PREFIX)/share/bash-completion/completions/ledger
 MAN = $(DESTDIR)$(PREFIX)/share/man/man1/ledger.1
 
 FILES = VERSION LICENSE Makefile CHANGELOG.md CONTRIBUTING.md README.md bench/README.md crates/README.md docs/page.png \
-	$(wildcard docs/*.md docs/decisions/*.md python/*.py node/*.example node/regtuma/*.py node/regtuma/*.js node/clients/*.mjs \
+	$(wildcard docs/*.md docs/decisions/*.md python/*.py node/*.example node/*.cfg node/regtuma/*.py node/regtuma/*.js node/clients/*.mjs \
 	node/systemd/* examples/node/* examples/chaincode/*.h examples/chaincode/*.c examples/chaincode/*.wat \
 	examples/chaincode/*.wasm examples/chaincode/Cargo.toml examples/chaincode/*/Cargo.toml examples/chaincode/*/src/*.rs \
 	examples/chaincode/*/tests/*.rs) examples/page/template.html crates/cli_words/src/table.rt
@@ -37,9 +37,10 @@ install:
 	@echo "installed below $(DESTDIR)$(PREFIX)"
 
 users:
-	@for name in regtuma regtuma-etcd; do \
+	@for name in regtuma regtuma-etcd regtuma-proxy; do \
 		getent passwd $$name > /dev/null || \
-			useradd --system --create-home --home-dir /var/lib/$$name --shell /usr/sbin/nologin $$name || exit 1; \
+			useradd --system --create-home --home-dir /var/lib/$$name --skel /dev/null --shell /usr/sbin/nologin $$name || \
+			exit 1; \
 	done
 
 test:

@@ -1,17 +1,19 @@
 #!/bin/sh
-# Certificates of one organisation, by openssl. Each makes its own, and gives away nothing but its ca.pem.
+# Certificates of one organisation, by openssl. Each organisation makes its own, and keeps every ca.key offline.
 #
-#     regtuma-certs ca DIR ORG              the organisation's authority: DIR/ca.pem, and DIR/ca.key, which is kept offline
-#     regtuma-certs node DIR ORG HOST..     its node: DIR/node.pem and node.key, for these names and addresses
-#     regtuma-certs etcd DIR ORG HOST..     its node of etcd: DIR/etcd.pem and etcd.key, without a common name, since etcd's
-#                                           gateway refuses certificates that have one
-#     regtuma-certs client DIR ORG NAME     a client ORG/NAME: DIR/NAME.pem and NAME.key
-#     regtuma-certs bundle FILE CA.PEM..    all authorities, which every machine trusts, one after another
-#     regtuma-certs show CERT.PEM           whose certificate it is, by which authority, and until when
+#     regtuma-certs ca DIR ORG             its three authorities, which others get: DIR/ca.pem for its clients and its node,
+#                                          DIR/member.ca.pem for its member of etcd, DIR/etcd.ca.pem for those who ask etcd
+#     regtuma-certs node DIR ORG HOST..    its node, for these names and addresses: DIR/node.pem, by which it answers and asks other
+#                                          nodes, and DIR/etcd.pem, by which it and its operator ask etcd
+#     regtuma-certs member DIR ORG HOST..  its member of etcd: DIR/member.pem
+#     regtuma-certs client DIR ORG NAME    a client ORG/NAME: DIR/NAME.pem
+#     regtuma-certs trust DIR FOLDER..     whom a member of etcd trusts: the organisations whose authorities lie in these folders.
+#                                          DIR/members.pem is for other members, DIR/callers.pem for all who ask
+#     regtuma-certs show CERT.PEM          whose certificate it is, by which authority, and until when
 #
-# DAYS says how long a certificate lasts: 825 by default, of a client 90. An authority lasts ten years, and makes no other one.
-# A key is its owner's alone (0600). An authority is never written over; a certificate that is made again takes the place of the
-# old one, with a new key.
+# Beside each certificate lies its key, which is its owner's alone (0600). DAYS says how long a certificate lasts: 825 by default,
+# a client's 90. An authority lasts ten years, and makes no other one; it is never written over. A certificate that is made again
+# takes the place of the old one, with a new key. What etcd is asked by has no common name, which etcd may take for a user.
 set -eu
 umask 077
 
@@ -28,13 +30,15 @@ usage() {
 check_organisation() {
     case $1 in
         "" | *[!A-Za-z0-9_]*) complain "an organisation has letters, digits and _ in its name, and this is none: $1" ;;
+        [Rr][Oo][Oo][Tt]) complain "an organisation has another name than $1, which is etcd's" ;;
     esac
 }
 
 check_name() { # NAME: what becomes the name of a file
     case $1 in
         "" | .* | *[!A-Za-z0-9_.-]*) complain "a client has letters, digits, _, . and - in its name, and this is none: $1" ;;
-        ca | node | etcd | authorities | *.ca) complain "a client has another name than ca, node, etcd, authorities or one with .ca" ;;
+        ca | *.ca | node | member | members | callers | etcd | root)
+            complain "$1 is no client's name: it means something else here, or to etcd" ;;
     esac
 }
 
@@ -55,29 +59,44 @@ hosts() { # HOST..: what a certificate is good for, as openssl words it
     echo "subjectAltName=${list#,}"
 }
 
-sign() { # DIR NAME SUBJECT DAYS, and extensions at the input
-    test -r "$1/ca.key" || complain "$1 has no ca.key: begin with regtuma-certs ca"
+sign() { # DIR AUTHORITY NAME SUBJECT DAYS, and extensions at the input
+    test -r "$1/$2.key" || complain "$1 has no $2.key: begin with regtuma-certs ca"
     work=$(mktemp -d "$1/.certs-XXXXXX")
     trap 'rm -rf "$work"' EXIT
     # A shell that a signal ends does not do that of itself.
     trap 'exit 1' HUP INT TERM
     { echo "basicConstraints=critical,CA:false"; echo "keyUsage=critical,digitalSignature"; cat; } > "$work/extensions"
     make_key "$work/key"
-    openssl req -new -key "$work/key" -subj "$3" -out "$work/request"
-    openssl x509 -req -in "$work/request" -CA "$1/ca.pem" -CAkey "$1/ca.key" -set_serial "0x$(openssl rand -hex 16)" \
-        -days "$4" -sha256 -extfile "$work/extensions" -out "$work/pem" 2> "$work/said" || complain "$(cat "$work/said")"
+    openssl req -new -key "$work/key" -subj "$4" -out "$work/request"
+    openssl x509 -req -in "$work/request" -CA "$1/$2.pem" -CAkey "$1/$2.key" -set_serial "0x$(openssl rand -hex 16)" \
+        -days "$5" -sha256 -extfile "$work/extensions" -out "$work/pem" 2> "$work/said" || complain "$(cat "$work/said")"
     chmod 644 "$work/pem"
-    mv "$work/key" "$1/$2.key"
-    mv "$work/pem" "$1/$2.pem"
+    mv "$work/key" "$1/$3.key"
+    mv "$work/pem" "$1/$3.pem"
 }
 
-make_authority() { # DIR ORG
-    test ! -e "$1/ca.key" || complain "$1 has an authority: ca.key is not written over"
+make_authority() { # DIR NAME SUBJECT
+    made=yes
+    make_key "$1/$2.key"
+    openssl req -x509 -new -key "$1/$2.key" -subj "$3" -days 3650 -sha256 -addext "basicConstraints=critical,CA:true,pathlen:0" \
+        -addext "keyUsage=critical,keyCertSign,cRLSign" -out "$1/$2.pem"
+    chmod 644 "$1/$2.pem"
+}
+
+make_authorities() { # DIR ORG: those that are not there yet
     mkdir -p "$1"
-    make_key "$1/ca.key"
-    openssl req -x509 -new -key "$1/ca.key" -subj "/O=$2/CN=$2 authority" -days 3650 -sha256 \
-        -addext "basicConstraints=critical,CA:true,pathlen:0" -addext "keyUsage=critical,keyCertSign,cRLSign" -out "$1/ca.pem"
-    chmod 644 "$1/ca.pem"
+    made=
+    test -e "$1/ca.key" || make_authority "$1" ca "/O=$2/CN=$2 authority"
+    test -e "$1/member.ca.key" || make_authority "$1" member.ca "/O=$2/OU=etcd/CN=$2 authority of members of etcd"
+    test -e "$1/etcd.ca.key" || make_authority "$1" etcd.ca "/O=$2/OU=etcd/CN=$2 authority of those who ask etcd"
+    test -n "$made" || complain "$1 has its authorities: their keys are not written over"
+}
+
+check_authority() { # CA.PEM: one of etcd, so that no client's certificate opens it
+    case $(openssl x509 -in "$1" -noout -subject -nameopt RFC2253 -ext basicConstraints 2> /dev/null) in
+        *,OU=etcd,O=*CA:TRUE*) ;;
+        *) complain "$1 is no authority of etcd, as regtuma-certs ca makes them" ;;
+    esac
 }
 
 test $# -gt 0 || usage 2 >&2
@@ -86,32 +105,39 @@ shift
 case $what:$# in
     ca:2)
         check_organisation "$2"
-        make_authority "$1" "$2" ;;
-    node:[012] | etcd:[012]) usage 2 >&2 ;;
-    node:* | etcd:*)
+        make_authorities "$1" "$2" ;;
+    node:[012] | member:[012]) usage 2 >&2 ;;
+    node:* | member:*)
         dir=$1 org=$2
         check_organisation "$org"
         shift 2
-        subject="/O=$org/CN=node"
-        test "$what" = node || subject="/O=$org/OU=etcd"
         names=$(hosts "$@")
-        printf 'extendedKeyUsage=serverAuth,clientAuth\n%s\n' "$names" | sign "$dir" "$what" "$subject" "${DAYS:-825}" ;;
+        both=$(printf 'extendedKeyUsage=serverAuth,clientAuth\n%s\n' "$names")
+        if test "$what" = node; then
+            echo "extendedKeyUsage=clientAuth" | sign "$dir" etcd.ca etcd "/O=$org/OU=etcd" "${DAYS:-825}"
+            echo "$both" | sign "$dir" ca node "/O=$org/CN=node" "${DAYS:-825}"
+        else
+            echo "$both" | sign "$dir" member.ca member "/O=$org/OU=etcd member" "${DAYS:-825}"
+        fi ;;
     client:3)
         check_organisation "$2"
         check_name "$3"
-        echo "extendedKeyUsage=clientAuth" | sign "$1" "$3" "/O=$2/CN=$3" "${DAYS:-90}" ;;
-    bundle:0 | bundle:1) usage 2 >&2 ;;
-    bundle:*)
-        file=$1
+        echo "extendedKeyUsage=clientAuth" | sign "$1" ca "$3" "/O=$2/CN=$3" "${DAYS:-90}" ;;
+    trust:0 | trust:1) usage 2 >&2 ;;
+    trust:*)
+        dir=$1
         shift
-        for authority in "$@"; do
-            openssl x509 -in "$authority" -noout -ext basicConstraints 2> /dev/null | grep -q CA:TRUE ||
-                complain "$authority is no authority's certificate"
+        for folder in "$@"; do
+            check_authority "$folder/member.ca.pem"
+            check_authority "$folder/etcd.ca.pem"
         done
-        # FILE may be one of those that are joined.
-        cat "$@" > "$file.new"
-        chmod 644 "$file.new"
-        mv "$file.new" "$file" ;;
+        test -d "$dir" || complain "there is no folder $dir"
+        for folder in "$@"; do cat "$folder/member.ca.pem"; done > "$dir/members.pem.new"
+        for folder in "$@"; do cat "$folder/member.ca.pem" "$folder/etcd.ca.pem"; done > "$dir/callers.pem.new"
+        for name in members callers; do
+            chmod 644 "$dir/$name.pem.new"
+            mv "$dir/$name.pem.new" "$dir/$name.pem"
+        done ;;
     show:1)
         openssl x509 -in "$1" -noout -subject -issuer -enddate ;;
     --help:* | -h:* | help:*) usage 0 ;;

@@ -31,9 +31,46 @@ A.key = "4a"
 module = "put_a.wasm"
 policy = "'A'"
 """
+# A module in text, whose memory has 31 pages, and one in C.
+LARGE, SOURCE = '(module (memory 31) (func (export "invoke") (result i32) (i32.const 0)))', "int x;\n"
+# Files given in the place of others, and what is told: G, S and N are a network's genesis file, store and network file.
+REMARKS = [
+    ("check object.o", "object.o looks like an object file, and MODULE has to be a module: link it by wasm-ld, or build"),
+    ("check large.wat", "large.wat looks like a text of WebAssembly, and MODULE has to be a module: wat2wasm makes"),
+    ("check S", "looks like a store, and MODULE has to be"), ("check G", "looks like a genesis file, and MODULE has to be a module"),
+    ("check large.wasm", "large.wasm wants 31 pages of memory, and 16 are the most: link it with -z stack-size=8192"),
+    ("modules object.o", "refused 105 at 38; object.o looks like an object file"),
+    ("new other --chaincode a=large.wasm", "refused 111 at 23; large.wasm wants 31 pages"),
+    ("audit N S", "and GENESIS has to be a genesis file: `ledger genesis` makes a genesis file of it"),
+    ("audit S S", "looks like a store, and GENESIS has to be"), ("audit put_a.wasm S", "looks like a module, and GENESIS has to be"),
+    ("audit G G", "looks like a genesis file, and STORE has to be a store"), ("audit G text", "looks like a text, and STORE has to be"),
+    ("run G S", "looks like a store, and EVENTS has to be a file of events"), ("public N", "and KEYS has to be a key file"),
+    ("sim G kv - --modules G", "looks like a genesis file, and --modules has to be a modules file"),
+    ("audit mark.json S", "mark.json begins with a byte order mark: save it without"),
+    ("audit wide.json S", "wide.json is in UTF-16: save it as UTF-8"),
+    ("audit twice.json S", 'twice.json has the field "seats" twice in an object: the last one counts'),
+    ("run G twice.jsonl --keys net/all.key", 'twice.jsonl has the field "do" twice in an object: the last one counts'),
+    ("sim G kw -", 'there is no chaincode "kw"; did you mean "kv"?'), ("trace G other -", 'there is no chaincode "other"; there is kv'),
+    ("state net --at 2", "net/chain.store: there is no block 2; the last is 1"),
+    ("show net --from 3", "net/chain.store: there is no block 3; the last is 1"),
+    ("show net --from 4 --to 2", "net/chain.store: there is no block from 4 to 2"), ("page net --from 3", "there is no block 3; the last is 1"),
+]
+# Words of which there is nothing to be said.
+SILENT = ["audit net", "state net --at 1", "show net --from 1 --to 1", "sim net kv -", "check put_a.wasm", "marks net", "public net/all.key",
+          "trace net kv -", "show net --from 1"]
+# Words behind those that make the network, and what is printed.
+TEXTS = [
+    ("sim g.json kv a b --text", "tx [0-9a-f]{64}\nresult -\nread 0x006b76 absent\nwrite a put 1\n"),
+    ("call g.json s kv a b", "write a put 1\nVALID in block 1, tx [0-9a-f]{64}\n"),
+    ("state g.json s --text", '{"key":"a","value":"1","version":"1.0"}\n'),
+    ("state g.json s --text --key a", '{"block":1,"id":"[0-9a-f]{64}","key":"a","place":0,"value":"1"}\n'),
+    ("state g.json s --key=0x61 --text", '{"block":1,"id":"[0-9a-f]{64}","key":"a","place":0,"value":"1"}\n'),
+    ("show g.json s --from 1 --text", '(.*\n)+.*"arg":"a b",.*"key":"0x006b76","version":null.*"key":"a","value":"1".*\n.*"end":"clean".*\n'),
+    ("trace g.json kv --steps 1 --text --", "1 .*\n(.*\n)*"),
+]
 # An `rt` that takes some seconds and compiles nothing, and what compiles by it.
-SLOW = "#!/bin/sh\nsleep 7\n"
-COMPILES = "import pathlib, program; program._compile(pathlib.Path('.'), (), pathlib.Path('made').absolute())"
+SLOW = "#!/bin/sh\nsleep 4\n"
+COMPILES = "import pathlib, program; program.PATIENCE = 1; program._compile(pathlib.Path('.'), (), pathlib.Path('made').absolute())"
 
 
 class Asking:
@@ -55,6 +92,8 @@ def try_asking(report: Report, tree: pathlib.Path, room: pathlib.Path, env: dict
     try_wrong_words(at)
     try_made(at, names)
     try_input(at)
+    try_remarks(at)
+    try_texts(at)
     try_terminal(at)
     try_application(at)
 
@@ -109,6 +148,40 @@ def try_input(at: Asking) -> None:
     at.case("- is the standard input", is_read and "the standard input" in ran.err.splitlines()[-1], ran)
 
 
+def try_remarks(at: Asking) -> None:
+    """Files of another kind are recognised, blocks that are not there are told, and nothing else is said."""
+    (at.room / "large.wat").write_text(LARGE)
+    (at.room / "object.c").write_text(SOURCE)
+    (at.room / "text").write_text("notes\n")
+    run(["wat2wasm", "large.wat", "-o", "large.wasm"], at.room, SECONDS, at.env)
+    run(["clang", "--target=wasm32", "-c", "-o", "object.o", "object.c"], at.room, SECONDS, at.env)
+    made = [at.ledger("new", "net", "--chaincode", "kv=put_a.wasm", "--policy", "'A'"), at.ledger("call", "net", "kv")]
+    genesis = (at.room / "net/genesis.json").read_text()
+    (at.room / "mark.json").write_text(genesis, encoding="utf-8-sig")
+    (at.room / "wide.json").write_text(genesis, encoding="utf-16")
+    (at.room / "twice.jsonl").write_text('{"do":"take","do":"tick"}\n')
+    (at.room / "twice.json").write_text(genesis.replace('"seats":', '"seats": 3,\n "seats":'))
+    at.case("a network to look at", made[0].status == made[1].status == 0, made[1])
+    names = {"G": "net/genesis.json", "S": "net/chain.store", "N": "net/network.toml"}
+    with concurrent.futures.ThreadPoolExecutor(4) as pool:
+        asked = [*REMARKS, *((words, "") for words in SILENT)]
+        found = list(pool.map(lambda it: at.ledger(*(names.get(word, word) for word in it[0].split())), asked))
+    for (words, told), ran in zip(asked, found):
+        if told:
+            at.case(f"{words}: what is told", ran.err.count(told) == 1 and "Traceback" not in ran.err, ran)
+        else:
+            at.case(f"{words}: nothing is told", ran.status == 0 and not ran.err, ran)
+
+
+def try_texts(at: Asking) -> None:
+    """Texts are given and printed in the place of hex."""
+    for words, told in TEXTS:
+        ran = at.ledger(*words.split())
+        at.case(words, re.fullmatch(told, ran.out) is not None and ran.status == 0, ran)
+    ran = at.ledger(*"state g.json s --text --key 0x6".split())
+    at.case("a key that is no hex", ran.status == 2 and "--key is a text, or hex behind 0x" in ran.err, ran)
+
+
 def try_terminal(at: Asking) -> None:
     """A terminal shows how long the program has been compiled."""
     (at.room / "rt").write_text(SLOW)
@@ -119,7 +192,7 @@ def try_terminal(at: Asking) -> None:
     os.close(end)
     shown = os.read(terminal, 4096).decode()
     os.close(terminal)
-    is_shown = re.search(r"\rledger: compiling, [5-9] s", shown) is not None
+    is_shown = re.search(r"\r\x1b\[Kledger: compiling, [1-9] s", shown) is not None
     at.report.case("a terminal shows how long it takes", is_shown, repr(shown))
 
 

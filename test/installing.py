@@ -1,4 +1,5 @@
 """make install, ./ledger dist and regtuma-certs: what they lay and make, and what they refuse."""
+import os
 import pathlib
 import re
 import stat
@@ -9,6 +10,8 @@ from tree import PROVED, ROOT, program
 
 # How long a command may take, in seconds.
 SECONDS = 120
+# How much a unit may be exposed, in tenths of what systemd-analyze tells.
+MOST_EXPOSED = 20
 COMMANDS = ("ledger", "regtuma", "regtuma-audit", "regtuma-certs", "regtuma-change", "regtuma-log", "regtuma-node")
 
 
@@ -40,6 +43,7 @@ def try_installing(report: Report, tree: pathlib.Path, room: pathlib.Path, env: 
         try_units(at)
     ran = at.run("make", "-C", tree, "install", f"DESTDIR={at.root}/none", "LEDGER=none")
     at.case("nothing is installed without a program", fails_in_words(ran, 2) and not (at.root / "none").exists(), ran)
+    try_users(at)
     try_dist(at)
     try_certs(at)
 
@@ -84,9 +88,30 @@ def try_units(at: Installing) -> None:
         at.report.case(f"{unit.name}: its programs", all(pathlib.Path(it).exists() for it in programs), " ".join(programs))
     units = sorted(at.certs.glob("regtuma-*"))
     ran = at.run("systemd-analyze", "verify", *units)
-    at.case("systemd-analyze verify", len(units) == 4 and ran.status == 0 and not ran.err, ran)
+    at.case("systemd-analyze verify", len(units) == 5 and ran.status == 0 and not ran.err, ran)
     for unit in units:
+        if unit.suffix == ".service":
+            ran = at.run("systemd-analyze", "security", "--offline=true", "--no-pager", f"--threshold={MOST_EXPOSED}", unit)
+            at.case(f"systemd-analyze security {unit.name}", ran.status == 0, ran)
         unit.unlink()
+
+
+def try_users(at: Installing) -> None:
+    """Those of the units, whose folders are empty. They are made on no real machine, which wants root all the same."""
+    if os.geteuid():
+        return
+    machine, shims = at.root.parent / "machine", at.root.parent / "shims"
+    for folder in (machine / "etc", machine / "var/lib", shims):
+        folder.mkdir(parents=True)
+    for name in ("passwd", "group", "shadow"):
+        (machine / "etc" / name).touch()
+    for name, text in (("getent", "exit 2"), ("useradd", f'exec /usr/sbin/useradd --prefix {machine} "$@"')):
+        (shims / name).write_text(f"#!/bin/sh\n{text}\n")
+        (shims / name).chmod(0o755)
+    ran = at.run("env", f"PATH={shims}:{at.env['PATH']}", "make", "-C", at.tree, "users")
+    found = {str(it.relative_to(machine / "var/lib")) for it in (machine / "var/lib").glob("**/*")}
+    is_made = ran.status == 0 and found == {"regtuma", "regtuma-etcd", "regtuma-proxy"}
+    at.case("make users", is_made, Ran(ran.status, ran.out, f"{ran.err}{sorted(found)}"))
 
 
 def try_dist(at: Installing) -> None:
@@ -111,31 +136,45 @@ def try_dist(at: Installing) -> None:
 def try_certs(at: Installing) -> None:
     """Each certificate is of its organisation's authority, its key its owner's alone; what is no name is refused."""
     certs = at.tree / "node" / "certs.sh"
+    (at.certs / "trusted").mkdir()
     for words in (["ca", "maker", "Maker"], ["node", "maker", "Maker", "10.0.0.1", "node.maker.example", "::1"],
-                  ["etcd", "maker", "Maker", "10.0.0.1"], ["client", "maker", "Maker", "alice"], ["ca", "shop", "Shop"],
-                  ["bundle", "all.pem", "maker/ca.pem"], ["bundle", "all.pem", "all.pem", "shop/ca.pem"],
-                  ["node", "maker", "Maker", "10.0.0.9"]):
+                  ["member", "maker", "Maker", "10.0.0.1"], ["client", "maker", "Maker", "alice"], ["ca", "shop", "Shop"],
+                  ["trust", "trusted", "maker", "shop"], ["node", "maker", "Maker", "10.0.0.9"]):
         ran = at.run(certs, *words)
         at.case(f"regtuma-certs {' '.join(words)}", ran.status == 0 and not ran.out + ran.err, ran)
-    joined = "".join((at.certs / it / "ca.pem").read_text() for it in ("maker", "shop"))
-    at.report.case("a bundle may take itself in", (at.certs / "all.pem").read_text() == joined)
+    members, callers = ("".join((at.certs / it / f"{name}.ca.pem").read_text() for it in ("maker", "shop") for name in names)
+                        for names in (("member",), ("member", "etcd")))
+    trusted = {it.name: it.read_text() for it in (at.certs / "trusted").iterdir()}
+    at.report.case("whom etcd trusts", trusted == {"members.pem": members, "callers.pem": callers}, str(trusted.keys()))
     for key in sorted(at.certs.glob("*/*.key")):
         at.report.case(f"{key.name} is its owner's", stat.S_IMODE(key.stat().st_mode) == 0o600)
-    for name, wanted in [("node", "subject=O = Maker, CN = node"), ("etcd", "subject=O = Maker, OU = etcd"),
-                         ("alice", "subject=O = Maker, CN = alice")]:
+    both = ["TLS Web Server Authentication", "TLS Web Client Authentication"]
+    for name, authority, wanted, uses in [("node", "ca", "O = Maker, CN = node", both), ("alice", "ca", "O = Maker, CN = alice", both[1:]),
+                                          ("etcd", "etcd.ca", "O = Maker, OU = etcd", both[1:]),
+                                          ("member", "member.ca", "O = Maker, OU = etcd member", both)]:
         ran = at.run(certs, "show", f"maker/{name}.pem")
-        at.case(f"who {name} is", wanted in ran.out.splitlines(), ran)
-        ran = at.run("openssl", "verify", "-CAfile", "all.pem", f"maker/{name}.pem")
-        at.case(f"{name} is of an authority", ran.status == 0, ran)
-    ran = at.run("openssl", "x509", "-in", "maker/ca.pem", "-noout", "-ext", "basicConstraints")
-    at.case("an authority makes no other", "pathlen:0" in ran.out, ran)
+        at.case(f"who {name} is", f"subject={wanted}" in ran.out.splitlines(), ran)
+        ran = at.run("openssl", "verify", "-CAfile", f"maker/{authority}.pem", f"maker/{name}.pem")
+        at.case(f"{name} is of its authority", ran.status == 0, ran)
+        ran = at.run("openssl", "x509", "-in", f"maker/{name}.pem", "-noout", "-ext", "extendedKeyUsage")
+        at.case(f"what {name} is for", ran.out.splitlines()[-1].strip() == ", ".join(uses), ran)
+    for name in ("ca", "etcd.ca", "member.ca"):
+        ran = at.run("openssl", "x509", "-in", f"maker/{name}.pem", "-noout", "-ext", "basicConstraints")
+        at.case(f"{name}: an authority makes no other", "pathlen:0" in ran.out, ran)
+    # An authority of clients in the place of one of etcd's.
+    (at.certs / "mixed").mkdir()
+    for name in ("member", "etcd"):
+        (at.certs / "mixed" / f"{name}.ca.pem").write_bytes((at.certs / "maker/ca.pem").read_bytes())
     kept = (at.certs / "maker" / "ca.key").read_bytes()
     for words in (["ca", "maker", "Maker"], ["node", "none", "Maker", "10.0.0.1"], ["node", "maker", "Maker", "a,b"],
                   ["node", "maker", "Maker/CN=x", "10.0.0.1"], ["client", "maker", "Maker", "../alice"], ["client", "maker", "Maker", "ca"],
-                  ["client", "maker", "Maker", "authorities"], ["client", "maker", "Maker", "shop.ca"],
-                  ["bundle", "some.pem", "maker/node.pem"], ["ca", "other", "A-1"]):
+                  ["client", "maker", "Maker", "member"], ["client", "maker", "Maker", "shop.ca"], ["client", "maker", "Maker", "root"],
+                  ["ca", "other", "A-1"], ["ca", "other", "Root"], ["trust", "none", "maker"], ["trust", "trusted", "maker", "mixed"]):
         ran = at.run(certs, *words)
         at.case(f"refused: {' '.join(words)}", fails_in_words(ran) and ran.err.count("\n") == 1, ran)
+    (at.certs / "shop" / "member.ca.key").unlink()
+    ran = at.run(certs, "ca", "shop", "Shop")
+    at.case("an authority that is missing is made", ran.status == 0 and (at.certs / "shop" / "member.ca.key").exists(), ran)
     at.report.case("an authority is not written over", (at.certs / "maker" / "ca.key").read_bytes() == kept)
     usages: list[list[str]] = [[], ["node", "maker"], ["nothing"]]
     for words in usages:

@@ -130,10 +130,10 @@ class Networks:
         self.report.case(f"{what}: the program reads it", read.status == 0, read.out + read.err)
         return json.loads(ran.out)
 
-    def refused(self, what: str, *told: str, words: tuple[object, ...] = ("network.toml",)) -> None:
-        """A network that is refused in a sentence which tells this, and no secret."""
+    def refused(self, what: str, *told: str, words: tuple[object, ...] = ("network.toml",), lines: int = 1) -> None:
+        """A network that is refused in a sentence, or several, which tell this, and no secret."""
         ran = self.ledger("genesis", *words)
-        is_told = ran.status == 1 and not ran.out and ran.err.count("\n") == 1 and "Traceback" not in ran.err
+        is_told = ran.status == 1 and not ran.out and ran.err.count("\n") == lines and "Traceback" not in ran.err
         is_told = is_told and all(it in ran.err for it in told) and SECRET[:8] not in ran.err
         self.report.case(what, is_told, f"status {ran.status}\n{ran.out}{ran.err}\nand it has to tell {told}")
 
@@ -161,7 +161,7 @@ def try_files(at: Networks) -> None:
     at.refused("a file that is not there", "none.toml cannot be read: No such file", words=("none.toml",))
     at.refused("a folder", "cannot be read: Is a directory", words=(at.room,))
     at.refused("a file without an end", "has more than 131072 bytes", words=("/dev/zero",))
-    at.refused("a key file", "no TOML", "line 1, column 65", words=("one.key",))
+    at.refused("a key file", "looks like a key file", "no TOML", "line 1, column 65", words=("one.key",), lines=2)
     (at.room / "latin.toml").write_bytes("# 1\n# \u00c4\u00c4".encode() + "\u00c4".encode("latin1"))
     at.refused("a file in Latin 1", "not UTF-8 at line 2, column 5", words=("latin.toml",))
     usages: list[list[str]] = [[], ["network.toml", "network.toml"], ["--no"]]

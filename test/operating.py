@@ -1,8 +1,9 @@
 """OPERATIONS.md typed on three machines, which are folders and addresses here: install, certificates, etcd, keys, first start, calls,
-backup, a log that is lost, another version, a member, and code that was written later."""
+backup, a log that is lost, a member of etcd that is lost, another version, a member, code that was written later, and one that leaves."""
 import hashlib
 import json
 import pathlib
+import re
 import secrets
 import shutil
 import subprocess
@@ -105,17 +106,20 @@ class Operating:
     def install(self) -> None:
         self.everywhere("make install")
         for machine in self.machines:
-            for example in ("node.toml.example", "etcd.env.example"):
+            for example in ("node.toml.example", "etcd.env.example", "proxy.env.example"):
                 file = machine.root / "usr/local/lib/regtuma/node" / example
-                text = machine.own(file.read_text()).replace('page = "127.0.0.1', f'page = "{machine.net}.{machine.number}')
-                file.write_text(text)
+                file.write_text(machine.own(file.read_text()).replace("PAGE=127.0.0.1", f"PAGE={machine.net}.{machine.number}"))
         self.everywhere("mkdir -p")
         for machine in self.machines:
             for other in self.machines:
                 if machine is not other:
-                    shutil.copy(other.etc / "ca.pem", machine.etc / f"{other.org.lower()}.ca.pem")
-            shutil.copy(machine.etc / "ca.pem", machine.etc / f"{machine.org.lower()}.ca.pem")
-        self.everywhere("regtuma-certs bundle")
+                    self.send_authorities(other, machine.etc / other.org.lower())
+        self.everywhere("regtuma-certs trust")
+
+    def send_authorities(self, machine: Machine, to: pathlib.Path) -> None:
+        to.mkdir()
+        for file in machine.etc.glob("*ca.pem"):
+            shutil.copy(file, to)
 
     def begin_etcd(self) -> None:
         self.everywhere("systemctl enable --now --no-block regtuma-etcd")
@@ -123,11 +127,13 @@ class Operating:
             shutil.copy(machine.etc / "etcd.password", self.maker.etc / f"{machine.org.lower()}.password")
         (self.maker.etc / "root.password").write_text(f"{secrets.token_hex(16)}\n")
         users = self.block("export ETCDCTL_API=3")
-        env = dict(it.split("=", 1) for line in self.maker.own(users[0].text).splitlines()[:2] for it in line.split()[1:])
-        is_there = ["etcdctl", "endpoint", "health"]
-        self.wait("etcd is there", lambda: run(is_there, self.maker.etc, PATIENCE, {**self.maker.env, **env}).status == 0,
-                  lambda: self.maker.says("regtuma-etcd"))
+        self.maker.env |= dict(it.split("=", 1) for line in self.maker.own(users[0].text).splitlines()[:2] for it in line.split()[1:])
+        self.etcd_is_there()
         self.maker.type(self.report, *users)
+
+    def etcd_is_there(self) -> None:
+        self.wait("etcd is there", lambda: run(["etcdctl", "endpoint", "health"], self.maker.etc, PATIENCE, self.maker.env).status == 0,
+                  lambda: "".join(it.says("regtuma-etcd") for it in self.machines))
 
     def write_genesis(self) -> None:
         """Each organisation makes its key. One writes the genesis file, over the example's register."""
@@ -141,7 +147,7 @@ class Operating:
             (machine.etc / "genesis.json").write_text(json.dumps({**genesis, "orgs": entries}))
 
     def first_start(self) -> None:
-        self.everywhere("cp /usr/local/lib/regtuma/node/node.toml.example")
+        self.everywhere("cp /usr/local/lib/regtuma/node/node.toml.example", "cp /usr/local/lib/regtuma/node/proxy.env.example")
         self.maker.type(self.report, *self.block("regtuma-log node.toml begin"))
         self.everywhere("systemctl enable --now regtuma-node")
         calls = self.block("export REGTUMA_NODES=https")
@@ -152,6 +158,16 @@ class Operating:
         self.maker.type(self.report, *calls)
         self.maker.type(self.report, *self.block("regtuma health"))
         see_page(self.report, f"http://{self.maker.net}.1:8080/", lambda asset: self.maker.run("regtuma", "submit", "assets", "create", asset, "x"))
+
+    def lose_member(self) -> None:
+        """The Shop's member of etcd is lost, and a new one takes its place."""
+        self.shop.stop("regtuma-etcd")
+        shutil.rmtree(self.shop.root / "var/lib/regtuma-etcd")
+        self.maker.type(self.report, *self.block("export ETCDCTL_USER"), *self.block("etcdctl member remove"))
+        self.shop.type(self.report, *self.block("sed -i s/STATE=new"))
+        self.maker.env["ETCDCTL_USER"] = f"root:{(self.maker.etc / 'root.password').read_text().strip()}"
+        self.etcd_is_there()
+        self.well()
 
     def lose_etcd(self) -> None:
         """All of etcd is thrown away, with the Carrier's store, and filled again from a copy of the Maker's."""
@@ -175,6 +191,8 @@ class Operating:
     def change_members(self) -> None:
         self.maker.type(self.report, *self.block("systemctl stop regtuma-node\nmake install"))
         self.well()
+        self.maker.run("regtuma-certs", "ca", "depot", "Depot")
+        self.maker.type(self.report, *self.block("regtuma-certs trust etcd . carrier shop depot"))
         (self.maker.etc / "depot.json").write_text(self.maker.run("ledger", "keygen", "depot.key", "Depot"))
         self.maker.type(self.report, *self.block("regtuma-change members"))
         shutil.copy(self.maker.etc / "change.json", self.carrier.etc)
@@ -193,11 +211,28 @@ class Operating:
         made = (proposal["upgrade"], proposal["profile"], proposal["fuel"])
         self.report.case("an upgrade", made == ("assets", 18, 900000), str(proposal))
 
+    def leave(self) -> None:
+        """The Shop leaves: the others take away what they are shown of it."""
+        self.shop.stop("regtuma-node")
+        self.maker.type(self.report, *self.block("regtuma-log node.toml leave"))
+        self.shop.stop("regtuma-etcd")
+        self.maker.env["ETCDCTL_ENDPOINTS"] = self.maker.env["ETCDCTL_ENDPOINTS"].rpartition(",")[0]
+        for machine in (self.maker, self.carrier):
+            settings = machine.etc / "node.toml"
+            settings.write_text(re.sub(r', "Shop/node"|, "https://[^"]*.3:2379"|\nShop = .*', "", settings.read_text()))
+            machine.type(self.report, *self.block("regtuma-certs trust etcd . carrier\n"))
+        self.etcd_is_there()
+        self.machines.remove(self.shop)
+        self.well()
+        said = self.maker.run("regtuma-log", "node.toml", "leave", "Shop")
+        self.report.case("nothing of the Shop is left", said == "nothing of Shop is left on this machine\n", said)
+
     def end(self) -> None:
         """Ends what the units started, each of which has to end by itself."""
         for machine in self.machines:
-            machine.stop("regtuma-node", "regtuma-etcd")
-            left = [it for it in ("regtuma-node", "regtuma-etcd") if process_of(machine.root, f"{it}.service")]
+            units = ("regtuma-proxy", "regtuma-node", "regtuma-etcd")
+            machine.stop(*units)
+            left = [it for it in units if process_of(machine.root, f"{it}.service")]
             self.report.case(f"{machine.org}: units end", not left, f"{left} {machine.says('regtuma-node')}")
 
 
@@ -210,8 +245,10 @@ def operate(report: Report, tree: pathlib.Path, room: pathlib.Path, env: dict[st
         at.write_genesis()
         at.first_start()
         at.lose_etcd()
+        at.lose_member()
         at.change_members()
         at.upgrade()
+        at.leave()
     except (OSError, ValueError, KeyError, subprocess.SubprocessError) as error:
         report.case("the page can be typed to its end", False, repr(error))
     finally:

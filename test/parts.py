@@ -87,7 +87,7 @@ class Setting:
 
 def readme(report: Report, at: Setting) -> None:
     at.type(report, typed_of(at.tree, "README.md"))
-    page = at.tree / "chain.html"
+    page = at.tree / "demo.html"
     report.case("README.md: the page is whole", page.exists() and page.read_text().rstrip().endswith("</html>"))
 
 
@@ -136,9 +136,10 @@ def scripts(report: Report, at: Setting) -> None:
             ran = run_script(at, script, "no-such-word")
             is_refused = ran.status in (1, 2) and ran.err.strip() != "" and "Traceback" not in ran.out + ran.err
             report.case(f"{name} no-such-word", is_refused, f"status {ran.status}\n{ran.out}{ran.err}"[-800:])
-    # A command without its words prints the program's own usage.
-    said, asked = [run([at.tree / "ledger", word], at.tree, LONG, at.env).out for word in ("check", "--help")]
-    report.case("ledger --help begins with the program's usage", said.startswith("usage:") and asked.startswith(said), said + asked)
+    # A command without its words prints its usage, by the program.
+    said, asked = [run([at.tree / "ledger", word], at.tree, LONG, at.env).out for word in ("digest", "--help")]
+    is_there = said.startswith("usage:") and all(it in asked for it in said.removeprefix("usage:").splitlines())
+    report.case("ledger --help has the program's usage", is_there, said + asked)
     for word in ("prove", "dist"):
         ran = run([at.tree / "ledger", word, "0"], at.tree, SHORT, at.env)
         report.case(f"ledger {word} 0: its usage", ran.status == 2 and ran.err.startswith(f"usage: ledger {word}"), ran.out + ran.err)
@@ -166,12 +167,13 @@ def made(report: Report, at: Setting) -> None:
 def chaincode(report: Report, at: Setting) -> None:
     """The builds of CHAINCODE.md, of its own two examples too, and of the modules that are kept here."""
     blocks = blocks_of(at.tree, "docs/CHAINCODE.md")
+    pieces = {language: [it.text for it in blocks if it.language == language] for language in ("c", "rust", "toml")}
     example, manifest = at.tree / "register.c", at.tree / "examples/chaincode/register"
-    example.write_text(next(it.text for it in blocks if it.language == "c"))
+    example.write_text(pieces["c"][0])
+    (at.tree / "register_test.c").write_text(pieces["c"][1])
     (manifest / "src").mkdir(parents=True)
-    (manifest / "src/lib.rs").write_text(next(it.text for it in blocks if it.language == "rust"))
-    settings = next(it.text for it in blocks if it.language == "toml")
-    (manifest / "Cargo.toml").write_text(f'[package]\nname = "register"\nversion = "0.1.0"\nedition = "2021"\n\n{settings}\n')
+    (manifest / "src/lib.rs").write_text(pieces["rust"][0])
+    (manifest / "Cargo.toml").write_text(pieces["toml"][0])
     at.type(report, blocks, folders={"RUSTFLAGS": manifest})
     built = manifest / "target/wasm32-unknown-unknown/release/register.wasm"
     said = at.run(report, "the module in Rust is valid", ["./ledger", "check", built])
@@ -375,9 +377,10 @@ DOCUMENTS: list[Part] = [*BEHIND, *(it for it in [*WITH_LEDGER, made, prove, cal
 # The documents all of whose commands test/run types.
 TYPED_BEFORE = {readme: "README.md", formats: "docs/OUTPUT.md"}
 # The packages of Debian that parts of test/run need.
-OF_NODE = ["openssl", "nodejs", "python3-aiohttp", "python3-prometheus-client"]
-PACKAGES: dict[Part, list[str]] = {types: ["mypy", *OF_NODE[2:]], formats: ["jq"], keys: ["openssl"], node: OF_NODE,
-                                   scripts: ["etcd-server", "etcd-client", "curl", *OF_NODE]}
+OF_NODE = ["openssl", "nodejs", "haproxy", "python3-aiohttp", "python3-cryptography", "python3-prometheus-client"]
+OF_LOG = ["etcd-server", "etcd-client"]
+PACKAGES: dict[Part, list[str]] = {types: ["mypy", *OF_NODE[3:]], formats: ["jq"], keys: ["openssl"], node: [*OF_NODE, *OF_LOG],
+                                   scripts: [*OF_LOG, "curl", *OF_NODE]}
 
 
 def typed_before(tree: pathlib.Path) -> set[Block]:

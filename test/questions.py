@@ -27,6 +27,7 @@ BAD = [
     '{"ask":"get","key":"0"}', '{"ask":"get","key":"' + "00" * 65 + '"}', '{"ask":"transaction","id":"00"}',
     '{"ask":"range","start":"","end":"","limit":0}', '{"ask":"range","start":"","end":"","limit":1001}',
     '{"ask":"setting"} {"ask":"setting"}', '{"ask":"satisfied","chaincode":"assets","orgs":"Maker"}',
+    '{"ask":"call","chaincode":"assets","arg":"","args":[]}', '{"ask":"call","chaincode":"assets","args":["list",1]}',
 ]
 RANGES = [("", "", 1000), ("", "", 1), ("61", "", 3), ("", "62", 1000), ("6100", "63", 2), ("00", "", 1000), ("00", "0061", 5), ("63", "61", 9)]
 ORGS: list[list[str]] = [
@@ -115,7 +116,11 @@ def try_chain(report: Report, name: str, asked: Asked, process: subprocess.Popen
         report.case(f"{name}: {question}", said == {"answer": answer, "height": height}, f"{line[:400]}\nand not {str(answer)[:400]}")
     for argument in ARGUMENTS:
         for chaincode in ("assets", "other", "none"):
-            line, = asked_in_turn(process, [json.dumps({"ask": "call", "chaincode": chaincode, "arg": argument})])
+            texts = bytes.fromhex(argument).decode().split(" ")
+            named: list[dict[str, object]] = [{"arg": argument}, {"args": texts}]
+            by = [json.dumps({"ask": "call", "chaincode": chaincode, **it}) for it in named]
+            line, by_texts = asked_in_turn(process, by)
+            report.case(f"{name}: call of {chaincode} with {texts}", by_texts == line, f"{by_texts[:400]}\nand not {line[:400]}")
             by_sim = asked.printed("sim", chaincode, argument or "-", "--store", str(asked.store))
             said = called(json.loads(line)["answer"]) if line.startswith("{") else line
             behind = by_sim if by_sim.startswith("refused") else by_sim.partition("\n")[2]

@@ -13,6 +13,7 @@ ANYWHERE = {
 # The same in one document.
 REASONS = {
     ("docs/OPERATIONS.md", "tar -C /"): "changes the machine; the part install unpacks the same tarball",
+    ("docs/OPERATIONS.md", "etcd has no user"): "is printed, by regtuma-log leave; the demo compares it",
     ("bench/README.md", "bench/run"): SMALL,
     ("bench/README.md", "bench/build.sh"): "makes what bench/run measures",
     ("bench/README.md", "bench/untuned/build.sh"): "makes what bench/run measures",

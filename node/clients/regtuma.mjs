@@ -14,8 +14,8 @@
 
 /** Flags of a conflict and of a phantom, and the orderer's answers to a batch that has no legal order: these are tried again. */
 const CONFLICTS = [2, 3], ABORTED = [441, 442];
-/** How long to wait before the next node is asked, and how long a stream of blocks may be silent, in milliseconds. */
-const PAUSE = 200, SILENCE = 45_000;
+/** How long to wait before the next node is asked, how long one may take at the least, and a stream be silent, in milliseconds. */
+const PAUSE = 200, LEAST = 500, SILENCE = 45_000;
 /** The URL of a node on this machine, which asks for no certificate. */
 const LOCAL = /^http:\/\/(localhost|127(\.\d{1,3}){3}|\[::1\]):\d+\/?$/;
 
@@ -24,6 +24,11 @@ export const bytes = hex => Uint8Array.from(hex.match(/../g) ?? [], it => parseI
 export const text = bytes => new TextDecoder().decode(bytes);
 /** Whether no other node is to be asked: one has refused, and not for now alone. */
 const isFinal = error => error instanceof NotValid && error.status !== 503;
+/** Where calls are posted, so that a node answers before the time is up. */
+const transactions = until => {
+  const left = Math.max(0, until - Date.now()) / 1000;
+  return `/transactions?wait=${(left - Math.min(5, left / 4)).toFixed(3)}`;
+};
 const pause = milliseconds => new Promise(resolve => setTimeout(resolve, milliseconds));
 
 /** The call is in no block, or is there and not VALID: `said` has the flag, or the number of a refusal, and why. */
@@ -42,6 +47,14 @@ export class NoAnswer extends Error {
   }
 }
 
+/** The time is up, and the call is in no block yet: it may still come into one. `said.id` is its id, for `status`. */
+export class Pending extends Error {
+  constructor(said) {
+    super(`the time is up: ${said.why}`);
+    Object.assign(this, { name: "Pending", said });
+  }
+}
+
 /** A call as the API takes it: `args` are bytes, a text, or texts with spaces between. */
 export function callOf(chaincode, args, { organisations, nonce } = {}) {
   const arg = args instanceof Uint8Array ? args : new TextEncoder().encode([args].flat().join(" "));
@@ -56,28 +69,31 @@ export class Client {
 
   /**
    * Has a call committed: its id, block, place, flag and result once it is VALID. One that conflicts with another is made anew,
-   * `tries` times in all. `organisations` are to endorse, in place of those that the policy needs.
+   * `tries` times in all. `organisations` are to endorse, in place of those that the policy needs. After the client's `seconds` it ends
+   * by `Pending`, where the call is in no block yet.
    */
   async submit(chaincode, args, { organisations, tries = 1, nonce } = {}) {
+    const until = Date.now() + 1000 * this.seconds;
     for (let left = tries - 1; ; left--, nonce = undefined) {
-      const said = await this.outcome(callOf(chaincode, args, { organisations, nonce }));
+      const said = await this.outcome(callOf(chaincode, args, { organisations, nonce }), until);
       if (said.valid) return said;
-      if (left <= 0 || !CONFLICTS.includes(said.flag) && !ABORTED.includes(said.refused)) throw new NotValid(200, said);
+      if (said.pending) throw new Pending(said);
+      if (left <= 0 || Date.now() > until || !CONFLICTS.includes(said.flag) && !ABORTED.includes(said.refused)) throw new NotValid(200, said);
     }
   }
 
-  /** What becomes of a call, whatever that is. Who asks again for the same waits for it. */
-  async outcome(call) {
+  /** What becomes of a call, whatever that is; `pending` where its time is up. Who asks again for the same waits for it. */
+  async outcome(call, until = Date.now() + 1000 * this.seconds) {
     for (;;) {
-      const said = await this.ask("POST", this.#transactions, call);
-      if (!said.pending) return said;
+      const said = await this.ask("POST", transactions(until), call, [], until);
+      if (!said.pending || until - Date.now() < LEAST) return said;
     }
   }
 
   /** Has several calls committed by one request, each made by `callOf`: the answer to each, in order. They must not conflict. */
   async submitAll(calls) {
-    const { answers } = await this.ask("POST", this.#transactions, { calls });
-    return Promise.all(answers.map((said, at) => said.pending ? this.outcome(calls[at]) : said));
+    const until = Date.now() + 1000 * this.seconds, { answers } = await this.ask("POST", transactions(until), { calls }, [], until);
+    return Promise.all(answers.map((said, at) => said.pending && Date.now() < until ? this.outcome(calls[at], until) : said));
   }
 
   /** The bytes of the result of a call that changes nothing, on the state that the node has. */
@@ -141,12 +157,12 @@ export class Client {
   }
 
   /** What a node answers. The next one is asked where one gives no answer, or cannot do it now (503). */
-  async ask(method, path, body, accept = []) {
-    for (const until = Date.now() + 1000 * this.seconds; ;) {
+  async ask(method, path, body, accept = [], until = Date.now() + 1000 * this.seconds) {
+    for (;;) {
       let error;
       try {
         const answer = await this.fetch(this.node + path, { method, headers: { "Content-Type": "application/json" },
-          body: body && JSON.stringify(body), signal: AbortSignal.timeout(1000 * this.seconds) });
+          body: body && JSON.stringify(body), signal: AbortSignal.timeout(Math.max(LEAST, until - Date.now())) });
         const said = await answer.json();
         if (answer.status < 400 || accept.includes(answer.status)) return said;
         error = new NotValid(answer.status, said);
@@ -167,11 +183,6 @@ export class Client {
   /** How many seconds a node may wait before it answers: the client does not take it for dead yet. */
   get #patience() {
     return Math.max(1, this.seconds - 5);
-  }
-
-  /** Where calls are posted. */
-  get #transactions() {
-    return `/transactions?wait=${this.#patience}`;
   }
 
   /** The lines of an answer, as they come. One that is silent too long is ended. */
@@ -197,7 +208,8 @@ export class Client {
 
 /**
  * The client that the environment's REGTUMA_NODES, REGTUMA_CERT, REGTUMA_KEY and REGTUMA_CA name, for Node.js; where all nodes are
- * on this machine, as those of `ledger dev`, whose URLs begin with http, by the first alone.
+ * on this machine, as those of `ledger dev`, whose URLs begin with http, by the first alone. REGTUMA_CA is the organisation's own
+ * authority; where other organisations' nodes are named too, it has an authority for each node, with commas between.
  */
 export async function fromEnvironment(options) {
   const { readFileSync } = await import("node:fs"), { env } = await import("node:process");
@@ -207,8 +219,12 @@ export async function fromEnvironment(options) {
   if (missing.length) throw new Error(`the environment has no ${missing.join(" and no ")}`);
   const nodes = env.REGTUMA_NODES.split(","), wrong = nodes.find(it => !/^https:\/\/[^/\s]+:\d+\/?$/.test(it));
   if (wrong !== undefined) throw new Error(`${wrong} is no URL of a node with its port, as https://10.0.0.1:7051`);
-  const [cert, key, ca] = names.slice(1).map(it => readFileSync(env[it]));
-  return new Client(nodes.map(it => it.replace(/\/$/, "")), await tlsFetch({ cert, key, ca }), options);
+  const [cert, key] = names.slice(1, 3).map(it => readFileSync(env[it])), trusted = env.REGTUMA_CA.split(",");
+  if (![1, nodes.length].includes(trusted.length))
+    throw new Error(`there are ${trusted.length} authorities for ${nodes.length} nodes: name one for all, or one for each`);
+  const fetches = await Promise.all(trusted.map(it => tlsFetch({ cert, key, ca: readFileSync(it) })));
+  const places = nodes.map(it => new URL(it).origin), of = url => fetches[places.indexOf(new URL(url).origin) % fetches.length];
+  return new Client(nodes.map(it => it.replace(/\/$/, "")), (url, request) => of(url)(url, request), options);
 }
 
 /** A fetch with a client's certificate, for Node.js, whose own has none. `options` has `cert`, `key` and `ca`, in PEM. */

@@ -76,7 +76,7 @@ def rights(world: World) -> str:
         raise Wrong("a certificate that another organisation's authority signed was let in")
     except Failed as failed:
         forged = str(failed)
-    bare = subprocess.run(["curl", "-s", "--cacert", world.folder / "ca.pem", f"{world.url(MAKER)}/height"], stdout=subprocess.PIPE)
+    bare = subprocess.run(["curl", "-s", "--cacert", world.authority(MAKER), f"{world.url(MAKER)}/height"], stdout=subprocess.PIPE)
     expect("who has no certificate", (bare.returncode != 0, bare.stdout), (True, b""))
     return f"who has no right or no certificate is refused; of one for Maker/mallory that the Shop's authority signed: {forged}"
 
@@ -151,7 +151,7 @@ def once(world: World) -> str:
     """One call is asked of three nodes at once, and the client of one is killed: it is one transaction."""
     call_ = json.dumps({"chaincode": "assets", "arg": b"create once Maker".hex(), "nonce": "0f" * 16}).encode()
     room = world.room(MAKER)
-    certificate = ["--cacert", world.folder / "ca.pem", "--cert", room / "alice.pem", "--key", room / "alice.key"]
+    certificate = ["--cacert", world.authority(MAKER), "--cert", room / "alice.pem", "--key", room / "alice.key"]
     killed = world.start("client", "curl", "-s", "--max-time", 60, *certificate, "-H", "Content-Type: application/json",
                          "-d", call_.decode(), f"{world.url(MAKER)}/transactions")
     said: dict[str, dict] = {}

@@ -2,7 +2,7 @@
 import { callOf, fromEnvironment, NotValid, text } from "../clients/regtuma.mjs";
 
 const [asset, count] = process.argv.slice(2);
-const ledger = await fromEnvironment({ seconds: 120 });
+const ledger = await fromEnvironment({ seconds: 240 });
 const [made] = await ledger.submitAll([callOf("assets", ["create", asset, "Maker"])]);
 if (!made.valid) throw new Error(made.why);
 let last;

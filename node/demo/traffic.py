@@ -20,7 +20,7 @@ def main(words: list[str]) -> int:
     if len(words) != 2:
         print(__doc__, file=sys.stdout if words in (["--help"], ["-h"]) else sys.stderr)
         return 0 if words in (["--help"], ["-h"]) else 2
-    asset, count, ledger = words[0], int(words[1]), from_environment(seconds=120)
+    asset, count, ledger = words[0], int(words[1]), from_environment(seconds=240)
     ledger.submit("assets", "create", asset, "Maker")
     for number in range(count):
         began = time.monotonic()

@@ -67,6 +67,8 @@ class World:
         # More lines of the part [ledger] of a place's node.toml, and which organisations' nodes are to have the chain.
         self.more: dict[str, list[str]] = {it: [] for it in PLACES}
         self.members = list(ORGS)
+        # Those who have a member of etcd; and those who know each other: who joins later is known before.
+        self.voters, self.known = list(ORGS), [*ORGS, DEPOT]
 
     def room(self, place: str) -> pathlib.Path:
         return self.folder / place.lower()
@@ -74,11 +76,15 @@ class World:
     def store(self, place: str) -> pathlib.Path:
         return self.room(place) / "chain.store"
 
+    def sockets(self, place: str) -> pathlib.Path:
+        """Where a place's node hears its proxy."""
+        return self.folder / "run" / place.lower()
+
     def url(self, place: str) -> str:
         return f"https://{self.address[place]}:{PORT}"
 
     def etcd_at(self, org: str, place: str = "") -> str:
-        """Where an organisation's node of etcd is, as it is reached from a place."""
+        """Where an organisation's member of etcd is, as it is reached from a place."""
         if place and place == self.cabled:
             return f"{self.cable}:{ETCD + PLACES.index(org)}"
         return f"{self.address[org]}:{ETCD}"
@@ -124,10 +130,11 @@ class World:
             raise Wrong(f"certs.sh {' '.join(map(str, words))}: {made.stderr.strip()}")
 
     def prepare(self) -> None:
-        """Each organisation's certificates, and what all have: the authorities and the genesis file."""
+        """Each organisation's certificates, whom its member of etcd trusts, and the genesis file."""
         with concurrent.futures.ThreadPoolExecutor() as pool:
-            list(pool.map(self.certify, (*ORGS, DEPOT)))
-        self.certs("bundle", self.folder / "ca.pem", *(self.room(it) / "ca.pem" for it in (*ORGS, DEPOT)))
+            list(pool.map(self.certify, self.known))
+        for org in self.known:
+            self.trust(org)
         genesis = json.loads((ROOT / "examples" / "assets" / "genesis.json").read_text())
         text = json.dumps({**genesis, "count": self.block, "orgs": [self.entry(org) for org in ORGS]})
         for org in (*ORGS, DEPOT):
@@ -147,9 +154,14 @@ class World:
         room, address = self.room(org), self.address[org]
         self.certs("ca", room, org)
         self.certs("node", room, org, address, "localhost")
-        self.certs("etcd", room, org, address, self.cable, "127.0.0.1")
+        self.certs("member", room, org, address, self.cable, "127.0.0.1")
         for name in ("alice", "operator", "reader"):
             self.certs("client", room, org, name)
+
+    def trust(self, place: str) -> None:
+        """Lays down whom a place trusts at etcd, by who is known now."""
+        (self.room(place) / "trusted").mkdir(exist_ok=True)
+        self.certs("trust", self.room(place) / "trusted", *(self.room(it) for it in self.known))
 
     def configure(self, place: str) -> None:
         """Writes a place's node.toml, by what is known now."""
@@ -157,17 +169,17 @@ class World:
         secret = room / "etcd.password"
         secret.touch(mode=0o600)
         secret.write_text(self.passwords[org])
-        # Who joins later is known to the others before.
-        others = [it for it in (*ORGS, DEPOT) if it != org]
-        endpoints = [f"https://{self.etcd_at(it, place)}" for it in sorted(ORGS, key=lambda it: it != org)]
+        self.configure_proxy(place)
+        others = [it for it in self.known if it != org]
+        endpoints = [f"https://{self.etcd_at(it, place)}" for it in sorted(self.voters, key=lambda it: it != org)]
         parts: dict[str, dict[str, object]] = {
-            "": {"organisation": org, "listen": f"{self.address[place]}:{PORT}", "page": f"{self.address[place]}:{PAGE}"},
+            "": {"organisation": org, "listen": str(self.sockets(place) / "node.sock"), "page": str(self.sockets(place) / "page.sock")},
             "ledger": {"program": self.program, "genesis": "genesis.json", "store": "chain.store", "keys": "secret.key", "seen": 4,
                        "template": str(ROOT / "examples" / "page" / "template.html")},
             "tls": {"certificate": "node.pem", "key": "node.key"},
-            "authorities": {it: f"../{it.lower()}/ca.pem" for it in (*ORGS, DEPOT)},
-            "etcd": {"endpoints": endpoints, "user": org.lower(), "password_file": "etcd.password", "certificate": "etcd.pem",
-                     "key": "etcd.key"},
+            "authorities": {it: f"../{it.lower()}/ca.pem" for it in self.known},
+            "etcd": {"endpoints": endpoints, "authorities": "trusted/members.pem", "user": org.lower(), "password_file": "etcd.password",
+                     "certificate": "etcd.pem", "key": "etcd.key"},
             "nodes": {it: self.url(it) for it in others},
             "rights": {"read": [f"{org}/*"], "observe": [f"{org}/*"], "evaluate": [f"{org}/alice"], "submit": [f"{org}/alice"],
                        "endorse": [f"{it}/node" for it in others], "agree": [f"{org}/operator"]},
@@ -179,25 +191,35 @@ class World:
         tables = [f"[{name}]\n" * bool(name) + lines(table) + (more if name == "ledger" else "") for name, table in parts.items()]
         (room / "node.toml").write_text("\n".join(tables))
 
+    def configure_proxy(self, place: str) -> None:
+        """Lays down a place's own certificate and those by which callers come."""
+        room = self.room(place)
+        self.sockets(place).mkdir(mode=0o700, parents=True, exist_ok=True)
+        (room / "proxy.pem").touch(mode=0o600)
+        for name, parts in (("proxy.pem", [room / "node.pem", room / "node.key"]),
+                            ("proxy.ca.pem", [self.room(it) / "ca.pem" for it in self.known])):
+            (room / name).write_text("".join(it.read_text() for it in parts))
+
     # ---------------------------------------------------------------- etcd
 
     def start_etcd(self, org: str) -> None:
         room, at = self.room(org), self.address[org]
-        tls: list[object] = []
-        for kind in ("", "peer-"):
-            tls += [f"--{kind}cert-file", room / "etcd.pem", f"--{kind}key-file", room / "etcd.key",
-                    f"--{kind}trusted-ca-file", self.folder / "ca.pem", f"--{kind}client-cert-auth"]
+        # As the unit has it: with --client-cert-auth a caller's common name would be a user.
+        tls: list[object] = ["--peer-client-cert-auth"]
+        for kind, trusted in (("", "callers"), ("peer-", "members")):
+            tls += [f"--{kind}cert-file", room / "member.pem", f"--{kind}key-file", room / "member.key",
+                    f"--{kind}trusted-ca-file", room / "trusted" / f"{trusted}.pem"]
         client, peer = f"https://{self.etcd_at(org)}", f"https://{at}:{PEERS}"
-        cluster = ",".join(f"{it.lower()}=https://{self.address[it]}:{PEERS}" for it in ORGS)
+        cluster = ",".join(f"{it.lower()}=https://{self.address[it]}:{PEERS}" for it in self.voters)
         self.start(f"etcd-{org}", "etcd", "--name", org.lower(), "--data-dir", room / "etcd", "--listen-client-urls", client,
                    "--advertise-client-urls", client, "--listen-peer-urls", peer, "--initial-advertise-peer-urls", peer,
                    "--initial-cluster", cluster, *tls, "--auto-compaction-retention", "0", "--logger", "zap", "--log-level", "error")
 
-    def etcdctl(self, *words: str, user: str | None = None, check: bool = True, given: str = "") -> subprocess.CompletedProcess:
-        room = self.room(MAKER)
-        env = {**os.environ, "ETCDCTL_API": "3", "ETCDCTL_CACERT": str(self.folder / "ca.pem"), "ETCDCTL_CERT": str(room / "etcd.pem"),
-               "ETCDCTL_KEY": str(room / "etcd.key"),
-               "ETCDCTL_ENDPOINTS": ",".join(f"https://{self.etcd_at(it)}" for it in ORGS)}
+    def etcdctl(self, *words: str, user: str | None = None, check: bool = True, given: str = "",
+                certificate: str = f"{MAKER.lower()}/etcd") -> subprocess.CompletedProcess:
+        env = {**os.environ, "ETCDCTL_API": "3", "ETCDCTL_CACERT": str(self.room(MAKER) / "trusted" / "members.pem"),
+               "ETCDCTL_CERT": str(self.folder / f"{certificate}.pem"), "ETCDCTL_KEY": str(self.folder / f"{certificate}.key"),
+               "ETCDCTL_ENDPOINTS": ",".join(f"https://{self.etcd_at(it)}" for it in self.voters)}
         if user:
             env["ETCDCTL_USER"] = f"{user.lower()}:{self.passwords[user]}"
         ran = subprocess.run(["etcdctl", "--command-timeout=60s", *words], env=env, text=True, input=given, stdout=subprocess.PIPE,
@@ -214,22 +236,29 @@ class World:
 
     def begin_etcd(self) -> None:
         """Starts etcd on all machines, and gives each organisation a user, who reads the log and writes its own part."""
-        for org in ORGS:
+        for org in self.voters:
             self.start_etcd(org)
         wait_until("etcd comes up", lambda: self.etcdctl("endpoint", "health", check=False).returncode == 0)
         self.etcdctl("user", "add", f"root:{self.passwords['root']}")
         self.etcdctl("user", "grant-role", "root", "root")
-        for org in (*ORGS, DEPOT):
+        for org in self.known:
             user = org.lower()
             self.etcdctl("user", "add", f"{user}:{self.passwords[org]}")
             self.etcdctl("role", "add", user)
             self.etcdctl("user", "grant-role", user, user)
-            for how, prefix in (("read", "log/"), ("readwrite", f"log/{org}/"), ("readwrite", "log/tick-")):
+            for how, prefix in (("read", "log/"), ("readwrite", f"log/{org}/")):
                 self.etcdctl("role", "grant-permission", user, "--prefix=true", how, prefix)
         self.etcdctl("auth", "enable")
 
+    def restart_etcd(self, org: str) -> None:
+        """Begins a member again, by whom it trusts now."""
+        self.kill(f"etcd-{org}")
+        self.start_etcd(org)
+        healthy = ("endpoint", "health", "--command-timeout=5s")
+        wait_until(f"the member of {org} is back", lambda: self.etcdctl(*healthy, user="root", check=False).returncode == 0)
+
     def leader(self) -> str:
-        """Whose node of etcd leads."""
+        """Whose member of etcd leads."""
         said: list[dict] = []
 
         def is_led() -> bool:
@@ -238,18 +267,26 @@ class World:
             said[:] = [it for it in told[0] if it["Status"]["leader"] == it["Status"]["header"]["member_id"]] if told else []
             return bool(said)
         wait_until("etcd has a leader", is_led)
-        return next(org for org in ORGS if f"//{self.address[org]}:" in said[0]["Endpoint"])
+        return next(org for org in self.voters if f"//{self.address[org]}:" in said[0]["Endpoint"])
 
     # ---------------------------------------------------------------- nodes
 
-    def log(self, place: str, *words: object) -> bytes:
+    def log(self, place: str, *words: object, check: bool = True) -> bytes:
         """What regtuma-log prints, by the settings of a place."""
         ran = subprocess.run([NODE / "bin" / "regtuma-log", self.room(place) / "node.toml", *map(str, words)], capture_output=True)
+        if not check:
+            return ran.stdout + ran.stderr
         if ran.returncode:
             raise Wrong(f"regtuma-log {' '.join(map(str, words))}: {(ran.stdout + ran.stderr).decode().strip()}")
         return ran.stdout
 
     def start_node(self, place: str) -> None:
+        """Starts a place's proxy, by what is laid down now, and its node."""
+        if f"proxy-{place}" in self.processes:
+            self.kill(f"proxy-{place}")
+        self.start(f"proxy-{place}", "/usr/sbin/haproxy", "-db", "-f", NODE / "haproxy.cfg",
+                   env={"LISTEN": f"{self.address[place]}:{PORT}", "PAGE": f"{self.address[place]}:{PAGE}",
+                        "SETTINGS": str(self.room(place)), "SOCKETS": str(self.sockets(place))})
         self.start(f"node-{place}", NODE / "bin" / "regtuma-node", self.room(place) / "node.toml")
 
     def begin_nodes(self, *places: str) -> None:
@@ -303,8 +340,13 @@ class World:
 
     def client_env(self, org: str, name: str = "alice", nodes: tuple[str, ...] = ()) -> dict[str, str]:
         room = self.room(org)
-        return {"REGTUMA_NODES": ",".join(self.url(it) for it in nodes or (org,)), "REGTUMA_CERT": str(room / f"{name}.pem"),
-                "REGTUMA_KEY": str(room / f"{name}.key"), "REGTUMA_CA": str(self.folder / "ca.pem")}
+        nodes = nodes or (org,)
+        return {"REGTUMA_NODES": ",".join(self.url(it) for it in nodes), "REGTUMA_CERT": str(room / f"{name}.pem"),
+                "REGTUMA_KEY": str(room / f"{name}.key"), "REGTUMA_CA": ",".join(self.authority(it) for it in nodes)}
+
+    def authority(self, place: str) -> str:
+        """By which a place's node is believed."""
+        return str(self.room(org_of(place)) / "ca.pem")
 
     def client(self, org: str, name: str = "alice", nodes: tuple[str, ...] = (), seconds: float = PATIENCE) -> Client:
         env = self.client_env(org, name, nodes)
@@ -320,7 +362,7 @@ class World:
         return ran.returncode, ran.stdout.strip()
 
     def tls(self, org: str) -> ssl.SSLContext:
-        made = ssl.create_default_context(cafile=str(self.folder / "ca.pem"))
+        made = ssl.create_default_context(cafile=self.authority(org))
         made.load_cert_chain(self.room(org) / "alice.pem", self.room(org) / "alice.key")
         return made
 

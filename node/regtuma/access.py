@@ -1,26 +1,37 @@
-"""Who asks, and what they may. A caller is known by a certificate: its organisation and its name, as Maker/alice. On one machine,
-where the log is a file, there are no certificates: all callers are programs of the node's own user."""
+"""Who asks, and what they may. A caller is known by a certificate: its organisation and its name, as Maker/alice. The proxy ends
+TLS, and hands each request on with its caller's certificate. On one machine, where the log is a file, there are no certificates:
+all callers are programs of the node's own user."""
 import asyncio
+import base64
 import fnmatch
+import functools
 import json
 import os
 import re
-import ssl
 import weakref
 from collections.abc import Awaitable, Callable
 
 import prometheus_client as prometheus
 from aiohttp import web
+from cryptography import x509
+from cryptography.exceptions import InvalidSignature, UnsupportedAlgorithm
+from cryptography.hazmat.primitives.asymmetric import ec, ed25519, padding, rsa
+from cryptography.x509.oid import NameOID
 
-from .config import Config
+from .config import Config, Mistake
 from .entries import LogError
-from .fields import CALLER, CALLER_HEADER, is_loopback
+from .fields import CALLER, CALLER_HEADER, CERTIFICATE_HEADER, is_loopback
 from .filters import FilterEnded, TooLong
+from .load import Load
 from .owners import owner_of
 from .proposals import Refused
 from .wire import Object
 
 Handler = Callable[[web.Request], Awaitable[web.StreamResponse]]
+# Whose certificates are kept in mind, and how often it is looked whether callers are there still, in seconds.
+MOST_CALLERS, LOOK = 256, 1.0
+# What is counted where the caller has gone before it was answered.
+GONE = 499
 
 
 def dumps(said: object) -> str:
@@ -31,14 +42,50 @@ def answer(said: object, status: int = 200) -> web.Response:
     return web.json_response(said, status=status, dumps=dumps)
 
 
-def chain_of(tls: ssl.SSLObject) -> list[bytes]:
-    """The certificates by which a caller's own is trusted, that first and its authority's last."""
-    if hasattr(tls, "get_verified_chain"):
-        chain: list[bytes] = tls.get_verified_chain()
-        return chain
-    # Python 3.12 and before have it below this name alone, which is none that mypy knows.
-    inner = tls._sslobj  # type: ignore[attr-defined]
-    return [ssl.PEM_cert_to_DER_cert(it.public_bytes()) for it in inner.get_verified_chain() or []]
+def authorities_of(config: Config) -> dict[str, list[x509.Certificate]]:
+    """The certificates of each organisation's authority."""
+    found = config.authority_certificates()
+    return {it: [x509.load_der_x509_certificate(data) for data in found[it]] for it in found}
+
+
+def check_authorities(config: Config) -> None:
+    """An authority must make no other one: the proxy counts a caller for the organisation that the signer's name has."""
+    for organisation, authorities in authorities_of(config).items():
+        if not all(is_last(it) for it in authorities):
+            raise Mistake(f"{config.file}: [authorities] {organisation} names an authority that may make others: it has to be one of"
+                          " pathlen:0, as `regtuma-certs ca` makes it")
+
+
+def is_last(authority: x509.Certificate) -> bool:
+    """Whether an authority makes no other one."""
+    try:
+        return authority.extensions.get_extension_for_class(x509.BasicConstraints).value.path_length == 0
+    except x509.ExtensionNotFound:
+        return False
+
+
+def is_signed(certificate: x509.Certificate, authority: x509.Certificate) -> bool:
+    """Whether an authority's own key signed a certificate. That it is valid in all else, the proxy has seen."""
+    key, tag, signed = authority.public_key(), certificate.signature, certificate.tbs_certificate_bytes
+    try:
+        digest = certificate.signature_hash_algorithm
+        if isinstance(key, ed25519.Ed25519PublicKey):
+            key.verify(tag, signed)
+        elif digest and isinstance(key, ec.EllipticCurvePublicKey):
+            key.verify(tag, signed, ec.ECDSA(digest))
+        elif digest and isinstance(key, rsa.RSAPublicKey):
+            key.verify(tag, signed, padding.PKCS1v15(), digest)
+        else:
+            return False
+        return True
+    except (InvalidSignature, UnsupportedAlgorithm):
+        return False
+
+
+def only(certificate: x509.Certificate, oid: x509.ObjectIdentifier) -> str:
+    """What the subject of a certificate has of a kind, where that is one text; else nothing."""
+    found = [it.value for it in certificate.subject.get_attributes_for_oid(oid)]
+    return found[0] if len(found) == 1 and isinstance(found[0], str) else ""
 
 
 def by_loopback(request: web.Request) -> bool:
@@ -49,28 +96,30 @@ def by_loopback(request: web.Request) -> bool:
 class Access:
     def __init__(self, config: Config, requests: prometheus.Counter):
         self.config, self.requests = config, requests
-        self.authorities = config.authority_certificates()
-        # Callers by their connections, and on one machine the users at their other ends.
-        self.callers: weakref.WeakKeyDictionary[ssl.SSLObject, str | None] = weakref.WeakKeyDictionary()
+        self.authorities = authorities_of(config)
+        # Callers by what the proxy sends, and on one machine the users at the other ends of connections.
+        self.name_of = functools.lru_cache(MOST_CALLERS)(self._name_of)
         self.users: weakref.WeakKeyDictionary[asyncio.BaseTransport, int | None] = weakref.WeakKeyDictionary()
+        self.load = Load()
+        # Requests that are being answered, by their tasks.
+        self.going: dict[asyncio.Task[object], web.Request] = {}
 
     def caller(self, request: web.Request) -> str | None:
         """Whose certificate it is, where the organisation that it names has signed it; on one machine who it says it is."""
         if self.config.is_local:
             return request.headers.get(CALLER_HEADER, f"{self.config.organisation}/dev")
-        tls: ssl.SSLObject | None = request.transport.get_extra_info("ssl_object") if request.transport else None
-        if tls is None:
-            return None
-        if tls not in self.callers:
-            self.callers[tls] = self.name_of(tls.getpeercert(), chain_of(tls))
-        return self.callers[tls]
+        return self.name_of(request.headers.get(CERTIFICATE_HEADER, ""))
 
-    def name_of(self, certificate: Object | None, chain: list[bytes]) -> str | None:
-        """The caller that a certificate names. It has to be signed by that organisation's authority itself: no other one speaks for
-        it, also not by an authority in between that bears its name."""
-        subject: dict[str, str] = dict(pair for part in (certificate or {}).get("subject", ()) for pair in part)
-        organisation, name = subject.get("organizationName", ""), subject.get("commonName")
-        is_own = len(chain) == 2 and chain[1] in self.authorities.get(organisation, set())
+    def _name_of(self, certificate: str) -> str | None:
+        """The caller that a certificate names, which is DER in base64. It has to be signed by that organisation's authority itself:
+        no other one speaks for it, also not by an authority in between that bears its name."""
+        try:
+            found = x509.load_der_x509_certificate(base64.b64decode(certificate))
+            organisation, name = only(found, NameOID.ORGANIZATION_NAME), only(found, NameOID.COMMON_NAME)
+        except ValueError:
+            return None
+        authorities = self.authorities.get(organisation, [])
+        is_own = found not in authorities and any(is_signed(found, it) for it in authorities)
         return f"{organisation}/{name}" if name and is_own else None
 
     def has(self, caller: str | None, right: str) -> bool:
@@ -93,7 +142,6 @@ class Access:
             if request.method == "POST" and request.content_type != "application/json":
                 # What a page of another site can make a browser send, with its certificate, has another type.
                 raise Refused(415, {"why": "a request has the type application/json"})
-            # Its connection may end before the request is answered, so that it is asked for its certificate here alone.
             request["right"], request["caller"] = right, caller
             return await handler(request)
         return guarded
@@ -132,26 +180,51 @@ class Access:
             return await handler(request)
         return guarded
 
+    async def end_gone(self) -> None:
+        """Ends the handlers of callers who have gone: aiohttp 3.8 lets them go on."""
+        while True:
+            await asyncio.sleep(LOOK)
+            for task, request in self.going.items():
+                if has_gone(request):
+                    task.cancel()
+
     @web.middleware
     async def answered(self, request: web.Request, handler: Handler) -> web.StreamResponse:
         """Counts the request, and turns what fails into an answer."""
-        route = request.match_info.route.resource
-        status = 500
+        route, status, task = request.match_info.route.resource, 500, asyncio.current_task()
+        assert task
+        self.going[task] = request
         try:
             response = await handler(request)
             status = response.status
             return response
-        except Refused as refused:
-            status = refused.status
-            return answer(refused.said, status)
-        except web.HTTPException as error:
-            status = error.status
-            return answer({"why": error.reason}, status)
-        except TooLong as error:
-            status = 422
-            return answer({"why": str(error)}, status)
-        except (LogError, FilterEnded) as error:
-            status = 503
-            return answer({"why": str(error)}, status)
+        except (Refused, web.HTTPException, TooLong, LogError, FilterEnded) as error:
+            status, said = refusal_of(error)
+            return answer(said, status)
+        except asyncio.CancelledError:
+            status = GONE
+            raise
+        except ConnectionError:
+            if not has_gone(request):
+                raise
+            # This ends it as well, and nothing is told of it in the journal.
+            status = GONE
+            raise asyncio.CancelledError from None
         finally:
+            del self.going[task]
+            self.load.give(request)
             self.requests.labels(route.canonical if route else "none", status).inc()
+
+
+def has_gone(request: web.Request) -> bool:
+    """Whether the caller is there no more."""
+    return request.transport is None or request.transport.is_closing()
+
+
+def refusal_of(error: Exception) -> tuple[int, Object]:
+    """The status and the words for what fails."""
+    if isinstance(error, Refused):
+        return error.status, error.said
+    if isinstance(error, web.HTTPException):
+        return error.status, {"why": error.reason}
+    return 422 if isinstance(error, TooLong) else 503, {"why": str(error)}

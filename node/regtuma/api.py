@@ -3,25 +3,32 @@ import asyncio
 import json
 import pathlib
 import time
-from collections.abc import Callable
+from collections.abc import AsyncIterator, Callable
 from urllib.parse import unquote_to_bytes
 
 from aiohttp import web
+from aiohttp.http_exceptions import HttpProcessingError
 
 from . import VERSION, page, ticks
 from .access import Access, Handler, answer, dumps
 from .chain import Chain
 from .config import Config
 from .endorsing import Endorsing
+from .filters import FilterEnded, TooLong
 from .gateway import Gateway
 from .metrics import TYPE, Metrics
-from .proposals import DIGEST, Refused, bound_of, check, checked, matches, number_of, objects, seconds_of
+from .proposals import DIGEST, Refused, bound_of, check, checked, described, matches, number_of, objects, refuse, seconds_of
+from .waiting import within
 from .wire import Object, id_of
 
 PATIENCE, LONGEST_WAIT = 30.0, 600.0
 MOST_BLOCKS, MOST_ENTRIES, MOST_CALLS, HEARTBEAT = 200, 1000, 500, 15.0
-# The longest body: calls or proposals of the longest argument, in hex.
-BODY = 5 << 20
+# The longest body: calls or proposals of the longest argument, in hex; how many commas it has at most, and how long it may take, in
+# seconds. What lies between the commas takes up to thirty times as much in memory.
+BODY, MOST_COMMAS, BODY_SECONDS = 5 << 20, 50_000, 30.0
+# How much of the chain one answer has, beside its last block; how it is written, and how long the reader may take for one block.
+MOST_ANSWER, PIECE, READ_SECONDS = 4 << 20, 1 << 16, 60.0
+JSON, LINES, EVENTS = "application/json", "application/jsonl", "text/event-stream"
 # How long it may take until it is told that something is wrong: envelopes that wait, a log that takes none; lines that are unread.
 STUCK, UNLED, BEHIND = 30.0, 15.0, 10_000
 # Method, path, the right that it needs, and what answers.
@@ -50,7 +57,7 @@ class Api:
         """Routes for those who show a certificate."""
         return [("POST", "/evaluate", "evaluate", self.evaluate), ("POST", "/transactions", "submit", self.submit),
                 ("POST", "/endorse", "endorse", self.endorse), ("POST", "/agreed", "agree", self.agree),
-                ("GET", "/agreed", "agree", self.get_agreed)]
+                ("GET", "/agreed", "agree", self.get_agreed), ("DELETE", "/agreed/{id}", "agree", self.withdraw)]
 
     def app(self) -> web.Application:
         """What clients and other nodes ask, by certificates."""
@@ -76,12 +83,13 @@ class Api:
         return answer(said, 503 if wrong else 200)
 
     def wrong(self) -> list[str]:
-        chain, awaited, now, wrong = self.chain, self.chain.awaited, time.time(), []
+        chain, awaited, now, wrong = self.chain, self.chain.awaited, time.monotonic(), []
         if chain.forked:
             wrong.append(f"forked: {chain.forked}. Compare the hash of that block with each organisation, not through the log")
-        if awaited.since and now - awaited.since > STUCK + self.config.ticks.seconds(awaited.number, now) and not chain.is_full:
+        patience = STUCK + self.config.ticks.seconds(awaited.number, time.time())
+        if awaited.since and now - awaited.since > patience and not chain.is_full:
             wrong.append("envelopes wait, and no tick comes: the log may take none")
-        if (unled := time.monotonic() - chain.led) > UNLED:
+        if (unled := now - chain.led) > UNLED:
             wrong.append(f"the log could take no entry for {unled:.0f} s: {chain.log.why}")
         if (unread := chain.given - chain.read) > BEHIND:
             wrong.append(f"{unread} lines of the log are unread")
@@ -91,51 +99,57 @@ class Api:
 
     def warnings(self) -> list[str]:
         warnings = [self.endorsing.out_of_place and f"nothing is endorsed: {self.endorsing.out_of_place}",
-                    self.config.ticks.warning(self.chain.height, time.time())]
+                    self.config.ticks.warning(self.chain.height, self.chain.share, time.time())]
         return [it for it in warnings if it]
 
     async def get_metrics(self, _request: web.Request) -> web.Response:
         return web.Response(body=self.metrics.text(), headers={"Content-Type": TYPE})
 
-    async def get_page(self, request: web.Request) -> web.Response:
+    async def get_page(self, request: web.Request) -> web.StreamResponse:
+        """The page with the newest blocks, as many as an answer has. The later ones it reads as they are committed."""
         if not self.config.ledger.template:
             raise Refused(404, {"why": "there is no page: [ledger] has no template"})
         newest = max(1, self.chain.height - MOST_BLOCKS + 1)
         first = number_of(request.query.get("from", str(newest)), "from", 1, ticks.LAST_BLOCK)
-        setting, _ = await self.chain.query.text_of("setting")
-        blocks = [await self.chain.block(it) for it in range(first, min(first + MOST_BLOCKS, self.chain.height + 1))]
         try:
             template = pathlib.Path(self.config.ledger.template).read_text(encoding="utf-8")
-            text, policy = page.live(template, [setting, *blocks], self.config.organisation)
+            begin, end, policy = page.live(template, self.config.organisation)
         except (OSError, ValueError) as error:
             raise Refused(503, {"why": f"there is no page: {error}"}) from None
+
+        setting, _ = await self.chain.query.text_of("setting")
+
+        async def texts() -> AsyncIterator[str]:
+            yield begin + page.line(setting)
+            async for it in self.blocks(first, first + MOST_BLOCKS - 1):
+                yield page.line(it)
+            yield end
         headers = {"Content-Security-Policy": policy, "X-Content-Type-Options": "nosniff", "Cache-Control": "no-store"}
-        return web.Response(text=text, content_type="text/html", headers=headers)
+        return await self.send(request, texts(), "text/html; charset=utf-8", headers)
 
     # ---------------------------------------------------------------- the chain
 
     async def get_height(self, _request: web.Request) -> web.Response:
         return answer({"height": self.chain.height})
 
-    async def get_setting(self, _request: web.Request) -> web.Response:
-        return answer((await self.chain.query.ask_for("setting"))[0])
+    async def get_setting(self, request: web.Request) -> web.StreamResponse:
+        return await self.ask(request, "{}", "setting")
 
-    async def get_members(self, _request: web.Request) -> web.Response:
-        return answer((await self.chain.query.ask_for("members"))[0])
+    async def get_members(self, request: web.Request) -> web.StreamResponse:
+        return await self.ask(request, "{}", "members")
 
-    async def get_block(self, request: web.Request) -> web.Response:
+    async def get_block(self, request: web.Request) -> web.StreamResponse:
         number = number_of(request.match_info["number"], "a block's number", 1, ticks.LAST_BLOCK)
         if number > self.chain.height:
             return self.found(None)
-        return web.Response(text=await self.chain.block(number), content_type="application/json")
+        return await self.send(request, self.blocks(number, number), JSON)
 
-    async def get_blocks(self, request: web.Request) -> web.Response:
+    async def get_blocks(self, request: web.Request) -> web.StreamResponse:
         """Blocks, each as a line of JSON, so many at most."""
         first, last = (number_of(request.query.get(it, left_out), it, 1, ticks.LAST_BLOCK)
                        for it, left_out in (("from", "1"), ("to", str(ticks.LAST_BLOCK))))
-        last = min(last, first + MOST_BLOCKS - 1, self.chain.height)
-        lines = [await self.chain.block(it) + "\n" for it in range(first, last + 1)]
-        return web.Response(text="".join(lines), content_type="application/jsonl")
+        lines = (it + "\n" async for it in self.blocks(first, min(last, first + MOST_BLOCKS - 1)))
+        return await self.send(request, lines, LINES)
 
     async def get_events(self, request: web.Request) -> web.StreamResponse:
         """Blocks as they are committed, as server-sent events: from `from` on, or behind the last one that was read."""
@@ -144,7 +158,7 @@ class Api:
         number = number_of(first, "from", 1, ticks.LAST_BLOCK)
         if last:
             number = number_of(last, "Last-Event-ID", 0, ticks.LAST_BLOCK) + 1
-        stream = web.StreamResponse(headers={"Content-Type": "text/event-stream", "Cache-Control": "no-store"})
+        stream = web.StreamResponse(headers={"Content-Type": EVENTS, "Cache-Control": "no-store"})
         await stream.prepare(request)
         self.metrics.streams += 1
         try:
@@ -153,14 +167,15 @@ class Api:
                 if not self.access.may_go_on(request):
                     # Rights were read anew meanwhile.
                     return stream
-                if is_there:
-                    line = chosen(await self.chain.block(number), request.query.get("chaincode"))
-                    await stream.write(f"id: {number}\nevent: block\ndata: {line}\n\n".encode())
-                    number += 1
-                else:
+                if not is_there:
                     await stream.write(b":\n\n")
-        except ConnectionResetError:
-            return stream
+                    continue
+                async with self.access.load.turn(request):
+                    line = chosen(await self.chain.block(number), request.query.get("chaincode"))
+                    await write(stream, f"id: {number}\nevent: block\ndata: {line}\n\n")
+                number += 1
+        except (ConnectionResetError, asyncio.TimeoutError):
+            return cut(request, stream)
         finally:
             self.metrics.streams -= 1
 
@@ -169,16 +184,15 @@ class Api:
         answered, _ = await self.chain.query.ask_for("get", key=key_of(request))
         return self.found(answered)
 
-    async def get_history(self, request: web.Request) -> web.Response:
-        return answer((await self.chain.query.ask_for("history", key=key_of(request)))[0])
+    async def get_history(self, request: web.Request) -> web.StreamResponse:
+        return await self.ask(request, "{}", "history", key=key_of(request))
 
-    async def get_range(self, request: web.Request) -> web.Response:
+    async def get_range(self, request: web.Request) -> web.StreamResponse:
         """Keys from one to another, as text, or as hex behind 0x."""
         await self.wait_for_height(request)
         bounds = {it: bound_of(request.query.get(it, ""), it) for it in ("start", "end")}
         limit = number_of(request.query.get("limit", "64"), "limit", 1, MOST_ENTRIES)
-        answered, height = await self.chain.query.ask_for("range", **bounds, limit=limit)
-        return answer({"entries": answered, "height": height})
+        return await self.ask(request, '{{"entries":{},"height":{}}}', "range", **bounds, limit=limit)
 
     async def get_transaction(self, request: web.Request) -> web.Response:
         """What became of a transaction; with `wait`, it is waited for so many seconds."""
@@ -201,11 +215,13 @@ class Api:
     # ---------------------------------------------------------------- calls
 
     async def evaluate(self, request: web.Request) -> web.Response:
-        return answer(await self.gateway.evaluate(await body_of(request)))
+        body = await self.body_of(request)
+        async with self.access.load.turn(request):
+            return answer(await self.gateway.evaluate(body))
 
     async def submit(self, request: web.Request) -> web.Response:
         """One call, or a list of them, each answered by what it would be answered alone."""
-        body = await body_of(request)
+        body = await self.body_of(request)
         patience = seconds_of(request.query.get("wait", str(PATIENCE)), LONGEST_WAIT)
         caller: str = request["caller"]
         with self.metrics.submits.time():
@@ -218,25 +234,34 @@ class Api:
 
     async def endorse(self, request: web.Request) -> web.Response:
         """For other organisations' nodes: proposals are simulated on a state after so many blocks at least, and endorsed."""
-        body = await body_of(request)
+        body = await self.body_of(request)
         height = body.get("height", 0)
         is_one = set(body) <= {"proposals", "height"} and type(height) is int
         check(is_one, "a request has a list of proposals, and may have a height")
         proposals = [checked(it) for it in objects(body.get("proposals"), "proposals", MOST_CALLS)]
         asker: str = request["caller"]
-        return answer({"answers": await self.endorsing.answers(asker, proposals, height)})
+        async with self.access.load.turn(request):
+            return answer({"answers": await self.endorsing.answers(asker, proposals, height)})
 
     async def agree(self, request: web.Request) -> web.Response:
         """The operator's word that the organisation endorses this very upgrade or amendment."""
-        proposal = checked(await body_of(request))
+        proposal = checked(await self.body_of(request))
         check("chaincode" not in proposal, "a call needs no agreement: one agrees to an upgrade or an amendment")
-        id = id_of(proposal)
-        self.endorsing.agreed.add(id)
-        self.chain.say(f"{request['caller']} agrees to {id}: {dumps(proposal)}")
+        members, _ = await self.chain.query.ask_for("members")
+        said = self.endorsing.agreed.add(id_of(proposal), described(proposal, members))
+        self.chain.say(f"{request['caller']} agrees to {said['id']}: {dumps(proposal)}")
+        return answer(said)
+
+    async def withdraw(self, request: web.Request) -> web.Response:
+        """The operator agrees no more. What was endorsed already counts still."""
+        id = request.match_info["id"].lower()
+        if not self.endorsing.agreed.withdraw(id):
+            raise Refused(404, {"why": "nothing of this id is agreed to"})
+        self.chain.say(f"{request['caller']} agrees no more to {id}")
         return answer({"id": id})
 
     async def get_agreed(self, _request: web.Request) -> web.Response:
-        return answer({"agreed": sorted(self.endorsing.agreed.ids)})
+        return answer({"agreed": self.endorsing.agreed.listed()})
 
     # ---------------------------------------------------------------- helpers
 
@@ -247,6 +272,79 @@ class Api:
 
     def found(self, said: Object | None) -> web.Response:
         return answer(said) if said is not None else answer({"why": "there is none", "height": self.chain.height}, 404)
+
+    async def blocks(self, first: int, last: int) -> AsyncIterator[str]:
+        """The blocks that there are, from one to another, as many as an answer has."""
+        size = 0
+        for number in range(first, min(last, self.chain.height) + 1):
+            yield (text := await self.chain.block(number))
+            size += len(text)
+            if size > MOST_ANSWER:
+                return
+
+    async def ask(self, request: web.Request, form: str, what: str, **question: object) -> web.StreamResponse:
+        """What the program answers to a question, with its height, in this form."""
+        async def text() -> AsyncIterator[str]:
+            yield form.format(*await self.chain.query.text_of(what, **question))
+        return await self.send(request, text(), JSON)
+
+    async def send(self, request: web.Request, texts: AsyncIterator[str], kind: str, headers: dict[str, str] | None = None
+                   ) -> web.StreamResponse:
+        """An answer of texts, each of which is read once the one before was taken."""
+        stream = web.StreamResponse(headers={**(headers or {}), "Content-Type": kind})
+        while True:
+            try:
+                async with self.access.load.turn(request):
+                    if (text := await anext(texts, None)) is None:
+                        break
+                    if not stream.prepared:
+                        await stream.prepare(request)
+                    await write(stream, text)
+            except (FilterEnded, TooLong, asyncio.TimeoutError):
+                if stream.prepared:
+                    # It is too late for another status.
+                    return cut(request, stream)
+                raise
+        if not stream.prepared:
+            await stream.prepare(request)
+        await stream.write_eof()
+        return stream
+
+    async def body_of(self, request: web.Request) -> Object:
+        """The JSON object that a request has."""
+        # What is packed may be of any length once it is unpacked.
+        check("Content-Encoding" not in request.headers, "a body is not packed: leave Content-Encoding out")
+        check_length(request.content_length or 0)
+        try:
+            return parsed(await within(BODY_SECONDS, self.read(request)))
+        except asyncio.TimeoutError:
+            raise Refused(408, {"why": f"the body has not come within {BODY_SECONDS:.0f} s"}) from None
+        except (web.RequestPayloadError, HttpProcessingError):
+            raise refuse("the body is broken off, or not encoded as its headers say") from None
+
+    async def read(self, request: web.Request) -> bytes:
+        data = bytearray()
+        async for piece in request.content.iter_any():
+            self.access.load.take(request, len(piece))
+            data += piece
+            check_length(len(data))
+        return bytes(data)
+
+
+async def write(stream: web.StreamResponse, text: str) -> None:
+    """Writes a text, a piece once the one before is on its way; TimeoutError where the reader takes too long."""
+    async def pieces() -> None:
+        data = text.encode()
+        for place in range(0, len(data), PIECE):
+            await stream.write(data[place:place + PIECE])
+    await within(READ_SECONDS, pieces())
+
+
+def cut(request: web.Request, stream: web.StreamResponse) -> web.StreamResponse:
+    """Ends an answer's connection before its end, so that nobody takes it for whole."""
+    if request.transport:
+        request.transport.abort()
+    return stream
 
 
 def chosen(line: str, chaincode: str | None) -> str:
@@ -264,12 +362,18 @@ def key_of(request: web.Request) -> str:
     return key
 
 
-async def body_of(request: web.Request) -> Object:
-    """The JSON object that a request has."""
+def check_length(length: int) -> None:
+    if length > BODY:
+        raise Refused(413, {"why": f"a body has at most {BODY >> 20} MiB"})
+
+
+def parsed(data: bytes) -> Object:
+    """The JSON object that bytes spell, in UTF-8 whatever else the request says of them."""
+    check(data.count(b",") <= MOST_COMMAS, f"the body has more than {MOST_COMMAS:,} commas: ask for less at a time")
     try:
-        body = await request.json()
+        body = json.loads(data.decode())
     except (ValueError, RecursionError):
-        raise Refused(400, {"why": "the body is no JSON"}) from None
+        raise refuse("the body is no JSON") from None
     if not isinstance(body, dict):
-        raise Refused(400, {"why": "the body is a JSON object"})
+        raise refuse("the body is a JSON object")
     return body

@@ -13,26 +13,29 @@ from typing import Any
 
 from . import numbers, ticks
 from .config import Config
-from .entries import TICK, Lines, Log, LogError
+from .entries import ENTRY_CHARACTERS, ENTRY_LINES, Entry, Lines, Log, LogError
 from .filters import Filter, FilterEnded, Query
+from .tags import Key, Keys
 from .times import Times
 from .waiting import within
 from .wire import Object
 
-# An entry of etcd has at most 1.5 MiB, and so many envelopes at most.
-ENTRY_CHARACTERS, ENTRY_LINES = 1_000_000, 500
 FULL, NO_MARK = 422, 300
 # How often the log is asked whether it takes entries, and how long it may take for a tick, in seconds.
 PROBE, SHORT_PATIENCE = 3.0, 3.0
 # The JSON of so many blocks is kept for those who watch.
 NEWEST = 16
+# So many calls that came to no block are remembered with the reason.
+REMEMBERED = 1000
 # So many blocks may be of lines that the log has told other nodes and not yet this one.
 AHEAD = 100
+NO_SHARE = "this organisation has brought about its share of the chain's blocks: a call may be put by another one's node"
 
 
 @dataclasses.dataclass(frozen=True)
 class Awaited:
-    """The block that comes next: its number, how many envelopes wait for it, and since when, in seconds since 1970."""
+    """The block that comes next: its number, how many envelopes wait for it, and since when this organisation's do, by a clock that
+    never goes back."""
     number: int = 1
     waiting: int = 0
     since: float | None = None
@@ -40,9 +43,8 @@ class Awaited:
 
 @dataclasses.dataclass(frozen=True)
 class Asking:
-    """The block that was asked for last: its number, how many ticks, and when the last one was."""
+    """The tick that was put last: its number, and when that was."""
     number: int = 0
-    tries: int = 0
     at: float = 0.0
 
 
@@ -55,10 +57,13 @@ class Chain:
         modules = ["--modules", config.ledger.modules] if config.ledger.modules else []
         self.query = Query("ledger query", [program, "query", genesis, store, *modules])
         self.height, self.grown = 0, asyncio.Condition()
+        self.keys = Keys(genesis)
         # Who has another block, as long as nobody has looked into it: nothing is endorsed or put meanwhile.
         self.forked: str | None = None
         # When the log was seen last to take entries.
         self.led = time.monotonic()
+        # This organisation's part of the log, and what of the log counts.
+        self.part, self.lines = config.organisation.encode(), Lines()
         # Where the log is; how many of its lines the replica of the orderer was given, and how many it has read.
         self.revision = self.given = self.read = 0
         self.awaited, self.asking = Awaited(), Asking()
@@ -66,9 +71,15 @@ class Chain:
         self.unsaid: asyncio.Queue[int] = asyncio.Queue()
         # Who waits for the flag of a transaction, by its id.
         self.waiters: dict[str, list[asyncio.Future[Object]]] = {}
-        # Ids of those that this node has put into the log, and that are in no block yet.
+        # What became of those that this node has put and that are in no block, for those who ask later.
+        self.refused: collections.OrderedDict[str, Object] = collections.OrderedDict()
+        # Ids of those that this node has put into the log, and that are in no block yet; those of the envelopes of its entries, by
+        # their names, until these are read; and those of lines that the orderer has not read.
         self.in_log: set[str] = set()
-        self.unput: list[tuple[str, asyncio.Future[None]]] = []
+        self.own: dict[bytes, list[str]] = {}
+        self.unread: dict[str, str] = {}
+        # Ids and envelopes that are to be put, and who waits for that.
+        self.unput: list[tuple[str, str, asyncio.Future[None]]] = []
         self.put_wanted = asyncio.Event()
         self.counts: collections.defaultdict[str, float] = collections.defaultdict(float)
         self.newest: collections.OrderedDict[int, asyncio.Task[str]] = collections.OrderedDict()
@@ -82,6 +93,7 @@ class Chain:
                 raise FilterEnded(f"ledger commit says: {numbers.explained(line)}")
         self.height = int(line.split()[1])
         self.say(line)
+        self.lines = Lines.by(self.config.ledger.genesis)
         self.times = Times(self.config.ledger.store + ".times")
         await asyncio.gather(self.order.start(), self.query.start())
 
@@ -103,16 +115,34 @@ class Chain:
         """Whether the last block was cut, so that what is put now is in none."""
         return ticks.is_full(max(self.awaited.number, self.height + 1))
 
+    @property
+    def share(self) -> int:
+        """How many blocks this organisation can bring about still."""
+        return self.lines.shares.left(self.part)
+
+    async def standing(self) -> dict[str, Key]:
+        """The members and their keys, as the store has them now."""
+        return await self.keys.at(self.query, self.height)
+
     # ---------------------------------------------------------------- the log, blocks and commits
 
     async def feed(self) -> None:
-        """Hands the log's lines to the replica of the orderer."""
-        lines = Lines()
+        """Hands the lines of the log that count to the replica of the orderer."""
         async for entries in self.log.watch():
-            made = lines.of(entries)
+            made = [line for it in entries for line in self.counted(it)]
             self.given += len(made)
             await self.order.write(*made)
             self.revision = entries[-1].revision
+
+    def counted(self, entry: Entry) -> list[bytes]:
+        """The lines of an entry that count. Who waits for one that does not is told."""
+        made = self.lines.of(entry)
+        for place, id in enumerate(self.own.pop(entry.name, [])):
+            if line := made.get(place):
+                self.unread[line.decode().split(" ")[0]] = id
+            else:
+                self.resolve(id, {"id": id, "why": NO_SHARE})
+        return list(made.values())
 
     async def pass_blocks(self) -> None:
         """Hands the replica's blocks to the committer, and keeps in mind what waits."""
@@ -125,13 +155,16 @@ class Chain:
                 case ["seen", *_]:
                     # It is signed, which the committer judges.
                     await self.commit.write(line.encode() + b"\n")
-                case ["read", _, waiting]:
-                    since = self.awaited.since or time.time() if waiting != "0" else None
-                    self.awaited = Awaited(self.awaited.number, int(waiting), since)
+                case ["read", index, waiting]:
+                    is_own = waiting != "0" and self.part in self.lines.behind
+                    self.awaited = Awaited(self.awaited.number, int(waiting), self.awaited.since or time.monotonic() if is_own else None)
                     self.read += 1
-                case ["skipped", _, number]:
+                    self.unread.pop(index, None)
+                case ["skipped", index, number]:
                     # What nodes tell each other is no mark, and is skipped so by all.
                     self.counts[f"skipped {number}"] += int(number) != NO_MARK
+                    if id := self.unread.get(index):
+                        self.resolve(id, {"id": id, "refused": int(number), "why": f"the orderer skips its envelope (refused {number})"})
                 case ["aborted", id, number]:
                     self.counts[f"aborted {number}"] += 1
                     self.resolve(id, {"id": id, "refused": int(number)})
@@ -155,10 +188,10 @@ class Chain:
                     self.say(f"ledger commit: {numbers.explained(line)}")
 
     def hear_fork(self, organisation: str, number: str) -> None:
-        """Somebody has another block: as long as nobody has looked into it, the node reads on, and puts nothing."""
+        """Somebody has another block: as long as nobody has looked into these very words, the node reads on, and puts nothing."""
         words = f"{organisation} says that it has another block {number}"
         self.say(f"forked: {words}")
-        if not self.config.ledger.past_forks:
+        if f"{organisation} {number}" not in self.config.ledger.past_forks:
             self.forked = self.forked or words
 
     async def committed(self, number: int) -> None:
@@ -181,7 +214,7 @@ class Chain:
         while True:
             await asyncio.sleep(0.05)
             try:
-                await self.tick(time.time())
+                await self.tick(time.monotonic())
             except LogError as error:
                 self.say(f"not put: {error}")
                 await asyncio.sleep(1)
@@ -194,21 +227,24 @@ class Chain:
             await asyncio.sleep(PROBE)
 
     def is_due(self, now: float) -> bool:
-        """Whether envelopes have waited for long enough, as far as the log was read. With each tick for one block the wait is
-        twice as long as before, so that a tick whose name somebody used up holds nobody up for good."""
+        """Whether this organisation's envelopes have waited for long enough, as far as the log was read: each organisation asks, and
+        pays, for its own. A tick may come behind another one's, and not count, so that it is asked again after as long."""
         awaited, asking = self.awaited, self.asking
-        if self.read < self.given or awaited.since is None or self.forked or ticks.is_full(awaited.number):
+        if self.read < self.given or awaited.since is None or self.forked or ticks.is_full(awaited.number) or not self.share:
             return False
-        tries, at = (asking.tries, asking.at) if asking.number == awaited.number else (0, 0.0)
-        return now - max(awaited.since, at) >= self.config.ticks.seconds(awaited.number, now) * 2.0**tries
+        asked = asking.at if asking.number == self.lines.ticks + 1 else 0.0
+        return now - max(awaited.since, asked) >= self.config.ticks.seconds(awaited.number, time.time())
 
     async def tick(self, now: float) -> None:
+        """Asks for a block, where one is due. Nodes of one organisation ask by one name; that may be used up, so that the next one has
+        a part that nobody knows before."""
         if self.is_due(now):
-            number = self.awaited.number
-            tries = self.asking.tries if self.asking.number == number else 0
-            name = f"{TICK}{number}-{tries + 1}" if tries else f"{TICK}{number}"
+            number = self.lines.ticks + 1
+            name = f"{self.config.organisation}/tick-{number}"
+            if self.asking.number == number:
+                name += f"-{secrets.token_hex(8)}"
             self.counts["ticks"] += await self.log.append(name, ["tick"], SHORT_PATIENCE)
-            self.asking = Asking(number, tries + 1, time.time())
+            self.asking = Asking(number, time.monotonic())
 
     # ---------------------------------------------------------------- blocks, and who waits for them
 
@@ -249,6 +285,10 @@ class Chain:
                 del self.waiters[id]
 
     def resolve(self, id: str, outcome: Object) -> None:
+        if id in self.in_log and "block" not in outcome:
+            self.refused[id] = outcome
+            if len(self.refused) > REMEMBERED:
+                self.refused.popitem(last=False)
         self.in_log.discard(id)
         for waiter in self.waiters.pop(id, []):
             if not waiter.done():
@@ -259,7 +299,7 @@ class Chain:
     async def put(self, id: str, envelope: str) -> None:
         """Puts a transaction's envelope into the log. What comes while one entry is under way goes into the next one together."""
         done: asyncio.Future[None] = asyncio.get_running_loop().create_future()
-        self.unput.append((envelope, done))
+        self.unput.append((id, envelope, done))
         self.put_wanted.set()
         self.in_log.add(id)
         try:
@@ -273,21 +313,24 @@ class Chain:
             await self.put_wanted.wait()
             batch = self._next_entry()
             failed: LogError | None = None
-            began = time.monotonic()
+            began, name = time.monotonic(), f"{self.config.organisation}/call-{secrets.token_hex(12)}"
+            self.own[name.encode()] = [id for id, _, _ in batch]
             try:
-                await self.log.append(f"{self.config.organisation}/call-{secrets.token_hex(12)}", [it for it, _ in batch])
+                await self.log.append(name, [it for _, it, _ in batch])
                 self.counts["entries"] += 1
                 self.counts["entry seconds"] += time.monotonic() - began
             except LogError as error:
                 failed = error
-            for _, done in batch:
+                # It may have been put all the same, and read already.
+                self.own.pop(name.encode(), None)
+            for _, _, done in batch:
                 if not done.done():
                     done.set_exception(failed) if failed else done.set_result(None)
 
-    def _next_entry(self) -> list[tuple[str, asyncio.Future[None]]]:
+    def _next_entry(self) -> list[tuple[str, str, asyncio.Future[None]]]:
         """Takes as many envelopes as one entry may have."""
         taken, size = 0, 0
-        for envelope, _ in self.unput[:ENTRY_LINES]:
+        for _, envelope, _ in self.unput[:ENTRY_LINES]:
             size += len(envelope) + 1
             if taken and size > ENTRY_CHARACTERS:
                 break

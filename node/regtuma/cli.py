@@ -13,24 +13,28 @@
     regtuma height                         prints how many blocks the node has
     regtuma health                         says whether a node is well, what is wrong, and what it warns of
     regtuma members                        prints who the members are, their keys and the policy for changes
-    regtuma agree FILE         lets the node endorse the change in FILE, and prints the id that it will have
-    regtuma agreed                         prints the ids of the changes that the node may endorse
+    regtuma agree FILE         lets the node endorse the change in FILE for a week, and says what it changes; the id is that of its
+                               transaction
+    regtuma agreed                         prints the changes that the node may endorse
+    regtuma withdraw ID                    lets the node endorse a change no more
     regtuma change FILE --orgs NAME,..
                                has the change in FILE committed, by organisations that have agreed: an upgrade or an amendment
 
 With --json the same is printed as JSON; --seconds N (40) is how long an answer may take. Nodes and certificates are
 those of the environment's REGTUMA_NODES (URLs with commas between, asked in turn), REGTUMA_CERT, REGTUMA_KEY and REGTUMA_CA
-(files). The status is 0 where it was done; 1 where it was refused, is not VALID, is not there or is not well; 2 where the words
-name no task; 3 where no node answers.
+(files). REGTUMA_CA is the organisation's own ca.pem, or lists an authority for each node, with commas between. The status
+is 0 where it was done; 1 where it was refused, is not VALID, is not there or is not well; 2 where the words name no task;
+3 where no node answers, or the time is up and the call is in no block yet.
 """
 import argparse
 import json
 import os
 import pathlib
 import sys
+import time
 from collections.abc import Callable
 
-from .client import Client, Failed, NoAnswer, from_environment
+from .client import Client, Failed, NoAnswer, Pending, from_environment
 from .wire import Object
 
 DONE, NOT_DONE, NO_TASK, UNANSWERED, INTERRUPTED = 0, 1, 2, 3, 130
@@ -167,15 +171,27 @@ def proposal_in(file: str) -> Object:
 
 
 def agree(ledger: Client, words: argparse.Namespace) -> int:
-    id_ = ledger.agree(proposal_in(words.file))
-    say(words, {"id": id_}, id_)
+    said = ledger.agree(proposal_in(words.file))
+    say(words, said, agreement(said))
     return DONE
 
 
 def agreed(ledger: Client, words: argparse.Namespace) -> int:
-    ids = ledger.ask("GET", "/agreed")["agreed"]
-    say(words, ids, "\n".join(ids) if ids else "nothing was agreed to")
+    changes = ledger.agreed()
+    say(words, changes, "\n".join(map(agreement, changes)) if changes else "nothing was agreed to")
     return DONE
+
+
+def withdraw(ledger: Client, words: argparse.Namespace) -> int:
+    ledger.withdraw(words.id)
+    say(words, {"id": words.id}, f"{words.id} is agreed to no more")
+    return DONE
+
+
+def agreement(said: Object) -> str:
+    """What is agreed to, in words, and until when."""
+    until = time.strftime("%Y-%m-%d %H:%M", time.localtime(said["until"]))
+    return f"{said['id']} until {until}: {shown(said['words'])}"
 
 
 def change(ledger: Client, words: argparse.Namespace) -> int:
@@ -226,6 +242,7 @@ def words_of(words: list[str]) -> argparse.Namespace:
     for do in (height, health, members, agreed):
         task(do)
     task(agree, file="")
+    task(withdraw, id="")
     task(change, file="").add_argument("--orgs", required=True, metavar="NAME,..")
     return reader.parse_args(words)
 
@@ -238,7 +255,7 @@ def answered(asked: argparse.Namespace) -> int:
     except Failed as failed:
         said = {"why": str(failed), **failed.said}
         say(asked, said, outcome(said))
-        return UNANSWERED if isinstance(failed, NoAnswer) else NOT_DONE
+        return UNANSWERED if isinstance(failed, (NoAnswer, Pending)) else NOT_DONE
 
 
 def main(words: list[str]) -> int:

@@ -31,13 +31,14 @@ from .wire import Object, id_of
 
 # What is tried again: flags of a conflict and of a phantom, and the orderer's answers to a batch that has no legal order.
 CONFLICTS, ABORTED = (2, 3), (441, 442)
-# How long to wait before the next node is asked, in seconds.
-PAUSE = 0.2
+# How long to wait before the next node is asked, and how long one may take at the least, in seconds.
+PAUSE, LEAST = 0.2, 0.5
 # How long a stream of blocks may be silent: a node says something each 15 seconds.
 SILENCE = 45.0
 # What there is where a node gives no answer, or none that a node gives.
 FAILURES = (OSError, http.client.HTTPException, ValueError)
-# The environment's names of the nodes' URLs, with commas between, and of the files of certificate, key and authorities.
+# The environment's names of the nodes' URLs, with commas between, and of the files of certificate, key and authority: one for all
+# nodes, or one for each, with commas between too.
 SETTINGS = ("REGTUMA_NODES", "REGTUMA_CERT", "REGTUMA_KEY", "REGTUMA_CA")
 # What an answer is: an object or a list.
 Kind = TypeVar("Kind")
@@ -67,6 +68,10 @@ class NoAnswer(Failed):
     """No node answered. Whether a call that was submitted is in the log is not known: `said["id"]` is its id, for `status`."""
 
 
+class Pending(Failed):
+    """The time is up, and the call is in no block yet: it may still come into one. `said["id"]` is its id, for `status`."""
+
+
 class Link:
     """A connection to the node whose turn it is."""
 
@@ -77,11 +82,15 @@ class Link:
     def begin(self, method: str, path: str, body: Object | None, seconds: float) -> http.client.HTTPResponse:
         """Begins a request, whose answer may be silent for so many seconds."""
         if self.connection is None:
-            at = urlsplit(self.client.nodes[self.turn % len(self.client.nodes)])
+            turn = self.turn % len(self.client.nodes)
+            at = urlsplit(self.client.nodes[turn])
             if at.scheme == "http":
                 self.connection = http.client.HTTPConnection(at.netloc, timeout=seconds)
             else:
-                self.connection = http.client.HTTPSConnection(at.netloc, timeout=seconds, context=self.client.tls)
+                self.connection = http.client.HTTPSConnection(at.netloc, timeout=seconds, context=self.client.tls[turn])
+        self.connection.timeout = seconds
+        if self.connection.sock:
+            self.connection.sock.settimeout(seconds)
         self.connection.request(method, path, json.dumps(body) if body else None, {"Content-Type": "application/json"})
         return self.connection.getresponse()
 
@@ -97,50 +106,61 @@ class Client:
 
     def __init__(self, nodes: list[str], certificate: str = "", key: str = "", authorities: str = "", seconds: float = 40.0):
         """`nodes` are URLs, asked in turn; files are in PEM, and needed unless all nodes are this user's own, as those of `ledger
-        dev`, whose URLs begin with http. After `seconds` without an answer a call fails."""
+        dev`, whose URLs begin with http. `authorities` is the file of the organisation's own authority; where other organisations'
+        nodes are named too, it has a file for each node, with commas between: only that authority speaks for the node. After
+        `seconds` without an answer a call fails."""
         self.nodes, self.seconds, self.own = nodes, seconds, threading.local()
         for it in nodes:
             if not url(it) and not local_url(it):
                 raise Failed(f"{it} is no URL of a node with its port, as https://10.0.0.1:7051, or here http://127.0.0.1:7051")
         if are_local(nodes):
             return
+        trusted = authorities.split(",")
+        if len(trusted) not in (1, len(nodes)):
+            raise Failed(f"there are {len(trusted)} authorities for {len(nodes)} nodes: name one for all, or one for each")
         try:
-            self.tls = ssl.create_default_context(cafile=authorities)
-            self.tls.load_cert_chain(certificate, key)
+            contexts = [tls_of(certificate, key, it) for it in trusted]
+            self.tls = contexts if len(trusted) > 1 else contexts * len(nodes)
         except OSError as error:
             files = f"{certificate}, {key}, {authorities}"
-            raise Failed(f"the certificate, its key or the authorities cannot be used ({files}): {error.strerror or error}") from None
+            raise Failed(f"the certificate, its key or an authority cannot be used ({files}): {error.strerror or error}") from None
 
     def submit(self, chaincode: str, *args: str, arg: bytes | None = None, organisations: list[str] | None = None,
                tries: int = 1, nonce: str | None = None) -> Object:
         """Has a call committed: its id, block, place, flag and result once it is VALID. One that conflicts with another is made
         anew, `tries` times in all. `organisations` are to endorse, in place of those that the policy needs; a `nonce` of 32 hex
-        digits names the transaction, where the caller has asked for it before."""
+        digits names the transaction, where the caller has asked for it before. After the client's `seconds` it ends by `Pending`, where
+        the call is in no block yet."""
+        until = time.monotonic() + self.seconds
         for left in range(max(tries, 1) - 1, -1, -1):
             call = call_of(chaincode, args, arg, organisations, nonce)
-            said, nonce = self.outcome(call), None
+            said, nonce = self.outcome(call, until), None
             if said.get("valid"):
                 return said
-            if not left or said.get("flag") not in CONFLICTS and said.get("refused") not in ABORTED:
+            if not left or time.monotonic() > until or said.get("flag") not in CONFLICTS and said.get("refused") not in ABORTED:
                 break
         raise failure(said)
 
-    def outcome(self, call: Object) -> Object:
-        """What becomes of a call or a change, whatever that is: an answer of the API with `valid`, `refused` or neither."""
+    def outcome(self, call: Object, until: float = 0.0) -> Object:
+        """What becomes of a call or a change, whatever that is: an answer of the API with `valid`, `refused` or neither; with `pending`
+        where its time is up, by the clock of `time.monotonic`, by default after the client's `seconds`."""
+        until = until or time.monotonic() + self.seconds
         try:
-            # Who asks again for the same call waits for it, or has it put where it is not under way.
-            while (said := self.ask("POST", self._transactions(), call)).get("pending"):
-                pass
-            return said
+            while True:
+                # Who asks again for the same call waits for it, or has it put where it is not under way.
+                said = self._ask(dict, "POST", self._transactions(until), call, (), until)
+                if not said.get("pending") or until - time.monotonic() < LEAST:
+                    return said
         except NoAnswer as error:
             raise NoAnswer(str(error), {"id": id_of(call)}) from None
 
     def submit_all(self, calls: Iterable[Object]) -> list[Object]:
         """Has several calls committed by one request, each of which `call_of` makes: the answer to each, in order, with `valid`,
-        or with `refused` or `flag` and `why`. Calls of one request are simulated side by side, so they must not conflict."""
-        calls = list(calls)
-        answers = self.ask("POST", self._transactions(), {"calls": calls})["answers"]
-        return [self.outcome(call) if said.get("pending") else said for call, said in zip(calls, answers)]
+        or with `refused`, `flag` or `pending`, and `why`. Calls of one request are simulated side by side, so they must not conflict."""
+        calls, until = list(calls), time.monotonic() + self.seconds
+        answers = self._ask(dict, "POST", self._transactions(until), {"calls": calls}, (), until)["answers"]
+        return [self.outcome(call, until) if said.get("pending") and time.monotonic() < until else said
+                for call, said in zip(calls, answers)]
 
     def evaluate(self, chaincode: str, *args: str, arg: bytes | None = None) -> bytes:
         """The result of a call that changes nothing, on the state that the node has."""
@@ -155,8 +175,7 @@ class Client:
     def state(self, start: str = "", end: str = "", limit: int = 64) -> list[Object]:
         """The first entries from a key on and below another one, each with `key`, `value` (both hex) and `version`."""
         said = self.ask("GET", "/state?" + urlencode({"start": start, "end": end, "limit": limit}))
-        entries: list[Object] = said["entries"]
-        return entries
+        return self._list(said, "entries")
 
     def history(self, key: str | bytes) -> list[Object]:
         """Each write of a VALID transaction to a key."""
@@ -176,10 +195,18 @@ class Client:
         """The membership that stands: `serial`, `members` and `policy`."""
         return self.ask("GET", "/members")
 
-    def agree(self, proposal: Object) -> str:
-        """Lets the node endorse this very upgrade or amendment, by a person's decision. The id that its transaction has."""
-        id: str = self.ask("POST", "/agreed", proposal)["id"]
-        return id
+    def agree(self, proposal: Object) -> Object:
+        """Lets the node endorse this very upgrade or amendment, by a person's decision: the `id` that its transaction has, `until` when,
+        in seconds since 1970, and in `words` what that is."""
+        return self.ask("POST", "/agreed", proposal)
+
+    def agreed(self) -> list[Object]:
+        """What the node may endorse."""
+        return self._list(self.ask("GET", "/agreed"), "agreed")
+
+    def withdraw(self, id: str) -> None:
+        """Lets the node endorse a change no more."""
+        self.ask("DELETE", f"/agreed/{quote(id, safe='')}")
 
     def change(self, proposal: Object, organisations: list[str]) -> Object:
         """Has an upgrade or an amendment committed, as `submit` a call, by organisations that have agreed to it."""
@@ -224,11 +251,11 @@ class Client:
         """The object that a node answers. The next one is asked where one gives none, or cannot do it now (503)."""
         return self._ask(dict, method, path, body, accept)
 
-    def _ask(self, kind: type[Kind], method: str, path: str, body: Object | None, accept: tuple[int, ...]) -> Kind:
-        link, until = self._link(), time.monotonic() + self.seconds
+    def _ask(self, kind: type[Kind], method: str, path: str, body: Object | None, accept: tuple[int, ...], until: float = 0.0) -> Kind:
+        link, until = self._link(), until or time.monotonic() + self.seconds
         while True:
             try:
-                answer = link.begin(method, path, body, self.seconds)
+                answer = link.begin(method, path, body, max(LEAST, until - time.monotonic()))
                 if answer.status < 400 or answer.status in accept:
                     return of_kind(kind, json.loads(answer.read()))
                 why: Failed = refusal(answer)
@@ -252,9 +279,14 @@ class Client:
         """How long a node may wait before it answers: the client does not take it for dead yet."""
         return max(1.0, self.seconds - 5)
 
-    def _transactions(self) -> str:
-        """Where calls are posted."""
-        return f"/transactions?wait={self._patience:g}"
+    def _transactions(self, until: float) -> str:
+        """Where calls are posted: a node answers before the time is up."""
+        left = max(0.0, until - time.monotonic())
+        return f"/transactions?wait={left - min(5.0, left / 4):.3f}"
+
+    def _list(self, said: Object, name: str) -> list[Object]:
+        found: list[Object] = said[name]
+        return found
 
     def _link(self) -> Link:
         """This thread's connection."""
@@ -270,6 +302,13 @@ def call_of(chaincode: str, args: Iterable[str] = (), arg: bytes | None = None, 
     data = " ".join(args).encode() if arg is None else arg
     call = {"chaincode": chaincode, "arg": data.hex(), "nonce": nonce or secrets.token_hex(16)}
     return {**call, "organisations": organisations} if organisations else call
+
+
+def tls_of(certificate: str, key: str, authority: str) -> ssl.SSLContext:
+    """Shows this certificate, and believes what this authority has signed."""
+    tls = ssl.create_default_context(cafile=authority)
+    tls.load_cert_chain(certificate, key)
+    return tls
 
 
 def blocks_in(answer: Iterable[bytes]) -> Iterator[Object]:
@@ -297,6 +336,9 @@ def is_final(why: Failed) -> bool:
 
 def failure(said: Object) -> Failed:
     """The exception for an outcome that is not VALID."""
+    if said.get("pending"):
+        why = f"the time is up: {said['why']}"
+        return Pending(why, {**said, "why": why})
     return Invalid(said["why"], said) if "flag" in said else Refused(200, said)
 
 
@@ -313,6 +355,6 @@ def from_environment(seconds: float = 40.0) -> Client:
     missing = [it for it in SETTINGS if not os.environ.get(it)]
     if missing:
         raise Failed(f"the environment has no {' and no '.join(missing)}: REGTUMA_NODES are the nodes' URLs with commas between,"
-                     " the others the files of the client's certificate, its key and the authorities")
+                     " the others the files of the client's certificate, its key and its organisation's authority")
     certificate, key, authorities = (os.environ[it] for it in SETTINGS[1:])
     return Client(nodes, certificate, key, authorities, seconds)

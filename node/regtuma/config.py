@@ -11,17 +11,21 @@ from typing import Any
 
 from .entries import Log
 from .etcd import EtcdLog
-from .fields import LOCAL_URL, OF_ORGANISATIONS, ORGANISATION, TABLES, Field, is_loopback
+from .fields import LOCAL_URL, OF_ORGANISATIONS, ORGANISATION, SOCKET, TABLES, Field, is_loopback, place
 from .filed import FileLog
 from .ticks import Ticks
 
 # Files that need not be there.
 MADE = (("ledger", "store"), ("log", "file"))
+# The longest name that Linux has for a socket.
+LONGEST_SOCKET = 107
 # What there is none of where [log] is.
 OF_CERTIFICATES = ("tls", "authorities", "etcd", "rights")
 CERTIFICATE = re.compile("-----BEGIN CERTIFICATE-----.+?-----END CERTIFICATE-----", re.DOTALL)
 # A seed, or a password as OPERATIONS.md makes it; and what a genesis file with a shared key has.
 SECRET, SHARED_KEY = re.compile("[0-9A-Fa-f]{32,}"), re.compile(rb'"key"\s*:')
+# The name in the certificates of nodes.
+NODE = "node"
 # A table of the file, each of whose values is what fields.py says of its name.
 Table = dict[str, Any]
 
@@ -47,9 +51,9 @@ class Ledger:
     approver: list[str] = dataclasses.field(default_factory=list)
     # The template of the live page, examples/page/template.html of the repository.
     template: str = ""
-    # Once in so many blocks nodes tell each other a hash; whether to go on where one says that a block is another one.
+    # Once in so many blocks nodes tell each other a hash; and which words of others that a block is another one were looked into.
     seen: int = 64
-    past_forks: bool = False
+    past_forks: list[str] = dataclasses.field(default_factory=list)
 
 
 @dataclasses.dataclass
@@ -60,7 +64,9 @@ class Files:
 
 @dataclasses.dataclass
 class Etcd(Files):
+    # Asked in turn, the first as long as it answers; and by which authorities their certificates are signed.
     endpoints: list[str]
+    authorities: str
     user: str = ""
     password_file: str = ""
 
@@ -69,7 +75,8 @@ class Etcd(Files):
 class Config:
     file: str
     organisation: str
-    # Where clients and other nodes come, and where on the loopback the page is: host:port.
+    # Where the proxy hands on what clients and other nodes ask, and what the page's readers do: names of sockets. On one machine
+    # where callers come: host:port.
     listen: str
     page: str
     ledger: Ledger
@@ -102,10 +109,21 @@ class Config:
 
     def check_files(self) -> None:
         """Reads certificates, keys and the password, so that a bad one is told before anything is begun."""
-        self.server_tls()
+        for it in self.nodes:
+            self.node_tls(it)
         if not self.is_local:
             self.etcd_tls()
             self.password()
+            self.check_sockets()
+
+    def check_sockets(self) -> None:
+        """Who reaches a socket is taken for the proxy: no others may enter its folder."""
+        for socket in filter(None, (self.listen, self.page)):
+            folder = pathlib.Path(socket).parent
+            if not folder.is_dir():
+                raise Mistake(f"{self.file} names {socket}, and there is no such folder")
+            if stat.S_IMODE(folder.stat().st_mode) & 0o007:
+                raise Mistake(f"{self.file} names {socket}, whose folder everybody may enter: chmod o= {folder}")
 
     def password(self) -> str:
         return pathlib.Path(self.etcd.password_file).read_text(encoding="utf-8").strip() if self.etcd.password_file else ""
@@ -115,33 +133,36 @@ class Config:
         tls = {it: self._trusting(ssl.Purpose.CLIENT_AUTH, [file]) for it, file in self.authorities.items()}
         return {it: set(tls[it].get_ca_certs(binary_form=True)) for it in tls}
 
-    def server_tls(self) -> ssl.SSLContext | None:
-        """For those who come: each has to show a certificate of some organisation's authority. None on one machine."""
-        if self.is_local:
-            return None
-        tls = self._trusting(ssl.Purpose.CLIENT_AUTH, self.authorities.values())
-        tls.minimum_version, tls.verify_mode = ssl.TLSVersion.TLSv1_3, ssl.CERT_REQUIRED
-        # A session that is taken up again does not tell by which authority its certificate was trusted.
-        tls.num_tickets = 0  # type: ignore[attr-defined]  # It is there, and mypy does not know it.
-        tls.load_cert_chain(self.tls.certificate, self.tls.key)
-        return tls
-
     def etcd_tls(self) -> ssl.SSLContext:
-        tls = self._trusting(ssl.Purpose.SERVER_AUTH, self.authorities.values())
+        """For etcd: the password is told to its members alone, never to who has a certificate of clients and nodes."""
+        tls = self._trusting(ssl.Purpose.SERVER_AUTH, [self.etcd.authorities])
         tls.load_cert_chain(self.etcd.certificate, self.etcd.key)
         return tls
 
     def node_tls(self, organisation: str) -> ssl.SSLContext | None:
-        """For the node of an organisation, which no other one's authority can speak for. None on one machine."""
+        """For the node of an organisation, which no other one's authority can speak for, and no other certificate of its own. None on
+        one machine."""
         if self.is_local:
             return None
         tls = self._trusting(ssl.Purpose.SERVER_AUTH, [self.authorities[organisation]])
+        tls.sslobject_class = OfNode
         tls.load_cert_chain(self.tls.certificate, self.tls.key)
         return tls
 
     def _trusting(self, purpose: ssl.Purpose, files: Iterable[str]) -> ssl.SSLContext:
         certificates = "\n".join(pathlib.Path(it).read_text(encoding="ascii") for it in files)
         return ssl.create_default_context(purpose, cadata=certificates)
+
+
+class OfNode(ssl.SSLObject):
+    """A connection to who has to be a node by its certificate."""
+
+    def do_handshake(self) -> None:
+        super().do_handshake()
+        certificate: Table = self.getpeercert() or {}
+        subject = dict(pair for part in certificate.get("subject", ()) for pair in part)
+        if (name := subject.get("commonName")) != NODE:
+            raise ssl.SSLCertVerificationError(f"its certificate is of {name!r}, and no node's")
 
 
 class Reader:
@@ -220,6 +241,17 @@ class Reader:
                 file = values[name]
                 raise self.mistake(table, name, f"names {file}, which others than its owner may read: chmod 600 {file}")
 
+    def sockets(self, top: Table) -> Table:
+        """The values with names of sockets from where the configuration stands. Their folder is there while the node runs."""
+        found = dict(top)
+        for name in (it for it in ("listen", "page") if it in top):
+            if place(top[name]):
+                raise self.mistake("", name, f"has to be {SOCKET}: the proxy listens at addresses (proxy.env)")
+            found[name] = str(self.path.parent / top[name])
+            if len(found[name].encode()) > LONGEST_SOCKET:
+                raise self.mistake("", name, f"names {found[name]}, of more than {LONGEST_SOCKET} bytes")
+        return found
+
     def check_genesis(self, ledger: Table) -> None:
         """One with a shared key is a file with secrets."""
         file = ledger["genesis"]
@@ -239,16 +271,18 @@ def read(file: str) -> Config:
     if "log" in reader.given:
         return read_local(reader, top, ledger)
     tls = reader.near("tls", reader.table("tls"), "certificate", "key")
-    etcd = reader.near("etcd", reader.table("etcd"), "certificate", "key", "password_file")
+    etcd = reader.near("etcd", reader.table("etcd"), "certificate", "key", "password_file", "authorities")
     for table, values in (("ledger", ledger), ("tls", tls), ("etcd", etcd)):
         reader.secret(table, values, *(["keys"] if table == "ledger" else ["key", "password_file"]))
     reader.check_genesis(ledger)
+    top = reader.sockets(top)
     if ("user" in etcd) != ("password_file" in etcd):
         raise reader.mistake("etcd", "user", "and password_file go together: name both, or none")
     given = reader.table("authorities")
     authorities = reader.near("authorities", given, *given)
     nodes, organisation = reader.table("nodes"), top["organisation"]
     check_organisations(reader, organisation, authorities, nodes)
+    check_etcd(reader, etcd["authorities"], authorities)
     urls = {it: nodes[it].rstrip("/") for it in nodes}
     return Config(file=file, organisation=organisation, listen=top["listen"], page=top.get("page", ""), ledger=Ledger(**ledger),
                   log_file="", tls=Files(**tls), etcd=Etcd(**etcd), authorities=authorities, nodes=urls, rights=reader.table("rights"),
@@ -269,7 +303,7 @@ def read_local(reader: Reader, top: Table, ledger: Table) -> Config:
     nodes = reader.table("nodes")
     check_others(reader, top["organisation"], nodes)
     return Config(file=str(reader.path), organisation=top["organisation"], listen=top["listen"], page="", ledger=Ledger(**ledger),
-                  log_file=reader.near("log", reader.table("log"), "file")["file"], tls=Files("", ""), etcd=Etcd("", "", []),
+                  log_file=reader.near("log", reader.table("log"), "file")["file"], tls=Files("", ""), etcd=Etcd("", "", [], ""),
                   authorities={}, nodes={it: nodes[it].rstrip("/") for it in nodes}, rights={}, ticks=ticks_of(reader))
 
 
@@ -280,7 +314,7 @@ def check_organisations(reader: Reader, own: str, authorities: dict[str, str], n
         if organisation not in authorities:
             raise reader.mistake("authorities", organisation, "is missing: name the file with its authority's certificate")
     for organisation, file in authorities.items():
-        for name in subjects(reader, organisation, file):
+        for name in owners(reader, "authorities", organisation, file):
             if name != organisation:
                 raise reader.mistake("authorities", organisation, f"names {file}, with an authority of {name!r:.100}")
 
@@ -290,18 +324,34 @@ def check_others(reader: Reader, own: str, nodes: dict[str, str]) -> None:
         raise reader.mistake("nodes", own, "is this organisation itself: name the others' nodes alone")
 
 
-def subjects(reader: Reader, organisation: str, file: str) -> list[str | None]:
-    """The organisations that the certificates of a file name."""
-    tls = ssl.SSLContext(ssl.PROTOCOL_TLS_CLIENT)
-    found: list[Table] = []
+def check_etcd(reader: Reader, file: str, authorities: dict[str, str]) -> None:
+    """Whether etcd has authorities of its own."""
+    owners(reader, "etcd", "authorities", file)
+    members = certificates_in(file)
+    for organisation, other in authorities.items():
+        if members & certificates_in(other):
+            raise reader.mistake("etcd", "authorities", f"names {file}, with {organisation}'s authority of clients and nodes")
+
+
+def certificates_in(file: str) -> set[str]:
+    return set(CERTIFICATE.findall(pathlib.Path(file).read_text(encoding="ascii")))
+
+
+def owners(reader: Reader, table: str, name: str, file: str) -> list[str | None]:
+    """The organisations whose authorities a file has."""
     try:
-        said = pathlib.Path(file).read_text(encoding="ascii")
-        tls.load_verify_locations(cadata=said)
-        found = tls.get_ca_certs()
+        found = owners_of(file)
     except (OSError, ValueError):
-        said = ""
-    if not found or len(found) != len(set(CERTIFICATE.findall(said))):
-        raise reader.mistake("authorities", organisation, f"names {file}, which has to hold certificates of authorities alone")
+        found = []
+    if not found or len(found) != len(certificates_in(file)):
+        raise reader.mistake(table, name, f"names {file}, which has to hold certificates of authorities alone")
+    return found
+
+
+def owners_of(file: str) -> list[str | None]:
+    tls = ssl.SSLContext(ssl.PROTOCOL_TLS_CLIENT)
+    tls.load_verify_locations(cadata=pathlib.Path(file).read_text(encoding="ascii"))
+    found: list[Table] = tls.get_ca_certs()
     return [dict(pair for part in it["subject"] for pair in part).get("organizationName") for it in found]
 
 

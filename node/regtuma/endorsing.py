@@ -3,6 +3,7 @@ agreed to, each by itself."""
 import asyncio
 import json
 import os
+import time
 from collections.abc import Awaitable, Coroutine
 from typing import Any
 
@@ -11,32 +12,66 @@ from .chain import Chain
 from .config import Config
 from .entries import LogError
 from .filters import Asked, FilterEnded
+from .tags import Key
 from .wire import Object, id_of
 
 # What an endorser ends by where its organisation has no place in the ledger, as it may have later.
-NO_PLACE = {"refused 806": "the organisation is no member: not yet, or no more",
-            "refused 808": "the key file has not the seed of the key by which the organisation stands"}
+NO_MEMBER, OLD_SEED = ("the organisation is no member: not yet, or no more",
+                       "the key file has not the seed of the key by which the organisation stands")
+NO_PLACE = {"refused 806": NO_MEMBER, "refused 808": OLD_SEED}
+# For how long a change is agreed to.
+AGREED_SECONDS = 7 * 86400.0
+# The words of a `seen` that is signed.
+SIGNED_WORDS = 5
 # After how many seconds it is begun again then, and how long one endorsement of a change may take, and an answer of the approver.
 PAUSE, CHANGE_SECONDS, APPROVAL_SECONDS = 5.0, 60.0, 30.0
 
 
 class Agreed:
-    """The changes that the operator has agreed to, by the ids of their transactions: a line each in a file beside the store."""
+    """The changes that the operator has agreed to, by the ids of their transactions: in a file beside the store a line of JSON for each
+    agreement, and for each that was withdrawn, which has no time left."""
 
     def __init__(self, file: str):
         self.file = file
-        self.ids: set[str] = set()
+        # What is agreed to, with `until` in seconds since 1970, and `words`.
+        self.changes: dict[str, Object] = {}
         if os.path.exists(file):
-            with open(file, encoding="ascii") as lines:
-                self.ids = {it.strip() for it in lines}
+            with open(file, encoding="ascii", errors="replace") as lines:
+                for line in lines:
+                    self._take(line)
 
-    def add(self, id: str) -> None:
-        if id not in self.ids:
-            with open(self.file, "a", encoding="ascii") as file:
-                file.write(f"{id}\n")
-                file.flush()
-                os.fsync(file.fileno())
-            self.ids.add(id)
+    def _take(self, line: str) -> None:
+        """A line counts from the next one of its id on no more. Lines of another form, as of an older node, are no agreements."""
+        try:
+            said = json.loads(line)
+            self.changes[said["id"]] = {"until": float(said["until"]), "words": str(said["words"])}
+        except (ValueError, KeyError, TypeError):
+            pass
+
+    def add(self, id: str, words: str) -> Object:
+        """Agrees to a change for some days."""
+        return self._put(id, time.time() + AGREED_SECONDS, words)
+
+    def withdraw(self, id: str) -> bool:
+        """Agrees to a change no more. Whether it was agreed to."""
+        return self.holds(id) and bool(self._put(id, 0.0, "withdrawn"))
+
+    def _put(self, id: str, until: float, words: str) -> Object:
+        line = json.dumps({"id": id, "until": until, "words": words})
+        with open(self.file, "a", encoding="ascii") as file:
+            # The line before may be torn.
+            file.write(f"\n{line}\n")
+            file.flush()
+            os.fsync(file.fileno())
+        self._take(line)
+        return {"id": id, **self.changes[id]}
+
+    def holds(self, id: str) -> bool:
+        return id in self.changes and time.time() < self.changes[id]["until"]
+
+    def listed(self) -> list[Object]:
+        """What is agreed to now."""
+        return [{"id": it, **self.changes[it]} for it in sorted(self.changes) if self.holds(it)]
 
 
 class Approver(Asked):
@@ -67,15 +102,17 @@ class Endorsing:
         self.approver = Approver("the approver", ledger.approver) if ledger.approver else None
         self.agreed = Agreed(ledger.store + ".agreed")
         self.turn = 0
-        # Why nothing is endorsed: the organisation is no member, or its seed is not at hand.
+        # Why nothing is endorsed: the organisation is no member, or its seed is not at hand; and by which membership that was looked at.
         self.out_of_place: str | None = None
+        self.looked = -1
 
     async def start(self) -> None:
         await asyncio.gather(*(it.start() for it in [*self.endorsers, *([self.approver] if self.approver else [])]))
 
     def works(self) -> list[Coroutine[Any, Any, None]]:
         """What runs as long as the node does."""
-        return [self.tell(), *(self.follow(it) for it in self.endorsers), *([self.approver.follow()] if self.approver else [])]
+        followed = [self.follow(it) for it in self.endorsers]
+        return [self.tell(), self.keep_place(), *followed, *([self.approver.follow()] if self.approver else [])]
 
     async def close(self) -> None:
         await asyncio.gather(*(it.close() for it in [*self.endorsers, *([self.approver] if self.approver else [])]))
@@ -89,9 +126,7 @@ class Endorsing:
             except FilterEnded as ended:
                 if (why := out_of_place(ended)) is None:
                     raise
-                if self.out_of_place != why:
-                    self.chain.say(f"nothing is endorsed: {why}")
-                self.out_of_place = why
+                self.put_out(why)
             await asyncio.sleep(PAUSE)
             while not await self.chain.at_least(height + 1, 60.0):
                 pass
@@ -101,6 +136,41 @@ class Endorsing:
     def find_place(self, said: asyncio.Future[str]) -> None:
         """The organisation has a place again, where an endorser that was begun again has answered."""
         if said.exception() is None:
+            self.out_of_place, self.looked = None, -1
+
+    def put_out(self, why: str) -> None:
+        """The organisation has no place, which is told once."""
+        if self.out_of_place != why:
+            self.chain.say(f"nothing is endorsed: {why}")
+        self.out_of_place = why
+
+    async def keep_place(self) -> None:
+        """Looks, whenever the members have changed, whether the organisation is one by a key whose seed is at hand."""
+        height = 0
+        while True:
+            while not await self.chain.at_least(height + 1, 60.0):
+                pass
+            height = self.chain.height
+            members = await self.chain.standing()
+            # They may change while the endorser is asked.
+            if (serial := self.chain.keys.serial) == self.looked:
+                continue
+            try:
+                if (seen := await self.endorsers[0].ask(f"seen {height}")).startswith("seen "):
+                    self.look_at_place(members.get(self.config.organisation), seen)
+                    self.looked = serial
+            except FilterEnded:
+                # Whoever keeps the endorser tells of it.
+                continue
+
+    def look_at_place(self, key: Key | None, seen: str) -> None:
+        """The organisation's place, by the key by which it stands, and by what its endorser says of a block: that is signed where the
+        organisation stands by a public key of which the seed is at hand."""
+        if key is None:
+            self.put_out(NO_MEMBER)
+        elif key.public and len(seen.split()) < SIGNED_WORDS:
+            self.put_out(OLD_SEED)
+        else:
             self.out_of_place = None
 
     # ---------------------------------------------------------------- endorsements
@@ -135,7 +205,7 @@ class Endorsing:
         """Why a proposal is not even simulated, if so."""
         if self.chain.forked or self.out_of_place:
             return self.chain.forked or self.out_of_place
-        if "chaincode" not in proposal and (id := id_of(proposal)) not in self.agreed.ids:
+        if "chaincode" not in proposal and not self.agreed.holds(id := id_of(proposal)):
             return f"its operator has not agreed to {id}"
         return None
 

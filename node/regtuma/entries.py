@@ -1,15 +1,28 @@
-"""The log that nodes share, whatever keeps it: etcd (etcd.py), or on one machine a file (filed.py).
+"""The log that nodes share, whatever keeps it: etcd (etcd.py), or on one machine a file (filed.py); and which of its lines count.
 
 A log is entries in one order, which all who read it see alike. Each entry has a name, which no other one has, and its lines are
-the marks. What an organisation writes has a name below `ORG/`; ticks, which all ask for, have names `tick-..`.
+the marks. What an organisation writes has a name below `ORG/`: that is its part of the log.
 """
+import collections
 import dataclasses
-from collections.abc import AsyncIterator, Iterator
+import json
+import pathlib
+import re
+from collections.abc import AsyncIterator
 from typing import Protocol
 
-TICK = "tick-"
+from .ticks import LAST_BLOCK, SHARE_OF
+
 # How long it may take to put an entry, in seconds.
 PATIENCE = 20.0
+# An entry of etcd has at most 1.5 MiB, so many characters are put into one, and so many of its lines count.
+ENTRY_CHARACTERS, ENTRY_LINES = 1_000_000, 500
+PART = re.compile(rb"([A-Za-z0-9_]{1,32})/")
+# The entry in which a tick of a number counts, and the names of those that fill a new log from a store.
+TICK, REFILL = re.compile(rb"[A-Za-z0-9_]{1,32}/tick-([1-9][0-9]{0,9})(?:-[0-9a-f]+)?"), b"/refill-"
+ENVELOPE, GENESIS = re.compile(rb"[0-9A-Fa-f]+"), re.compile(rb"genesis [0-9a-f]{64}")
+# Whose the blocks of a refill are.
+NOBODY = b""
 
 
 class LogError(Exception):
@@ -50,32 +63,112 @@ class Log(Protocol):
         """Lets go of whatever keeps the log."""
 
 
+class Shares:
+    """How many blocks each part of a log has brought about, at the most.
+
+    A part brings about three times as many blocks as are left, and no more: whoever else uses up the chain, a fourth of what is left
+    is there for the others. That is counted by the lines alone, since a log has no state. A tick costs a block. An envelope costs
+    what it adds to a batch: of a batch that ends by its envelopes' count, or by their bytes and those of the next one, each has
+    paid its part. So there are never more blocks than were paid for.
+    """
+
+    def __init__(self, count: int, preferred: int):
+        # A batch has at most so many envelopes, and where it has several so many bytes. Costs are in parts of a block.
+        self.count, self.preferred, self.block = count, preferred, count * preferred
+        self.paid: collections.Counter[bytes] = collections.Counter()
+        self.total = 0
+
+    def cost(self, size: int) -> int:
+        """What an envelope of so many bytes costs: two blocks where it ends what waits, and is a batch alone."""
+        weight = min(size, self.preferred) * self.count
+        return weight + max(weight, self.preferred)
+
+    def pay(self, part: bytes, cost: int) -> bool:
+        """Whether a part's share bears this, which is then paid."""
+        left = LAST_BLOCK * self.block - self.total - cost
+        if part != NOBODY and self.paid[part] + cost > (SHARE_OF - 1) * left:
+            return False
+        self.paid[part] += cost
+        self.total += cost
+        return True
+
+    def left(self, part: bytes) -> int:
+        """How many blocks a part can still bring about, where no other one brings about any."""
+        left = LAST_BLOCK * self.block - self.total
+        return max(0, ((SHARE_OF - 1) * left - self.paid[part]) // (SHARE_OF * self.block))
+
+
 class Lines:
-    """Makes of entries lines `<revision>.<line> <mark>`, as `ledger order` reads them."""
+    """Makes of entries lines `<revision>.<line> <mark>`, as `ledger order` reads them, of the marks that count: alike wherever and
+    whenever the log is read from its beginning.
 
-    def __init__(self) -> None:
+    An organisation says what it has seen in its own part. An envelope counts in any organisation's part, as far as that one's share
+    goes, and a tick in its entry `ORG/tick-N`, where it is the Nth that counts, and there is an envelope behind the one before. What
+    the first entry's organisation puts next, as `ORG/refill-..`, is a chain that was, and costs nobody's share.
+    """
+
+    def __init__(self, count: int = 512, preferred: int = 65536):
+        self.shares = Shares(count, preferred)
         # The revision of the last entry, and how many lines its entries had.
-        self.revision, self.count = 0, 0
+        self.revision = self.lines = 0
+        # How many ticks have counted, and whose envelopes stand behind the last one.
+        self.ticks, self.behind = 0, set[bytes]()
+        # How names of entries that fill the log begin, as long as no other entry has come behind the first.
+        self.is_begun, self.refill = False, b""
 
-    def of(self, entries: list[Entry]) -> list[bytes]:
-        return [line for it in entries for line in self._of_entry(it)]
+    @classmethod
+    def by(cls, genesis: str) -> "Lines":
+        """The lines of a log whose batches have the limits of a genesis file."""
+        try:
+            limits = json.loads(pathlib.Path(genesis).read_bytes())
+            return cls(int(limits["count"]), int(limits["preferred"]))
+        except (OSError, ValueError, KeyError, TypeError):
+            raise LogError(f"{genesis} is no genesis file") from None
 
-    def _of_entry(self, entry: Entry) -> Iterator[bytes]:
-        """A line that does not count where it stands has a number all the same."""
+    def of(self, entry: Entry) -> dict[int, bytes]:
+        """The lines of an entry that count, by their places in it."""
         if entry.revision != self.revision:
-            self.revision, self.count = entry.revision, 0
-        for mark in entry.value.split(b"\n"):
-            if counts_in(entry.name, mark):
+            self.revision, self.lines = entry.revision, 0
+        part, found = self._part(entry.name), {}
+        marks = entry.value.split(b"\n", ENTRY_LINES)[:ENTRY_LINES]
+        for place, mark in enumerate(marks):
+            if part is not None and self._counts(part, entry.name, mark):
                 # Any byte is a character, the same on each machine, so that each line is UTF-8.
-                yield f"{self.revision}.{self.count} {mark.decode('latin-1')}\n".encode()
-            self.count += 1
+                found[place] = f"{self.revision}.{self.lines + place} {mark.decode('latin-1')}\n".encode()
+        self.lines += len(marks)
+        return found
 
+    def _part(self, name: bytes) -> bytes | None:
+        """Whose share bears what an entry of this name brings about, if it is anybody's part."""
+        found = PART.match(name)
+        if self.refill and name.startswith(self.refill):
+            return NOBODY
+        self.refill = found[1] + REFILL if found and not self.is_begun else b""
+        self.is_begun = True
+        return found[1] if found else None
 
-def counts_in(name: bytes, mark: bytes) -> bool:
-    """Whether a line counts in the entry of a name. Ticks count in entries of ticks, and what an organisation has seen below its
-    own name, so that rights, which go by names, tell who may write them."""
-    if mark == b"tick":
-        return name.startswith(TICK.encode())
-    if mark.startswith(b"seen "):
-        return name.startswith(mark.split(b" ", 2)[1] + b"/")
-    return True
+    def _counts(self, part: bytes, name: bytes, mark: bytes) -> bool:
+        """Whether a line counts in the entry of a name. One that can be no mark is left out here: `ledger order` would skip it."""
+        if ENVELOPE.fullmatch(mark):
+            return self._takes(part, len(mark) // 2)
+        if mark == b"tick":
+            return self._ticks(part, name)
+        if mark.startswith(b"seen "):
+            return name.startswith(mark.split(b" ", 2)[1] + b"/")
+        return GENESIS.fullmatch(mark) is not None
+
+    def _takes(self, part: bytes, size: int) -> bool:
+        """Whether an envelope of so many bytes counts. What a refill has is paid by its ticks, one behind each block."""
+        is_paid = part == NOBODY or self.shares.pay(part, self.shares.cost(size))
+        if is_paid:
+            self.behind.add(part)
+        return is_paid
+
+    def _ticks(self, part: bytes, name: bytes) -> bool:
+        """Whether a tick counts in the entry of a name."""
+        found = TICK.fullmatch(name)
+        is_next = part == NOBODY or found is not None and int(found[1]) == self.ticks + 1
+        if not is_next or not self.behind or not self.shares.pay(part, self.shares.block):
+            return False
+        self.ticks, self.behind = self.ticks + 1, set()
+        return True

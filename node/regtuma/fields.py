@@ -9,8 +9,12 @@ from urllib.parse import urlsplit
 RIGHTS = ("read", "observe", "evaluate", "submit", "endorse", "agree")
 ORGANISATION = re.compile("[A-Za-z0-9_]{1,32}")
 CALLER = re.compile(r"[A-Za-z0-9_*]{1,32}/[A-Za-z0-9_.*@-]{1,64}")
+# What somebody says of a block: that it has another one.
+FORK = re.compile(r"[A-Za-z0-9_]{1,32} [1-9][0-9]{0,9}")
 # By which a caller says who it is where there are no certificates.
 CALLER_HEADER = "Regtuma-Caller"
+# By which the proxy hands on a caller's certificate, as haproxy.cfg has it: DER in base64.
+CERTIFICATE_HEADER = "Regtuma-Certificate"
 
 
 @dataclasses.dataclass(frozen=True)
@@ -65,6 +69,7 @@ def date(value: object) -> bool:
     return isinstance(value, datetime.date) and not isinstance(value, datetime.datetime)
 
 
+SOCKET = 'the name of a socket, as "/run/regtuma/node.sock"'
 NEEDED_FILE, FILE = Field(text, "the name of a file", True), Field(text, "the name of a file")
 URL = Field(url, 'a URL with a port, as "https://10.0.0.2:7051"')
 LOCAL_URL = Field(local_url, 'a URL on the loopback with a port, as "http://127.0.0.1:7052", where [log] is')
@@ -73,21 +78,20 @@ CALLERS = Field(listed(lambda it: isinstance(it, str) and CALLER.fullmatch(it) i
 TABLES: dict[str, dict[str, Field]] = {
     "": {"organisation": Field(lambda it: isinstance(it, str) and ORGANISATION.fullmatch(it) is not None,
                                "a name of 1 to 32 letters, digits and _", True),
-         "listen": Field(place, 'an address and a port, as "10.0.0.1:7051"', True),
-         "page": Field(lambda it: isinstance(it, str) and place(it) and is_loopback(it.rpartition(":")[0]),
-                       'a place on the loopback, as "127.0.0.1:8080"')},
+         "listen": Field(text, f"{SOCKET}, or where [log] is an address and a port", True), "page": Field(text, SOCKET)},
     "ledger": {"program": NEEDED_FILE, "genesis": NEEDED_FILE, "store": NEEDED_FILE, "keys": FILE, "modules": FILE,
                "template": FILE, "endorsers": number(1, 16), "seen": number(1, 65535),
                "approver": Field(listed(text), "a command, as a list of words"),
-               "past_forks": Field(lambda it: isinstance(it, bool), "true or false")},
+               "past_forks": Field(listed(lambda it: isinstance(it, str) and FORK.fullmatch(it) is not None),
+                                   'a list of what was looked into, each an organisation and a block, as ["Shop 64"]')},
     # In the place of [tls], [authorities], [etcd] and [rights], for nodes of one person on one machine.
     "log": {"file": NEEDED_FILE},
     "tls": {"certificate": NEEDED_FILE, "key": NEEDED_FILE},
     "etcd": {"endpoints": Field(lambda it: listed(url)(it) and it != [], "a list of URLs with ports, one at least", True),
              "user": Field(text, "the name of a user of etcd"), "password_file": FILE,
-             "certificate": NEEDED_FILE, "key": NEEDED_FILE},
+             "authorities": NEEDED_FILE, "certificate": NEEDED_FILE, "key": NEEDED_FILE},
     "ticks": {"wait": number(0.01, 3600, whole=False), "longest": number(0.01, 86400, whole=False),
-              "begins": Field(date, "a date, as 2026-12-01"), "lasts_days": number(1, 36500), "burst": number(0, 65000)},
+              "begins": Field(date, "a date, as 2026-12-01"), "lasts_days": number(1, 36500), "burst": number(0, 40000)},
     "rights": {it: CALLERS for it in RIGHTS},
 }
 # Tables whose names are those of organisations.

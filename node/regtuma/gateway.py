@@ -1,24 +1,28 @@
 """What clients ask a node for: a call is endorsed by several organisations, put into the log, and waited for."""
 import asyncio
+import collections
 import time
 from collections.abc import Awaitable
 
 from . import numbers
-from .chain import FULL, Chain
+from .chain import FULL, NO_SHARE, Chain
 from .config import Config
 from .endorsing import Endorsing
 from .entries import LogError
 from .filters import FilterEnded
 from .links import Batches, Link
 from .proposals import Refused, call_of, check, checked, organisations_of
-from .wire import Object, envelope, id_of
+from .wire import Object, envelope, id_of, proposal_bytes
 
 TOO_LARGE = 421
 TRIES = 12
-# How often some have to refuse what others endorse at one height, until that counts: an endorser may be ahead of what it says.
-SURE = 3
-# How many calls are endorsed and put at a time: more are refused, and asked for again later.
-MOST_UNDER_WAY = 4000
+# How often some have to refuse what others endorse at one height, or to be at fault, until that counts: a key may have changed. It
+# takes more where payloads differ, since an endorser may be ahead of what it says.
+SURE, SURE_OF_PAYLOADS = 3, 6
+OTHER_CALL, OTHER_KEY, OTHER_PAYLOAD = ("its payload is that of another call", "its endorsement is not by the key by which it stands",
+                                        "its payload is not what this node's own execution gives")
+# How many calls are endorsed and put at a time, and how many of one caller: more are refused, and asked for again later.
+MOST_UNDER_WAY, MOST_OF_CALLER = 4000, 1000
 # For how long it is remembered which organisations satisfy a policy, in seconds.
 MEMORY = 1.0
 
@@ -31,6 +35,7 @@ class Gateway:
         self.chosen_at = 0.0
         # Those under way, by their ids: who asks again for one waits for the same.
         self.under_way: dict[str, asyncio.Task[None]] = {}
+        self.callers: collections.Counter[str] = collections.Counter()
         # How many bytes an envelope may have, once it is known.
         self.absolute: int | None = None
         self.links = {it: Link(it, config, chain.say) for it in config.nodes}
@@ -68,12 +73,13 @@ class Gateway:
         id = id_of(proposal)
         waiter = self.chain.wait_for(id)
         try:
-            if "nonce" in body and (known := await self.status(id)):
+            if "nonce" in body and (known := await self.in_chain(id)):
                 return known
             if id not in self.under_way and id not in self.chain.in_log:
                 self.check_open()
+                self.count(caller)
                 self.under_way[id] = asyncio.ensure_future(self.endorse_and_put(id, caller, proposal, named))
-                self.under_way[id].add_done_callback(lambda it: self.ended(id, it))
+                self.under_way[id].add_done_callback(lambda it: self.ended(id, caller, it))
             async with asyncio.timeout(patience):
                 if task := self.under_way.get(id):
                     await asyncio.shield(task)
@@ -83,7 +89,7 @@ class Gateway:
             return {"id": id, "pending": True, "why": f"it is in no block yet; ask /transactions/{id} for it"}
         except Refused:
             # Another node may have put the same call meanwhile: then it is refused on the very state that it made.
-            if known := await self.status(id):
+            if known := await self.in_chain(id):
                 return known
             raise
         finally:
@@ -93,25 +99,39 @@ class Gateway:
         """Whether calls are taken."""
         if self.chain.is_full:
             raise Refused(422, numbers.in_words(f"refused {FULL}"))
+        if not self.chain.share:
+            raise Refused(422, {"why": NO_SHARE})
         if self.chain.forked:
             raise Refused(503, {"why": self.chain.forked})
         if len(self.under_way) >= MOST_UNDER_WAY:
             raise Refused(503, {"why": f"{MOST_UNDER_WAY} calls are under way here: ask again"})
 
-    def ended(self, id: str, task: asyncio.Task[None]) -> None:
+    def count(self, caller: str) -> None:
+        """Counts a call of a caller, who may have so many under way."""
+        if self.callers[caller] >= MOST_OF_CALLER:
+            raise Refused(429, {"why": f"{MOST_OF_CALLER} calls of {caller} are under way here: ask again"})
+        self.callers[caller] += 1
+
+    def ended(self, id: str, caller: str, task: asyncio.Task[None]) -> None:
         """A call is in the log, or is not put. Where nobody waits any more, nobody minds which."""
         self.under_way.pop(id, None)
+        self.callers[caller] -= 1
         if not task.cancelled():
             task.exception()
 
-    async def status(self, id: str) -> Object | None:
+    async def in_chain(self, id: str) -> Object | None:
         """What became of a transaction, if it is in a block."""
         tx, _ = await self.chain.query.ask_for("transaction", id=id)
         return tx and await self.outcome(tx)
 
+    async def status(self, id: str) -> Object | None:
+        """The same, or why one that was put here came into no block, as far as that is remembered."""
+        known, refused = await self.in_chain(id), self.chain.refused.get(id)
+        return known or refused and await self.outcome(refused)
+
     async def outcome(self, tx: Object) -> Object:
-        if "refused" in tx:
-            return {**tx, **numbers.in_words(f"refused {tx['refused']}")}
+        if "block" not in tx:
+            return {**(numbers.in_words(f"refused {tx['refused']}") if "refused" in tx else {}), **tx}
         words = {it: tx[it] for it in ("id", "block", "place", "flag", "result")}
         return {**words, "valid": tx["flag"] == 0, "why": await numbers.why(self.chain.query, tx)}
 
@@ -131,25 +151,54 @@ class Gateway:
     # ---------------------------------------------------------------- endorsements
 
     async def endorsed(self, caller: str, proposal: Object, named: list[str] | None) -> str:
-        """The envelope of a proposal. It is begun again where a node is behind another one, or gives no answer."""
-        height, why, lone = 0, "no organisation answers", 0
+        """The envelope of a proposal. It is begun again where a node is behind another one, gives no answer, or endorses what it should
+        not, and without those who refuse, unless they were named."""
+        height, why, asking = 0, "no organisation answers", Asking(self.config.organisation, named)
         for turn in range(TRIES):
-            asked = named or await self.organisations(proposal)
-            begun = [self.ask(it, caller, proposal, height) for it in asked]
-            said = dict(zip(asked, [await it for it in begun]))
-            answers = {it: answer for it, answer in said.items() if answer is not None}
+            asked = named or await self.organisations(proposal, asking)
+            said = await self.said(asked, caller, proposal, height)
+            answers = {it: said[it] for it in asked if it in said}
             if missing := [it for it in asked if it not in answers]:
                 why = f"no answer of {', '.join(missing)}"
                 if named:
                     break
                 continue
-            if made := self.made(answers):
+            faults = await self.faults(proposal, answers, said.get(self.config.organisation))
+            if made := made_of(answers, faults):
                 return made
-            if (refusal := lone_refusal(answers)) and (lone := lone + 1) == SURE:
-                raise refusal
+            for organisation in asking.judge(answers, faults):
+                self.leave_out(organisation, faults[organisation], asking)
             height, why = self.next_height(answers, height), "the organisations do not simulate on one state"
             await asyncio.sleep(0.01 * turn)
         raise Refused(503, {"why": why})
+
+    async def said(self, asked: list[str], caller: str, proposal: Object, height: int) -> dict[str, Object]:
+        """What these answer to a proposal, and this organisation too, with whose execution theirs are compared."""
+        own = [self.config.organisation] if "chaincode" in proposal and not self.endorsing.out_of_place else []
+        begun = {it: self.ask(it, caller, proposal, height) for it in dict.fromkeys([*asked, *own])}
+        said = {it: await answer for it, answer in begun.items()}
+        return {it: answer for it, answer in said.items() if answer is not None}
+
+    async def faults(self, proposal: Object, answers: dict[str, Object], own: Object | None) -> dict[str, str]:
+        """What is wrong with endorsements, by who gave them: none of them is put."""
+        begin, keys, faults = proposal_bytes(proposal).hex(), await self.chain.standing(), {}
+        for organisation, said in answers.items():
+            if "payload" not in said:
+                continue
+            payload, endorsement = bytes.fromhex(said["payload"]), bytes.fromhex(said["endorsement"])
+            if not said["payload"].startswith(begin):
+                faults[organisation] = OTHER_CALL
+            elif organisation not in keys or not keys[organisation].endorses(organisation, endorsement, payload):
+                faults[organisation] = OTHER_KEY
+            elif own and "payload" in own and own["height"] == said["height"] and own["payload"] != said["payload"]:
+                faults[organisation] = OTHER_PAYLOAD
+        return faults
+
+    def leave_out(self, organisation: str, fault: str, asking: "Asking") -> None:
+        """Asks who was at fault no more, for a while."""
+        if organisation in self.links:
+            self.links[organisation].pass_over(fault)
+        asking.refuse(organisation, {"why": f"no endorsement of {organisation}: {fault}"}, 503)
 
     def next_height(self, answers: dict[str, Object], asked: int) -> int:
         """The height on which all are asked anew, where some are behind: that of the one that is ahead.
@@ -166,20 +215,7 @@ class Gateway:
                 self.links[organisation].pass_over(f"it has {had} blocks, and not yet {asked}")
         return max((it for it in heights.values() if it <= most), default=self.chain.height)
 
-    def made(self, answers: dict[str, Object]) -> str | None:
-        """The envelope of answers that agree; none where they do not."""
-        for organisation, said in answers.items():
-            if "denied" in said:
-                raise Refused(422, {"why": f"{organisation} does not endorse it: {said['denied']}"})
-        all_said = list(answers.values())
-        first = all_said[0]
-        if len({(it.get("refused"), it.get("payload")) for it in all_said}) > 1:
-            return None
-        if refusal := first.get("refused"):
-            raise Refused(422, numbers.in_words(refusal))
-        return envelope(first["payload"], [it["endorsement"] for it in all_said])
-
-    async def organisations(self, proposal: Object) -> list[str]:
+    async def organisations(self, proposal: Object, asking: "Asking") -> list[str]:
         """Who is asked: the fewest that satisfy the chaincode's policy, this one first, then those that answer soonest."""
         check("chaincode" in proposal, "a change of code or members names the organisations that have agreed to it: organisations")
         chaincode, now = proposal["chaincode"], time.monotonic()
@@ -187,10 +223,13 @@ class Gateway:
             self.chosen, self.chosen_at = {}, now
         links = sorted(self.links.values(), key=lambda it: round(it.each, 2))
         own = () if self.endorsing.out_of_place else (self.config.organisation,)
-        up = (*own, *(it.organisation for it in links if it.down < now))
+        up = (*own, *(it.organisation for it in links if it.down < now and it.organisation not in asking.refusals))
         if (chaincode, up) not in self.chosen:
             self.chosen[chaincode, up] = asyncio.ensure_future(self.fewest(chaincode, list(up)))
-        return await asyncio.shield(self.chosen[chaincode, up])
+        try:
+            return await asyncio.shield(self.chosen[chaincode, up])
+        except Refused as too_few:
+            raise next(iter(asking.refusals.values()), too_few) from None
 
     async def fewest(self, chaincode: str, up: list[str]) -> list[str]:
         """Of these, so few that without any of them they would not satisfy the policy. The last are left out first."""
@@ -223,15 +262,46 @@ class Gateway:
         return self.owns[caller]
 
 
-def lone_refusal(answers: dict[str, Object]) -> Refused | None:
-    """The refusal of those who refuse at one height what others endorse, as where a module is not at hand."""
-    if len({it["height"] for it in answers.values()}) > 1:
+class Asking:
+    """Who has been asked to endorse one proposal, and what is made of what they answer."""
+
+    def __init__(self, own: str, named: list[str] | None):
+        self.own, self.named = own, named
+        # Why some are not asked again, and how often each has answered what cannot be used.
+        self.refusals: dict[str, Refused] = {}
+        self.strikes: collections.Counter[str] = collections.Counter()
+
+    def judge(self, answers: dict[str, Object], faults: dict[str, str]) -> set[str]:
+        """What to make of answers that do not agree. Who has been at fault for too often, and is to be passed over."""
+        for organisation, said in answers.items():
+            if "denied" in said:
+                self.refuse(organisation, {"why": f"{organisation} does not endorse it: {said['denied']}"})
+        refused = [it for it, said in answers.items() if "refused" in said]
+        if len(refused) == len(answers) and len({answers[it]["refused"] for it in refused}) == 1:
+            raise Refused(422, numbers.in_words(answers[refused[0]]["refused"]))
+        if len({it["height"] for it in answers.values()}) > 1:
+            # Who is behind may refuse what others endorse.
+            refused = []
+        self.strikes.update([*refused, *faults])
+        for organisation in (it for it in refused if self.strikes[it] >= SURE):
+            words = numbers.in_words(answers[organisation]["refused"])
+            self.refuse(organisation, {**words, "why": f"{organisation} does not endorse it: {words['why']}"})
+        return {it for it in faults if self.strikes[it] >= (SURE_OF_PAYLOADS if faults[it] == OTHER_PAYLOAD else SURE)}
+
+    def refuse(self, organisation: str, said: Object, status: int = 422) -> None:
+        """Another one is asked in the place of this one, where that may be: nobody has named it, and it is not this node's own."""
+        refusal = Refused(status, said)
+        if self.named or organisation == self.own:
+            raise refusal
+        self.refusals[organisation] = refusal
+
+
+def made_of(answers: dict[str, Object], faults: dict[str, str]) -> str | None:
+    """The envelope of answers that agree; none where they do not."""
+    first, *others = answers.values()
+    if faults or "payload" not in first or any(it.get("payload") != first["payload"] for it in others):
         return None
-    for organisation, said in answers.items():
-        if "refused" in said:
-            words = numbers.in_words(said["refused"])
-            return Refused(422, {**words, "why": f"{organisation} does not endorse it: {words['why']}"})
-    return None
+    return envelope(first["payload"], [it["endorsement"] for it in answers.values()])
 
 
 class Own(Batches):

@@ -10,6 +10,7 @@ import aiohttp
 from .config import Config
 from .fields import CALLER_HEADER
 from .proposals import is_hex, matches
+from .waiting import whole
 from .wire import Object
 
 ENDORSE_SECONDS, DOWN_SECONDS, CHANGE_SECONDS = 3.0, 5.0, 60.0
@@ -118,7 +119,7 @@ class Link(Batches):
         try:
             body, timeout = {"proposals": proposals, "height": height}, aiohttp.ClientTimeout(total=patience)
             async with self.http.post(self.url + "/endorse", json=body, timeout=timeout) as answer:
-                return answers_of(answer.status, json.loads(await whole(answer.content)), len(proposals))
+                return answers_of(answer.status, json.loads(await whole(answer.content, LONGEST)), len(proposals))
         except asyncio.TimeoutError:
             why = f"no answer in {patience:.1f} s"
         except (ValueError, RecursionError, OSError, aiohttp.ClientError) as error:
@@ -130,16 +131,6 @@ class Link(Batches):
         """The node is not asked for a while."""
         self.say(f"no endorsement of {self.organisation}: {why}")
         self.down = time.monotonic() + DOWN_SECONDS
-
-
-async def whole(content: aiohttp.StreamReader) -> bytes:
-    """What another organisation's node answers, which may be anybody's program: no more is read than this node bears."""
-    data = bytearray()
-    async for piece in content.iter_any():
-        data += piece
-        if len(data) > LONGEST:
-            raise ValueError(f"its answer has more than {LONGEST >> 20} MiB")
-    return bytes(data)
 
 
 def answers_of(status: int, said: object, count: int) -> list[Object]:

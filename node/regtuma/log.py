@@ -4,6 +4,8 @@
     regtuma-log node.toml refill STORE             puts every block of a store into a new, empty log, so that its chain goes on
     regtuma-log node.toml module MODULE [1 | 2]    puts a module of profile 1 or 2, by default 1, for those who are to install it
     regtuma-log node.toml fetch DIGEST             prints the bytes of the module with this digest
+    regtuma-log node.toml leave ORG [PASSWORD]     shows what is left on this machine of an organisation that has left; with the file of
+                                                   the password of etcd's root, takes its members and users out of etcd before
 
 `refill` is for when etcd has lost its majority for good, or its space has run out. All nodes are stopped; of their stores, each of
 which is a beginning of the longest, the longest is taken. Its blocks come out of the new log as the same bytes: by `ledger marks`,
@@ -20,9 +22,9 @@ from collections.abc import Iterable, Iterator
 
 from . import config as configuration
 from . import numbers
-from .chain import ENTRY_CHARACTERS
 from .config import Config, Mistake
-from .entries import TICK, Log, LogError
+from .entries import ENTRY_CHARACTERS, ENTRY_LINES, REFILL, Log, LogError
+from .leaving import leave
 
 
 class NotDone(Exception):
@@ -44,7 +46,7 @@ def entries(marks: Iterable[str]) -> Iterator[list[str]]:
     entry: list[str] = []
     size = 0
     for mark in marks:
-        if size + len(mark) > ENTRY_CHARACTERS and entry:
+        if entry and (size + len(mark) > ENTRY_CHARACTERS or len(entry) == ENTRY_LINES):
             yield entry
             entry, size = [], 0
         entry.append(mark)
@@ -56,14 +58,14 @@ def entries(marks: Iterable[str]) -> Iterator[list[str]]:
 async def begin(log: Log, config: Config, marks: list[str]) -> str:
     """Puts the first entry, and marks behind it."""
     if not await log.is_empty():
-        raise NotDone("the log has begun already")
+        raise NotDone("the log has begun already: it has entries. A refill that was stopped wants a new, empty etcd")
     digest = hashlib.sha256(pathlib.Path(config.ledger.genesis).read_bytes()).hexdigest()
     await log.append(f"{config.organisation}/genesis", [f"genesis {digest}"])
     count = 0
     for count, entry in enumerate(entries(marks), 1):
-        # Ticks count in entries of this name alone.
-        await log.append(f"{TICK}refill-{count}", entry)
-    return f"the log has begun, and has {count} entries of {len(marks)} marks"
+        await log.append(f"{config.organisation}{REFILL.decode()}{count}", entry)
+    filled = f", and {len(marks)} marks are behind it in {count} more entries" if marks else ""
+    return f"the log has begun: its first entry names the genesis file {digest}{filled}"
 
 
 async def put_module(log: Log, config: Config, file: str, profile: str) -> str:
@@ -98,6 +100,8 @@ async def work(config: Config, words: list[str]) -> str | bytes:
                 return await put_module(log, config, file, profile)
             case ["fetch", digest]:
                 return await fetch(log, config, digest)
+            case ["leave", organisation, password]:
+                return await leave(config, organisation, password)
         raise NotDone("these words name nothing")
     finally:
         await log.close()
@@ -112,6 +116,8 @@ def main(words: list[str]) -> int:
             task = words[1:]
         case [file, "module", _]:
             task = [*words[1:], "1"]
+        case [file, "leave", _] | [file, "leave", _, _]:
+            task = [*words[1:], ""][:3]
         case _:
             print(__doc__, file=sys.stderr)
             return 2

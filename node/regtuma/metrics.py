@@ -31,9 +31,10 @@ class Metrics(Collector):
         gauges = {
             "height": ("Blocks in the store", chain.height),
             "blocks_left": ("Blocks until the end of the chain", ticks.LAST_BLOCK - chain.height),
+            "share_left": ("Blocks that this organisation can bring about", chain.share),
             "waiting": ("Envelopes that wait for a block", awaited.waiting),
             "unput": ("Envelopes not yet in the log", len(chain.unput)),
-            "oldest_seconds": ("How long the first of them has waited", time.time() - awaited.since if awaited.since else 0),
+            "oldest_seconds": ("How long the first of them has waited", time.monotonic() - awaited.since if awaited.since else 0),
             "log_unled_seconds": ("Since the log was seen to take entries", time.monotonic() - chain.led),
             "behind": ("Lines of the log not yet read", chain.given - chain.read),
             "log_revision": ("Where the log was read to", chain.revision),

@@ -7,16 +7,18 @@ wrong, says what, and is to be begun again by whatever keeps services running; i
 """
 import asyncio
 import json
+import logging
 import os
 import signal
 import socket
-import ssl
 import sys
 from typing import Any
 
 from aiohttp import web
+from aiohttp.http_exceptions import HttpProcessingError
 
 from . import config as configuration
+from .access import check_authorities
 from .api import Api
 from .chain import Chain
 from .config import Config, Mistake
@@ -24,12 +26,15 @@ from .endorsing import Endorsing
 from .entries import LogError
 from .filters import FilterEnded
 from .gateway import Gateway
+from .ticks import DAY
 from .wire import Object
 
 # The number of the lines that filters read and print, as `ledger version` tells it, which this node speaks.
 LINES = 1
 # How long connections may take to end, in seconds.
 SHUTDOWN = 2
+# How many connections of the proxy may wait to be taken: one more is refused at once, where a socket is a file.
+BACKLOG = 4096
 
 
 def say(text: str) -> None:
@@ -41,6 +46,20 @@ def tell_systemd(word: str) -> None:
     if name := os.environ.get("NOTIFY_SOCKET"):
         with socket.socket(socket.AF_UNIX, socket.SOCK_DGRAM) as there:
             there.sendto(word.encode(), name.replace("@", "\0", 1))
+
+
+async def feed_watchdog() -> None:
+    """Tells systemd that the loop turns, twice as often as it asks for that: what keeps it from turning ends the node."""
+    asked = int(os.environ.get("WATCHDOG_USEC", "0")) / 1e6
+    while True:
+        await asyncio.sleep(asked / 2 if asked else DAY)
+        if asked:
+            tell_systemd("WATCHDOG=1")
+
+
+def hush(record: logging.LogRecord) -> bool:
+    """Whether what aiohttp logs is told: a request that is none is answered by 400, and tells nothing of this node."""
+    return not (record.exc_info and isinstance(record.exc_info[1], HttpProcessingError))
 
 
 async def version_of(program: str) -> Object:
@@ -82,11 +101,12 @@ class Node:
         if asked.done():
             return
         program = begun.result()
-        self.tasks = [asked, *(asyncio.ensure_future(it) for it in [*self.chain.works(), *self.endorsing.works()])]
         api = Api(self.config, self.chain, self.endorsing, self.gateway, program)
-        await self.listen(api.app(), self.config.listen, self.config.server_tls())
+        works = [*self.chain.works(), *self.endorsing.works(), api.access.end_gone(), feed_watchdog()]
+        self.tasks = [asked, *(asyncio.ensure_future(it) for it in works)]
+        await self.listen(api.app(), self.config.listen)
         if self.config.page:
-            await self.listen(api.page_app(), self.config.page, None)
+            await self.listen(api.page_app(), self.config.page)
         say(f"{self.config.organisation} listens at {self.config.listen}")
         tell_systemd("READY=1")
         done, _ = await asyncio.wait(self.tasks, return_when=asyncio.FIRST_COMPLETED)
@@ -102,11 +122,18 @@ class Node:
         await self.endorsing.start()
         return program
 
-    async def listen(self, app: web.Application, where: str, tls: ssl.SSLContext | None) -> None:
-        self.runners.append(runner := web.AppRunner(app, access_log=None))
+    async def listen(self, app: web.Application, where: str) -> None:
+        """Answers at a socket of this machine, or on the loopback."""
+        logging.getLogger("aiohttp.server").addFilter(hush)
+        self.runners.append(runner := web.AppRunner(app, access_log=None, auto_decompress=False))
         await runner.setup()
-        host, _, port = where.rpartition(":")
-        await web.TCPSite(runner, host.strip("[]"), int(port), ssl_context=tls, shutdown_timeout=SHUTDOWN).start()
+        if self.config.is_local:
+            host, _, port = where.rpartition(":")
+            await web.TCPSite(runner, host.strip("[]"), int(port), shutdown_timeout=SHUTDOWN).start()
+            return
+        await web.UnixSite(runner, where, shutdown_timeout=SHUTDOWN, backlog=BACKLOG).start()
+        # The folder says who may enter: the proxy's group.
+        os.chmod(where, 0o660)
 
     def reload(self) -> None:
         """Takes rights anew: a client is shut out by taking its name away."""
@@ -152,6 +179,7 @@ def main(words: list[str]) -> int:
     try:
         config = configuration.read(words[0])
         config.check_files()
+        check_authorities(config)
     except Mistake as mistake:
         print(f"regtuma-node: {mistake}", file=sys.stderr)
         return 2

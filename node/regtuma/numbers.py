@@ -69,8 +69,10 @@ async def why(query: Query, tx: Object) -> str:
     """Why a transaction of a block has its flag."""
     flag = tx["flag"]
     if flag == POLICY:
-        right = sorted({it["org"] for it in tx["endorsements"] if it["right"]})
-        return f"the endorsements that are right do not satisfy the policy: {', '.join(right) or 'none'}"
+        right = {it["org"] for it in tx["endorsements"] if it["right"]}
+        wrong = {it["org"] for it in tx["endorsements"]} - right
+        told = f"; not right by the key that stood: {', '.join(sorted(wrong))}" if wrong else ""
+        return f"the endorsements that are right do not satisfy the policy: {', '.join(sorted(right)) or 'none'}{told}"
     if flag == CONFLICT:
         for read in tx["reads"]:
             entry, _ = await query.ask_for("get", key=read["key"])

@@ -11,7 +11,7 @@ CHAINCODE = re.compile("[a-z0-9_-]{1,32}")
 DIGITS, NONCE, DIGEST = (re.compile(f"[0-9A-Fa-f]{it}") for it in ("*", "{32}", "{64}"))
 POLICY = re.compile("[ -~]{1,1024}")
 MOST_ARG, MOST_KEY, MOST_FUEL, MOST_SERIAL, MOST_MEMBERS = 4096, 64, 10_000_000, 2**32 - 1, 16
-PROFILES = (1, 2, 17, 18)
+PROFILES, CLOSED = (1, 2, 17, 18), 2
 
 
 class Refused(Exception):
@@ -94,6 +94,20 @@ def check_amendment(it: Object) -> None:
         check("public" not in member or matches(DIGEST, member["public"]), "public is a public key, hex of 32 bytes")
     check(matches(POLICY, it["policy"]), "policy is a text of 1 to 1,024 characters")
     check(whole(it["serial"], 0, MOST_SERIAL), "serial is a number from 0 on")
+
+
+def described(proposal: Object, members: Object | None = None) -> str:
+    """In words what one agrees to: an upgrade, or an amendment, by what it changes of the members that stand, where these are known."""
+    if "upgrade" in proposal:
+        kind = "any module at hand" if proposal["profile"] > CLOSED else "a module of the genesis file"
+        fuel, policy = f"{proposal['fuel']} units of fuel a call", f"the policy {proposal['policy']}"
+        return f"{proposal['upgrade']} gets the module {proposal['module']}, {kind}, {fuel}, and {policy}"
+    after = {it["name"]: it.get("public", "") for it in proposal["members"]}
+    before = {it["name"]: it.get("public") or "" for it in members["members"]} if members else after
+    changes = [f"{it} leaves" for it in before if it not in after]
+    changes += [f"{it} joins with the key {after[it] or 'of the genesis file'}" for it in after if it not in before]
+    changes += [f"{it} gets the key {after[it] or 'of the genesis file'}" for it in after if it in before and after[it] != before[it]]
+    return "; ".join([*changes, f"the members are {', '.join(after)}", f"the policy for changes is {proposal['policy']}"])
 
 
 def organisations_of(body: Object) -> list[str] | None:

@@ -1,7 +1,9 @@
-"""Waiting for a limited time."""
+"""Waiting for a limited time, and reading so much at most."""
 import asyncio
 from collections.abc import Coroutine
 from typing import Any, TypeVar
+
+import aiohttp
 
 T = TypeVar("T")
 
@@ -21,3 +23,13 @@ async def within(seconds: float, doing: Coroutine[Any, Any, T]) -> T:
         return task.result()
     finally:
         task.cancel()
+
+
+async def whole(content: aiohttp.StreamReader, longest: int) -> bytes:
+    """What somebody answers, who may be anybody's program: no more is read than this node bears."""
+    data = bytearray()
+    async for piece in content.iter_any():
+        data += piece
+        if len(data) > longest:
+            raise ValueError(f"its answer has more than {longest >> 20} MiB")
+    return bytes(data)

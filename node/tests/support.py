@@ -1,5 +1,6 @@
 """What the tests of the node share. Those that import it find the modules of the node."""
 import functools
+import json
 import logging
 import pathlib
 import subprocess
@@ -11,14 +12,15 @@ sys.dont_write_bytecode = True
 for folder in ("node", "python"):
     sys.path.insert(0, str(ROOT / folder))
 import program
+from keys import keygen
 from regtuma import config
 
 # A test may block its loop for a while, and has connections refused.
 logging.getLogger("asyncio").setLevel(logging.CRITICAL)
 CONFIGURATION = """\
 organisation = "Maker"
-listen = "127.0.0.1:7051"
-page = "127.0.0.1:8080"
+listen = "node.sock"
+page = "page.sock"
 
 [ledger]
 program = "ledger"
@@ -36,6 +38,7 @@ Carrier = "carrier.ca.pem"
 
 [etcd]
 endpoints = ["https://127.0.0.1:2379"]
+authorities = "members.pem"
 user = "maker"
 password_file = "etcd.password"
 certificate = "node.pem"
@@ -83,6 +86,7 @@ class Folder:
             self.file(name)
         for name in ("Maker", "Carrier"):
             (self.path / f"{name.lower()}.ca.pem").write_text(authority(name))
+        (self.path / "members.pem").write_text("".join(authority(it, "etcd") for it in ("Maker", "Carrier")))
         self.write(CONFIGURATION)
 
     def file(self, name: str, mode: int = 0o600) -> None:
@@ -105,10 +109,10 @@ class Folder:
 
 
 @functools.cache
-def authority(organisation: str) -> str:
-    """A certificate of an authority, as openssl makes it."""
+def authority(organisation: str, part: str = "", extension: str = "keyUsage=keyCertSign") -> str:
+    """A certificate of an authority of an organisation, for a part of what it has, as openssl makes it."""
     words = ["openssl", "req", "-x509", "-newkey", "ec", "-pkeyopt", "ec_paramgen_curve:P-256", "-nodes", "-keyout", "/dev/null",
-             "-subj", f"/O={organisation}/CN={organisation} authority"]
+             "-subj", f"/O={organisation}/CN={organisation} authority{part}", "-addext", extension]
     return subprocess.run(words, check=True, stdout=subprocess.PIPE, stderr=subprocess.DEVNULL, text=True).stdout
 
 
@@ -116,3 +120,21 @@ def ledger(*words: object, lines: str = "") -> str:
     """What the ledger's program prints."""
     ran = subprocess.run([str(program.find()), *map(str, words)], input=lines, text=True, stdout=subprocess.PIPE)
     return ran.stdout
+
+
+def ledger_of(folder: pathlib.Path, **limits: int) -> pathlib.Path:
+    """The genesis file of a register of pallets, in which the Maker has a shared key, and the Carrier and the Shop sign, by key files of
+    their names. An empty store is beside it."""
+    signing = [json.loads(keygen(str(folder / it), it, program=str(program.find()))) for it in ("Carrier", "Shop")]
+    genesis, example = folder / "genesis.json", json.loads((ROOT / "examples" / "assets" / "genesis.json").read_text())
+    genesis.touch(mode=0o600)
+    genesis.write_text(json.dumps({**example, **limits, "orgs": [{"name": "Maker", "key": "0f" * 32}, *signing]}))
+    (folder / "store").touch()
+    return genesis
+
+
+def endorsed(folder: pathlib.Path, organisation: str, call: dict) -> dict:
+    """What an organisation of that ledger endorses, as its node answers it."""
+    keys = [] if organisation == "Maker" else ["--keys", folder / organisation]
+    said = ledger("endorse", folder / "genesis.json", organisation, folder / "store", *keys, lines=json.dumps(call) + "\n").split()
+    return {"payload": said[1], "endorsement": said[2], "height": 0}

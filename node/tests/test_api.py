@@ -4,13 +4,14 @@ import contextlib
 import io
 import json
 import re
+import time
 import unittest
 from typing import Any
 from unittest import mock
 
 import support
 from aiohttp.test_utils import TestClient, TestServer
-from regtuma import api, config, page
+from regtuma import api, config, gateway, load, page
 from regtuma.chain import Awaited, Chain
 from regtuma.endorsing import Endorsing
 from regtuma.fields import RIGHTS
@@ -19,7 +20,7 @@ from regtuma.gateway import Gateway
 from regtuma.ticks import LAST_BLOCK
 from test_chain import CALL, FakeLog, Says, Times
 
-ROW = re.compile(r"^\| `(GET|POST) (/[^`?\s]*)", re.MULTILINE)
+ROW = re.compile(r"^\| `(GET|POST|DELETE) (/[^`?\s]*)", re.MULTILINE)
 EMPTY: dict[str, Any] = {"setting": {"ledger": 1}, "members": {"serial": 0}, "get": None, "range": [], "history": [],
                          "transaction": None, "call": {"result": "00"}}
 
@@ -37,6 +38,7 @@ class Query:
     async def text_of(self, what, **question):
         if what == "block":
             return json.dumps({"block": question["number"], "txs": [{"chaincode": "assets", "id": "ab"}, {"amend": {}}]}), 4
+        self.asked.append((what, question))
         return json.dumps(self.answers[what]), 4
 
 
@@ -115,7 +117,7 @@ class Routes(Case):
         self.assertEqual(status, 413)
 
     async def test_a_filter_that_ends_is_told(self):
-        self.chain.query.ask_for = mock.AsyncMock(side_effect=FilterEnded("ledger query ended with status 1"))
+        self.chain.query.text_of = mock.AsyncMock(side_effect=FilterEnded("ledger query ended with status 1"))
         self.assertEqual(await self.get("/members"), (503, {"why": "ledger query ended with status 1"}))
 
 
@@ -192,10 +194,10 @@ class Reads(Case):
         self.assertEqual((await self.get("/"))[0], 404)
 
     async def test_a_policy_of_the_page(self):
-        _, policy = page.live((support.ROOT / "examples/page/template.html").read_text(), ["{}"], "Maker")
+        *_, policy = page.live((support.ROOT / "examples/page/template.html").read_text(), "Maker")
         self.assertIn("connect-src 'self'; script-src 'sha256-", policy)
         with self.assertRaises(ValueError):
-            page.live("<html>", [], "Maker")
+            page.live("<html>", "Maker")
 
 
 class Health(Case):
@@ -205,7 +207,7 @@ class Health(Case):
 
     async def test_what_is_wrong(self):
         for told, changes in [("forked: Shop says", {"forked": "Shop says that it has another block 4"}),
-                              ("envelopes wait, and no tick comes", {"awaited": Awaited(5, 1, 1.0)}),
+                              ("envelopes wait, and no tick comes", {"awaited": Awaited(5, 1, -1e6)}),
                               ("the log could take no entry for", {"led": -1e6}), ("20000 lines of the log are unread", {"given": 20000}),
                               ("the chain is full", {"awaited": Awaited(LAST_BLOCK + 1)})]:
             with self.subTest(told=told), contextlib.ExitStack() as changed:
@@ -221,7 +223,14 @@ class Health(Case):
     async def test_what_people_should_know(self):
         self.chain.height, self.api.endorsing.out_of_place = LAST_BLOCK - 9, "refused 806"
         status, said = await self.get("/healthz")
-        self.assertEqual((status, said["warnings"]), (200, ["nothing is endorsed: refused 806", "the chain has 9 blocks left"]))
+        self.assertEqual((status, said["warnings"]), (200, ["nothing is endorsed: refused 806", "the chain has 9 blocks left, and this organisation's share of these is 9"]))
+
+    async def test_waiting_is_measured_by_a_clock_that_never_goes_back(self):
+        self.chain.awaited = Awaited(5, 1, time.monotonic() - 3)
+        for now in (0.0, 1e12):
+            with mock.patch("time.time", return_value=now):
+                self.assertEqual((self.chain.is_due(time.monotonic()), self.api.wrong()), (True, []))
+                self.assertRegex(self.api.metrics.text().decode(), r"\nregtuma_oldest_seconds [3-9]\.\d+\n")
 
     async def test_metrics(self):
         await self.get("/height")
@@ -239,6 +248,26 @@ class Calls(Case):
         self.assertEqual(await self.post("/evaluate", {"chaincode": "assets"}),
                          (422, {"refused": 404, "why": "the chaincode refused the call (status 2)"}))
 
+    async def test_so_many_simulations_are_made_for_one_caller(self):
+        """So that those of others do not wait behind all of its own."""
+        begun, ready, body = [], asyncio.Event(), {"chaincode": "assets", "args": ["x"]}
+
+        async def evaluate(*_) -> dict:
+            begun.append(1)
+            await ready.wait()
+            return {}
+        with mock.patch.object(Gateway, "evaluate", evaluate), mock.patch.object(Endorsing, "answers", evaluate):
+            asked = [asyncio.ensure_future(self.post("/evaluate", body)) for _ in range(load.OF_CALLER + 3)]
+            asked += [asyncio.ensure_future(self.post("/endorse", {"proposals": [CALL]})) for _ in range(3)]
+            others = [asyncio.ensure_future(self.post(*it, caller="Carrier/node")) for it in
+                      (("/evaluate", body), ("/endorse", {"proposals": [CALL]}))]
+            while len(begun) < load.OF_CALLER + len(others):
+                await asyncio.sleep(0.01)
+            await asyncio.sleep(0.1)
+            self.assertEqual(len(begun), load.OF_CALLER + len(others))
+            ready.set()
+            self.assertEqual([it[0] for it in await asyncio.gather(*asked, *others)], [200] * len(asked + others))
+
     async def test_endorse(self):
         self.api.endorsing.endorsers = [Says("endorsed aa 01")]
         said = await self.post("/endorse", {"proposals": [CALL], "height": 4}, caller="Carrier/node")
@@ -255,16 +284,34 @@ class Calls(Case):
         for body in ({"calls": []}, {"calls": [CALL], "wait": 1}, {"calls": [CALL] * (api.MOST_CALLS + 1)}, {"chaincode": 1}):
             self.assertEqual((await self.post("/transactions", body))[0], 400)
 
+    async def test_one_caller_has_so_many_calls_under_way(self):
+        """Also where it does not wait for them."""
+        calls, ready = [{"chaincode": "assets", "args": [str(it)], "nonce": f"{it:032x}"} for it in range(4)], asyncio.Event()
+        with mock.patch.object(gateway, "MOST_OF_CALLER", 2), mock.patch.object(Gateway, "endorse_and_put", lambda *_: ready.wait()):
+            said = [await self.post("/transactions?wait=0.01", it) for it in calls[:3]]
+            self.assertEqual([it[0] for it in said], [202, 202, 429])
+            self.assertIn("2 calls of Maker/alice are under way here: ask again", said[2][1]["why"])
+            self.assertEqual((await self.post("/transactions?wait=0.01", calls[3], caller="Shop/node"))[0], 202)
+            ready.set()
+            await asyncio.sleep(0)
+            self.assertEqual((await self.post("/transactions?wait=0.01", calls[2]))[0], 202)
+
     async def test_agree(self):
         change = {"members": [{"name": "Maker"}], "policy": "'Maker'", "serial": 1, "nonce": "07" * 16}
+        self.api.chain.query.answers["members"] = {"members": [{"name": "Maker"}]}
         status, said = await self.post("/agreed", change)
-        self.assertEqual((status, await self.get("/agreed")), (200, (200, {"agreed": [said["id"]]})))
+        self.assertEqual((status, await self.get("/agreed")), (200, (200, {"agreed": [said]})))
+        self.assertIn("the members are Maker; the policy for changes is 'Maker'", said["words"])
         self.assertIn(f"Maker/alice agrees to {said['id']}", self.said[0])
         self.assertEqual((await self.post("/agreed", CALL))[0], 400)
+        for status in (200, 404):
+            self.assertEqual((await self.ask("DELETE", f"/agreed/{said['id']}"))[0], status)
+        self.assertEqual(((await self.get("/agreed"))[1], self.said[1]), ({"agreed": []}, f"Maker/alice agrees no more to {said['id']}"))
 
     async def test_who_asks_is_known_behind_the_end_of_its_connection(self):
         """The certificate is asked for once, when the right is: a connection that has ended has none."""
         change = {"members": [{"name": "Maker"}], "policy": "'Maker'", "serial": 1, "nonce": "07" * 16}
+        self.api.chain.query.answers["members"] = {"members": []}
         self.api.access.caller = mock.Mock(side_effect=["Maker/alice", None])
         status, said = await self.post("/agreed", change)
         self.assertEqual((status, self.said[0].startswith(f"Maker/alice agrees to {said.get('id')}: ")), (200, True), self.said)

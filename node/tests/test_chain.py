@@ -2,6 +2,7 @@
 import asyncio
 import gc
 import json
+import time
 import unittest
 from unittest import mock
 
@@ -10,10 +11,11 @@ from regtuma import chain as chains
 from regtuma import config, endorsing, filters, gateway
 from regtuma.chain import Asking, Awaited, Chain
 from regtuma.endorsing import Agreed, Approver, Endorsing
-from regtuma.entries import LogError
+from regtuma.entries import Entry, LogError
 from regtuma.filters import Asked, Filter, FilterEnded
 from regtuma.gateway import Gateway
 from regtuma.proposals import Refused
+from regtuma.tags import Key
 from regtuma.ticks import LAST_BLOCK
 from regtuma.wire import id_of
 
@@ -116,9 +118,10 @@ class Ticks(Case):
         self.assertEqual([self.due(it, Awaited(4, 1, 100.0)) for it in (100.4, 100.5)], [False, True])
         self.assertFalse(self.due(200.0, Awaited(4)))
 
-    async def test_each_further_tick_waits_twice_as_long(self):
-        asked = Asking(4, 2, 101.0)
-        self.assertEqual([self.due(it, Awaited(4, 1, 100.0), asked) for it in (102.9, 103.0)], [False, True])
+    async def test_each_further_tick_waits_as_long(self):
+        asked = Asking(1, 101.0)
+        self.assertEqual([self.due(it, Awaited(4, 1, 100.0), asked) for it in (101.4, 101.5)], [False, True])
+        self.chain.lines.ticks = 1
         self.assertTrue(self.due(100.5, Awaited(5, 1, 100.0), asked))
 
     async def test_nobody_asks_before_the_log_is_read(self):
@@ -131,11 +134,21 @@ class Ticks(Case):
         found = [self.due(200.0, Awaited(it, 1, 100.0)) for it in (LAST_BLOCK, LAST_BLOCK + 1)]
         self.assertEqual(found, [True, False])
 
-    async def test_names_of_ticks(self):
-        for _ in range(2):
+    async def test_nobody_asks_for_others(self):
+        """Each organisation pays for its own ticks: whose envelopes do not wait asks for no block."""
+        for part, is_asked in (("Shop", False), ("Maker", True)):
+            self.chain.counted(Entry(2, f"{part}/call-1".encode(), b"00"))
+            await self.passed("read 2.0 1")
+            self.assertEqual(self.chain.awaited.since is not None, is_asked)
+
+    async def test_no_name_of_a_tick_is_known_before_from_the_second_try_on(self):
+        for _ in range(3):
             self.chain.awaited = Awaited(4, 1, 0.0)
             await self.chain.tick(1e10)
-        self.assertEqual(self.chain.log.entries, {"tick-4": ["tick"], "tick-4-2": ["tick"]})
+        first, *others = self.chain.log.entries
+        self.assertEqual((first, len(set(others))), ("Maker/tick-1", 2))
+        for name in others:
+            self.assertRegex(name, "^Maker/tick-1-[0-9a-f]{16}$")
 
 
 class Lines(Case):
@@ -153,6 +166,31 @@ class Lines(Case):
     async def test_a_refusal_is_told_in_words(self):
         await self.passed("refused 807")
         self.assertEqual(self.said, ["ledger order: refused 807: the log is of another genesis file"])
+
+    async def test_a_call_whose_line_is_skipped_is_told_why(self):
+        waiter, envelope = self.chain.wait_for("ab"), "aa"
+        work = asyncio.ensure_future(self.chain.put_envelopes())
+        await self.chain.put("ab", envelope)
+        work.cancel()
+        name, = self.chain.log.entries
+        self.assertEqual(self.chain.counted(Entry(7, name.encode(), envelope.encode())), [b"7.0 aa\n"])
+        await self.passed("skipped 7.0 301", "read 7.0 0")
+        told = {"id": "ab", "refused": 301, "why": "the orderer skips its envelope (refused 301)"}
+        self.assertEqual([await self.gateway.outcome(waiter.result()), await self.gateway.status("ab")], [told, told])
+        self.assertEqual((self.chain.in_log, self.chain.own, self.chain.unread), (set(), {}, {}))
+
+    async def test_a_call_that_finds_no_share_left_is_told(self):
+        waiter = self.chain.wait_for("ab")
+        work = asyncio.ensure_future(self.chain.put_envelopes())
+        await self.chain.put("ab", "aa")
+        work.cancel()
+        self.chain.lines.shares.paid[b"Maker"] = 3 * LAST_BLOCK * self.chain.lines.shares.block
+        name, = self.chain.log.entries
+        self.assertEqual(self.chain.counted(Entry(7, name.encode(), b"aa")), [])
+        self.assertEqual(await self.gateway.outcome(waiter.result()), {"id": "ab", "why": chains.NO_SHARE})
+        with self.assertRaises(Refused) as raised:
+            self.gateway.check_open()
+        self.assertEqual((raised.exception.status, raised.exception.said), (422, {"why": chains.NO_SHARE}))
 
     async def test_a_fork_stops_what_is_put(self):
         await self.passed("forked Shop 4", "forked Carrier 8")
@@ -184,10 +222,14 @@ class Lines(Case):
         self.chain.height = 1
         self.assertEqual([await self.chain.at_least(it, 0.01) for it in (1, 2)], [True, False])
 
-    async def test_past_forks_it_goes_on(self):
-        self.config.ledger.past_forks = True
+    async def test_past_forks_it_goes_on_for_that_lie_alone(self):
+        self.config.ledger.past_forks = ["Shop 4"]
         await self.passed("forked Shop 4")
         self.assertIsNone(self.chain.forked)
+        for other in ("Shop 5", "Carrier 4"):
+            await self.passed(f"forked {other}")
+            self.assertIn("says that it has another block", self.chain.forked or "")
+            self.chain.forked = None
 
 
 class End(Case):
@@ -235,6 +277,14 @@ class Entries(Case):
         await self.put("a" * chains.ENTRY_CHARACTERS, "bb")
         self.assertEqual([len(it) for it in self.chain.log.entries.values()], [1, 1])
 
+    async def test_an_entry_may_be_read_though_it_was_not_known_to_be_put(self):
+        async def append(name: str, marks: list[str]) -> bool:
+            self.chain.counted(Entry(2, name.encode(), "\n".join(marks).encode()))
+            raise LogError("no answer")
+        with mock.patch.object(self.chain.log, "append", append):
+            self.assertEqual([str(it) for it in await self.put("aa", "bb")], ["no answer"] * 2)
+        self.assertEqual(self.chain.own, {})
+
     async def test_each_is_told_of_a_failure(self):
         self.chain.log.failure = "no majority"
         self.assertEqual([str(it) for it in await self.put("aa", "bb")], ["no majority"] * 2)
@@ -244,14 +294,28 @@ class Endorsements(Case):
     async def test_a_change_needs_the_operators_word(self):
         change = {"members": [{"name": "Maker"}], "policy": "'Maker'", "serial": 1, "nonce": "07" * 16}
         self.assertIn("operator has not agreed to ", self.endorsing.denial(change))
-        self.endorsing.agreed.add(id_of(change))
+        self.endorsing.agreed.add(id_of(change), "the members are Maker")
         self.assertIsNone(self.endorsing.denial(change))
         self.assertIn("operator has not agreed to ", self.endorsing.denial({**change, "serial": 2}))
-        self.assertEqual(Agreed(self.endorsing.agreed.file).ids, {id_of(change)})
+        self.assertEqual(Agreed(self.endorsing.agreed.file).listed(), self.endorsing.agreed.listed())
+
+    async def test_an_agreement_ends(self):
+        agreed, ids = self.endorsing.agreed, ["ab", "cd", "ef"]
+        for it in ids:
+            self.assertEqual(agreed.add(it, f"the words of {it}")["id"], it)
+        self.assertEqual((agreed.withdraw("cd"), agreed.withdraw("cd"), agreed.withdraw("zz")), (True, False, False))
+        with open(agreed.file, "a") as file:
+            file.write("0f" * 32 + '\n[]\n{"id":5}\n{"id":"gh","until":1')
+        for held in (agreed, Agreed(agreed.file)):
+            self.assertEqual([(it["id"], it["words"]) for it in held.listed()], [("ab", "the words of ab"), ("ef", "the words of ef")])
+        Agreed(agreed.file).add("gh", "behind a torn line")
+        self.assertTrue(Agreed(agreed.file).holds("gh"))
+        with mock.patch.object(endorsing.time, "time", return_value=time.time() + endorsing.AGREED_SECONDS + 1):
+            self.assertEqual(agreed.listed(), [])
 
     async def test_a_change_has_an_endorser_of_its_own(self):
         change = {"members": [{"name": "Maker"}], "policy": "'Maker'", "serial": 1, "nonce": "07" * 16}
-        self.endorsing.agreed.add(id_of(change))
+        self.endorsing.agreed.add(id_of(change), "the members are Maker")
         for script, answer in [("echo endorsed aa 01", {"payload": "aa", "endorsement": "01"}),
                                ("echo refused 406", {"refused": "refused 406"}),
                                ("echo refused 806; exit 1", {"refused": "refused 806"}),
@@ -266,6 +330,48 @@ class Endorsements(Case):
         said = await self.endorsed(CALL, {**CALL, "nonce": "08" * 16})
         self.assertEqual(said, [{"payload": "aa", "endorsement": "01", "height": 0}, {"denied": "not today", "height": 0}])
         self.assertEqual(json.loads(self.endorsing.approver.given[0]), {"asker": "Shop/node", **CALL})
+
+    async def test_a_place_is_looked_at_by_what_the_endorser_says(self):
+        signed, bare = "seen Maker 3 00 ff", "seen Maker 3 00"
+        for key, seen, told in [(None, bare, endorsing.NO_MEMBER), (Key(public=b"k"), bare, endorsing.OLD_SEED), (Key(public=b"k"), signed, None),
+                                (Key(shared=b"k"), bare, None)]:
+            self.endorsing.look_at_place(key, seen)
+            self.assertEqual(self.endorsing.out_of_place, told)
+        self.assertEqual(self.said, [f"nothing is endorsed: {it}" for it in (endorsing.NO_MEMBER, endorsing.OLD_SEED)])
+
+    async def test_a_place_is_looked_at_whenever_the_members_have_changed(self):
+        self.chain.keys, said = mock.Mock(serial=0, at=mock.AsyncMock(return_value={"Maker": Key(public=b"k")})), []
+
+        async def ask(line: str) -> str:
+            said.append(line)
+            return "seen Maker 1 00 ff" if len(said) == 1 else "seen Maker 3 00"
+        self.endorsing.endorsers = [mock.Mock(ask=ask)]
+        work = asyncio.ensure_future(self.endorsing.keep_place())
+        for height, serial, asked in ((1, 0, 1), (2, 0, 1), (3, 1, 2)):
+            self.chain.keys.serial = serial
+            await self.chain.committed(height)
+            while self.chain.keys.at.await_count < height or len(said) < asked:
+                await asyncio.sleep(0.01)
+        await asyncio.sleep(0)
+        work.cancel()
+        self.assertEqual((said, self.endorsing.out_of_place), (["seen 1", "seen 3"], endorsing.OLD_SEED))
+
+    async def test_members_that_change_while_the_endorser_is_asked_are_looked_at(self):
+        self.chain.keys = keys = mock.Mock(serial=0, at=mock.AsyncMock(return_value={}))
+
+        async def ask(line: str) -> str:
+            if line == "seen 1":
+                keys.serial, keys.at.return_value = 1, {"Maker": Key(shared=b"k")}
+            return "seen Maker 1 00"
+        self.endorsing.endorsers = [mock.Mock(ask=ask)]
+        work = asyncio.ensure_future(self.endorsing.keep_place())
+        for height in (1, 2):
+            await self.chain.committed(height)
+            while keys.at.await_count < height:
+                await asyncio.sleep(0.01)
+        await asyncio.sleep(0.01)
+        work.cancel()
+        self.assertIsNone(self.endorsing.out_of_place)
 
     async def test_who_has_no_place_is_told_once(self):
         endorser = self.endorsing.endorsers[0]
@@ -302,7 +408,11 @@ class Endorsements(Case):
 
 
 class Calls(Case):
-    """Answers are those of a list, by organisation."""
+    """Answers are those of a list, by organisation. Endorsements pass."""
+
+    async def asyncSetUp(self):
+        await super().asyncSetUp()
+        self.gateway.faults = mock.AsyncMock(return_value={})
 
     def answer(self, **answers):
         self.asked, self.chain.height = [], 3
@@ -323,7 +433,7 @@ class Calls(Case):
         return raised.exception.status, raised.exception.said["why"]
 
     async def test_the_fewest_are_asked(self):
-        self.assertEqual(await self.gateway.organisations(CALL), ["Maker", "Carrier"])
+        self.assertEqual(await self.gateway.organisations(CALL, gateway.Asking("Maker", None)), ["Maker", "Carrier"])
         self.assertEqual(await self.gateway.fewest("assets", ["Shop", "Maker", "Carrier"]), ["Shop", "Carrier"])
         self.assertEqual((await self.gateway.fewest("assets", ["Maker", "Carrier", "Shop"])), ["Maker", "Carrier"])
 
@@ -371,6 +481,46 @@ class Calls(Case):
         self.assertEqual(len(self.asked), 6)
         self.answer(Maker=[ENDORSED] * 3, Carrier=[{**no_module, "height": 2}, no_module, ENDORSED])
         self.assertEqual(await self.gateway.endorsed("Maker/alice", CALL, None), "aa020101")
+
+    async def test_another_one_is_asked_in_the_place_of_who_refuses(self):
+        self.chain.query.satisfying = [{"Maker", "Carrier"}, {"Maker", "Shop"}]
+        with mock.patch.object(config.Config, "node_tls", return_value=None):
+            self.config.nodes["Shop"] = "https://127.0.0.3:7051"
+            self.gateway.links["Shop"] = gateway.Link("Shop", self.config, self.said.append)
+        refused = {"refused": "refused 406", "height": 3}
+        for carrier in ([{"denied": "not today", "height": 3}], [refused] * 3):
+            self.gateway.chosen, turns = {}, len(carrier) + 1
+            self.answer(Maker=[ENDORSED] * turns, Carrier=carrier, Shop=[{**ENDORSED, "endorsement": "02"}])
+            self.assertEqual(await self.gateway.endorsed("Maker/alice", CALL, None), "aa020102")
+        self.answer(Maker=[ENDORSED], Carrier=[{"denied": "not today", "height": 3}])
+        self.assertEqual(await self.refusal(["Maker", "Carrier"]), (422, "Carrier does not endorse it: not today"))
+        self.answer(Maker=[{"denied": "not today", "height": 3}], Carrier=[ENDORSED])
+        self.assertEqual(await self.refusal(), (422, "Maker does not endorse it: not today"))
+
+    async def test_who_is_at_fault_is_passed_over_once_it_is_sure(self):
+        self.answer(Maker=[ENDORSED] * 3, Carrier=[ENDORSED] * 3)
+        self.gateway.faults.return_value = {"Carrier": "it lies"}
+        self.assertEqual(await self.refusal(), (503, "no endorsement of Carrier: it lies"))
+        self.assertEqual((self.said, self.gateway.links["Carrier"].down > 0), (["no endorsement of Carrier: it lies"], True))
+        # As behind a change of key: the next one is right.
+        self.gateway.links["Carrier"].down = 0
+        self.answer(Maker=[ENDORSED] * 2, Carrier=[ENDORSED] * 2)
+        self.gateway.faults.side_effect = [{"Carrier": "it lies"}, {}]
+        self.assertEqual(await self.gateway.endorsed("Maker/alice", CALL, ["Maker", "Carrier"]), "aa020101")
+
+    async def test_it_takes_longer_to_be_sure_that_payloads_differ(self):
+        self.answer(Maker=[ENDORSED] * 6, Carrier=[ENDORSED] * 6)
+        self.gateway.faults.side_effect = [{"Carrier": gateway.OTHER_PAYLOAD}] * 5 + [{}]
+        self.assertEqual(await self.gateway.endorsed("Maker/alice", CALL, None), "aa020101")
+        self.answer(Maker=[ENDORSED] * 6, Carrier=[ENDORSED] * 6)
+        self.gateway.faults.side_effect = [{"Carrier": gateway.OTHER_PAYLOAD}] * 6
+        self.assertEqual(await self.refusal(), (503, f"no endorsement of Carrier: {gateway.OTHER_PAYLOAD}"))
+
+    async def test_this_node_is_asked_too_where_others_are_named(self):
+        self.answer(Maker=[ENDORSED], Carrier=[ENDORSED])
+        self.assertEqual(await self.gateway.endorsed("Maker/alice", CALL, ["Carrier"]), "aa0101")
+        self.assertEqual((len(self.asked), list(self.gateway.faults.call_args.args[1]), self.gateway.faults.call_args.args[2]),
+                         (2, ["Carrier"], ENDORSED))
 
     async def test_an_approver_that_has_ended_gives_no_answer(self):
         self.endorsing.approver = Says()

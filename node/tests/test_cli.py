@@ -3,10 +3,12 @@ import contextlib
 import io
 import json
 import os
+import pathlib
 import re
 import shutil
 import subprocess
 import sys
+import tempfile
 import threading
 import time
 import unittest
@@ -14,7 +16,7 @@ from unittest import mock
 
 import support
 from regtuma import cli, client as clients
-from regtuma.client import Client, Failed, Link, NoAnswer, Refused
+from regtuma.client import Client, Failed, Link, NoAnswer, Pending, Refused
 
 TXS = [{"id": "ab", "flag": 0, "chaincode": "assets", "arg": "61"}, {"id": "cd", "flag": 0, "chaincode": "assets", "upgrade": {"fuel": 1}},
        {"id": "ef", "flag": 2, "amend": {}}]
@@ -27,6 +29,14 @@ const asked = [], slow = new Client(["https://1:1"], async url => {
   await new Promise(resolve => setTimeout(resolve, 1000 * url.split("=")[1]));
   return new Response('{"pending":true}', { status: 404 });
 });"""
+# One whose calls stay pending.
+WAITING = """
+const waits = [], waiting = new Client(["https://1:1"], async (url, { body }) => {
+  waits.push(Number(url.split("=")[1]));
+  await new Promise(resolve => setTimeout(resolve, 1000 * waits.at(-1)));
+  const said = { id: "ab", pending: true, why: "it is in no block yet" };
+  return new Response(JSON.stringify(JSON.parse(body).calls ? { answers: [said, said] } : said), { status: 202 });
+}, { seconds: 1 });"""
 
 
 class Answer(io.BytesIO):
@@ -67,10 +77,13 @@ class CommandLine(unittest.TestCase):
         self.assertEqual(told("health", health=wrong), (1, "Maker has 4 blocks\nwrong: forked\n"))
 
     def test_agreements(self):
-        self.assertEqual(told("agree", "-", given='{"members":[]}', agree="ab"), (0, "ab\n"))
-        self.assertEqual(told("agree", "-", "--json", given='{"members":[]}', agree="ab"), (0, '{"id": "ab"}\n'))
-        for ids, words, said in [(["ab", "cd"], [], "ab\ncd\n"), ([], [], "nothing was agreed to\n"), (["ab"], ["--json"], '["ab"]\n')]:
-            self.assertEqual(told("agreed", *words, ask={"agreed": ids}), (0, said))
+        said = {"id": "ab", "until": time.mktime((2026, 12, 1, 9, 30, 0, 0, 0, -1)), "words": "Shop leaves\x1b"}
+        line = "ab until 2026-12-01 09:30: Shop leaves\\x1b\n"
+        self.assertEqual(told("agree", "-", given='{"members":[]}', agree=said), (0, line))
+        self.assertEqual(told("agree", "-", "--json", given='{"members":[]}', agree=said), (0, json.dumps(said) + "\n"))
+        for changes, words, text in [([said, said], [], line + line), ([], [], "nothing was agreed to\n"), ([said], ["--json"], json.dumps([said]) + "\n")]:
+            self.assertEqual(told("agreed", *words, agreed=changes), (0, text))
+        self.assertEqual(told("withdraw", "ab", withdraw=None), (0, "ab is agreed to no more\n"))
 
     def test_words_that_are_none(self):
         self.assertEqual(told("get", "\udcff"), (2, "regtuma: a word is not UTF-8\n"))
@@ -96,6 +109,22 @@ class CommandLine(unittest.TestCase):
         ledger = mock.Mock(blocks=mock.Mock(side_effect=NoAnswer("no node answers")))
         with mock.patch.object(cli, "from_environment", return_value=ledger), contextlib.redirect_stdout(io.StringIO()) as out:
             self.assertEqual((cli.main(["watch"]), out.getvalue()), (3, "no node answers\n"))
+
+
+class CurrentFolder(unittest.TestCase):
+    """No command runs what lies in the folder in which it is typed."""
+
+    def test_no_module_of_it_is_imported(self):
+        with tempfile.TemporaryDirectory() as room:
+            at = pathlib.Path(room)
+            for name in ("json", "argparse", "asyncio", "hashlib", "subprocess", "importlib", "aiohttp", "cryptography", "regtuma", "sys"):
+                (at / f"{name}.py").write_text(f"open({room!r} + '/ran', 'a').write({name!r})\nraise SystemExit(7)\n")
+            (at / "demo").mkdir()
+            (at / "demo" / "genesis.json").write_text('{"orgs":[]}')
+            commands = [[it, "--help"] for it in sorted((support.ROOT / "node" / "bin").iterdir())]
+            commands += [[support.ROOT / "node" / "change.py", "--help"], [support.ROOT / "ledger", "dev", "demo"]]
+            statuses = [subprocess.run(it, cwd=at, capture_output=True, timeout=60).returncode for it in commands]
+            self.assertEqual((statuses, (at / "ran").exists()), ([0] * 5 + [1], False))
 
 
 class Clients(unittest.TestCase):
@@ -168,6 +197,28 @@ class Clients(unittest.TestCase):
             self.assertEqual(client_of("https://1:1").status("a b/c", 0.15), {"pending": True})
         self.assertEqual((asked[0], asked[-1]), ("/transactions/a%20b%2Fc?wait=0.100", "/transactions/a%20b%2Fc?wait=0.000"))
 
+    def test_a_call_that_is_pending_returns_once_its_time_is_up(self):
+        waits, limits = [], []
+
+        def begin(_link: Link, _method: str, path: str, body: dict, seconds: float) -> Answer:
+            waits.append(float(path.rpartition("=")[2]))
+            limits.append(seconds)
+            time.sleep(waits[-1])
+            said = {"id": "ab", "pending": True, "why": "it is in no block yet"}
+            return Answer(202, json.dumps({"answers": [said] * 3} if "calls" in body else said).encode())
+        client = client_of("https://1:1")
+        with mock.patch.object(Link, "begin", begin):
+            for ask in (lambda: client.submit("assets", "x", tries=5), lambda: client.change({"nonce": "00" * 16}, ["Maker"])):
+                with self.assertRaisesRegex(Pending, "^the time is up: it is in no block yet$") as raised:
+                    ask()
+                self.assertEqual(raised.exception.said["id"], "ab")
+            self.assertEqual([it.get("pending") for it in client.submit_all([{}, {}, {}])], [True] * 3)
+        self.assertEqual([it < limit for it, limit in zip(waits, limits)], [True] * len(waits))
+        self.assertLess(sum(waits), 3.0)
+        with mock.patch.object(cli, "from_environment", return_value=client), mock.patch.object(Link, "begin", begin):
+            with contextlib.redirect_stdout(io.StringIO()) as out:
+                self.assertEqual((cli.main(["submit", "assets", "x"]), out.getvalue()), (3, "the time is up: it is in no block yet, id ab\n"))
+
     def test_a_node_has_a_url(self):
         for it in ("10.0.0.1:7051", "http://10.0.0.1:7051", "https://10.0.0.1", "https://[::1", ""):
             with self.subTest(it=it), self.assertRaisesRegex(Failed, f"^{re.escape(it)} is no URL of a node with its port, as https://10.0.0.1:7051"):
@@ -175,7 +226,7 @@ class Clients(unittest.TestCase):
 
     def test_a_call_is_made_once_at_least(self):
         client = client_of()
-        client.outcome = lambda call: {"valid": True, "arg": call["arg"]}
+        client.outcome = lambda call, _until: {"valid": True, "arg": call["arg"]}
         self.assertEqual(client.submit("assets", "x", tries=0)["arg"], b"x".hex())
 
 
@@ -184,7 +235,7 @@ class InJavascript(unittest.TestCase):
     def said(self, script: str, **env: str) -> str:
         """What a script over the client prints."""
         module = json.dumps((support.ROOT / "node" / "clients" / "regtuma.mjs").as_uri())
-        text = f"import {{ Client, fromEnvironment }} from {module};\n{script}"
+        text = f"import {{ Client, callOf, fromEnvironment }} from {module};\n{script}"
         ran = subprocess.run(["node", "--input-type=module", "-e", text], env={**os.environ, **env}, capture_output=True, text=True, timeout=60)
         return ran.stdout + (ran.stderr if ran.returncode else "")
 
@@ -196,6 +247,13 @@ class InJavascript(unittest.TestCase):
         said = self.said(SLOW + "slow.seconds = 6; console.log(await slow.status('a b/c', 1.2), asked[0], asked.at(-1));")
         path = "https://1:1/transactions/a%20b%2Fc"
         self.assertEqual(said, f"{{ pending: true }} {path}?wait=1.000 {path}?wait=0.000\n")
+
+    def test_a_call_that_is_pending_returns_once_its_time_is_up(self):
+        said = self.said(WAITING + """
+            await waiting.submit("assets", ["x"], { tries: 5 }).catch(error => console.log(error.name, error.message, error.said.id));
+            const answers = await waiting.submitAll([callOf("assets", "x"), callOf("assets", "y")]);
+            console.log(answers.map(it => it.pending), waits.reduce((sum, it) => sum + it) < 3);""")
+        self.assertEqual(said, "Pending the time is up: it is in no block yet ab\n[ true, true ] true\n")
 
     def test_a_node_has_a_url(self):
         env = {it: "none" for it in clients.SETTINGS}

@@ -10,10 +10,11 @@ from regtuma import config
 MISTAKES = [
     ('organisation = "Maker"\n', "", "node.toml: organisation is missing: it has to be a name of 1 to 32 letters"),
     ('organisation = "Maker"', 'organisation = "Ma ker"', "line 1: organisation has to be a name of 1 to 32 letters, digits and _, and is 'Ma ker'"),
-    ('listen = "127.0.0.1:7051"', 'listen = "127.0.0.1"', "line 2: listen has to be an address and a port"),
-    ('listen = "127.0.0.1:7051"', 'listen = 7051', "line 2: listen has to be an address and a port"),
-    ('page = "127.0.0.1:8080"', 'page = "10.0.0.1:8080"', "line 3: page has to be a place on the loopback"),
-    ('page = "127.0.0.1:8080"', 'pages = "127.0.0.1:8080"', "line 3: pages is no name that is known here: possible are organisation, "
+    ('listen = "node.sock"', 'listen = "10.0.0.1:7051"', "line 2: listen has to be the name of a socket, as "),
+    ('listen = "node.sock"', 'listen = 7051', "line 2: listen has to be the name of a socket, as "),
+    ('listen = "node.sock"', f'listen = "{100 * "x"}"', "of more than 107 bytes"),
+    ('page = "page.sock"', 'page = "127.0.0.1:8080"', "line 3: page has to be the name of a socket, as "),
+    ('page = "page.sock"', 'pages = "page.sock"', "line 3: pages is no name that is known here: possible are organisation, "
      "listen, page, or a table of ledger, log, tls, etcd, ticks, rights, nodes, authorities"),
     ('[ticks]\n', '[tick]\n', "tick is no name that is known here"),
     ('program = "ledger"\n', "", "line 5: [ledger] program is missing: it has to be the name of a file"),
@@ -24,9 +25,10 @@ MISTAKES = [
     ('keys = "maker.key"', 'endorsers = true', "[ledger] endorsers has to be a whole number"),
     ('keys = "maker.key"', 'seen = 1.5', "[ledger] seen has to be a whole number from 1 to 65535, and is 1.5"),
     ('keys = "maker.key"', 'approver = "yes"', "[ledger] approver has to be a command, as a list of words"),
-    ('keys = "maker.key"', 'past_forks = "no"', "[ledger] past_forks has to be true or false"),
+    ('keys = "maker.key"', 'past_forks = true', "[ledger] past_forks has to be a list of what was looked into"),
+    ('keys = "maker.key"', 'past_forks = ["Shop"]', "[ledger] past_forks has to be a list of what was looked into"),
     ('keys = "maker.key"', f'keys = "{32 * "5e"}"', "line 9: [ledger] keys names "),
-    ('"etcd.password"', f'"{16 * "5e"}"', "line 22: [etcd] password_file names "),
+    ('"etcd.password"', f'"{16 * "5e"}"', "line 23: [etcd] password_file names "),
     ('[tls]\ncertificate = "node.pem"\n', '[tls]\n', "line 11: [tls] certificate is missing"),
     ('Carrier = "carrier.ca.pem"\n', '', "line 15: [authorities] Carrier is missing: name the file with its authority's certificate"),
     ('Carrier = "carrier.ca.pem"', 'Carrier = "maker.ca.pem"', "line 17: [authorities] Carrier names "),
@@ -34,14 +36,17 @@ MISTAKES = [
     ('Carrier = "carrier.ca.pem"', 'Carrier = "carrier.ca.pem"\n"a b" = "carrier.ca.pem"', "line 18: [authorities] a b is no name of an organisation"),
     ('["https://127.0.0.1:2379"]', '["http://127.0.0.1:2379"]', "line 20: [etcd] endpoints has to be a list of URLs with ports"),
     ('["https://127.0.0.1:2379"]', '[]', "[etcd] endpoints has to be a list of URLs with ports, one at least"),
+    ('"members.pem"', '"node.pem"', "line 21: [etcd] authorities names "),
+    ('"members.pem"', '"carrier.ca.pem"', "with Carrier's authority of clients and nodes"),
+    ('authorities = "members.pem"\n', '', "line 19: [etcd] authorities is missing"),
     ('user = "maker"\n', '', "[etcd] user and password_file go together: name both, or none"),
     ('Carrier = "https://127.0.0.2:7051"', 'Carrier = "https://127.0.0.2"', "[nodes] Carrier has to be a URL with a port"),
     ('Carrier = "https://127.0.0.2:7051"', 'Maker = "https://127.0.0.2:7051"', "[nodes] Maker is this organisation itself"),
-    ('[rights]\nread', '[rights]\nwrite', "line 30: [rights] write is no name that is known here: possible are read, observe, evaluate, submit, endorse, agree"),
+    ('[rights]\nread', '[rights]\nwrite', "line 31: [rights] write is no name that is known here: possible are read, observe, evaluate, submit, endorse, agree"),
     ('read = ["Maker/*"]', 'read = "Maker/*"', "[rights] read has to be a list of names of certificates"),
     ('read = ["Maker/*"]', 'read = ["alice"]', "[rights] read has to be a list of names of certificates"),
     ('wait = 0.5', 'wait = 0', "[ticks] wait has to be a number from 0.01 to 3600, and is 0"),
-    ('wait = 0.5', 'wait = 700', "[ticks] longest is 600, and below wait, which is 700"),
+    ('wait = 0.5', 'wait = 701', "[ticks] longest is 700, and below wait, which is 701"),
     ('wait = 0.5', 'begins = 2026-12-01', "[ticks] begins and lasts_days go together: name both, or none"),
     ('wait = 0.5', 'begins = "2026-12-01"\nlasts_days = 9', "[ticks] begins has to be a date, as 2026-12-01"),
     ('listen = ', 'listen ', "node.toml is no TOML: "),
@@ -105,10 +110,17 @@ class Mistakes(unittest.TestCase):
             found = self.folder.config(("127.0.0.1:7051", listen), text=support.LOCAL)
             found.check_files()
             self.assertEqual((found.is_local, found.organisations), (True, ["Maker", "Carrier"]))
-            self.assertEqual((found.server_tls(), found.node_tls("Carrier"), found.log_file), (None, None, str(self.folder.path / "log")))
+            self.assertEqual((found.node_tls("Carrier"), found.log_file), (None, str(self.folder.path / "log")))
         (self.folder.path / "maker.key").chmod(0o640)
         with self.assertRaisesRegex(config.Mistake, "maker.key, which others than its owner may read: chmod 600 "):
             self.folder.config(text=support.LOCAL)
+
+    def test_the_proxy_alone_enters_the_folder_of_the_sockets(self):
+        for socket, told in [("/tmp/node.sock", "names /tmp/node.sock, whose folder everybody may enter: chmod o= /tmp"),
+                             ("nowhere/node.sock", "nowhere/node.sock, and there is no such folder")]:
+            with self.subTest(socket=socket), self.assertRaisesRegex(config.Mistake, told):
+                self.folder.config(('"node.sock"', f'"{socket}"')).check_sockets()
+        self.folder.config().check_sockets()
 
     def test_secrets_are_the_owners_alone(self):
         for name in ("maker.key", "node.key", "etcd.password"):

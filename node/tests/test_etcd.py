@@ -1,7 +1,12 @@
 """Each failure of etcd, by nodes that answer from a list."""
 import asyncio
 import base64
+import contextlib
+import io
 import json
+import shutil
+import socket
+import tempfile
 import unittest
 from unittest import mock
 
@@ -33,7 +38,7 @@ def told(*events: dict) -> dict:
 
 
 class Node:
-    """A node of etcd that answers each request by the next of its list, and a watch by several lines."""
+    """A member of etcd that answers each request by the next of its list, and a watch by several lines."""
 
     def __init__(self, *answers):
         self.answers, self.asked = list(answers), []
@@ -66,13 +71,16 @@ class Node:
             for piece in answer:
                 if piece == "nothing":
                     await asyncio.sleep(60)
-                await stream.write(piece if isinstance(piece, bytes) else json.dumps(piece).encode() + b"\n")
+                try:
+                    await stream.write(piece if isinstance(piece, bytes) else json.dumps(piece).encode() + b"\n")
+                except ConnectionResetError:
+                    break
             return stream
         status, said = answer
         return web.Response(status=status, text=said if isinstance(said, str) else json.dumps(said), content_type="application/json")
 
 
-class Failures(unittest.IsolatedAsyncioTestCase):
+class Case(unittest.IsolatedAsyncioTestCase):
     async def asyncSetUp(self):
         # A busy machine is no failure of etcd.
         changed = mock.patch.object(etcd, "NODE_SECONDS", 20.0)
@@ -86,6 +94,19 @@ class Failures(unittest.IsolatedAsyncioTestCase):
         self.addAsyncCleanup(made.close)
         return made
 
+    async def watched(self, log: Log, count: int) -> list[bytes]:
+        """So many lines of a watch from the beginning."""
+        found: list[bytes] = []
+        lines = Lines()
+        async with asyncio.timeout(60):
+            async for events in log.watch():
+                found += [line for it in events for line in lines.of(it).values()]
+                if len(found) >= count:
+                    break
+        return found
+
+
+class Failures(Case):
     async def test_an_entry_is_put(self):
         node = Node(DONE)
         self.assertTrue(await (await self.log(node)).append("Maker/a", ["x", "y"]))
@@ -130,23 +151,12 @@ class Failures(unittest.IsolatedAsyncioTestCase):
         log = await self.log(node)
         self.assertFalse(await log.is_led())
         self.assertEqual(log.why, "etcdserver: no leader")
-        with self.assertRaisesRegex(LogError, "^no node of etcd did it in 0.2 s: etcdserver: no leader$"):
+        with self.assertRaisesRegex(LogError, "^no member of etcd did it in 0.2 s: etcdserver: no leader$"):
             await log.append("Maker/a", ["x"], 0.2)
 
     async def test_a_log_that_has_begun(self):
         log = await self.log(Node((200, {"header": {}}), (200, {"count": "3"})))
         self.assertEqual((await log.is_empty(), await log.is_empty()), (True, False))
-
-    async def watched(self, log: Log, count: int) -> list[bytes]:
-        """So many lines of a watch from the beginning."""
-        found: list[bytes] = []
-        lines = Lines()
-        async with asyncio.timeout(60):
-            async for events in log.watch():
-                found += lines.of(events)
-                if len(found) >= count:
-                    break
-        return found
 
     async def test_a_watch_that_ends_goes_on_behind_what_was_read(self):
         first, second = Node([told(event(5, "a"))]), Node([told(event(6, "b"))])
@@ -206,28 +216,123 @@ class Failures(unittest.IsolatedAsyncioTestCase):
         text = json.dumps(told(event(5, "a"))).encode() + b"\n"
         self.assertEqual(await self.watched(await self.log(Node([text[:7], text[7:20], text[20:]])), 1), [b"5.0 a\n"])
 
-    async def test_a_compaction_ends_it(self):
-        log = await self.log(Node([{"result": {"canceled": True, "compact_revision": "7"}}]))
-        with self.assertRaisesRegex(LogError, "thrown away the log up to revision 7"):
-            await self.watched(log, 1)
+    async def test_what_is_no_event_loses_none(self):
+        """What a member tells in a form that is none is asked of the next one, with what came beside it."""
+        wrong: list = [{}, {"kv": {}}, {"kv": {"key": 7, "mod_revision": "6", "version": "1"}}, {"kv": {"mod_revision": "six"}}, 7, None]
+        for it in wrong:
+            with self.subTest(it=it):
+                first, second = Node([told(event(5, "a"), it)]), Node([told(event(5, "a"), event(6, "b"))])
+                self.assertEqual(await self.watched(await self.log(first, second), 2), [b"5.0 a\n", b"6.0 b\n"])
+        for result in ([], 7, {"events": 7}, {"compact_revision": "x"}):
+            with self.subTest(result=result):
+                self.assertEqual(await self.watched(await self.log(Node([{"result": result}]), Node([told(event(5, "a"))])), 1), [b"5.0 a\n"])
+
+    async def test_what_is_too_long_is_not_read(self):
+        with mock.patch.object(etcd, "LONGEST", 1000):
+            first, second = Node([b"x" * 2000]), Node([told(event(5, "a"))])
+            self.assertEqual(await self.watched(await self.log(first, second), 1), [b"5.0 a\n"])
+            self.assertTrue(await (await self.log(Node((200, {"succeeded": True, "more": "x" * 2000})), Node(DONE))).append("Maker/a", ["x"]))
+
+    async def test_where_history_was_thrown_away_what_is_left_is_read_in_the_order_of_creation(self):
+        gone: list = [{"result": {"canceled": True, "compact_revision": "7"}}]
+        kvs = [{"key": base64_of(f"log/Maker/{name}"), "create_revision": revision} for name, revision in (("a", "9"), ("b", "4"), ("c", "11"))]
+        keys = [{"header": {"revision": "10"}, "kvs": kvs[:2], "more": True}, {"header": {"revision": "11"}, "kvs": kvs[2:]}]
+        # One of the two was made anew meanwhile: that tells the watch behind.
+        left = [{"kvs": [event(revision, text, key=f"log/Maker/{name}")["kv"]]} for revision, text, name in ((4, "00", "b"), (12, "01", "a"))]
+        node = Node(gone, (200, keys[0]), (200, keys[1]), (200, {"responses": [{"response_range": it} for it in left]}),
+                    [told(event(11, "02"))])
+        with contextlib.redirect_stdout(io.StringIO()) as said:
+            self.assertEqual(await self.watched(await self.log(node), 2), [b"4.0 00\n", b"11.0 02\n"])
+        self.assertRegex(said.getvalue(), "^warning: .* up to revision 7: .* left; 7 of its revisions left none, so somebody has deleted")
+        asked = [body for _, body, _ in node.asked]
+        self.assertEqual(base64.b64decode(asked[2]["key"]), b"log/Maker/b\0")
+        self.assertEqual([it["request_range"]["key"] for it in asked[3]["success"]], [base64_of("log/Maker/b"), base64_of("log/Maker/a")])
+        self.assertEqual(asked[4]["create_request"]["start_revision"], "11")
+
+    async def test_what_is_left_in_no_form_is_told(self):
+        gone: list = [{"result": {"compact_revision": "7"}}]
+        for answers in ([{}], [{"header": {"revision": "9"}, "kvs": [7]}],
+                        [{"header": {"revision": "9"}, "kvs": [{"key": base64_of("log/a"), "create_revision": "4"}]}, {"responses": [7]}]):
+            with self.subTest(answers=answers), self.assertRaisesRegex(LogError, "tells what is no key or entry: "):
+                await self.watched(await self.log(Node(gone, *((200, it) for it in answers))), 1)
+
+    async def test_history_that_was_thrown_away_behind_what_was_read(self):
+        node = Node([told(event(5, "a"))], [{"result": {"canceled": True, "compact_revision": "7"}}],
+                    (200, {"header": {"revision": "8"}, "kvs": [{"key": base64_of("log/x"), "create_revision": it} for it in ("5", "6")]}),
+                    (200, {"responses": [{"response_range": {"kvs": [event(6, "b")["kv"]]}}]}))
+        self.assertEqual(await self.watched(await self.log(node), 2), [b"5.0 a\n", b"6.0 b\n"])
+        self.assertEqual(len(node.asked[3][1]["success"]), 1)
 
 
-class LinesOfEvents(unittest.TestCase):
+class Liars(Case):
+    """A node of etcd may be anybody's program: nothing that it tells ends another way than a failure of etcd."""
+
+    async def test_what_a_watch_tells(self):
+        good = event(5, "a")
+        for lie in ({}, [], 7, None, {"kv": None}, {"kv": {}}, {"kv": {**good["kv"], "key": 5}}, {"kv": {**good["kv"], "key": "a"}},
+                    {"kv": {**good["kv"], "value": {}}}, {"kv": {**good["kv"], "mod_revision": "x"}}, {"kv": {**good["kv"], "mod_revision": None}},
+                    {"kv": {**good["kv"], "mod_revision": "9" * 5000}}):
+            with self.subTest(lie=str(lie)[:80]):
+                self.assertEqual(await self.watched(await self.log(Node([told(lie)]), Node([told(good)])), 1), [b"5.0 a\n"])
+        for line in ({"result": None}, {"result": []}, {"result": {"events": 5}}, {"result": {"events": {"a": 1}}}, {"result": {"compact_revision": "x"}},
+                     b"[" * 100_000 + b"\n", b"\xff\n"):
+            with self.subTest(line=str(line)[:80]):
+                self.assertEqual(await self.watched(await self.log(Node([line]), Node([told(good)])), 1), [b"5.0 a\n"])
+
+    async def test_a_line_and_an_answer_without_end(self):
+        with mock.patch.multiple(etcd, LONGEST=1 << 20, LONGEST_LINE=1 << 20):
+            endless = [b"x" * (1 << 18)] * 8
+            self.assertEqual(await self.watched(await self.log(Node(endless), Node([told(event(5, "a"))])), 1), [b"5.0 a\n"])
+            with self.assertRaisesRegex(LogError, "its answer has more than 1 MiB$"):
+                await (await self.log(Node(*[endless] * 9))).append("Maker/a", ["x"], 0.0)
+
+    async def test_what_is_read(self):
+        for said in ({"kvs": 5}, {"kvs": [5]}, {"kvs": {"a": 1}}, {"kvs": [{"value": 5}]}, {"kvs": [{"value": "a"}]}):
+            with self.assertRaisesRegex(LogError, "no answer of etcd$"):
+                await (await self.log(Node((200, said)))).read("Maker/a")
+        for said in ({"count": []}, {"count": "x"}, {"count": {}}):
+            self.assertFalse(await (await self.log(Node((200, said)))).is_empty())
+        self.assertFalse(await (await self.log(Node((200, {}), (200, {"errors": {"a": []}})))).is_led())
+
+
+class Space(unittest.IsolatedAsyncioTestCase):
+    """A real node of etcd with a small quota."""
+
+    @unittest.skipUnless(shutil.which("etcd"), "etcd is not installed")
+    async def test_at_its_quota_it_takes_nothing_and_says_so(self):
+        with socket.socket() as one, socket.socket() as other:
+            for it in (one, other):
+                it.bind(("127.0.0.1", 0))
+            url, peer = (f"http://127.0.0.1:{it.getsockname()[1]}" for it in (one, other))
+        with tempfile.TemporaryDirectory() as room:
+            words = ["--data-dir", f"{room}/data", "--listen-client-urls", url, "--advertise-client-urls", url, "--listen-peer-urls", peer,
+                     "--initial-advertise-peer-urls", peer, "--initial-cluster", f"default={peer}", "--quota-backend-bytes", "300000",
+                     "--unsafe-no-fsync", "--logger", "zap", "--log-level", "fatal"]
+            process = await asyncio.create_subprocess_exec("etcd", *words, stderr=asyncio.subprocess.DEVNULL)
+            try:
+                await self.fill(Log([url], "", "", None))
+            finally:
+                process.kill()
+                await process.wait()
+
+    async def fill(self, log: Log) -> None:
+        self.addAsyncCleanup(log.close)
+        async with asyncio.timeout(60):
+            while not await log.is_led():
+                await asyncio.sleep(0.05)
+        with self.assertRaisesRegex(LogError, "^etcd refuses: etcdserver: mvcc: database space exceeded$"):
+            for number in range(100):
+                await log.append(f"Maker/{number}", ["x" * 60_000])
+        self.assertFalse(await log.is_led())
+        self.assertIn("etcd has used up its space", log.why)
+        self.assertEqual(len(await log.read("Maker/1") or ""), 60_000)
+
+
+class Events(unittest.TestCase):
     def test_only_the_first_version_of_a_key_counts(self):
-        events = [event(7, "00\nff"), event(7, "x"), event(8, "y", 2), event(9, "", type="DELETE"), event(10, "")]
-        self.assertEqual(Lines().of(entries(events)), [b"7.0 00\n", b"7.1 ff\n", b"7.2 x\n", b"10.0 \n"])
-
-    def test_an_organisation_speaks_for_itself(self):
-        events = [event(7, "seen Maker 1 00\n00", key="log/Shop/a"), event(8, "seen Maker 1 00"), event(9, "seen Maker"), event(10, "seen")]
-        self.assertEqual(Lines().of(entries(events)), [b"7.1 00\n", b"8.0 seen Maker 1 00\n", b"9.0 seen Maker\n", b"10.0 seen\n"])
-
-    def test_ticks_count_in_entries_of_ticks(self):
-        events = [event(7, "tick\n00"), event(8, "tick", key="log/tick-4"), event(9, "00\ntick", key="log/tick-refill-1")]
-        self.assertEqual(Lines().of(entries(events)), [b"7.1 00\n", b"8.0 tick\n", b"9.0 00\n", b"9.1 tick\n"])
-
-    def test_any_byte_is_a_character(self):
-        kv = event(7, "")["kv"] | {"value": base64.b64encode(b"\xff\x80").decode()}
-        self.assertEqual(Lines().of(entries([{"kv": kv}])), [b"7.0 \xc3\xbf\xc2\x80\n"])
+        events = [event(7, "00\nff"), event(7, "0a"), event(8, "0b", 2), event(9, "", type="DELETE"), event(10, "")]
+        found = [(it.revision, it.name, it.value) for it in entries(events)]
+        self.assertEqual(found, [(7, b"Maker/x", b"00\nff"), (7, b"Maker/x", b"0a"), (10, b"Maker/x", b"")])
 
 
 if __name__ == "__main__":

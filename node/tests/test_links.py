@@ -104,15 +104,17 @@ class ByHand(unittest.IsolatedAsyncioTestCase):
         return made
 
     async def test_a_log_begins_once(self):
-        with self.assertRaisesRegex(log.NotDone, "the log has begun already"):
+        with self.assertRaisesRegex(log.NotDone, "^the log has begun already: it has entries."):
             await log.begin(await self.log((200, {"count": "1"})), self.config, [])
 
-    async def test_marks_go_into_entries_in_which_ticks_count(self):
+    async def test_marks_go_into_entries_that_cost_no_share(self):
         with mock.patch.object(log, "ENTRY_CHARACTERS", 7):
             said = await log.begin(await self.log((200, {}), DONE, DONE, NOT_DONE), self.config, ["aabb", "tick", "cc"])
         keys = [it[1]["compare"][0]["key"] for it in self.node.asked[1:]]
-        self.assertEqual(keys, [base64_of(f"log/{it}") for it in ("Maker/genesis", "tick-refill-1", "tick-refill-2")])
-        self.assertEqual(said, "the log has begun, and has 2 entries of 3 marks")
+        self.assertEqual(keys, [base64_of(f"log/{it}") for it in ("Maker/genesis", "Maker/refill-1", "Maker/refill-2")])
+        begun = f"the log has begun: its first entry names the genesis file {hashlib.sha256(b'').hexdigest()}"
+        self.assertEqual(said, f"{begun}, and 3 marks are behind it in 2 more entries")
+        self.assertEqual(await log.begin(await self.log((200, {}), DONE), self.config, []), begun)
 
     async def test_a_module_has_its_digest(self):
         digest = hashlib.sha256(b"\0asm").hexdigest()

@@ -19,7 +19,7 @@ TORN = b'{"name": "Maker/b", "ma'
 
 
 class Etcd:
-    """A node of etcd, as far as a log asks it."""
+    """A member of etcd, as far as a log asks it."""
 
     def __init__(self) -> None:
         self.events: list[dict] = []
@@ -28,7 +28,7 @@ class Etcd:
     async def begin(self) -> str:
         app = web.Application()
         app.add_routes([web.post("/v3/kv/txn", self.put), web.post("/v3/kv/range", self.range),
-                        web.post("/v3/watch", self.watch)])
+                        web.post("/v3/watch", self.watch), web.post("/v3/maintenance/status", self.status)])
         self.runner = web.AppRunner(app)
         await self.runner.setup()
         site = web.TCPSite(self.runner, "127.0.0.1", 0, shutdown_timeout=0.1)
@@ -51,6 +51,9 @@ class Etcd:
         asked = await request.json()
         found = [it["kv"] for it in self.events] if "range_end" in asked else self.found(asked["key"])
         return web.json_response({"count": str(len(found)), "kvs": found})
+
+    async def status(self, _request: web.Request) -> web.Response:
+        return web.json_response({"leader": "1"})
 
     async def watch(self, request: web.Request) -> web.StreamResponse:
         stream, told = web.StreamResponse(), 0
@@ -102,15 +105,16 @@ class Of:
 
         async def test_lines_have_their_numbers(self):
             log = await self.log()
-            await log.append("Maker/a", ["00", "tick", "\xff"])
-            await log.append("Shop/b", ["seen Maker 1 00", "seen Shop 1 00"])
-            await log.append("tick-1", ["tick"])
+            await log.append("Maker/a", ["00", "tick", "ff"])
+            await log.append("Shop/b", ["seen Maker 1 00", "seen Shop 1 \xff"])
+            await log.append("Shop/tick-1", ["tick"])
             entries = await watched(log, 3)
             first, second, third = (it.revision for it in entries)
             self.assertLess(first, second)
             self.assertLess(second, third)
-            self.assertEqual(b"".join(Lines().of(entries)).decode(),
-                             f"{first}.0 00\n{first}.2 \xc3\xbf\n{second}.1 seen Shop 1 00\n{third}.0 tick\n")
+            lines = Lines()
+            self.assertEqual(b"".join(line for it in entries for line in lines.of(it).values()).decode("latin-1"),
+                             f"{first}.0 00\n{first}.2 ff\n{second}.1 seen Shop 1 \xc3\x83\xc2\xbf\n{third}.0 tick\n")
 
         async def test_all_see_one_order(self):
             logs = [await self.log() for _ in range(3)]

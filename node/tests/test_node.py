@@ -4,6 +4,8 @@ import contextlib
 import io
 import os
 import signal
+import socket
+import time
 import unittest
 from unittest import mock
 
@@ -41,9 +43,21 @@ class Starts(unittest.TestCase):
 
     def test_a_password_that_cannot_be_read(self):
         file, refused = self.folder.write(support.CONFIGURATION), PermissionError(13, "Permission denied", "etcd.password")
-        with mock.patch.multiple(config.Config, server_tls=mock.Mock(), etcd_tls=mock.Mock(), password=mock.Mock(side_effect=refused)):
+        with mock.patch.multiple(config.Config, node_tls=mock.Mock(), etcd_tls=mock.Mock(), password=mock.Mock(side_effect=refused)):
             told = f"regtuma-node: a certificate, key or password of {file} is not read: [Errno 13] Permission denied: 'etcd.password'\n"
             self.assertEqual(self.told(file), (2, told))
+
+    def test_an_authority_that_may_make_others(self):
+        """The proxy would take those whom it makes for callers of another organisation."""
+        file, well = self.folder.write(support.CONFIGURATION), mock.Mock(return_value=0)
+        self.enterContext(mock.patch.multiple(node, serve=well, asyncio=mock.Mock(run=well)))
+        with mock.patch.multiple(config.Config, node_tls=well, etcd_tls=well, password=well):
+            status, said = self.told(file)
+            self.assertEqual((status, "[authorities] Maker names an authority that may make others: " in said), (2, True), said)
+            for name in ("Maker", "Carrier"):
+                made = support.authority(name, extension="basicConstraints=critical,CA:true,pathlen:0")
+                (self.folder.path / f"{name.lower()}.ca.pem").write_text(made)
+            self.assertEqual(self.told(file)[1], "")
 
     def test_a_program_of_other_lines_is_refused(self):
         for script, told in [("echo '{\"lines\":2}'", "speaks lines of number 2, and this node those of number 1"),
@@ -65,7 +79,7 @@ class Starts(unittest.TestCase):
         async def serve() -> int:
             asyncio.get_running_loop().call_later(0.3, os.kill, os.getpid(), signal.SIGTERM)
             return await asyncio.wait_for(node.serve(settings), 10)
-        no_tls = {it: mock.Mock(return_value=None) for it in ("server_tls", "etcd_tls", "node_tls", "password")}
+        no_tls = {it: mock.Mock(return_value=None) for it in ("etcd_tls", "node_tls", "password")}
         with mock.patch.multiple(config.Config, **no_tls):
             self.assertEqual(asyncio.run(serve()), 0)
 
@@ -89,6 +103,25 @@ class Starts(unittest.TestCase):
         with mock.patch.dict("os.environ", {"NOTIFY_SOCKET": "@regtuma"}), mock.patch("socket.socket") as made:
             node.tell_systemd("READY=1")
         made.return_value.__enter__.return_value.sendto.assert_called_once_with(b"READY=1", "\0regtuma")
+
+    def test_the_watchdog_is_fed_by_the_loop_alone(self):
+        """A loop that stands still tells nothing."""
+        systemd = self.enterContext(socket.socket(socket.AF_UNIX, socket.SOCK_DGRAM))
+        systemd.bind(str(self.folder.path / "notify"))
+        systemd.settimeout(0.5)
+
+        async def stand_still() -> None:
+            fed = asyncio.ensure_future(node.feed_watchdog())
+            await asyncio.to_thread(systemd.recv, 100)
+            systemd.setblocking(False)
+            with contextlib.suppress(BlockingIOError):
+                while systemd.recv(100):
+                    pass
+            time.sleep(0.3)
+            self.assertRaises(BlockingIOError, systemd.recv, 100)
+            fed.cancel()
+        with mock.patch.dict("os.environ", {"NOTIFY_SOCKET": str(self.folder.path / "notify"), "WATCHDOG_USEC": "100000"}):
+            asyncio.run(stand_still())
 
 
 if __name__ == "__main__":

@@ -53,7 +53,7 @@ class Why(unittest.TestCase):
 
     def test_flags_in_words(self):
         self.assertEqual(self.why(0), "VALID")
-        self.assertEqual(self.why(1), "the endorsements that are right do not satisfy the policy: Shop")
+        self.assertEqual(self.why(1), "the endorsements that are right do not satisfy the policy: Shop; not right by the key that stood: Maker")
         self.assertEqual(self.why(2, [("62", "7.0"), ("61", "2.0")]), "it read a at 2.0, which is absent now; call again")
         self.assertEqual(self.why(2, [("62", None)]), "it read b absent, which is at 7.0 now; call again")
         self.assertEqual(self.why(2, [("62", "7.0")]), "MVCC_READ_CONFLICT")

@@ -3,7 +3,7 @@ import unittest
 
 import support
 from regtuma.links import is_answer
-from regtuma.proposals import Refused, bound_of, call_of, checked, number_of, organisations_of, seconds_of
+from regtuma.proposals import Refused, bound_of, call_of, checked, described, number_of, organisations_of, seconds_of
 
 NONCE = "07" * 16
 CALL = {"chaincode": "assets", "arg": "00", "nonce": NONCE}
@@ -93,6 +93,24 @@ class AnswersOfNodes(unittest.TestCase):
                    {"refused": "yes"}, {"refused": "refused x"}, {"refused": "refused 4\nrefused 5"}, {"denied": None}):
             self.assertFalse(is_answer({**it, "height": 1} if isinstance(it, dict) else it), it)
         self.assertFalse(is_answer({"denied": "no", "height": "1"}))
+
+
+class Words(unittest.TestCase):
+    """What one agrees to."""
+
+    def test_an_upgrade(self):
+        upgrade = {"upgrade": "assets", "module": "0f" * 32, "profile": 2, "fuel": 900, "policy": "'Maker'", "nonce": "07" * 16}
+        said = f"assets gets the module {'0f' * 32}, a module of the genesis file, 900 units of fuel a call, and the policy 'Maker'"
+        self.assertEqual(described(upgrade), said)
+        self.assertIn("any module at hand", described({**upgrade, "profile": 18}))
+
+    def test_an_amendment(self):
+        stand = {"serial": 0, "members": [{"name": "Carrier"}, {"name": "Maker", "public": "aa"}, {"name": "Shop", "public": None}], "policy": "'Shop'"}
+        change = {"members": [{"name": "Carrier", "public": "bb"}, {"name": "Depot"}, {"name": "Maker", "public": "aa"}], "policy": "'Maker'",
+                  "serial": 1, "nonce": "07" * 16}
+        rest = "the members are Carrier, Depot, Maker; the policy for changes is 'Maker'"
+        self.assertEqual(described(change, stand), f"Shop leaves; Depot joins with the key of the genesis file; Carrier gets the key bb; {rest}")
+        self.assertEqual(described(change), rest)
 
 
 if __name__ == "__main__":

@@ -5,7 +5,7 @@ import unittest
 
 import support
 from regtuma import ticks
-from regtuma.ticks import DAY, LAST_BLOCK, Ticks
+from regtuma.ticks import DAY, LAST_BLOCK, SHARE, Ticks
 
 BEGINS = float(DAY)
 
@@ -33,7 +33,7 @@ def office(days: int, calls_a_day: int) -> list[float]:
 
 
 def plan(days: int, **more) -> Ticks:
-    return dataclasses.replace(Ticks(begins=BEGINS, lasts_days=days, burst=1000, longest=600.0), **more)
+    return dataclasses.replace(Ticks(begins=BEGINS, lasts_days=days, burst=1000, longest=700.0), **more)
 
 
 class Years(unittest.TestCase):
@@ -45,12 +45,12 @@ class Years(unittest.TestCase):
     def test_a_chain_lasts_as_long_as_it_was_laid_out(self):
         for calls in (100, 1000):
             number, waits = chain(plan(365, longest=3600.0), office(365, calls))
-            self.assertLessEqual(number, LAST_BLOCK)
+            self.assertLessEqual(number, SHARE)
             self.assertLess(waits[-1], 3600.1)
 
     def test_five_busy_years(self):
         number, _ = chain(plan(5 * 365, longest=3600.0), office(5 * 365, 300))
-        self.assertLessEqual(number, LAST_BLOCK)
+        self.assertLessEqual(number, SHARE)
 
     def test_without_a_plan_each_block_waits_alike(self):
         self.assertEqual(Ticks().seconds(60000, 1e9), 0.5)
@@ -64,18 +64,19 @@ class Years(unittest.TestCase):
 
 class Words(unittest.TestCase):
     def test_a_promise_that_is_not_kept_is_told(self):
-        self.assertIn("lets the chain end after 455 days of steady traffic, not after 1825: 2443 s would do", plan(1825).promise())
+        self.assertIn("lets the chain end after 398 days of steady traffic, not after 1825: 3275 s would do", plan(1825).promise())
         self.assertEqual((plan(365).promise(), Ticks().promise()), ("", ""))
 
     def test_the_end_comes_near(self):
         rule = Ticks()
-        said = [rule.warning(it, BEGINS) for it in (LAST_BLOCK - ticks.FEW, LAST_BLOCK - ticks.FEW + 1, LAST_BLOCK - 1, LAST_BLOCK)]
-        self.assertEqual(said, ["", "the chain has 4999 blocks left", "the chain has 1 blocks left",
+        said = [rule.warning(*it, BEGINS) for it in ((55535, ticks.FEW), (55535, ticks.FEW - 1), (LAST_BLOCK - 1, 0), (LAST_BLOCK, 0))]
+        self.assertEqual(said, ["", "the chain has 10000 blocks left, and this organisation's share of these is 4999",
+                                "the chain has 1 blocks left, and this organisation's share of these is 0",
                                 "the chain is full: it has its 65,535 blocks, and takes no calls"])
 
     def test_ahead_of_the_plan(self):
-        self.assertIn("ahead of its plan, so a block is asked for after 600 s: 60535 blocks are left", plan(365).warning(5000, BEGINS))
-        self.assertEqual(plan(365).warning(900, BEGINS), "")
+        self.assertIn("ahead of its plan, so a block is asked for after 700 s: 60535 blocks are left", plan(365).warning(5000, SHARE, BEGINS))
+        self.assertEqual(plan(365).warning(900, SHARE, BEGINS), "")
 
     def test_the_last_block_is_the_end(self):
         self.assertEqual([ticks.is_full(it) for it in (1, LAST_BLOCK, LAST_BLOCK + 1)], [False, False, True])

@@ -1,0 +1,64 @@
+"""Whose tags are right: the node looks at each endorsement before it puts it, by the key by which its organisation stands. Whether
+it counts is for the ledger's program to say."""
+import dataclasses
+import hashlib
+import hmac
+import json
+import pathlib
+
+from cryptography.exceptions import InvalidSignature
+from cryptography.hazmat.primitives.asymmetric.ed25519 import Ed25519PublicKey
+
+from .filters import Query
+
+# What an endorsement by a signature begins with, which is no name's length.
+SIGNED = b"\0"
+
+
+@dataclasses.dataclass(frozen=True)
+class Key:
+    """An organisation's key, of which it has one: a shared one, or a public one of Ed25519."""
+    shared: bytes = b""
+    public: bytes = b""
+
+    def is_right(self, tag: bytes, payload: bytes) -> bool:
+        if self.shared:
+            return hmac.compare_digest(tag, hmac.new(self.shared, payload, hashlib.sha256).digest())
+        try:
+            Ed25519PublicKey.from_public_bytes(self.public).verify(tag, payload)
+            return True
+        except (InvalidSignature, ValueError):
+            return False
+
+    def endorses(self, organisation: str, endorsement: bytes, payload: bytes) -> bool:
+        """Whether these bytes are the organisation's endorsement of a payload by this key."""
+        begin = (b"" if self.shared else SIGNED) + bytes([len(organisation)]) + organisation.encode()
+        return endorsement.startswith(begin) and self.is_right(endorsement[len(begin):], payload)
+
+
+class Keys:
+    """By which keys organisations stand."""
+
+    def __init__(self, genesis: str):
+        self.genesis = genesis
+        self.first: dict[str, Key] = {}
+        # The membership that stood behind so many blocks.
+        self.height, self.serial = -1, 0
+        self.standing: dict[str, Key] = {}
+
+    async def at(self, query: Query, height: int) -> dict[str, Key]:
+        """The keys that stand now, where the store has so many blocks."""
+        if self.height < height:
+            said, self.height = await query.ask_for("members")
+            self.serial = said["serial"]
+            self.standing = {it["name"]: self._of(it["name"], it.get("public")) for it in said["members"]}
+        return self.standing
+
+    def _of(self, organisation: str, public: str | None) -> Key:
+        """A member's own key, or the one that the genesis file gives it."""
+        if public:
+            return Key(public=bytes.fromhex(public))
+        if not self.first:
+            listed = json.loads(pathlib.Path(self.genesis).read_bytes())["orgs"]
+            self.first = {it["name"]: Key(bytes.fromhex(it.get("key", "")), bytes.fromhex(it.get("public", ""))) for it in listed}
+        return self.first[organisation]

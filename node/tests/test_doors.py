@@ -1,0 +1,360 @@
+"""The doors of a node: what strangers, callers and partners send through the proxy costs others little.
+
+Each trial is against one node behind one proxy, with a chain of 200 blocks of 300 KB that no ledger made.
+"""
+import asyncio
+import base64
+import contextlib
+import functools
+import http.client
+import json
+import os
+import pathlib
+import re
+import resource
+import shutil
+import socket
+import ssl
+import subprocess
+import sys
+import threading
+import time
+import unittest
+from unittest import mock
+
+import support
+from regtuma import api, config, node
+from regtuma.chain import Chain
+from regtuma.endorsing import Endorsing
+from regtuma.gateway import Gateway
+from test_access import AUTHORITY, Certificates
+from test_api import Query
+from test_chain import FakeLog, Says, Times
+
+CONFIGURATION = support.ROOT / "node/haproxy.cfg"
+# Behind it all, a node takes no more than this, in MiB.
+MOST_MEMORY = 200
+# How long something may take to come about, and within which time others are to be answered, in seconds.
+PATIENCE, SOON, FILES = 20.0, 5.0, 512
+BLOCKS, LONG = 200, "x" * 300_000
+RIGHTS = "\n".join(f'{it} = ["Maker/*", "Carrier/*"]' for it in ("read", "observe", "evaluate", "submit", "endorse"))
+MALFORMED = (b"GARBAGE\r\n\r\n", b"GET /\xff HTTP/1.1\r\nHost: x\r\n\r\n", b"GET /" + b"a" * 20000 + b" HTTP/1.1\r\n\r\n",
+             b"GET /height HTTP/1.1\r\nHost: x\r\na b: c\r\n\r\n", b"GET /height\r\n\r\n")
+JSON = "Content-Type: application/json"
+WAITS = f"/transactions/{'ab' * 32}?wait=600"
+
+
+class LongBlocks(Query):
+    async def text_of(self, what, **question):
+        if what == "block":
+            return json.dumps({"block": question["number"], "txs": [], "long": f"{LONG}{question['number']}"}), BLOCKS
+        return await super().text_of(what, **question)
+
+
+async def serve(folder):
+    """A node of which only the doors are real. It has few files, so that connections which come as far as here soon are too many."""
+    resource.setrlimit(resource.RLIMIT_NOFILE, (FILES, FILES))
+    settings = config.read(str(folder / "node.toml"))
+    settings.ledger.template = str(support.ROOT / "examples/page/template.html")
+    it = mock.Mock(config=settings, runners=[])
+    chain = Chain(settings, FakeLog(), lambda said: print(said, flush=True))
+    chain.times, chain.query, chain.height = Times(), LongBlocks(), BLOCKS
+    endorsing = Endorsing(settings, chain)
+    endorsing.endorsers = [Says()]
+    with mock.patch.object(config.Config, "node_tls", return_value=None):
+        gateway = Gateway(settings, chain, endorsing)
+    made = api.Api(settings, chain, endorsing, gateway, {"lines": 1})
+    await node.Node.listen(it, made.app(), settings.listen)
+    await node.Node.listen(it, made.page_app(), settings.page)
+    await made.access.end_gone()
+
+
+def free_ports():
+    with contextlib.ExitStack() as opened:
+        found = [opened.enter_context(socket.create_server(("127.0.0.1", 0))) for _ in range(2)]
+        return [it.getsockname()[1] for it in found]
+
+
+@unittest.skipUnless(shutil.which("haproxy", path="/usr/sbin"), "no haproxy")
+class Doors(unittest.TestCase):
+    room: pathlib.Path
+    node: subprocess.Popen
+    port: int
+    page: int
+
+    @classmethod
+    def setUpClass(cls):
+        folder = support.Folder()
+        cls.addClassCleanup(folder.close)
+        cls.room = folder.path
+        made = Certificates(cls.room)
+        for name in ("maker", "carrier"):
+            made.make(f"{name}.ca", f"/O={name.capitalize()}/CN=authority", extension=f"{AUTHORITY},pathlen:0")
+        made.make("node", "/O=Maker/CN=node", by="maker.ca")
+        for name in ("alice", "bob"):
+            made.make(name, f"/O=Maker/CN={name}", by="maker.ca")
+        made.make("carrier", "/O=Carrier/CN=node", by="carrier.ca")
+        made.make("forged", "/O=Maker/CN=alice", by="carrier.ca")
+        made.make("stranger", "/O=Maker/CN=alice")
+        folder.config(('read = ["Maker/*"]', RIGHTS))
+        for name, parts in (("proxy.pem", ("node.pem", "node.key")), ("proxy.ca.pem", ("maker.ca.pem", "carrier.ca.pem"))):
+            (cls.room / name).write_text("".join((cls.room / it).read_text() for it in parts))
+        cls.port, cls.page = free_ports()
+        cls.node = cls.begin([sys.executable, "-B", __file__, cls.room])
+        places = {"LISTEN": f"127.0.0.1:{cls.port}", "PAGE": f"127.0.0.1:{cls.page}", "SETTINGS": str(cls.room), "SOCKETS": str(cls.room)}
+        cls.proxy = cls.begin(["/usr/sbin/haproxy", "-db", "-f", CONFIGURATION], places)
+        cls.come(lambda: cls.get("/height")[0] == 200)
+
+    @classmethod
+    def begin(cls, command: list, env: dict[str, str] | None = None) -> subprocess.Popen:
+        with open(cls.room / "said", "ab") as out:
+            begun = subprocess.Popen(list(map(str, command)), stdout=out, stderr=out, env={**os.environ, **(env or {})})
+        cls.addClassCleanup(begun.wait)
+        cls.addClassCleanup(begun.kill)
+        return begun
+
+    @classmethod
+    def come(cls, is_so) -> None:
+        until = time.monotonic() + PATIENCE
+        while not (is_there := is_so()) and time.monotonic() < until:
+            time.sleep(0.1)
+        assert is_there, cls.said()[-2000:]
+
+    @classmethod
+    def said(cls) -> str:
+        return (cls.room / "said").read_text()
+
+    def setUp(self):
+        # The most memory is counted from here on.
+        pathlib.Path(f"/proc/{self.node.pid}/clear_refs").write_text("5")
+        self.opened = self.enterContext(contextlib.ExitStack())
+
+    def memory(self):
+        """The most that the node had in this trial, in MiB."""
+        found = re.search(r"VmHWM:\s*(\d+) kB", pathlib.Path(f"/proc/{self.node.pid}/status").read_text())
+        return int(found[1]) >> 10
+
+    def files(self) -> int:
+        """How many files the node has open."""
+        return len(os.listdir(f"/proc/{self.node.pid}/fd"))
+
+    @classmethod
+    @functools.cache
+    def tls(cls, name: str) -> ssl.SSLContext:
+        tls = ssl.create_default_context(cafile=str(cls.room / "maker.ca.pem"))
+        tls.load_cert_chain(cls.room / f"{name}.pem", cls.room / f"{name}.key")
+        return tls
+
+    def connect(self, name: str = "", port: int = 0, source: str = "127.0.0.1") -> socket.socket:
+        """A connection to the page, or with a certificate of this name to the API."""
+        place = ("127.0.0.1", port or (self.port if name else self.page))
+        plain = socket.create_connection(place, PATIENCE, (source, 0))
+        return self.opened.enter_context(self.tls(name).wrap_socket(plain, server_hostname="127.0.0.1") if name else plain)
+
+    @classmethod
+    def get(cls, path: str, name: str = "", **headers: str) -> tuple[int, str]:
+        """What one request is answered, of the page's reader, or by a certificate."""
+        with contextlib.suppress(OSError):
+            at = (http.client.HTTPSConnection("127.0.0.1", cls.port, timeout=SOON, context=cls.tls(name)) if name else
+                  http.client.HTTPConnection("127.0.0.1", cls.page, timeout=SOON))
+            with contextlib.closing(at):
+                at.request("GET", path, headers={it.replace("_", "-"): value for it, value in headers.items()})
+                answer = at.getresponse()
+                return answer.status, answer.read().decode()
+        return 0, ""
+
+    def counted(self, status: int, route: str) -> float:
+        found = re.search(rf'regtuma_requests_total{{route="{route}",status="{status}"}} (\S+)', self.get("/metrics")[1])
+        return float(found[1]) if found else 0.0
+
+    def others_are_served(self, name: str = "bob") -> None:
+        for path, by in (("/height", ""), ("/metrics", ""), ("/height", name), ("/height", "carrier")):
+            self.assertEqual(self.get(path, by)[0], 200, f"{path} {by} {self.said()[-500:]}")
+        self.assertLess(self.memory(), MOST_MEMORY)
+
+    # ------------------------------------------------ who comes in
+
+    def test_a_certificate_speaks_for_its_own_organisation(self):
+        self.assertEqual(self.get("/height", "alice"), (200, f'{{"height":{BLOCKS}}}'))
+        status, said = self.get("/height", "forged")
+        self.assertEqual((status, "no certificate may not read" in said), (403, True))
+
+    def test_nobody_hands_on_another_ones_certificate(self):
+        stolen = ssl.PEM_cert_to_DER_cert((self.room / "alice.pem").read_text())
+        text = base64.b64encode(stolen).decode()
+        self.assertEqual(self.get("/height", "forged", Regtuma_Certificate=text)[0], 403)
+        self.assertEqual(self.get("/height", "forged", regtuma_certificate=text)[0], 403)
+
+    def test_strangers_do_not_come_in(self):
+        """With a certificate of an unknown authority, or with none."""
+        unnamed = ssl.create_default_context(cafile=str(self.room / "maker.ca.pem"))
+        for tls in (self.tls("stranger"), unnamed):
+            with self.assertRaises(OSError), tls.wrap_socket(self.connect(port=self.port), server_hostname="127.0.0.1") as at:
+                at.sendall(b"GET /height HTTP/1.1\r\nHost: x\r\n\r\n")
+                self.assertEqual(at.recv(100), b"")
+                raise OSError
+
+    def test_no_session_is_taken_up_again(self):
+        at = self.connect("alice")
+        self.answered(at, b"GET /height HTTP/1.1\r\nHost: x\r\n\r\n")
+        with self.tls("alice").wrap_socket(self.connect(port=self.port), server_hostname="127.0.0.1", session=at.session) as again:
+            self.answered(again, b"GET /height HTTP/1.1\r\nHost: x\r\n\r\n")
+            self.assertFalse(again.session_reused)
+
+    def test_the_sockets_are_the_proxys(self):
+        self.assertEqual([(self.room / it).stat().st_mode & 0o777 for it in ("node.sock", "page.sock")], [0o660, 0o660])
+
+    def test_one_caller_has_so_many_connections(self):
+        held = [self.connect("alice") for _ in range(110)]
+        self.come(lambda: self.get("/height", "alice")[0] == 429)
+        self.others_are_served()
+        for it in held:
+            it.close()
+        self.come(lambda: self.get("/height", "alice")[0] == 200)
+
+    def test_where_the_node_ends_a_client_asks_again(self):
+        """So it takes 503, and that alone."""
+        at, files = self.connect("alice"), self.files()
+        at.sendall(f"GET {WAITS} HTTP/1.1\r\nHost: 127.0.0.1\r\n\r\n".encode())
+        self.come(lambda: self.files() > files)
+        self.node.kill()
+        self.node.wait()
+        self.assertEqual(self.answered(at), (503, '{"why":"the node has ended: ask again"}'))
+        self.assertEqual(self.get("/height", "alice")[0], 503)
+        type(self).node = self.begin([sys.executable, "-B", __file__, self.room])
+        self.come(lambda: self.get("/height")[0] == 200)
+
+    def test_streams_do_not_keep_prometheus_out(self):
+        for _ in range(230):
+            self.connect().sendall(b"GET /events HTTP/1.1\r\nHost: 127.0.0.1\r\n\r\n")
+        for path, says in (("/metrics", "regtuma_height"), ("/healthz", '{"ok":'), ("/metrics", "regtuma_height")):
+            self.assertIn(says, self.get(path)[1])
+        self.assertLess(self.memory(), MOST_MEMORY)
+
+    # ------------------------------------------------ memory
+
+    def flood(self, at: socket.socket, begin: bytes, more: bytes, size: int = 20 << 20) -> None:
+        """Sends as much as is taken within two seconds, at most so many bytes."""
+        at.sendall(begin)
+        at.settimeout(0.5)
+        until, sent = time.monotonic() + 2, 0
+        with contextlib.suppress(OSError):
+            while sent < size and time.monotonic() < until:
+                sent += at.send(more)
+
+    def test_requests_one_behind_another(self):
+        for name in ("alice", ""):
+            waits, more = (f"GET {it} HTTP/1.1\r\nHost: 127.0.0.1\r\n\r\n".encode() for it in (WAITS, "/height"))
+            self.flood(self.connect(name), waits, more * 1000)
+            self.others_are_served()
+
+    def test_another_protocol(self):
+        for name in ("alice", ""):
+            for protocol in ("websocket", "h2c"):
+                begin = f"GET /events HTTP/1.1\r\nHost: 127.0.0.1\r\nConnection: Upgrade\r\nUpgrade: {protocol}\r\n\r\n".encode()
+                self.flood(self.connect(name), begin, b"x" * 65536)
+                self.others_are_served()
+
+    def test_who_has_gone_is_forgotten(self):
+        counted, files = self.counted(499, "/transactions/{id}"), self.files()
+        for _ in range(1000):
+            with socket.create_connection(("127.0.0.1", self.page)) as at:
+                at.sendall(f"GET {WAITS} HTTP/1.1\r\nHost: 127.0.0.1\r\n\r\n".encode())
+        # Some have gone before the proxy had asked the node for them.
+        self.come(lambda: self.counted(499, "/transactions/{id}") > counted and self.files() < files + 10)
+        self.others_are_served()
+
+    def test_slow_readers(self):
+        for path, name in [("/blocks", "alice"), ("/", "alice"), ("/", ""), ("/events?from=1", "alice")]:
+            for _ in range(15):
+                self.connect(name).sendall(f"GET {path} HTTP/1.1\r\nHost: 127.0.0.1\r\n\r\n".encode())
+        for _ in range(3):
+            time.sleep(0.3)
+            self.others_are_served()
+
+    def test_a_reader_gets_the_blocks_that_one_answer_has(self):
+        status, said = self.get("/blocks?from=3", "bob")
+        numbers = [json.loads(it)["block"] for it in said.splitlines()]
+        self.assertEqual((status, numbers), (200, list(range(3, 3 + api.MOST_ANSWER // len(LONG) + 1))))
+        status, said = self.get("/")
+        self.assertEqual((status, said.endswith("</html>\n"), len(said) < 2 * api.MOST_ANSWER), (200, True, True))
+
+    def test_large_bodies(self):
+        """Of each organisation as many as its share; one that comes too slowly is not waited for."""
+        held = [self.connect("alice") for _ in range(20)]
+        head = f"POST /transactions HTTP/1.1\r\nHost: x\r\nContent-Type: application/json\r\nContent-Length: {5 << 20}\r\n\r\n".encode()
+        for it in held:
+            it.settimeout(0.2)
+            with contextlib.suppress(OSError):
+                it.sendall(head + b" " * (4 << 20))
+        self.others_are_served()
+        answers = []
+        for it in held:
+            with contextlib.suppress(OSError):
+                answers.append(it.recv(100)[:12])
+        self.assertIn(b"HTTP/1.1 429", answers)
+
+    def test_a_body_of_many_values(self):
+        said = self.answered(self.connect("alice"), self.post(b'{"calls":[' + b"[]," * 1_700_000 + b"[]]}", JSON))
+        self.assertEqual(said, (400, '{"why":"the body has more than 50,000 commas: ask for less at a time"}'))
+        self.others_are_served()
+
+    # ------------------------------------------------ time
+
+    def test_silent_connections(self):
+        for number in range(400):
+            for port in (self.page, self.port):
+                self.connect(port=port, source=f"127.0.0.{2 + number % 4}")
+        for _ in range(60):
+            self.connect("alice", source="127.0.0.9").sendall(b"GET /hei")
+        self.others_are_served()
+
+    def test_a_charset_of_the_callers(self):
+        """Punycode takes half a minute for a megabyte."""
+        body, began = b'"' + b"a" * 1_000_000 + b"-" + b"9" * 100_000 + b'"', time.monotonic()
+        status, _ = self.answered(self.connect("alice"), self.post(body, f"{JSON}; charset=punycode"))
+        self.others_are_served()
+        self.assertEqual((status, time.monotonic() - began < SOON), (400, True))
+
+    # ------------------------------------------------ words
+
+    def answered(self, at: socket.socket, data: bytes = b"") -> tuple[int, str]:
+        at.sendall(data)
+        answer = http.client.HTTPResponse(at)
+        answer.begin()
+        return answer.status, answer.read().decode()
+
+    def post(self, body: bytes, headers: str) -> bytes:
+        length = "" if "chunked" in headers else f"\r\nContent-Length: {len(body)}"
+        return f"POST /evaluate HTTP/1.1\r\nHost: 127.0.0.1\r\n{headers}{length}\r\n\r\n".encode() + body
+
+    def requests(self) -> list[tuple[bytes, int, str]]:
+        return [*((it, 400, "") for it in MALFORMED),
+                (b"GET /blocks/%FF HTTP/1.1\r\nHost: 127.0.0.1\r\n\r\n", 400, "a block's number"),
+                (b"GET /transactions/%FF%FE HTTP/1.1\r\nHost: 127.0.0.1\r\n\r\n", 400, "an id is hex"),
+                (b"GET /blocks?from=%FF HTTP/1.1\r\nHost: 127.0.0.1\r\n\r\n", 400, "from is a whole number"),
+                (self.post(b"{}", f"{JSON}; charset=nowhere"), 400, "chaincode is a name"),
+                (self.post(b'"\xff"', JSON), 400, "the body is no JSON"),
+                (self.post(b"\x1f\x8bxx", f"{JSON}\r\nContent-Encoding: gzip"), 400, "a body is not packed"),
+                (self.post(b"zz\r\n\r\n", f"{JSON}\r\nTransfer-Encoding: chunked"), 400, "")]
+
+    def test_what_is_no_request_is_answered_with_the_reason(self):
+        """By the proxy or by the node, which tells nothing of it in the journal."""
+        for data, status, why in self.requests():
+            with self.subTest(data=data[:60]):
+                found, said = self.answered(self.connect("alice"), data)
+                self.assertEqual((found, why in said), (status, True), said)
+        for data, _, _ in self.requests():
+            with self.subTest(data=data[:60]), socket.socket(socket.AF_UNIX) as at:
+                at.settimeout(SOON)
+                at.connect(str(self.room / "node.sock"))
+                self.assertLess(self.answered(at, data)[0], 500)
+        self.others_are_served()
+        self.assertFalse("Traceback" in self.said(), self.said()[-2000:])
+
+
+if __name__ == "__main__":
+    if sys.argv[1:2] and pathlib.Path(sys.argv[1]).is_dir():
+        asyncio.run(serve(pathlib.Path(sys.argv[1])))
+    else:
+        unittest.main()
