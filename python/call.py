@@ -1,10 +1,10 @@
 """`ledger call`: one call, endorsed for those whose keys are at hand, put into a block, and committed to a store.
 
 Each line that decides is one of the program's filters: `query` says who stands and whom the policy wants, `endorse` simulates and
-signs, `order` makes the block, and `commit`, which has the store for itself from the beginning, judges it and writes.
+signs, `order` makes the block, and `commit`, which has the store for itself from the beginning, judges it and writes. Where
+`ledger dev` runs on the store, its node makes the call.
 """
 import concurrent.futures
-import contextlib
 import dataclasses
 import io
 import json
@@ -15,38 +15,37 @@ import sys
 from collections.abc import Iterable, Iterator
 from typing import Any
 
-from commands import Given, Misuse, nearest
+from commands import Call, Given, Misuse, argument, modules
+from debug import NOTHING, RUN, check_name, refusal, simulated
 from filters import Ended, Filter, Query, Refused, answered
+from folder import KEYS, network_at
 from membership import Ledger, membership_of, owners
-from network import CHAINCODES
 from outcome import WHY, effects, verdict
-from program import find, say
+from program import ROOT, find, progress, say
 
-# An argument has so many bytes at most.
-MOST_BYTES = 4096
-# A store that is empty.
-NOTHING = "/dev/null"
 OF_ANOTHER = "ask the node (regtuma submit), or copy the file"
-# How files begin that are taken for stores. Text comes last.
-BEGINNINGS = ((rb"\{", "a genesis file"), (rb"\0asm", "a module"), (rb"[\t\n\r -~]+\Z", "a text"))
 
 
 @dataclasses.dataclass(frozen=True)
-class Asked:
+class Asked(Call):
     """What somebody asks for."""
-    genesis: str
-    store: str
-    proposal: dict[str, str]
-    keys: str | None
-    modules: tuple[str, ...]
-    orgs: tuple[str, ...]
-    is_hex: bool
-    # Whether the nonce was given, so that the call may stand in the chain already.
+    nonce: str
+    # Whether it was given, so that the call may stand in the chain already.
     has_nonce: bool
+    keys: str | None
+    orgs: tuple[str, ...]
 
     @property
-    def chaincode(self) -> str:
-        return self.proposal["chaincode"]
+    def proposal(self) -> dict[str, str]:
+        return {"chaincode": self.chaincode, "arg": self.arg or "-", "nonce": self.nonce}
+
+
+@dataclasses.dataclass(frozen=True)
+class Made:
+    """The transaction that a call became: its block, the line of it, and whether it stood there before."""
+    block: int
+    tx: dict[str, Any]
+    is_earlier: bool = False
 
 
 def asked_in(found: Given) -> Asked:
@@ -60,36 +59,22 @@ def asked_in(found: Given) -> Asked:
     names = tuple(dict.fromkeys(orgs.split(","))) if orgs is not None else ()
     if "" in names:
         raise Misuse("--orgs has to be names with a comma between them")
-    proposal = {"chaincode": chaincode, "arg": argument(args, is_hex) or "-", "nonce": (nonce or secrets.token_hex(16)).lower()}
-    modules = found.option("--modules")
-    return Asked(genesis, store, proposal, found.option("--keys"), ("--modules", modules) if modules else (), names, is_hex,
-                 nonce is not None)
-
-
-def argument(args: list[str], is_hex: bool) -> str:
-    """The argument in hex: texts with a space between, or one word of hex."""
-    if is_hex:
-        if len(args) != 1 or not re.fullmatch("-|([0-9A-Fa-f]{2})+", args[0]):
-            raise Misuse("with --hex there has to be one ARG, of hex, or - for none")
-        made = args[0].strip("-").lower()
-    else:
-        try:
-            made = " ".join(args).encode().hex()
-        except UnicodeEncodeError as error:
-            raise Misuse("ARG is no UTF-8; --hex takes other bytes") from error
-    if len(made) > 2 * MOST_BYTES:
-        raise Misuse(f"an argument has up to {MOST_BYTES:,} bytes, and this one has {len(made) // 2:,}")
-    return made
+    return Asked(genesis, store, modules(found), chaincode, argument(args, is_hex), is_hex,
+                 (nonce or secrets.token_hex(16)).lower(), nonce is not None, found.option("--keys"), names)
 
 
 def main(found: Given) -> int:
     """Does what the words of a call ask for."""
-    asked = asked_in(found)
-    work = dry_run if "--dry-run" in found.options else call
+    asked, is_dry = asked_in(found), "--dry-run" in found.options
     if isinstance(sys.stdout, io.TextIOWrapper):
         sys.stdout.reconfigure(encoding="utf-8")
     try:
-        return work(asked, str(find()))
+        program = str(find())
+        if is_dry:
+            return dry_run(asked, program)
+        with network_at(asked.store) as url, progress(lambda seconds: f"calling, {seconds:.0f} s"):
+            made = by_node(asked, program, url) if url else by_filters(asked, program)
+        return told(made, asked.is_hex)
     except Refused as refused:
         print(refused.line)
         say(f"call: {why(asked, refused)}")
@@ -102,17 +87,7 @@ def why(asked: Asked, refused: Refused) -> str:
     """The sentence for a refusal."""
     if "another process has it" in refused.why:
         return f"{asked.store}: another process has it: a node, a commit or a run; {OF_ANOTHER} (703)"
-    if refused.line == "refused 702 block 1" and (kind := kind_of(asked.store)):
-        return f"{asked.store}: it is no store: it begins as {kind} does (702)"
     return refused.why or refused.line
-
-
-def kind_of(file: str) -> str:
-    """What a file is by its first bytes; nothing where they do not tell."""
-    with contextlib.suppress(OSError), open(file, "rb") as source:
-        first = source.read(64)
-        return next((kind for beginning, kind in BEGINNINGS if re.match(beginning, first)), "")
-    return ""
 
 
 # ---------------------------------------------------------------- what is done
@@ -120,19 +95,20 @@ def kind_of(file: str) -> str:
 
 def dry_run(asked: Asked, program: str) -> int:
     """Prints what the call would do. No file is made or changed."""
-    store = asked.store
-    if not pathlib.Path(store).exists():
-        say(f"there is no {store}: this is on the empty state")
-        store = NOTHING
-    with Query(program, "query", asked.genesis, store, *asked.modules) as query:
+    if not pathlib.Path(asked.store).exists():
+        say(f"there is no {asked.store}: this is on the empty state")
+        asked = dataclasses.replace(asked, store=NOTHING)
+    with Query(program, "query", asked.genesis, asked.store, *asked.modules) as query:
         said = simulated(query, asked, program)
+    if "refused" in said:
+        raise refusal(asked, program, f"refused {said['refused']}")
     tell(effects(said, asked.is_hex))
     say("a dry run: nothing is committed")
     return 0
 
 
-def call(asked: Asked, program: str) -> int:
-    """Makes the call and prints what became of it. The status: 0 where it is VALID."""
+def by_filters(asked: Asked, program: str) -> Made:
+    """Makes the call by the program's filters, which have the store."""
     is_new = not pathlib.Path(asked.store).exists()
     with Filter(program, "commit", asked.genesis, asked.store) as commit:
         height = begun(commit, asked.store)
@@ -140,19 +116,49 @@ def call(asked: Asked, program: str) -> int:
             say(f"{asked.store} is a new store")
         with Query(program, "query", asked.genesis, asked.store, *asked.modules) as query:
             if asked.has_nonce and (earlier := earlier_one(query, asked.proposal, height)):
-                say(f"call: it stands in block {earlier[0]} already, and nothing is written")
-                return told(earlier[0], earlier[1], asked.is_hex)
-            made = envelope(asked, program, endorsers(query, asked, program))
-            block = next_block(asked, program, made)
-            flag = committed(commit.ask(block), height + 1)
+                return earlier
+            flag = committed(commit.ask(next_block(query, asked, program)), height + 1)
             tx = query.answer("block", number=height + 1)["txs"][0]
-    return told(height + 1, {**tx, "flag": flag}, asked.is_hex)
+    return Made(height + 1, {**tx, "flag": flag})
 
 
-def told(block: int, tx: dict[str, Any], is_hex: bool) -> int:
-    """Prints what became of a transaction. The status."""
-    flag = tx["flag"]
-    tell([*([] if flag else effects(tx, is_hex)), verdict(flag, block, tx["id"])])
+def by_node(asked: Asked, program: str, url: str) -> Made:
+    """Has the node make the call of a network that runs."""
+    sys.path.insert(0, str(ROOT / "node"))
+    from regtuma.client import Client, Failed
+    if asked.modules or asked.keys not in (None, str(pathlib.Path(asked.store).parent / KEYS)):
+        raise Ended("a network runs there, whose nodes have keys and modules of their own: leave out --keys and --modules")
+    node = Client([url])
+    organisations = {"organisations": list(asked.orgs)} if asked.orgs else {}
+    try:
+        height = node.height()
+        said = node.outcome({**asked.proposal, **organisations})
+        if "block" in said:
+            return Made(said["block"], node.block(said["block"])["txs"][said["place"]], said["block"] <= height)
+    except Failed as failed:
+        said = {"why": str(failed), **failed.said}
+    raise refused_by_node(asked, program, said)
+
+
+def refused_by_node(asked: Asked, program: str, said: dict[str, Any]) -> Refused | Ended:
+    """A node's refusal, as a call has it where no network runs, which goes so far that it is refused."""
+    number = str(said.get("refused", ""))
+    try:
+        with Query(program, "query", asked.genesis, asked.store, *asked.modules) as query:
+            next_block(query, asked, program)
+    except Refused as refused:
+        if number in ("", refused.number):
+            return refused
+    again = f"{said['why']}; the same call has --nonce {asked.nonce}"
+    return Refused(f"refused {number}", f"{said['why']} ({number})") if number else Ended(again)
+
+
+def told(made: Made, is_hex: bool) -> int:
+    """Prints what became of a call. The status: 0 where it is VALID."""
+    flag = made.tx["flag"]
+    if made.is_earlier:
+        say(f"call: it stands in block {made.block} already, and nothing is written")
+    tell([*([] if flag else effects(made.tx, is_hex)), verdict(flag, made.block, made.tx["id"])])
     if flag:
         say(f"call: {WHY[flag]} (flag {flag})")
     return 1 if flag else 0
@@ -174,50 +180,14 @@ def begun(commit: Filter, store: str) -> int:
     return int(line.split()[1])
 
 
-def earlier_one(query: Query, proposal: dict[str, str], height: int) -> tuple[int, dict[str, Any]] | None:
-    """The block and the transaction that this very proposal is already, if there is one."""
+def earlier_one(query: Query, proposal: dict[str, str], height: int) -> Made | None:
+    """The transaction that this very proposal is already, if there is one."""
     wanted = {**proposal, "arg": proposal["arg"].strip("-")}
     for number in range(1, height + 1):
         for tx in query.answer("block", number=number)["txs"]:
             if all(tx.get(name) == value for name, value in wanted.items()):
-                return number, tx
+                return Made(number, tx, is_earlier=True)
     return None
-
-
-def simulated(query: Query, asked: Asked, program: str) -> dict[str, Any]:
-    """What the call comes to on the state."""
-    check_name(query, asked, program)
-    said: dict[str, Any] = query.answer("call", chaincode=asked.chaincode, arg=asked.proposal["arg"].strip("-"))
-    if "refused" in said:
-        raise refusal(asked, program, f"refused {said['refused']}")
-    return said
-
-
-def refusal(asked: Asked, program: str, line: str) -> Refused:
-    """A refusal of the simulation with its sentence, which `sim` has."""
-    if line == "refused 401":
-        return unknown(asked, program)
-    store = ("--store", asked.store) if pathlib.Path(asked.store).exists() else ()
-    try:
-        answered(program, "sim", asked.genesis, asked.chaincode, asked.proposal["arg"], *store, *asked.modules)
-    except Refused as refused:
-        if refused.line == line:
-            return Refused(line, refused.why.removeprefix("sim: "))
-    return Refused(line, "")
-
-
-def check_name(query: Query, asked: Asked, program: str) -> None:
-    """A name that no chaincode can have is one that none has. Files are judged before."""
-    if not CHAINCODES.name.fullmatch(asked.chaincode) and query.answer("setting"):
-        raise unknown(asked, program)
-
-
-def unknown(asked: Asked, program: str) -> Refused:
-    """There is no such chaincode: which one was meant, or else which there are."""
-    store = asked.store if pathlib.Path(asked.store).exists() else NOTHING
-    names = [name for name, _ in Ledger(program, asked.genesis, store).policies()]
-    hint = nearest(asked.chaincode, names) or f"; there {'is' if len(names) == 1 else 'are'} {', '.join(names)}"
-    return Refused("refused 401", f'there is no chaincode "{asked.chaincode}"{hint} (401)')
 
 
 def endorsers(query: Query, asked: Asked, program: str) -> list[str]:
@@ -225,7 +195,7 @@ def endorsers(query: Query, asked: Asked, program: str) -> list[str]:
     check_name(query, asked, program)
     if query.answer("satisfied", chaincode=asked.chaincode, orgs=[]) is None:
         # There is no definition that can be used: a simulation says why.
-        simulated(query, asked, program)
+        raise refusal(asked, program, f"refused {simulated(query, asked, program).get('refused', '401')}")
     if asked.orgs:
         return list(asked.orgs)
     ledger = Ledger(program, asked.genesis, asked.store)
@@ -265,15 +235,16 @@ def envelope(asked: Asked, program: str, orgs: list[str]) -> str:
         with concurrent.futures.ThreadPoolExecutor() as pool:
             said = list(pool.map(endorsed, orgs))
     except Refused as refused:
-        raise unknown(asked, program) if refused.line == "refused 401" else refused from None
+        raise refusal(asked, program, refused.line) if refused.number in ("401", *RUN) else refused from None
     payloads = {payload for _, payload, _ in said}
     if len(payloads) > 1:
         raise Ended("the organisations do not simulate alike")
     return f"{payloads.pop()}{len(said):02x}{''.join(it for _, _, it in said)}"
 
 
-def next_block(asked: Asked, program: str, made: str) -> str:
-    """The line of the next block, with this envelope alone, as `order` makes it behind all envelopes before."""
+def next_block(query: Query, asked: Asked, program: str) -> str:
+    """The line of the next block, with the call alone, as `order` makes it behind all envelopes before."""
+    made = envelope(asked, program, endorsers(query, asked, program))
     marks = [*answered(program, "marks", asked.genesis, asked.store)[0], made, "tick"]
     lines, sentence = answered(program, "order", asked.genesis, given="".join(f"{at} {it}\n" for at, it in enumerate(marks)))
     own = list(behind(lines, f"read {len(marks) - 3} "))

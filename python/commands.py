@@ -15,6 +15,8 @@ OPTION = re.compile(r"\[(--?[a-z-]+)(?: ([^\]]+))?\](\.\.)?")
 
 # How like a word has to be that was meant: 1 is the same.
 LEAST_LIKE = 0.5
+# The argument of a call has so many bytes at most.
+MOST_BYTES = 4096
 
 
 class Misuse(Exception):
@@ -64,6 +66,18 @@ class Given:
         return values[0] if values else None
 
 
+@dataclasses.dataclass(frozen=True)
+class Call:
+    """A call of a chaincode on the state of a store. Its argument is in hex."""
+    genesis: str
+    store: str
+    # The option that names a modules file, if there is one.
+    modules: tuple[str, ...]
+    chaincode: str
+    arg: str
+    is_hex: bool
+
+
 def of_the_program() -> Iterator[Command]:
     """The commands of the program, by its table."""
     for name, words, options, does in ROW.findall(TABLE.read_text(encoding="utf-8")):
@@ -75,6 +89,12 @@ def nearest(word: str, known: Iterable[str]) -> str:
     """Which known word was most likely meant, in words."""
     found = difflib.get_close_matches(word, list(known), 1, LEAST_LIKE)
     return f'; did you mean "{found[0]}"?' if found else ""
+
+
+def no_chaincode(name: str, known: list[str]) -> str:
+    """That there is none of this name: which one was meant, or else which there are."""
+    hint = nearest(name, known) or f"; there {'is' if len(known) == 1 else 'are'} {', '.join(known)}"
+    return f'there is no chaincode "{name}"{hint}'
 
 
 def given(command: Command, words: list[str]) -> Given:
@@ -123,3 +143,25 @@ def _value(command: Command, word: str, rest: Iterator[tuple[int, str]]) -> str:
     if not value:
         raise Misuse(f"the value {known[name]} of {name} is missing")
     return value
+
+
+def argument(args: list[str], is_hex: bool) -> str:
+    """The argument of a call, in hex: texts with a space between, or one word of hex."""
+    if is_hex:
+        if len(args) != 1 or not re.fullmatch("-|([0-9A-Fa-f]{2})+", args[0]):
+            raise Misuse("with --hex there has to be one ARG, of hex, or - for none")
+        made = args[0].strip("-").lower()
+    else:
+        try:
+            made = " ".join(args).encode().hex()
+        except UnicodeEncodeError as error:
+            raise Misuse("ARG is no UTF-8; --hex takes other bytes") from error
+    if len(made) > 2 * MOST_BYTES:
+        raise Misuse(f"an argument has up to {MOST_BYTES:,} bytes, and this one has {len(made) // 2:,}")
+    return made
+
+
+def modules(found: Given) -> tuple[str, ...]:
+    """The option that names a modules file, if there is one."""
+    file = found.option("--modules")
+    return ("--modules", file) if file else ()

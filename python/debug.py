@@ -3,58 +3,38 @@
 The run is this script's own (wasm_machine.py), and nothing of it is proved. So each time it is compared with what the program
 answers to the same call.
 """
-import contextlib
 import dataclasses
 import hashlib
 import io
 import json
 import pathlib
 import re
-import subprocess
 import sys
-import threading
 from collections.abc import Iterator
 from typing import Any, NamedTuple
 
+from commands import Call, Given, Misuse, argument, modules
 from debug_lines import bytes_of, call_lines, moment_lines, stack_lines
-from fabric_host import LONGEST_VALUE, Entry, Fabric
-from program import find, say
+from fabric_host import Entry, Fabric
+from filters import Ended, Query, Refused, answered
+from membership import Ledger
+from network import CHAINCODES, OPEN, quoted
+from outcome import shown
+from program import find, progress, say
 from wasm_machine import Machine, Spent
 from wasm_module import Module
 from wasm_operators import TRAPS, WORD, Trap
 
-USAGE = "GENESIS CHAINCODE [ARG..] [--hex] [--store FILE] [--modules FILE] [--last N]"
-NAME = re.compile("[a-z0-9_-]{1,32}")
-# The options, and what stands behind each.
-OPTIONS = {"--hex": "", "--store": "FILE", "--modules": "FILE", "--last": "N"}
 # How many instructions are shown, and how many at most.
 LAST, MOST_LAST = "6", 100_000
-# What stands for the standard input.
-INPUT = ("-", "/dev/stdin")
 # A store that is empty.
 NOTHING = "/dev/null"
-# An open definition has this in its byte for the profile.
-OPEN = 16
 # How often a run begins again where the store grew meanwhile.
 TRIES = 5
-# How long a run is silent on a terminal, and how long a line of it stands, in seconds.
-PATIENCE = 0.5
-# What refuses a call before it is run.
-NOT_RUN = ("401", "406")
+# What a call is refused by once it is run, and how much fuel is run for the sentence beside that: it takes a second.
+RUN, MOST_FUEL = ("402", "403", "404"), 300_000
 # The statuses.
-DONE, REFUSED, MISUSED, DIFFERS = range(4)
-
-
-class Misused(Exception):
-    """The words ask for nothing that can be done."""
-
-
-class Refused(Exception):
-    """A line `refused ..` of the program, which has said why."""
-
-
-class Failed(Exception):
-    """Why nothing can be said of the call."""
+DONE, REFUSED, DIFFERS = 0, 1, 3
 
 
 class Grown(Exception):
@@ -62,125 +42,93 @@ class Grown(Exception):
 
 
 @dataclasses.dataclass(frozen=True)
-class Asked:
-    """What somebody asks for."""
-    genesis: str
-    chaincode: str
-    argument: bytes
-    store: str
-    modules: str | None
+class Asked(Call):
+    """What somebody asks for: a call, and how many instructions are shown."""
     last: int
-    is_hex: bool
 
 
-def asked_in(words: list[str]) -> Asked:
+def asked_in(found: Given) -> Asked:
     """What the words ask for."""
-    rest, options = parted(words)
-    if len(rest) < 2:
-        raise Misused(f"{('GENESIS', 'CHAINCODE')[len(rest)]} is missing")
-    genesis, chaincode, *args = rest
-    if not NAME.fullmatch(chaincode):
-        raise Misused(f"CHAINCODE is {quoted(chaincode)}; it has to be 1 to 32 lower-case letters, digits, _ and -")
-    for name, file in (("GENESIS", genesis), ("--modules", options.get("--modules"))):
-        if file in INPUT:
-            raise Misused(f"{name} is read twice, so it has to be a file")
-    last = options.get("--last", LAST)
+    genesis, chaincode, *args = found.words
+    last = found.option("--last") or LAST
     if not re.fullmatch("[0-9]{1,6}", last) or int(last) > MOST_LAST:
-        raise Misused(f"--last is {quoted(last)}; it has to be 0 to {MOST_LAST}")
-    is_hex, store = "--hex" in options, options.get("--store", NOTHING)
-    return Asked(genesis, chaincode, argument_of(args, is_hex), store, options.get("--modules"), int(last), is_hex)
-
-
-def parted(words: list[str]) -> tuple[list[str], dict[str, str]]:
-    """The words that are no options, and the options with what stands behind them. Behind `--` there is no option."""
-    rest: list[str] = []
-    options: dict[str, str] = {}
-    left = list(words)
-    while left:
-        word = left.pop(0)
-        if word == "--":
-            return rest + left, options
-        if word == "-" or not word.startswith("-"):
-            rest.append(word)
-            continue
-        name, equals, value = word.partition("=")
-        if name not in OPTIONS or equals and not OPTIONS[name]:
-            raise Misused(f"there is no option {quoted(word)}; there are {', '.join(OPTIONS)}")
-        if OPTIONS[name] and not equals and not left:
-            raise Misused(f"{name} has no value behind it")
-        options[name] = value if equals or not OPTIONS[name] else left.pop(0)
-    return rest, options
-
-
-def argument_of(args: list[str], is_hex: bool) -> bytes:
-    """The argument of a call: texts with a space between, or one word of hex."""
-    if is_hex and (len(args) != 1 or not re.fullmatch("-|([0-9A-Fa-f]{2})+", args[0])):
-        raise Misused("with --hex there has to be one ARG, of hex, or - for none")
-    try:
-        argument = bytes.fromhex(args[0].strip("-")) if is_hex else " ".join(args).encode()
-    except UnicodeEncodeError as error:
-        raise Misused("ARG is no UTF-8; --hex takes other bytes") from error
-    if len(argument) > LONGEST_VALUE:
-        raise Misused(f"an argument has up to {LONGEST_VALUE} bytes, and this one has {len(argument)}")
-    return argument
-
-
-def quoted(word: str) -> str:
-    return json.dumps(word)
+        raise Misuse(f"--last is {quoted(last)}; it has to be 0 to {MOST_LAST}")
+    is_hex = "--hex" in found.options
+    store = found.option("--store") or NOTHING
+    return Asked(genesis, store, modules(found), chaincode, argument(args, is_hex), is_hex, int(last))
 
 
 # ---------------------------------------------------------------- what the program says
 
 
-def modules_of(asked: Asked) -> list[str]:
-    """The option of a command that takes a modules file."""
-    return ["--modules", asked.modules] if asked.modules else []
+class State(Query):
+    """The state of a store. All answers are of one height."""
+    height: int | None = None
 
-
-class Query:
-    """The program, asked about the chain of a store: the state of a call."""
-
-    def __init__(self, program: str, *words: str):
-        self.height: int | None = None
-        command = [program, "query", *words]
-        self.process = subprocess.Popen(command, stdin=subprocess.PIPE, stdout=subprocess.PIPE, encoding="utf-8")
-
-    def ask(self, what: str, **question: object) -> Any:
-        """The answer to a question. All answers are of one height."""
-        assert self.process.stdin and self.process.stdout
-        try:
-            print(json.dumps({"ask": what, **question}), file=self.process.stdin, flush=True)
-        except BrokenPipeError:
-            # Its last line says why it has ended.
-            pass
-        line = self.process.stdout.readline().rstrip("\n")
-        if not line:
-            raise Failed("ledger query ended without a word")
-        if not line.startswith("{"):
-            raise Refused(line)
-        said = json.loads(line)
+    def said(self, what: str, **question: object) -> dict[str, Any]:
+        said = super().said(what, **question)
         self.height = said["height"] if self.height is None else self.height
         if said["height"] != self.height:
             raise Grown
-        return said["answer"]
+        return said
 
     def get(self, key: bytes) -> Entry | None:
-        said = self.ask("get", key=key.hex())
+        said = self.answer("get", key=key.hex())
         return entry_of(said) if said else None
 
     def range(self, start: bytes, end: bytes, limit: int) -> list[Entry]:
-        return [entry_of(it) for it in self.ask("range", start=start.hex(), end=end.hex(), limit=limit)]
-
-    def end(self) -> None:
-        assert self.process.stdin and self.process.stdout
-        with contextlib.suppress(BrokenPipeError):
-            self.process.stdin.close()
-        self.process.stdout.close()
-        self.process.wait()
+        return [entry_of(it) for it in self.answer("range", start=start.hex(), end=end.hex(), limit=limit)]
 
 
 def entry_of(said: dict[str, str]) -> Entry:
     return Entry(bytes.fromhex(said["key"]), bytes.fromhex(said["value"]), said["version"])
+
+
+def state_of(program: str, call: Call) -> State:
+    """The state on which a call is made."""
+    return State(program, "query", call.genesis, call.store, *call.modules)
+
+
+def simulated(query: Query, call: Call, program: str) -> dict[str, Any]:
+    """What the program says that a call comes to."""
+    check_name(query, call, program)
+    said: dict[str, Any] = query.answer("call", chaincode=call.chaincode, arg=call.arg)
+    return said
+
+
+def check_name(query: Query, call: Call, program: str) -> None:
+    """A name that no chaincode can have is one that none has. Files are judged before."""
+    if not CHAINCODES.name.fullmatch(call.chaincode) and query.answer("setting"):
+        raise refusal(call, program, "refused 401")
+
+
+def refusal(call: Call, program: str, line: str) -> Refused:
+    """The refusal of a call with its sentence: which chaincode was meant, how the run ended, or what `sim` says."""
+    number = line.split()[1]
+    if number == "401":
+        return Refused(line, Ledger(program, call.genesis, call.store).unknown(call.chaincode))
+    if number in RUN and (how := how_it_ended(call, program, line)):
+        return Refused(line, how)
+    try:
+        answered(program, "sim", call.genesis, call.chaincode, call.arg or "-", "--store", call.store, *call.modules)
+    except Refused as refused:
+        if refused.line == line:
+            return Refused(line, refused.why.removeprefix("sim: "))
+    return Refused(line, "")
+
+
+def how_it_ended(call: Call, program: str, line: str) -> str:
+    """How a call ended that the program refuses; nothing where it ends otherwise here, or runs for too long."""
+    try:
+        with state_of(program, call) as state:
+            run = Run(call, state, most=MOST_FUEL)
+            run.run()
+    except (Grown, Ended, Refused):
+        return ""
+    if f"refused {run.refusal}" != line or run.refusal == "403" and run.given > MOST_FUEL:
+        return ""
+    said = f", and said: {shown(run.fabric.result)}" if run.fabric.result else ""
+    return f"the chaincode {run.end}{said}; {run.fuel()}; `ledger debug` shows where ({run.refusal[:3]})"
 
 
 class Definition(NamedTuple):
@@ -190,24 +138,24 @@ class Definition(NamedTuple):
     entry: Entry | None
 
 
-def definition_of(asked: Asked, query: Query) -> Definition:
+def definition_of(call: Call, state: State) -> Definition:
     """The definition of the chaincode, which can be used. The program has read the files before."""
     try:
-        return definition_in(asked, query.get(b"\0" + asked.chaincode.encode()))
+        return definition_in(call, state.get(b"\0" + call.chaincode.encode()))
     except (ValueError, LookupError, TypeError, StopIteration) as error:
-        raise Failed(f"{asked.genesis} and a modules file are read twice: they have to be files that stay") from error
+        raise Ended(f"{call.genesis} and a modules file are read twice: they have to be files that stay") from error
 
 
-def definition_in(asked: Asked, entry: Entry | None) -> Definition:
+def definition_in(call: Call, entry: Entry | None) -> Definition:
     """The definition by the entry of the state, else that of the genesis file."""
-    genesis = json.loads(pathlib.Path(asked.genesis).read_bytes())
+    genesis = json.loads(pathlib.Path(call.genesis).read_bytes())
     if entry is None:
-        own = next(it for it in genesis["chaincodes"] if it["name"] == asked.chaincode)
+        own = next(it for it in genesis["chaincodes"] if it["name"] == call.chaincode)
         return Definition(bytes.fromhex(own["module"]), own["fuel"], None)
-    held = json.loads(pathlib.Path(asked.modules).read_bytes()) if asked.modules else []
-    modules = [(bytes.fromhex(it["module"]), it["profile"]) for it in [*genesis["chaincodes"], *genesis["modules"], *held]]
+    held = [it for file in call.modules[1:] for it in json.loads(pathlib.Path(file).read_bytes())]
+    at_hand = [(bytes.fromhex(it["module"]), it["profile"]) for it in [*genesis["chaincodes"], *genesis["modules"], *held]]
     profile, digest, fuel = entry.value[0] % OPEN, entry.value[1:33], int.from_bytes(entry.value[33:37], "big")
-    module = next(it for it, its_profile in modules if its_profile == profile and hashlib.sha256(it).digest() == digest)
+    module = next(it for it, its_profile in at_hand if its_profile == profile and hashlib.sha256(it).digest() == digest)
     return Definition(module, fuel, entry)
 
 
@@ -215,13 +163,14 @@ def definition_in(asked: Asked, entry: Entry | None) -> Definition:
 
 
 class Run:
-    """A call as it is run here, and how it ends."""
+    """A call as it is run here, on so much of its fuel at most, and how it ends."""
 
-    def __init__(self, asked: Asked, query: Query):
-        definition = definition_of(asked, query)
-        self.key, self.entry, self.given = b"\0" + asked.chaincode.encode(), definition.entry, definition.fuel
-        self.fabric = Fabric(query, asked.argument)
-        self.machine = Machine(Module(definition.module), self.fabric, definition.fuel, asked.last)
+    def __init__(self, call: Call, state: State, last: int = 0, most: int = sys.maxsize):
+        definition = definition_of(call, state)
+        self.key, self.entry, self.given = b"\0" + call.chaincode.encode(), definition.entry, definition.fuel
+        self.begun = min(self.given, most)
+        self.fabric = Fabric(state, bytes.fromhex(call.arg))
+        self.machine = Machine(Module(definition.module), self.fabric, self.begun, last)
         # How it ended: the refusal as the program tells it, empty where it is none, and words for people.
         self.refusal, self.end = "", "returned status 0"
 
@@ -229,14 +178,17 @@ class Run:
         try:
             status = self.machine.invoke()
             if status:
-                self.refusal, self.end = f"404 status {status}", f"returned status {status}"
+                self.refusal, self.end = f"404 status {status}", f"returned the status {status}"
         except Trap as trap:
             self.refusal, self.end = f"402 trap {trap.kind}", f"trapped by trap {trap.kind}, {TRAPS[trap.kind]}"
         except Spent:
             self.refusal, self.end = "403", "spent its fuel: the next instruction costs more than is left"
 
     def used(self) -> int:
-        return self.given - self.machine.fuel
+        return self.begun - self.machine.fuel
+
+    def fuel(self) -> str:
+        return f"{self.used()} of {self.given} fuel used"
 
     def answer(self) -> dict[str, Any]:
         """What the program has to answer to the call."""
@@ -261,44 +213,16 @@ class Run:
             yield from moment_lines(list(self.machine.recent))
             if self.fabric.result:
                 yield f"its result was {bytes_of(self.fabric.result, is_hex)}"
-        yield f"{self.end}; {self.used()} of {self.given} fuel used"
+        yield f"{self.end}; {self.fuel()}"
 
 
-class Progress:
-    """A line on a terminal that says how far a run is, as long as it goes on."""
-
-    def __init__(self, run: Run):
-        self.run, self.is_over = run, threading.Event()
-        self.thread = threading.Thread(target=self.tell, daemon=True)
-
-    def __enter__(self) -> None:
-        if sys.stderr.isatty():
-            self.thread.start()
-
-    def __exit__(self, *_error: object) -> None:
-        self.is_over.set()
-        if self.thread.is_alive():
-            self.thread.join()
-
-    def tell(self) -> None:
-        is_told = False
-        while not self.is_over.wait(PATIENCE):
-            is_told = True
-            print(f"\rledger: {self.run.used():,} of {self.run.given:,} fuel used", end="", file=sys.stderr, flush=True)
-        if is_told:
-            print("\r\x1b[K", end="", file=sys.stderr, flush=True)
-
-
-def debug(asked: Asked, program: str, query: Query) -> int:
+def debug(asked: Asked, program: str, state: State) -> int:
     """Runs the call, prints what is told of it, and compares it with the program's answer. The status."""
-    said = query.ask("call", chaincode=asked.chaincode, arg=asked.argument.hex())
-    if said.get("refused") in NOT_RUN:
-        # `sim` prints the same, and has a sentence for it.
-        store = [] if asked.store == NOTHING else ["--store", asked.store]
-        command = [program, "sim", asked.genesis, asked.chaincode, asked.argument.hex() or "-", *store, *modules_of(asked)]
-        return subprocess.run(command).returncode
-    run = Run(asked, query)
-    with Progress(run):
+    said = simulated(state, asked, program)
+    if "refused" in said and said["refused"][:3] not in RUN:
+        raise refusal(asked, program, f"refused {said['refused']}")
+    run = Run(asked, state, asked.last)
+    with progress(lambda _: f"{run.used():,} of {run.given:,} fuel used"):
         run.run()
     for line in run.lines(asked.is_hex):
         print(line)
@@ -308,20 +232,22 @@ def debug(asked: Asked, program: str, query: Query) -> int:
     return REFUSED if run.refusal else DONE
 
 
-def main(words: list[str]) -> int:
+def main(found: Given) -> int:
     """Does what the words ask for. The status."""
-    asked, program = asked_in(words), str(find())
+    asked, program = asked_in(found), str(find())
     if isinstance(sys.stdout, io.TextIOWrapper):
         sys.stdout.reconfigure(encoding="utf-8")
     for _ in range(TRIES):
-        query = Query(program, asked.genesis, asked.store, *modules_of(asked))
         try:
-            return debug(asked, program, query)
-        except Refused as refused:
-            print(refused)
-            return REFUSED
+            with state_of(program, asked) as state:
+                return debug(asked, program, state)
         except Grown:
             continue
-        finally:
-            query.end()
-    raise Failed(f"{asked.store} grows while the call runs: copy it, and debug on the copy")
+        except Refused as refused:
+            print(refused.line)
+            say(f"debug: {refused.why or refused.line}")
+        except Ended as ended:
+            say(f"debug: {ended}")
+        return REFUSED
+    say(f"debug: {asked.store} grows while the call runs: copy it, and debug on the copy")
+    return REFUSED

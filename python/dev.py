@@ -22,9 +22,9 @@ import time
 from collections.abc import Iterator
 
 import kit
-from folder import GENESIS, KEY, LOG, NETWORK, STORE
+from folder import GENESIS, KEY, LOG, NETWORK, STORE, URL
 from network import Mistake
-from program import ROOT, find, say
+from program import ROOT, find, progress, say
 
 NODE = ROOT / "node"
 sys.path.insert(0, str(NODE))
@@ -35,11 +35,12 @@ from regtuma.filed import entries_of
 from regtuma.wire import Object
 
 # The Python that has Debian's packages, and those that a node needs.
-PYTHON, PACKAGES = "/usr/bin/python3", {"aiohttp": "python3-aiohttp", "prometheus_client": "python3-prometheus-client"}
+PYTHON = "/usr/bin/python3"
+PACKAGES = {it: f"python3-{it.replace('_', '-')}" for it in ("aiohttp", "cryptography", "prometheus_client")}
 # A program that prints which of its words are no packages that are there.
 LACKING = "import importlib.util as it, sys; print(*(word for word in sys.argv[1:] if not it.find_spec(word)))"
-# Files of the folder beside the chain, and of each organisation's; and what is put behind the name of a store that is of no use.
-URL, CONFIGURATION, OUTPUT, ASIDE = "url", "node.toml", "node.out", ".aside"
+# Files of each organisation's folder beside its key and store; and what is put behind the name of a store that is of no use.
+CONFIGURATION, OUTPUT, ASIDE = "node.toml", "node.out", ".aside"
 # Where nodes listen, from the first of these ports on that are free.
 HOST, PORTS = "127.0.0.1", range(7051, 8051)
 # A block is asked for after so many seconds.
@@ -133,7 +134,8 @@ def blocks_of(network: Network) -> bytes:
     if not network.log.exists():
         return b""
     try:
-        lines = b"".join(Lines().of(list(entries_of(str(network.log)))))
+        counted = Lines.by(str(network.folder / GENESIS))
+        lines = b"".join(line for it in entries_of(str(network.log)) for line in counted.of(it).values())
     except LogError as error:
         raise NoNetwork(f"{error}; {without(network)}") from None
     ran = subprocess.run([network.program, "order", str(network.folder / GENESIS)], input=lines, capture_output=True)
@@ -188,7 +190,7 @@ def is_beginning(one: pathlib.Path, other: pathlib.Path) -> bool:
 def make_log(network: Network) -> None:
     """Makes the log of which the chain comes."""
     first = network.room(network.organisations[0])
-    ran = subprocess.run([PYTHON, "-m", "regtuma.log", CONFIGURATION, "refill", str(network.chain.absolute())], cwd=first,
+    ran = subprocess.run([PYTHON, "-P", "-m", "regtuma.log", CONFIGURATION, "refill", str(network.chain.absolute())], cwd=first,
                          env={**os.environ, "PYTHONPATH": str(NODE)}, stdin=subprocess.DEVNULL, capture_output=True, text=True)
     if ran.returncode:
         raise NoNetwork(f"the log is not made: {ran.stderr.strip().removeprefix('regtuma-log: ')}")
@@ -245,7 +247,7 @@ def begin(network: Network, organisation: str, held: int) -> subprocess.Popen[by
         if os.getppid() != parent:
             os._exit(1)
     with (room / OUTPUT).open("wb") as out:
-        return subprocess.Popen([PYTHON, "-m", "regtuma.node", CONFIGURATION], cwd=room, stdin=subprocess.DEVNULL, stdout=out,
+        return subprocess.Popen([PYTHON, "-P", "-m", "regtuma.node", CONFIGURATION], cwd=room, stdin=subprocess.DEVNULL, stdout=out,
                                 stderr=out, env={**os.environ, "PYTHONPATH": str(NODE)}, start_new_session=True, pass_fds=[held],
                                 preexec_fn=end_with_parent)
 
@@ -332,7 +334,8 @@ def watch(network: Network, organisation: str, node: subprocess.Popen[bytes], to
 
 def serve(network: Network, nodes: dict[str, subprocess.Popen[bytes]], urls: dict[str, str]) -> None:
     """Tells of transactions until a signal comes, or a node ends."""
-    height = await_nodes(network, nodes, urls)
+    with progress(lambda seconds: f"the nodes begin, {seconds:.0f} s"):
+        height = await_nodes(network, nodes, urls)
     first = urls[network.organisations[0]]
     (network.folder / URL).write_text(f"{first}\n", encoding="ascii")
     tell(network, urls)
@@ -348,7 +351,7 @@ def serve(network: Network, nodes: dict[str, subprocess.Popen[bytes]], urls: dic
 def check_packages() -> None:
     """Looks whether all that a node needs is there."""
     try:
-        ran = subprocess.run([PYTHON, "-c", LACKING, *PACKAGES], stdin=subprocess.DEVNULL, capture_output=True, text=True)
+        ran = subprocess.run([PYTHON, "-P", "-c", LACKING, *PACKAGES], stdin=subprocess.DEVNULL, capture_output=True, text=True)
     except OSError as error:
         raise NoNetwork(f"a node needs {PYTHON}: {error.strerror}") from None
     if missing := ran.stdout.split():

@@ -83,11 +83,15 @@ class Filter:
 
 
 class Query(Filter):
-    """`ledger query`."""
+    """`ledger query`: questions about the chain of a store, and the state after it."""
+
+    def said(self, what: str, **question: object) -> dict[str, Any]:
+        """The answer, and behind how many blocks it is so."""
+        said: dict[str, Any] = json.loads(self.ask(json.dumps({"ask": what, **question})))
+        return said
 
     def answer(self, what: str, **question: object) -> Any:
-        said = self.ask(json.dumps({"ask": what, **question}))
-        return json.loads(said)["answer"]
+        return self.said(what, **question)["answer"]
 
 
 def answered(program: str, *words: str, given: str = "") -> tuple[list[str], str]:

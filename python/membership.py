@@ -4,6 +4,7 @@ import json
 import re
 from collections.abc import Iterator
 
+from commands import no_chaincode
 from network import ORGS, Mistake, Object, ask, quoted, reason, refusal, shown, smallest, wrong_policy
 from policies import is_satisfied
 
@@ -51,6 +52,10 @@ class Ledger:
             if entry["key"].startswith("00") and entry["key"] != "00":
                 found[bytes.fromhex(entry["key"][2:]).decode()] = Definition.of(entry["value"]).policy
         yield from sorted(found.items())
+
+    def unknown(self, chaincode: str) -> str:
+        """That there is no such chaincode."""
+        return f"{no_chaincode(chaincode, [name for name, _ in self.policies()])} (401)"
 
 
 @dataclasses.dataclass(frozen=True)

@@ -2,6 +2,7 @@
 import re
 
 from network import MOST_MODULE_BYTES, PROFILES, USUAL_PROFILE, Mistake, ask, quoted, reason, text_of
+from remarks import of_file
 
 # How many modules a modules file has at most.
 MOST_HELD = 64
@@ -31,6 +32,7 @@ def module(name: str, profile: int, program: str) -> dict[str, object]:
         raise Mistake(f"the module {quoted(name)} cannot be read: {reason(error)}") from error
     said = ask(program, "check", name, "--profile", profile)
     if said.status:
-        why = REFUSED.search(said.out)
-        raise Mistake(f"{quoted(name)} is no valid module of profile {profile}: {why[1] if why else f'status {said.status}'}")
+        found = REFUSED.search(said.out)
+        why = "; ".join([found[1] if found else f"status {said.status}", *of_file("MODULE", name)])
+        raise Mistake(f"{quoted(name)} is no valid module of profile {profile}: {why}")
     return {"module": data.hex(), "profile": profile}

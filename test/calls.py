@@ -15,16 +15,18 @@ from tree import UNPROVED, program, run_ledger
 SECONDS = 120
 NONCE = "000102030405060708090a0b0c0d0e0f"
 POLICY = "OutOf(2, 'Maker', 'Carrier', 'Shop')"
-# Modules by the code of `invoke`, which traps, branches for ever, or returns 7.
+# Modules by the code of `invoke`, which traps, branches for ever, or returns 7; and one that says "not yet" and returns 4.
 ENDS = {"trap": "0a05010300000b", "loop": "0a0b010900" "03400c000b41000b", "seven": "0a0601040041070b"}
+SAYS = ("0061736d01000000010b0260027f7f017f6000017f021501066661627269630a7365745f726573756c740000030201010503010001070a0106696e766f6b65"
+        "00010a0d010b004100410710001a41040b0b0d010041000b076e6f7420796574")
 # Calls of stores of test/cases: the words, the refusal, and what its sentence tells.
 REFUSED = [
     ("open.json open.store kv", "refused 406", "is at hand"),
     ("open.json open.store kv --modules modules-bad.json", "refused 801", "modules-bad.json"),
     ("put.json damaged.store kv", "refused 702 block 1", "record 1 is damaged"),
-    ("put.json put.json kv", "refused 702 block 1", "put.json: it is no store: it begins as a genesis file does (702)"),
-    ("put.json put.wasm kv", "refused 702 block 1", "put.wasm: it is no store: it begins as a module does (702)"),
-    ("put.json asked.txt kv", "refused 702 block 1", "asked.txt: it is no store: it begins as a text does (702)"),
+    ("put.json put.json kv", "refused 702 block 1", "put.json looks like a genesis file, and STORE has to be a store"),
+    ("put.json put.wasm kv", "refused 702 block 1", "put.wasm looks like a module, and STORE has to be a store"),
+    ("put.json asked.txt kv", "refused 702 block 1", "asked.txt looks like a text, and STORE has to be a store"),
     ("put.json unlinked.store kv", "refused 602 block 2", "it is another ledger's"),
     ("put.json wrong.store kv", "refused 603 block 2", "(603)"),
     ("put.json older.store kv", "refused 711 block 1", "(711)"),
@@ -89,6 +91,7 @@ class Calls:
         for name, code in ENDS.items():
             head = "0061736d01000000" "0105016000017f" "03020100" "070a0106696e766f6b650000"
             (self.room / f"{name}.wasm").write_bytes(bytes.fromhex(head + code))
+        (self.room / "says.wasm").write_bytes(bytes.fromhex(SAYS))
         small = json.loads((self.room / "put.json").read_text())
         (self.room / "small.json").write_text(json.dumps({**small, "absolute": 40}))
         for keys in self.room.glob("*.keys"):
@@ -133,7 +136,7 @@ def try_calls(report: Report, tree: pathlib.Path, room: pathlib.Path, env: dict[
         is_told = ran.status == 2 and not ran.out and told in ran.err.splitlines()[-1]
         at.case(f"words that name no call: {words!a}"[:80], is_told and ran.err.startswith("usage: ledger call GENESIS"), ran)
     words = ["--chaincode", f"assets={tree}/examples/chaincode/asset_register.wasm"]
-    words += [it for name in ENDS for it in ("--chaincode", f"{name}={name}.wasm")]
+    words += [it for name in (*ENDS, "says") for it in ("--chaincode", f"{name}={name}.wasm")]
     ran = at.ledger("new", "net", *words, "--policy", POLICY)
     at.case("a network is made", ran.status == 0, ran)
     # A loop is to end soon.
@@ -181,9 +184,13 @@ def try_ends(at: Calls) -> None:
     """Calls that the chaincode does not do, and keys that do not suffice."""
     files = ["net/genesis.json", "net/chain.store"]
     keys = ["--keys", "net/all.key"]
-    at.is_refused("a trap", "refused 402 trap 1", "(402)", *files, "trap", *keys)
-    at.is_refused("no fuel", "refused 403", "(403)", *files, "loop", *keys)
-    at.is_refused("a status", "refused 404 status 7", "the status 7", *files, "seven", *keys)
+    shows = "; `ledger debug` shows where"
+    told = f"the chaincode trapped by trap 1, unreachable; 1 of 10000 fuel used{shows} (402)"
+    at.is_refused("a trap", "refused 402 trap 1", told, *files, "trap", *keys)
+    at.is_refused("no fuel", "refused 403", f"10000 of 10000 fuel used{shows} (403)", *files, "loop", *keys)
+    told = f"the chaincode returned the status 7; 1 of 10000 fuel used{shows} (404)"
+    at.is_refused("a status", "refused 404 status 7", told, *files, "seven", *keys)
+    at.is_refused("a status with a result", "refused 404 status 4", "the status 4, and said: not yet; 69 of 10000 fuel used", *files, "says", *keys)
     delete = [*files, "assets", "delete", "pallet-7", "--keys", "net/Shop/key"]
     told = f"assets needs {POLICY}; the seeds in net/Shop/key are those of Shop (808)"
     at.is_refused("a key short", "refused 808", told, *delete)

@@ -7,7 +7,6 @@ import pty
 import re
 import subprocess
 import sys
-from collections.abc import Iterator
 
 import machine_lines
 import debug
@@ -45,17 +44,16 @@ at 0x28 in {0}: i32.div_s
     0x28 i32.div_s (1, 0)
 trapped by trap 2, division by zero; 3 of 30000 fuel used
 """
-# Words that are refused, and what is told.
+# Words that name no call, and what is told.
 MISTAKES = [
-    ((), "GENESIS is missing"), (("g.json",), "CHAINCODE is missing"), (("g.json", "Kv"), 'CHAINCODE is "Kv"'),
-    (("g.json", "kv", "--foo"), 'there is no option "--foo"'), (("g.json", "kv", "--store"), "--store has no value"),
-    (("g.json", "kv", "--last", "x"), '--last is "x"; it has to be 0 to'), (("g.json", "kv", "--last=-1"), '--last is "-1"'),
-    (("g.json", "kv", "--hex"), "one ARG, of hex"), (("g.json", "kv", "--hex", "6", "--last", "3"), "one ARG, of hex"),
-    (("-", "kv"), "GENESIS is read twice"), (("g.json", "kv", "--modules", "/dev/stdin"), "--modules is read twice"),
-    (("g.json", "kv", "--hex=6"), 'no option "--hex=6"'),
-    (("g.json", "kv", "p" * 4097), "up to 4096 bytes, and this one has 4097"),
-    (("g.json", "kv", "\udcff"), "ARG is no UTF-8"),
+    ((), "GENESIS is missing"), (("g.json",), "CHAINCODE is missing"), (("g.json", "kv", "--foo"), "there is no option --foo"),
+    (("g.json", "kv", "--store"), "the value FILE of --store is missing"), (("g.json", "kv", "--hex=6"), "--hex has no value"),
+    (("g.json", "kv", "--last", "x"), "--last is x; it has to be 0 to"), (("g.json", "kv", "--last=-1"), "--last is -1"),
+    (("g.json", "kv", "--last", "0", "--last", "1"), "--last stands twice"), (("g.json", "kv", "--hex"), "one ARG, of hex"),
+    (("g.json", "kv", "p" * 4097), "up to 4,096 bytes, and this one has 4,097"),
 ]
+# Runs a script that tells a terminal after a second how far it is.
+IMPATIENT = "import runpy, sys, program; program.PATIENCE = 1; del sys.argv[0]; runpy.run_path(sys.argv[0], run_name='__main__')"
 # A program that asks the real one, and changes what `query` answers: its heights, or the answer to a call; or ends.
 PROGRAM = """\
 #!{python}
@@ -95,26 +93,22 @@ class Debugging:
         (self.at / name).write_text(json.dumps(made))
         return name
 
-    @contextlib.contextmanager
-    def asking(self, genesis: str, *words: str) -> Iterator[debug.Query]:
+    def asking(self, genesis: str, *words: str) -> debug.State:
         """Questions about the chain of a store, or of none."""
-        query = debug.Query(str(self.tree / str(program())), str(self.at / genesis), *map(str, words or (debug.NOTHING,)))
-        yield query
-        query.end()
+        return debug.State(str(self.tree / str(program())), "query", str(self.at / genesis), *map(str, words or (debug.NOTHING,)))
 
-    def agree(self, query: debug.Query, asked: debug.Asked) -> debug.Run:
+    def agree(self, state: debug.State, asked: debug.Asked) -> debug.Run:
         """Runs a call, of which the program has to say the same."""
-        said = query.ask("call", chaincode=asked.chaincode, arg=asked.argument.hex())
-        run = debug.Run(asked, query)
+        said = state.answer("call", chaincode=asked.chaincode, arg=asked.arg)
+        run = debug.Run(asked, state, asked.last)
         run.run()
-        what = f"{pathlib.Path(asked.genesis).name} {asked.chaincode} {asked.argument[:40]!r}"
+        what = f"{pathlib.Path(asked.genesis).name} {asked.chaincode} {bytes.fromhex(asked.arg)[:40]!r}"
         why = f"{run.end}\n{str(run.answer())[:400]}\nand the program says\n{str(said)[:400]}"
         self.report.case(what, run.answer() == said, why)
         return run
 
-    def asked(self, genesis: str, chaincode: str, argument: str = "", modules: str | None = None) -> debug.Asked:
-        file = str(self.at / genesis)
-        return debug.Asked(file, chaincode, argument.encode(), debug.NOTHING, modules, int(debug.LAST), False)
+    def asked(self, genesis: str, chaincode: str, argument: str = "", modules: tuple[str, ...] = ()) -> debug.Asked:
+        return debug.Asked(str(self.at / genesis), debug.NOTHING, modules, chaincode, argument.encode().hex(), False, int(debug.LAST))
 
 
 def try_chaincodes(at: Debugging) -> None:
@@ -177,12 +171,14 @@ def try_stores(at: Debugging) -> None:
     for file in [*cases.glob("open*"), *cases.glob("modules*")]:
         (at.at / file.name).write_bytes(file.read_bytes())
     with at.asking("open.json", str(at.at / "open.store"), "--modules", str(at.at / "modules.json")) as query:
-        run = at.agree(query, at.asked("open.json", "kv", modules=str(at.at / "modules.json")))
+        run = at.agree(query, at.asked("open.json", "kv", modules=("--modules", str(at.at / "modules.json"))))
         at.report.case("it takes the newest definition", run.given == 141, str(run.given))
-    for typed, line in (("open.json kv --store open.store", "refused 406\n"), ("open.json none", "refused 401\n"),
-                        ("open.json kv --store none", "refused 703\n"), ("modules.json kv", "refused 802\n")):
+    for typed, line, told in (("open.json kv --store open.store", "refused 406\n", "is at hand"),
+                              ("open.json kw", "refused 401\n", 'no chaincode "kw"; did you mean "kv"?'),
+                              ("open.json Kv", "refused 401\n", 'no chaincode "Kv"'), ("- kv", "refused 703\n", "no such file"),
+                              ("open.json kv --store none", "refused 703\n", "none: "), ("modules.json kv", "refused 802\n", "modules.json")):
         ran = at.ledger("debug", *typed.split())
-        is_told = (ran.status, ran.out, ran.err.count("\n")) == (1, line, 1) and ran.err.startswith("ledger: ")
+        is_told = (ran.status, ran.out) == (1, line) and told in ran.err.splitlines()[-1] and "Traceback" not in ran.err
         at.report.case(f"debug {typed}", is_told, ran.out + ran.err)
 
 
@@ -213,15 +209,9 @@ def names(name: bytes) -> bytes:
 
 def try_words(at: Debugging) -> None:
     for words, told in MISTAKES:
-        try:
-            said = str(debug.asked_in(list(words)))
-        except debug.Misused as mistake:
-            said = f"misused: {mistake}"
-        is_told = said.startswith("misused: ") and told in said
-        at.report.case(f"debug {str(words)[:80]}", is_told, f"{said}\nand it has to tell {told}")
-    ran = at.ledger("debug", "names.json", "--foo")
-    is_told = ran.status == 2 and not ran.out and ran.err.startswith("usage: ") and ran.err.endswith(" (usage)\n")
-    at.report.case("debug --foo", is_told, ran.out + ran.err)
+        ran = at.ledger("debug", *words)
+        is_told = ran.status == 2 and not ran.out and told in ran.err and ran.err.startswith("usage: ledger debug ")
+        at.report.case(f"debug {str(words)[:80]}", is_told and ran.err.endswith(" (usage)\n"), ran.out + ran.err)
 
 
 def try_faults(at: Debugging) -> None:
@@ -230,7 +220,7 @@ def try_faults(at: Debugging) -> None:
     real = at.tree / str(program())
     for name, status, line, told in (("differs", 3, "returned status 0; ", "this is wrong"),
                                      ("grows", 1, "", "grows while the call runs"),
-                                     ("grows once", 0, "returned status 0; ", ""), ("ends", 1, "", "ended without a word")):
+                                     ("grows once", 0, "returned status 0; ", ""), ("ends", 1, "", "ledger query ended with status 0")):
         how.write_text(name)
         count.write_text("0")
         fake.write_text(PROGRAM.format(python=sys.executable, how=str(how), count=str(count), program=str(real)))
@@ -244,10 +234,11 @@ def try_faults(at: Debugging) -> None:
 
 def try_terminal(at: Debugging) -> None:
     """On a terminal a long run tells how far it is, and takes that away behind it."""
-    genesis = at.genesis("long.json", {"count": (at.tree / "bench/count.wasm").read_bytes()}, 1_500_000)
+    genesis = at.genesis("long.json", {"count": (at.tree / "bench/count.wasm").read_bytes()}, 1_000_000)
     ours, theirs = pty.openpty()
-    with subprocess.Popen([at.tree / "ledger", "debug", genesis, "count"], cwd=at.at, env={**os.environ, **at.env},
-                          stdin=subprocess.DEVNULL, stdout=subprocess.DEVNULL, stderr=theirs) as process:
+    command = [sys.executable, "-B", "-c", IMPATIENT, str(at.tree / "ledger"), "debug", genesis, "count"]
+    env = {**os.environ, **at.env, "PYTHONPATH": str(at.tree / "python")}
+    with subprocess.Popen(command, cwd=at.at, env=env, stdin=subprocess.DEVNULL, stdout=subprocess.DEVNULL, stderr=theirs) as process:
         os.close(theirs)
         said = b""
         # The terminal's other end is gone once the process ends.
@@ -255,7 +246,7 @@ def try_terminal(at: Debugging) -> None:
             while more := os.read(ours, 4096):
                 said += more
     os.close(ours)
-    is_told = re.search(rb"\rledger: [0-9,]+ of 1,500,000 fuel used", said) and said.endswith(b"\r\x1b[K")
+    is_told = re.search(rb"\r\x1b\[Kledger: [0-9,]+ of 1,000,000 fuel used", said) and said.endswith(b"\r\x1b[K")
     at.report.case("a long run on a terminal", process.returncode == 1 and bool(is_told), repr(said))
 
 

@@ -1,12 +1,10 @@
 """./ledger dev: the network of a folder, applications that need its URL alone, how it ends, and what is left then."""
 import contextlib
-import json
 import os
 import pathlib
 import signal
 import socket
 import subprocess
-from collections.abc import Iterator
 
 from pages import Block, Typist
 from report import Ran, Report, end, start
@@ -16,32 +14,7 @@ from tree import run_ledger
 ORGS = ("Maker", "Carrier", "Shop")
 # How long a command may take on a busy machine, and a network until it is up, in seconds.
 SECONDS = 180
-NETWORK = """\
-upgrade = "AND('Maker', 'Carrier', 'Shop')"
-
-[orgs]
-Maker.keys = "Maker/key"
-Carrier.keys = "Carrier/key"
-Shop.keys = "Shop/key"
-
-[chaincodes.assets]
-module = "{module}"
-policy = "OutOf(2, 'Maker', 'Carrier', 'Shop')"
-fuel = 1000000
-"""
-
-
-def events(pallet: str, nonce: int) -> Iterator[dict[str, object]]:
-    """A run of one call, which makes a pallet."""
-    for peer in (0, 1):
-        call = {"chaincode": "assets", "arg": f"create {pallet} Maker".encode().hex(), "nonce": f"{nonce:032x}"}
-        yield {"do": "begin", "peer": peer, "seat": 0, **call}
-    for peer in (0, 1):
-        yield {"do": "finish", "peer": peer, "seat": 0, "as": f"e{peer}"}
-    yield {"do": "submit", "use": ["e0", "e1"]}
-    yield {"do": "take"}
-    yield {"do": "tick"}
-    yield {"do": "commit", "peer": 0}
+NONCE = "000102030405060708090a0b0c0d0e0f"
 
 
 class Developing:
@@ -55,18 +28,10 @@ class Developing:
         return run_ledger([str(it) for it in words], self.tree, SECONDS, {**self.env, **env})
 
     def make(self) -> None:
-        """The folder, with a chain of a block as something else has left it."""
-        for it in ORGS:
-            (self.folder / it).mkdir(parents=True)
-            self.run("./ledger", "keygen", self.folder / it / "key", it)
-        (self.folder / "network.toml").write_text(NETWORK.format(module=self.tree / "examples/chaincode/asset_register.wasm"))
-        (self.folder / "genesis.json").write_text(self.run("./ledger", "genesis", self.folder / "network.toml").out)
-        (self.folder / "all.key").write_text("".join((self.folder / it / "key").read_text() for it in ORGS))
-        (self.folder / "all.key").chmod(0o600)
-        (self.folder / "events.jsonl").write_text("".join(f"{json.dumps(it)}\n" for it in events("pallet-1", 1)))
-        ran = self.run("./ledger", "run", self.folder / "genesis.json", self.folder / "events.jsonl",
-                       "--keys", self.folder / "all.key", "--store", self.folder / "chain.store")
-        self.report.case("a folder with a chain of one block", self.chain().count(b"pallet-1") > 0, ran.out + ran.err)
+        """The folder, with a chain of a block."""
+        ran = self.run("./ledger", "new", self.folder)
+        self.report.case("a folder", ran.status == 0, ran.err)
+        self.calls("create", "pallet-1", "Maker", begins="write asset/pallet-1 put Maker\nVALID in block 1, tx ")
 
     # ------------------------------------------------ what is there
 
@@ -115,6 +80,13 @@ class Developing:
         """Submits a call by the shell's client, which is Python, with nothing but a URL."""
         return self.run("node/bin/regtuma", "submit", "assets", *words, REGTUMA_NODES=node or self.url())
 
+    def calls(self, *words: str, begins: str, told: str = "") -> Ran:
+        """Makes a call by `ledger call`, whose lines begin so, and whose sentence tells this."""
+        ran = self.run("./ledger", "call", self.folder, "assets", *words)
+        is_so = ran.out.startswith(begins) and told in ran.err and ran.status == (0 if "VALID in" in begins or "result" in begins else 1)
+        self.report.case(f"ledger call {' '.join(words)}"[:60], is_so, f"status {ran.status}\n{ran.out}{ran.err}")
+        return ran
+
     def told(self, name: str, ran: Ran, begins: str) -> None:
         self.report.case(name, ran.status == 0 and ran.out.startswith(begins), f"status {ran.status}\n{ran.out}{ran.err}")
 
@@ -147,40 +119,60 @@ def develop(at: Developing, typist: Typist, blocks: list[Block]) -> None:
         report.case("a second network of the folder is refused", is_refused, ran.out + ran.err)
         typist.type(report, blocks, instead={"http://127.0.0.1:7051": at.url()}, env=at.env)
         report.case("another port is taken", not at.url().endswith(":7051"), at.url())
+        call_meanwhile(at)
         see_page(report, f"{at.url()}/", lambda asset: at.submit("create", asset, "Maker"))
         running.send_signal(signal.SIGINT)
         out, err = running.communicate(timeout=SECONDS)
     wanted = [*(f"{it:7}  http://127.0.0.1:" for it in ORGS), "The page of the chain: http://127.0.0.1:",
-              "2.0 VALID: assets create pallet-7 Maker\n", "3.0 VALID: assets transfer pallet-7 Shop\n"]
+              "2.0 VALID: assets create pallet-7 Maker\n", "3.0 VALID: assets transfer pallet-7 Shop\n",
+              "6.0 ENDORSEMENT_POLICY_FAILURE: assets transfer pallet-2 Shop\n"]
     is_told = running.returncode == 0 and all(it in out for it in wanted)
     report.case("Ctrl-C ends the network with status 0", is_told, f"{running.returncode}\n{out}{err}")
     at.nothing_is_left("Ctrl-C")
-    at.stores_are_equal("Ctrl-C", 4)
+    at.stores_are_equal("Ctrl-C", 7)
+    at.calls("delete", "pallet-1", begins="write asset/pallet-1 delete\nVALID in block 8, tx ")
+
+
+def call_meanwhile(at: Developing) -> None:
+    """`ledger call` asks the node, and prints what it prints where none runs: the same lines, numbers and sentences."""
+    first = at.calls("create", "pallet-2", "Maker", "--nonce", NONCE, begins="write asset/pallet-2 put Maker\nVALID in block 4, tx ")
+    again = at.calls("create", "pallet-2", "Maker", "--nonce", NONCE, begins=first.out, told="stands in block 4 already")
+    at.report.case("a nonce that was used", again.out == first.out, again.out)
+    at.calls("read", "pallet-2", "--dry-run", begins="result Maker\n")
+    at.calls("read", "pallet-2", begins="result Maker\nVALID in block 5, tx ")
+    at.calls("transfer", "pallet-2", "Shop", "--orgs", "Maker", begins="ENDORSEMENT_POLICY_FAILURE in block 6, tx ", told="(flag 1)")
+    at.calls("read", "pallet-9", begins="refused 404 status 3\n", told="returned the status 3")
+    at.calls("read", "pallet-9", "--dry-run", begins="refused 404 status 3\n", told="returned the status 3")
+    at.calls("read", "pallet-2", "--orgs", "Nobody", begins="refused 806\n", told="Nobody")
+    at.calls("read", "pallet-2", "--keys", f"{at.folder}/Maker/key", begins="", told="leave out --keys")
+    ran = at.run("./ledger", "call", at.folder, "asset", "list")
+    at.report.case("a name that is none", ran.out == "refused 401\n" and 'did you mean "assets"' in ran.err, ran.out + ran.err)
 
 
 def kill(at: Developing) -> str:
     """All processes are killed while the first node's store is behind what another node has told. The id that was told."""
     running = at.begin()
-    at.told("the chain goes on", at.submit("transfer", "pallet-7", "Carrier"), "VALID, block 5, ")
+    at.told("the chain goes on", at.submit("transfer", "pallet-7", "Carrier"), "VALID, block 9, ")
     before = at.chain()
     at.signal(signal.SIGSTOP, "commit", "Maker")
     ran = at.submit("transfer", "pallet-7", "Shop", "--orgs", "Carrier,Shop", node=at.url("Carrier"))
-    at.told("another node tells of a block", ran, "VALID, block 6, ")
+    at.told("another node tells of a block", ran, "VALID, block 10, ")
     running.kill()
     while at.processes():
         at.signal(signal.SIGKILL)
     at.report.case("the chain was behind", at.chain() == before, str(len(before)))
+    at.calls("list", begins="", told="was killed: begin it once more")
     return ran.out.split()[-1] if ran.out else ""
 
 
 def close_terminal(at: Developing, id: str) -> None:
     """What was told is not lost where all was killed. The terminal is closed."""
     running = at.begin("script", "-qec", " ".join(at.words), "/dev/null")
-    at.told("what was told is there", at.run("node/bin/regtuma", "status", id, REGTUMA_NODES=at.url()), "VALID, block 6, ")
+    at.told("what was told is there", at.run("node/bin/regtuma", "status", id, REGTUMA_NODES=at.url()), "VALID, block 10, ")
     os.kill(running.pid, signal.SIGKILL)
     end(running)
     at.nothing_is_left("a closed terminal")
-    at.stores_are_equal("a closed terminal", 6)
+    at.stores_are_equal("a closed terminal", 10)
 
 
 def lose_a_node(at: Developing) -> None:
@@ -191,7 +183,7 @@ def lose_a_node(at: Developing) -> None:
     is_told = running.returncode == 1 and "has ended" in err and "ledger commit" in err and "Traceback" not in err
     at.report.case("a node that ends is told, with what it said", is_told, f"{running.returncode}\n{out}{err}")
     at.nothing_is_left("a node that ends")
-    at.stores_are_equal("a node that ends", 6)
+    at.stores_are_equal("a node that ends", 10)
 
 
 def end_early(at: Developing) -> None:

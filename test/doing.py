@@ -16,7 +16,7 @@ from collections.abc import Callable
 import kit
 from pages import Block
 from parts import Part, Setting
-from report import GRACE, STOPPED, Report, Stopped, end_children, say
+from report import GRACE, STOPPED, Report, Stopped, end_children, left_behind, say
 from tree import ROOT, adopt_orphans, copy_to, files
 
 CORES = len(os.sched_getaffinity(0))
@@ -82,12 +82,13 @@ def stop(number: int, _frame: object) -> None:
     raise Stopped("they took too long" if number == signal.SIGALRM else f"stopped by signal {number}")
 
 
-def end_all() -> int:
-    """Ends what is being done still, with its processes. How many these were."""
+def end_all(patience: float) -> list[str]:
+    """Ends what is being done still, with its processes. The commands of those that did not end by themselves within so many seconds."""
     signal.alarm(0)
     kit.ignore_signals()
     STOPPED.set()
-    left = len(end_children())
+    left = left_behind(patience)
+    end_children()
     until = time.monotonic() + GRACE
     while threading.active_count() > 1 and time.monotonic() < until:
         # A part that was stopped may begin another command.
@@ -111,8 +112,9 @@ def conduct(work: Callable[[pathlib.Path, list[Report]], None]) -> int:
         except Stopped as error:
             report.count("all parts end", False, str(error))
         finally:
-            left = end_all()
-    report.count("no process is left", left == 0 or report.failures != [], f"{left} were")
+            # Who is asked to end may take a moment, and its children another.
+            left = end_all(0 if report.failures else GRACE)
+    report.count("no process is left", not left or report.failures != [], "\n".join(left))
     after = files(ROOT)
     changed = [it for it in {**before, **after} if before.get(it) != after.get(it)]
     report.count("the repository is as it was", not changed, " ".join(changed))

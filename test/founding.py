@@ -1,4 +1,6 @@
 """./ledger new, and the folder of a network in the place of files."""
+import fcntl
+import os
 import pathlib
 import shutil
 import stat
@@ -108,9 +110,17 @@ def try_new(at: Folders) -> None:
     before = store.read_bytes()
     log.touch()
     ran = at.ledger("call", "two", "two")
-    is_told = ran.status == 1 and not ran.out and "a network that `ledger dev` began has two" in ran.err
-    at.case("no call beside a network of this folder", is_told and store.read_bytes() == before, ran)
+    is_told = ran.status == 1 and not ran.out and "a network that `ledger dev` began in two was killed" in ran.err
+    at.case("no call behind a network that was killed", is_told and store.read_bytes() == before, ran)
+    ran = at.ledger("call", "two/genesis.json", "two/chain.store", "two")
+    at.case("nor where its files are named", ran.status == 1 and not ran.out and store.read_bytes() == before, ran)
     log.unlink()
+    held = os.open(at.room / "two", os.O_RDONLY)
+    fcntl.flock(held, fcntl.LOCK_EX)
+    ran = at.ledger("call", "two", "two")
+    os.close(held)
+    is_told = ran.status == 1 and not ran.out and "the network in two begins or ends: try again" in ran.err
+    at.case("no call while `ledger dev` begins", is_told and store.read_bytes() == before, ran)
 
 
 def try_same(at: Folders) -> None:

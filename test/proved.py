@@ -125,7 +125,7 @@ def interrupt(report: Report, at: Proving, signals: list[signal.Signals]) -> Non
     mark = at.found.with_suffix(".process")
     mark.unlink(missing_ok=True)
     # A test that `nohup` began has SIGHUP ignored, and what it begins would have too.
-    process = start(["env", "--default-signal", at.root / "ledger", "prove"], at.root, {**at.env, "SAYS": "proved", "THEN": "wait"})
+    process = start([at.root / "ledger", "prove"], at.root, {**at.env, "SAYS": "proved", "THEN": "wait"})
     is_begun = comes_to_be(lambda: mark.exists() and mark.read_text() != "")
     for number in signals:
         if process.poll() is None:

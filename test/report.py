@@ -65,9 +65,11 @@ def say(text: str) -> None:
 
 
 def start(command: list, folder: pathlib.Path, env: dict[str, str] | None = None) -> subprocess.Popen[str]:
-    """A process in a session of its own, without an input, whose output is read."""
-    return subprocess.Popen(command, cwd=folder, env={**os.environ, **(env or {})}, start_new_session=True, text=True,
-                            errors="replace", stdin=subprocess.DEVNULL, stdout=subprocess.PIPE, stderr=subprocess.PIPE)
+    """A process in a session of its own, without an input, whose output is read. Signals end it, also where the shell that began the
+    test in the background has some ignored."""
+    return subprocess.Popen(["env", "--default-signal", *command], cwd=folder, env={**os.environ, **(env or {})}, text=True,
+                            start_new_session=True, errors="replace", stdin=subprocess.DEVNULL, stdout=subprocess.PIPE,
+                            stderr=subprocess.PIPE)
 
 
 def end(process: subprocess.Popen[str]) -> tuple[str, str]:
@@ -112,15 +114,30 @@ def children() -> list[int]:
     return found
 
 
-def end_children() -> list[int]:
-    """Kills whatever is left of what was started, each by its number. Which processes these were."""
-    left = [it for it in children() if is_alive(it)]
-    for number in left:
+def left_behind(patience: float) -> list[str]:
+    """The commands of processes that were started and do not end by themselves within so many seconds."""
+    until = time.monotonic() + patience
+    while (alive := [it for it in children() if is_alive(it)]) and time.monotonic() < until:
+        time.sleep(0.05)
+    return [command_of(it) for it in alive]
+
+
+def end_children() -> None:
+    """Kills whatever is left of what was started, each by its number."""
+    for number in children():
         try:
             os.kill(number, signal.SIGKILL)
         except ProcessLookupError:
             pass
-    return left
+
+
+def command_of(number: int) -> str:
+    """What a process was started by, and its number."""
+    try:
+        words = pathlib.Path(f"/proc/{number}/cmdline").read_bytes().rstrip(b"\0").split(b"\0")
+    except OSError:
+        words = []
+    return f"{number} {b' '.join(words).decode(errors='replace')}"
 
 
 def is_alive(number: int, group: int | None = None) -> bool:

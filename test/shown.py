@@ -304,6 +304,10 @@ def are_names(names: object) -> bool:
     return isinstance(names, list) and len(names) <= 32 and all(re.fullmatch(r"\w{1,32}", it, re.ASCII) for it in names)
 
 
+def are_texts(texts: object) -> bool:
+    return isinstance(texts, list) and all(isinstance(it, str) for it in texts) and len(" ".join(texts).encode()) <= 4096
+
+
 # The fields of each question, and what each may hold.
 QUESTIONS: dict[str, dict[str, Callable[[Any], object]]] = {
     "setting": {},
@@ -316,6 +320,8 @@ QUESTIONS: dict[str, dict[str, Callable[[Any], object]]] = {
     "satisfied": {"chaincode": lambda it: re.fullmatch("[a-z0-9_-]{1,32}", it), "orgs": are_names},
     "call": {"chaincode": lambda it: re.fullmatch("[a-z0-9_-]{1,32}", it), "arg": lambda it: is_hex(it, 0, 4096)},
 }
+# Those of a call by texts.
+BY_TEXTS = {"chaincode": QUESTIONS["call"]["chaincode"], "args": are_texts}
 
 
 def question_of(line: str) -> dict | None:
@@ -326,7 +332,7 @@ def question_of(line: str) -> dict | None:
         return None
     if not isinstance(it, dict) or it.get("ask") not in QUESTIONS:
         return None
-    fields = QUESTIONS[it["ask"]]
+    fields = BY_TEXTS if it["ask"] == "call" and "args" in it else QUESTIONS[it["ask"]]
     return it if {*it} == {"ask", *fields} and all(fits(it[name]) for name, fits in fields.items()) else None
 
 

@@ -232,7 +232,7 @@ static void test_run(void) {
 }
 
 /* Calls `invoke` with these bytes on the state, which stays as it is. How it ended: its status, LEDGER_TRAPPED or
-   LEDGER_SPENT. Of any but status 0 nothing is kept. */
+   LEDGER_SPENT. Of any but status 0 the result alone is kept. */
 static int ledger_call_bytes(const void *argument, unsigned length) {
     if (!test_now) {
         test_now = mmap(0, sizeof *test_now, PROT_READ | PROT_WRITE, MAP_SHARED | MAP_ANONYMOUS, -1, 0);
@@ -244,10 +244,7 @@ static int ledger_call_bytes(const void *argument, unsigned length) {
     /* So it stays where a sanitizer ends the process. */
     test_now->status = LEDGER_TRAPPED;
     test_run();
-    if (test_now->status) {
-        test_now->reads = test_now->writes = test_now->ranges = test_now->result.length = 0;
-        test_now->result.at[0] = 0;
-    }
+    if (test_now->status) test_now->reads = test_now->writes = test_now->ranges = 0;
     return test_now->status;
 }
 

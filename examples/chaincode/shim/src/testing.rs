@@ -23,8 +23,8 @@ pub struct Ledger {
 /// How a call ended.
 #[derive(Clone, PartialEq, Eq, Debug)]
 pub struct Call {
-    /// What `invoke` answered: 0 where the call is done. Nothing is kept of any other, and the rest
-    /// here is empty.
+    /// What `invoke` answered: 0 where the call is done. Of any other the answer alone is kept, and the
+    /// rest here is empty.
     pub status: i32,
     /// The result that the call set last.
     pub answer: Vec<u8>,
@@ -136,7 +136,7 @@ impl Running {
         }
         Call {
             status,
-            answer: Vec::new(),
+            answer: done.answer,
             reads: BTreeSet::new(),
             writes: BTreeMap::new(),
         }
