@@ -162,7 +162,7 @@ class Chain:
 
     def proposed(self, what: dict, reads: Iterable[bytes], ranges: Iterable[Range], writes: Iterable[Write], orgs: list[str],
                  claimed: str | None = None) -> dict:
-        """The same of a call, an upgrade or an amendment, with all that it reads, as it is now or at the version that is claimed."""
+        """The same of a call, an upgrade or an amendment, with all that it reads, at the versions of now or as claimed."""
         self.made += 1
         tx = {"id": "", "flag": 0, **what, "nonce": "%032x" % self.made, "result": "",
               "reads": [{"key": key.hex(), "version": claimed or self.version(key)} for key in sorted(reads)],
@@ -213,7 +213,7 @@ class Chain:
         return VALID
 
     def is_usable(self, tx: dict) -> bool:
-        """Whether it is a call, or proposes a definition or the next membership that can be used, and has read none of its own block."""
+        """Whether it is a call, or proposes a definition or the next membership that can be used, on what stood before."""
         if "arg" not in tx and any(self.is_newer(it) for it in tx["reads"]):
             return False
         if "amend" in tx:
