@@ -107,45 +107,41 @@ abbrev IsSmallAt : ℕ → Type 0
 IsSmallAt n = (a : Affine) × IsPoint a × (n ≡ a.y + 2 ^ 255 * (a.x % 2)) × (multiple 8 a ≡ neutral)
 
 all_small : AllByRecursion IsSmallAt small_orders
-all_small = (
-  (quarter, quarter_is, refl, eight_times quarter half neutral quarter_is quarter_doubled half_doubled none_doubled),
-  (
-    other_quarter,
-    other_quarter_is,
-    refl,
-    eight_times other_quarter half neutral other_quarter_is other_quarter_doubled half_doubled none_doubled,
-  ),
-  (neutral, neutral_is, refl, eight_times neutral neutral neutral neutral_is none_doubled none_doubled none_doubled),
-  (half, half_is, refl, eight_times half neutral neutral half_is half_doubled none_doubled none_doubled),
-  (eighth_of x8 eighth, first_is, refl, eight_times (eighth_of x8 eighth) quarter half first_is first_doubled quarter_doubled half_doubled),
-  (
-    eighth_of (p - x8) eighth,
-    second_is,
-    refl,
-    eight_times (eighth_of (p - x8) eighth) other_quarter half second_is second_doubled other_quarter_doubled half_doubled,
-  ),
-  (
-    eighth_of x8 (p - eighth),
-    third_is,
-    refl,
-    eight_times (eighth_of x8 (p - eighth)) other_quarter half third_is third_doubled other_quarter_doubled half_doubled,
-  ),
-  (
-    eighth_of (p - x8) (p - eighth),
-    fourth_is,
-    refl,
-    eight_times (eighth_of (p - x8) (p - eighth)) quarter half fourth_is fourth_doubled quarter_doubled half_doubled,
-  ),
-  tt,
-)
+all_small =
+    let quarters = eight_times quarter half neutral quarter_is quarter_doubled half_doubled none_doubled in
+    let others = eight_times other_quarter half neutral other_quarter_is other_quarter_doubled half_doubled none_doubled in
+    let nones = eight_times neutral neutral neutral neutral_is none_doubled none_doubled none_doubled in
+    let halves = eight_times half neutral neutral half_is half_doubled none_doubled none_doubled in
+    let firsts = eight_times (eighth_of x8 eighth) quarter half first_is first_doubled quarter_doubled half_doubled in
+    let seconds = eight_times (eighth_of (p - x8) eighth) other_quarter half second_is second_doubled other_quarter_doubled half_doubled in
+    let thirds = eight_times (eighth_of x8 (p - eighth)) other_quarter half third_is third_doubled other_quarter_doubled half_doubled in
+    let fourths = eight_times (eighth_of (p - x8) (p - eighth)) quarter half fourth_is fourth_doubled quarter_doubled half_doubled in (
+      (quarter, quarter_is, refl, quarters),
+      (
+        (other_quarter, other_quarter_is, refl, others),
+        (
+          (neutral, neutral_is, refl, nones),
+          (
+            (half, half_is, refl, halves),
+            (
+              (eighth_of x8 eighth, first_is, refl, firsts),
+              (
+                (eighth_of (p - x8) eighth, second_is, refl, seconds),
+                ((eighth_of x8 (p - eighth), third_is, refl, thirds), ((eighth_of (p - x8) (p - eighth), fourth_is, refl, fourths), tt)),
+              ),
+            ),
+          ),
+        ),
+      ),
+    )
+
+either : (P : ℕ → Type 0) (n x : ℕ) (rest b : Bool) → nat_eq n x ≡ b → P x → (rest ≡ true → P n) → b || rest ≡ true → P n
+either P n x rest true is here later any = subst P (sym (eqb-true n x is)) here
+either P n x rest false is here later any = later any
 
 among : (P : ℕ → Type 0) (n : ℕ) (xs : List ℕ) → AllByRecursion P xs → list_any (nat_eq n) xs ≡ true → P n
 among P n [] all h = absurd (cc)
-among P n (x ∷ xs) all h = either (nat_eq n x) refl h
-  where
-    either : (b : Bool) → nat_eq n x ≡ b → b || list_any (nat_eq n) xs ≡ true → P n
-    either true is any = subst P (sym (eqb-true n x is)) all.0
-    either false is any = among P n xs all.1 any
+among P n (x ∷ xs) all h = either P n x (list_any (nat_eq n) xs) (nat_eq n x) refl all.0 (λ any. among P n xs all.1 any) h
 
 -- ---- which bytes they are
 
