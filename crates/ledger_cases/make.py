@@ -16,6 +16,9 @@ Row = tuple[str, str]
 
 M2 = "4146715e99eba415ef0805fd0978db6de1a469951cd8ea428eb534c835b0327e"
 B_KEY = "d75a980182b10ab7d54bfed3c964073a0ee172f3daa62325af021a68f707511a"
+# The public keys of the seeds that are a name with zeros behind it.
+SEEDED = {"B": "ccbc3da2c4267cc8553be0c7b5790cc75a121297528462c3d2cc679d16eb8684",
+          "C": "6f7e716f4d2c8f14cd26c027c167610cfffefa9c61aa045006e299be8b98487f"}
 NONCE = "000102030405060708090a0b0c0d0e0f"
 NO_NONCE = bytes(16)
 UPGRADED, AMENDED = b"\0kv", b"\0"
@@ -156,9 +159,12 @@ def endorsements() -> list[Row]:
     def behind(policy: str) -> str:
         return f"r:0x006b76@1.0 / w:0x006b76=0x{definition(17, bytes([8]) * 32, 71, policy).hex()}"
 
-    def amended(serial: int, names: str, policy: str) -> str:
-        value = membership(serial, [member(name) for name in names.split("+")], policy)
-        return f"a:{serial},{names},{policy} {put(AMENDED, value)}"
+    def members(words: str) -> list[bytes]:
+        split = [word.partition("!") for word in words.split("+")]
+        return [member(name, SEEDED[seed] if seed else "") for name, _, seed in split]
+
+    def amended(serial: int, words: str, policy: str, seen: str = "-") -> str:
+        return f"a:{serial},{words},{policy} {put(AMENDED, membership(serial, members(words), policy), seen)}"
 
     first, only_b = membership(1, [member("A")], QA), membership(1, [member("B")], QB)
     after_b = f"/ w:0x00=0x{only_b.hex()}"
@@ -206,7 +212,33 @@ def endorsements() -> list[Row]:
         (f"A/A 'A' | r:0x006b76@- / w:0x00=0x{membership(1, [member('C')], QC).hex()}", True),
         (f"A/A 'A' | {amended(1, 'A', QA)} / w:0x00=0x{membership(1, [member('C')], QC).hex()}", True),
     ]
-    return [(f"endorsed A,B {case}", "true" if endorsed else "false") for case, endorsed in cases]
+    twice = f"{after_b} / w:0x00=0x{only_b.hex()}"
+    seen = [
+        (f"A/A 'A' | {amended(1, 'A', QA, '1.0')}", False),
+        (f"A/A 'A' | u17:8,71,'B' {put(UPGRADED, definition(17, bytes([8]) * 32, 71, QB), '1.0')}", False),
+        (f"B/B OR('A','B') | {amended(2, 'A+B', QA, '1.0')} {after_b}", True),
+        (f"B/B OR('A','B') | {amended(2, 'A+B', QA, '1.1')} {after_b}", False),
+        (f"B/B OR('A','B') | {amended(2, 'A+B', QA, '2.0')} {after_b}", False),
+        (f"B/B OR('A','B') | {amended(2, 'A+B', QA, '1.0')} {twice}", True),
+        (f"B/B OR('A','B') | {amended(2, 'A+B', QA, '1.511')} {twice}", True),
+        (f"B/B OR('A','B') | {amended(2, 'A+B', QA, '2.0')} {twice}", True),
+        (f"B/B OR('A','B') | {amended(2, 'A+B', QA, '3.0')} {twice}", False),
+        (f"A/A 'A' | u17:8,71,'B' {put(UPGRADED, definition(17, bytes([8]) * 32, 71, QB), '1.0')} / w:0x006b76=1", True),
+        (f"A/A 'A' | u17:8,71,'B' {put(UPGRADED, definition(17, bytes([8]) * 32, 71, QB), '2.0')} / w:0x006b76=1", False),
+    ]
+    one_key = [
+        (f"A/A 'A' | {amended(1, 'A!C+B', QA)}", True),
+        (f"A/A 'A' | {amended(1, 'A!B+B', QA)}", False),
+        (f"A/A 'A' | {amended(1, 'A!B+B!C', QA)}", True),
+        (f"A/A 'A' | {amended(1, 'A!B+B!B', QA)}", False),
+        (f"A/A 'A' | {amended(1, 'A!B', QA)}", True),
+        (f"B!B AND('A','B') | r:0x006b76@- / w:0x00=0x{membership(1, members('A!B+B'), 'AND(' + QA + ',' + QB + ')').hex()}", False),
+        (f"A!B,B!B AND('A','B') | r:0x006b76@- / w:0x00=0x{membership(1, members('A!B+B'), 'AND(' + QA + ',' + QB + ')').hex()}", False),
+        (f"A!C,B!B AND('A','B') | r:0x006b76@- / w:0x00=0x{membership(1, members('A!C+B'), 'AND(' + QA + ',' + QB + ')').hex()}", True),
+    ]
+    rows = [(f"endorsed A,B {case}", endorsed) for case, endorsed in cases + seen]
+    rows += [(f"endorsed A,B! {case}", endorsed) for case, endorsed in one_key]
+    return [(case, "true" if endorsed else "false") for case, endorsed in rows]
 
 
 def simulations() -> list[Row]:
@@ -304,7 +336,8 @@ GROUPS: list[tuple[str, Callable[[], list[Row]]]] = [
     ("# wire: an amendment is the byte 80, a membership and a nonce; no name has so many bytes", amendments),
     ("# endorsement_policy: an upgrade to an open definition needs a policy of organisations, and no module that is installed; a call under one"
      " falls under its text, whatever that names. An amendment has to be to the next membership that can be used, and falls under the"
-     " policy that stands; whose tags are right is by who stands", endorsements),
+     " policy that stands; whose tags are right is by who stands. Neither an upgrade nor an amendment has read a key newer than it stands"
+     " before the block, and no two members have one public key, be it kept", endorsements),
     ("# simulator: an open definition is of a module at hand (406) and of a policy, whatever it names (407); an amendment is 408 where"
      " its membership may not come next", simulations),
     ("# json_events: upgrades to open definitions, and amendments", begins),

@@ -138,8 +138,9 @@ class Chain:
 
     def __init__(self) -> None:
         self.blocks: list[dict] = []
-        # The version and the value of each key.
+        # The version and the value of each key, and before the block that is made.
         self.state: dict[bytes, tuple[str, str]] = {}
+        self.before: dict[bytes, tuple[str, str]] = {}
         self.ids: set[str] = set()
         self.made = self.serial = 0
         # Who stands: each member's public key, or None for its shared one. Under which key each tag that is right was made.
@@ -159,11 +160,12 @@ class Chain:
         call = {"chaincode": CHAINCODE, "arg": argument.hex()}
         return self.proposed(call, {DEFINITION_KEY, *reads}, ranges, writes, orgs)
 
-    def proposed(self, what: dict, reads: Iterable[bytes], ranges: Iterable[Range], writes: Iterable[Write], orgs: list[str]) -> dict:
-        """The same of a call, an upgrade or an amendment, with all that it reads."""
+    def proposed(self, what: dict, reads: Iterable[bytes], ranges: Iterable[Range], writes: Iterable[Write], orgs: list[str],
+                 claimed: str | None = None) -> dict:
+        """The same of a call, an upgrade or an amendment, with all that it reads, at the versions of now or as claimed."""
         self.made += 1
         tx = {"id": "", "flag": 0, **what, "nonce": "%032x" % self.made, "result": "",
-              "reads": [{"key": key.hex(), "version": self.version(key)} for key in sorted(reads)],
+              "reads": [{"key": key.hex(), "version": claimed or self.version(key)} for key in sorted(reads)],
               "ranges": [{"start": a.hex(), "end": b.hex(), "limit": n, "entries": self.entries(a, b, n)} for a, b, n in ranges],
               "writes": [{"key": key.hex(), "value": None if value is None else value.hex()} for key, value in sorted(writes)],
               "endorsements": []}
@@ -187,11 +189,12 @@ class Chain:
         what, write = {"chaincode": CHAINCODE, "upgrade": upgrade}, (DEFINITION_KEY, definition_bytes(upgrade))
         return self.proposed(what, [DEFINITION_KEY], [], [write], orgs)
 
-    def amendment(self, members: list[dict], policy: str | None = None, orgs: list[str] = ORGS, serial: int | None = None) -> dict:
+    def amendment(self, members: list[dict], policy: str | None = None, orgs: list[str] = ORGS, serial: int | None = None,
+                  claimed: str | None = None) -> dict:
         """By default the next one, to the policy of two of the members."""
         names = [it["name"] for it in members]
         amend = {"serial": self.serial + 1 if serial is None else serial, "members": members, "policy": policy or two_of(names)}
-        return self.proposed({"amend": amend}, [MEMBERSHIP_KEY], [], [(MEMBERSHIP_KEY, membership_bytes(amend))], orgs)
+        return self.proposed({"amend": amend}, [MEMBERSHIP_KEY], [], [(MEMBERSHIP_KEY, membership_bytes(amend))], orgs, claimed)
 
     def entries(self, start: bytes, end: bytes, limit: int) -> list[dict]:
         keys = sorted(key for key in self.state if key[0] and start <= key and (not end or key < end))
@@ -210,7 +213,9 @@ class Chain:
         return VALID
 
     def is_usable(self, tx: dict) -> bool:
-        """Whether it is a call, or proposes a definition or the next membership that can be used."""
+        """Whether it is a call, or proposes a definition or the next membership that can be used, on what stood before."""
+        if "arg" not in tx and any(self.is_newer(it) for it in tx["reads"]):
+            return False
         if "amend" in tx:
             return tx["amend"]["serial"] == self.serial + 1 and self.is_usable_membership(tx["amend"])
         if "upgrade" not in tx:
@@ -219,6 +224,11 @@ class Chain:
         if closed:
             return field(tx["upgrade"], "module") in MODULES and policy == POLICY
         return any(policy == two_of(names) and set(names) <= set(self.members) for names in (ORGS, LATER_ORGS))
+
+    def is_newer(self, read: dict) -> bool:
+        """Whether it claims a version that is later than the one before the block."""
+        before = self.before.get(field(read, "key"))
+        return read["version"] is not None and (before is None or place_of(before[0]) < place_of(read["version"]))
 
     def is_usable_membership(self, amend: dict) -> bool:
         """Public keys are those of seeds that are known here, and one that is none."""
@@ -239,6 +249,7 @@ class Chain:
     def add(self, *proposed: dict) -> None:
         """Puts transactions into the next block."""
         number = len(self.blocks) + 1
+        self.before = dict(self.state)
         txs: list[dict] = [
             {**tx, "endorsements": [{**it, "right": self.is_right(it["org"], it["tag"])} for it in tx["endorsements"]]}
             for tx in proposed]
@@ -271,6 +282,11 @@ class Chain:
 
 def text_of(lines: Iterable[dict]) -> str:
     return "".join(json.dumps(line, separators=(",", ":")) + "\n" for line in lines)
+
+
+def place_of(version: str) -> list[int]:
+    """The block and the place of a version."""
+    return [int(number) for number in version.split(".")]
 
 
 def key_of(number: int) -> bytes:
@@ -358,7 +374,8 @@ def amended() -> Chain:
         chain.amendment([{"name": "Depot", "public": SMALL_ORDER}, *kept(["Maker"])]),
         chain.amendment([depot, {"name": "Maker", "public": public[0]}]),
         chain.amendment(kept(["Maker", "Shop"]), policy=two_of(["Maker", "Carrier"])),
-        chain.amendment(kept(["Maker", "Shop"]), orgs=["Maker", "!Depot"]))
+        chain.amendment(kept(["Maker", "Shop"]), orgs=["Maker", "!Depot"]),
+        chain.amendment(kept(["Maker", "Shop"]), claimed="3.7"))
     chain.add(
         chain.amendment([{"name": "Carrier", "public": public[1]}, {"name": "Depot", "public": public[2]}, *kept(["Maker", "Shop"])],
                         orgs=["Maker", "Depot"]),

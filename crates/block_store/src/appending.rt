@@ -4,7 +4,7 @@ ghost use Rattle.std.specs.Prelude.{◌≡◌, ◌++◌, OnOk, IfOk, length, map
 ghost use Rattle.fab_types.specs.FlagNumber.{flag_number};
 ghost use Rattle.fab_types.specs.BlockWithin.{IsBlock};
 ghost use Rattle.block_store.specs.Record.{record_bytes};
-ghost use Rattle.block_store.specs.Appending.{Appended, fault_number};
+ghost use Rattle.block_store.specs.Appending.{Appended, AppendedTo, fault_number};
 ghost use Rattle.block_store.specs.declared.appending.AppendFault.TheVariants.{Memory};
 
 use crate::device::CountedWrite;
@@ -85,8 +85,9 @@ pub fn encode_record(alloc: Global, block: &Block, flags: &[Flag]) -> Result<Vec
 }
 
 fn write_whole<W: CountedWrite>(writer: &mut W, bytes: &[u8]) -> Result<(), AppendFault>
-    ensures { Appended result bytes.now (W.written writer.old) (W.written writer.new)
+    ensures written { Appended result bytes.now (W.written writer.old) (W.written writer.new)
         (W.failures writer.old) (W.failures writer.new) }
+    ensures known { AppendedTo result bytes.now (W.contents writer.old) (W.contents writer.new) }
 {
     let mut at = 0;
     while at < bytes.len() {
@@ -111,6 +112,9 @@ pub fn append<W: CountedWrite>(
     ensures written { Appended result
         (record_bytes (record { block = block.now; flags = flags.now })) (W.written writer.old)
         (W.written writer.new) (W.failures writer.old) (W.failures writer.new) }
+    ensures known { AppendedTo result
+        (record_bytes (record { block = block.now; flags = flags.now })) (W.contents writer.old)
+        (W.contents writer.new) }
     // Each block is within its limits, so the record is loaded again.
     ensures within { OnOk result (IsBlock block.now) }
 {

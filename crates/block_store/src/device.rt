@@ -1,7 +1,7 @@
 //! What a store is read from and written to.
 
 ghost use Rattle.std.specs.Prelude.{ℕ, List, Option, None, ◌<◌, length};
-ghost use Rattle.std.specs.Io.KnownBytes.{ReadConsumes};
+ghost use Rattle.std.specs.Io.KnownBytes.{ReadConsumes, WriteAppends};
 ghost use Rattle.block_store.specs.Device.{ReadOnce, WroteOnce};
 
 /// A call of the device failed.
@@ -36,12 +36,16 @@ pub trait CountedWrite {
     /// The bytes that it has taken so far.
     ghost written: { Self → List ℕ };
 
+    /// The bytes that it holds, where they are known.
+    ghost contents: { Self → Option (List ℕ) } = { λ _. None };
+
     /// How many of its calls have failed. That no byte was written is a failure too.
     ghost failures: { Self → ℕ };
 
     /// Takes some of the bytes from the front, at least one, and answers with how many.
     fn write(&mut self, bytes: &[u8]) -> Result<usize, DeviceError>
         requires { 0 < length bytes.now }
-        ensures { WroteOnce result bytes.now (written self.old) (written self.new)
-            (failures self.old) (failures self.new) };
+        ensures once { WroteOnce result bytes.now (written self.old) (written self.new)
+            (failures self.old) (failures self.new) }
+        ensures known { WriteAppends (contents self.old) (contents self.new) result bytes.now };
 }

@@ -6,3 +6,4 @@ pub mod Blocks
 pub mod Endorsed
 pub mod Keys
 pub mod Orders
+pub mod NoPayload

@@ -1,9 +1,9 @@
 -- What `query` prints of the lines of its input.
-use Rattle.std.specs.Prelude.{◌≡◌, ◌⊎◌, ℕ, [], Option, Some, Result, length}
+use Rattle.std.specs.Prelude.{◌≡◌, ◌⊎◌, ℕ, [], Option, Result, length}
 use Rattle.std.specs.Str.{IsUtf8}
-use Rattle.serde_json.specs.Read.{read}
 use Rattle.ledger_model.specs.Chain.{Bytes, Chain}
 use Rattle.ledger_setting.specs.declared.genesis.Genesis.{Genesis}
+use Rattle.json_chain.specs.Plain.{IsTextOf}
 use Rattle.json_questions.specs.Answers.{answer_json, answered_json}
 use Rattle.json_questions.specs.Spelling.{SpellsQuestion}
 use Rattle.json_questions.specs.declared.question.Question.{Question}
@@ -17,9 +17,9 @@ use Rattle.cli_roles.specs.Stores.{IsReadOn, Stops}
 abbrev pub SpellsIn : Bytes → Question → Type 0
 SpellsIn asked q = IsUtf8 asked × SpellsQuestion asked q
 
--- the text is read back as the answer to the question that the line spells
+-- the text is that of the answer to the question that the line spells
 abbrev pub IsAnswered : Genesis → Chain → Bytes → Bytes → Type 0
-IsAnswered g chain asked text = (q : Question) × SpellsIn asked q × (read text ≡ Some (answered_json (answer_json g q chain) (length chain)))
+IsAnswered g chain asked text = (q : Question) × SpellsIn asked q × IsTextOf (answered_json (answer_json g q chain) (length chain)) text
 
 -- the line of this number spells no question, and that is said
 abbrev pub IsBad : Bytes → ℕ → Bytes → Type 0

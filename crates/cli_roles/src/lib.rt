@@ -21,6 +21,7 @@ mod endorsing;
 mod explaining;
 mod filter;
 mod input;
+mod laws;
 mod log_genesis;
 mod marks;
 mod ordering;
@@ -30,6 +31,7 @@ mod words;
 
 pub use committing::commit;
 pub use endorsing::{Endorsing, endorse};
+pub use laws::seen_is_no_payload;
 pub use log_genesis::LogGenesis;
 pub use ordering::order;
 pub use querying::query;

@@ -1,14 +1,14 @@
 -- Lines behind lines.
-use Rattle.std.proofs.Common.{◌≡◌, List, [], ◌∷◌, ◌++◌, Option, Some, None, Result, Ok, Err, OnOk, refl, sym, ap, ap₂, subst, ◌∙◌, append_assoc}
-use Rattle.std.proofs.lemmas.List.{append-nil, map-append}
+use Rattle.std.proofs.Common.{◌≡◌, List, [], ◌∷◌, ◌++◌, Option, Some, None, Result, Ok, Err, OnOk, sym, subst, append_assoc}
+use Rattle.std.proofs.lemmas.List.{append-nil}
 use Rattle.std.proofs.lemmas.List.Concat.{flat_map-append}
 use Rattle.std.specs.List.{flat_map}
 use Rattle.std.specs.Io.KnownBytes.{Appends}
 use Rattle.serde_json.specs.Data.{Data}
-use Rattle.serde_json.specs.Read.{read}
 use Rattle.ledger_model.specs.Chain.{Bytes}
+use Rattle.json_chain.specs.Plain.{IsTextOf}
 use Rattle.cli_lines.specs.Texts.{line}
-use Rattle.cli_show.specs.Lines.{HasLines}
+use Rattle.cli_show.specs.Lines.{AreTextsOf, HasLines}
 
 pub appends_none : (b : Option Bytes) → Appends b b []
 appends_none None = tt
@@ -21,22 +21,28 @@ appends_more (Some xs) (Some ys) None s t h k = absurd k
 appends_more (Some xs) (Some ys) (Some zs) s t h k = rw (k, h) (simp append_assoc)
 
 pub no_lines : (b : Option Bytes) → HasLines [] b b
-no_lines b = ([], refl, appends_none b)
+no_lines b = ([], tt, appends_none b)
 
-pub one_line : (d : Data) (text : Bytes) (a b : Option Bytes) → read text ≡ Some d → Appends a b (line text) → HasLines (d ∷ []) a b
+pub one_line : (d : Data) (text : Bytes) (a b : Option Bytes) → IsTextOf d text → Appends a b (line text) → HasLines (d ∷ []) a b
 one_line d text a b is h =
-    (text ∷ [], ap (λ (o : Option Data). o ∷ []) is, subst (λ (s : Bytes). Appends a b s) (sym (append-nil (line text))) h)
+    (text ∷ [], (is, tt), subst (λ (s : Bytes). Appends a b s) (sym (append-nil (line text))) h)
+
+pub texts_join : (ds es : List Data) (ts us : List Bytes) → AreTextsOf ds ts → AreTextsOf es us → AreTextsOf (ds ++ es) (ts ++ us)
+texts_join [] es [] us h k = k
+texts_join [] es (t ∷ ts) us h k = absurd h
+texts_join (d ∷ ds) es [] us h k = absurd h
+texts_join (d ∷ ds) es (t ∷ ts) us h k = (h.0, texts_join ds es ts us h.1 k)
 
 pub more_lines : (ds es : List Data) (a b c : Option Bytes) → HasLines ds a b → HasLines es b c → HasLines (ds ++ es) a c
 more_lines ds es a b c h k = (
   h.0 ++ k.0,
-  map-append read h.0 k.0 ∙ ap₂ (λ (xs ys : List (Option Data)). xs ++ ys) h.1 k.1 ∙ sym (map-append Some ds es),
+  texts_join ds es h.0 k.0 h.1 k.1,
   subst (λ (s : Bytes). Appends a c s) (sym (flat_map-append line h.0 k.0)) (appends_more a b c (flat_map line h.0) (flat_map line k.0) h.2 k.2),
 )
 
 -- one line more
 pub line_behind : (before after : List Data) (d : Data) (text : Bytes) (a b c : Option Bytes) → after ≡ before ++ d ∷ [] → HasLines before a b →
-    read text ≡ Some d → Appends b c (line text) → HasLines after a c
+    IsTextOf d text → Appends b c (line text) → HasLines after a c
 line_behind before after d text a b c longer h is k =
     subst (λ (ds : List Data). HasLines ds a c) (sym longer) (more_lines before (d ∷ []) a b c h (one_line d text b c is k))
 

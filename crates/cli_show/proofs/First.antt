@@ -1,11 +1,9 @@
 -- First ones of lines that are printed, where a task is broken off.
 use Rattle.std.proofs.Common.{◌≡◌, ℕ, List, [], ◌++◌, ◌+◌, ◌∷◌, zero, suc, Option, Some, None, IfSome, Result, Ok, Err, OnErr, length, take, drop}
 use Rattle.std.proofs.Common.{Bool, true, false, inl, inr, refl, sym, ap, ap₂, ◌∙◌, subst, append_assoc, arith}
-use Rattle.std.proofs.lemmas.List.{map-append}
 use Rattle.std.proofs.lemmas.List.Concat.{flat_map-append}
 use Rattle.std.specs.List.{flat_map}
 use Rattle.serde_json.specs.Data.{Data}
-use Rattle.serde_json.specs.Read.{read}
 use Rattle.ledger_model.specs.Chain.{Bytes, Chain, Envelope, Flag, Placed, history, placed_from, transactions_from}
 use Rattle.ledger_model.proofs.Histories.{history-append}
 use Rattle.json_chain.specs.Writes.{placed_at}
@@ -18,16 +16,17 @@ use Rattle.cli_show.specs.Lines.{AreFirstLines, AreLines, HasLines, PrintsFirst,
 use Rattle.cli_show.specs.Marks.{HasTexts}
 use Rattle.cli_show.specs.Findings.{ends_with}
 use Rattle.cli_show.proofs.Answering.{lines_printed}
+use Rattle.cli_show.proofs.Behind.{texts_join}
 
 -- ---- lines of JSON
 
 pub first_none : (ds : List Data) (t u : Told) → PrintsNothing t u → PrintsFirst ds t u
-first_none ds t u none = ([], ([], ds, refl, ([], refl, refl)), part_none t u [] none)
+first_none ds t u none = ([], ([], ds, refl, ([], tt, refl)), part_none t u [] none)
 
 lines_join : (ds es : List Data) (a b : Bytes) → AreLines ds a → AreLines es b → AreLines (ds ++ es) (a ++ b)
 lines_join ds es a b h k = (
   h.0 ++ k.0,
-  map-append read h.0 k.0 ∙ ap₂ (λ (xs ys : List (Option Data)). xs ++ ys) h.1 k.1 ∙ sym (map-append Some ds es),
+  texts_join ds es h.0 k.0 h.1 k.1,
   ap₂ (λ (s t : Bytes). s ++ t) h.2 k.2 ∙ sym (flat_map-append line h.0 k.0),
 )
 

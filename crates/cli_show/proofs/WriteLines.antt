@@ -5,13 +5,12 @@ use Rattle.std.proofs.lemmas.List.{append-nil}
 use Rattle.std.proofs.lemmas.List.Concat.{flat_map-append}
 use Rattle.std.specs.Io.KnownBytes.{Appends}
 use Rattle.serde_json.specs.Data.{Data}
-use Rattle.serde_json.specs.Read.{read}
 use Rattle.ledger_model.specs.Chain.{Bytes, Envelope, Flag, Committed, Chain, Placed, placed_from, transactions_from, history}
 use Rattle.ledger_model.proofs.Histories.{history-push}
 use Rattle.ledger_model.specs.State.{write_of}
 use Rattle.wire.specs.Ids.{id_of}
 use Rattle.json_chain.specs.Entries.{placed_write_json}
-use Rattle.json_chain.specs.Writes.{IsWriteLine, placed_at}
+use Rattle.json_chain.specs.Writes.{IsLineOf, IsWriteLine, placed_at}
 use Rattle.cli_lines.specs.Texts.{line}
 use Rattle.cli_lines.specs.Told.{IsMore, Told}
 use Rattle.cli_show.specs.Lines.{HasLines, PrintsFirst, write_json, writes_json}
@@ -19,16 +18,16 @@ use Rattle.cli_show.proofs.Behind.{more_lines, no_lines, one_line}
 use Rattle.cli_show.proofs.First.{first_more, first_same, first_then, writes_behind}
 
 -- no line, where there was no write
-pub nothing : {A : Type 0} (json : A → Data) (w : Option A) (b : Option Bytes) → None ≡ option_map (λ x. Some (json x)) w →
+nothing : {A : Type 0} (json : A → Data) (w : Option A) (b : Option Bytes) → IsLineOf (option_map json w) None →
     HasLines (map json (option_to_list w)) b b
 nothing json None b is = no_lines b
-nothing json (Some x) b is = absurd cc
+nothing json (Some x) b is = absurd is
 
 -- the line of a write
-pub written : {A : Type 0} (json : A → Data) (w : Option A) (text : Bytes) (a b : Option Bytes) → Some (read text) ≡ option_map (λ x. Some (json x)) w →
-    Appends a b (line text) → HasLines (map json (option_to_list w)) a b
-written json None text a b is h = absurd cc
-written json (Some x) text a b is h = one_line (json x) text a b (cc is) h
+written : {A : Type 0} (json : A → Data) (w : Option A) (text : String Global) (a b : Option Bytes) → IsLineOf (option_map json w) (Some text) →
+    Appends a b (line (string_bytes text)) → HasLines (map json (option_to_list w)) a b
+written json None text a b is h = absurd is
+written json (Some x) text a b is h = one_line (json x) (string_bytes text) a b is h
 
 pub line_of_write : (e : Envelope) (f : Flag) (key : Bytes) (n place : ℕ) (shown : Option (String Global)) (text : String Global) (a b : Option Bytes) →
     IsWriteLine e f key n place shown → shown ≡ Some text → Appends a b (line (string_bytes text)) → HasLines (write_json key (placed_at e f n place)) a b
@@ -36,6 +35,12 @@ line_of_write e f key n place shown text a b h is app =
     let there = rw is at h in
     written (λ w. placed_write_json (id_of e.payload.proposal) w.0.block w.0.place key w.1) (write_of (placed_at e f n place) key) (string_bytes text) a b there
     app
+
+pub no_line_of_write : (e : Envelope) (f : Flag) (key : Bytes) (n place : ℕ) (shown : Option (String Global)) (b : Option Bytes) →
+    IsWriteLine e f key n place shown → shown ≡ None → HasLines (write_json key (placed_at e f n place)) b b
+no_line_of_write e f key n place shown b h is =
+    let none = rw is at h in
+    nothing (λ w. placed_write_json (id_of e.payload.proposal) w.0.block w.0.place key w.1) (write_of (placed_at e f n place) key) b none
 
 -- the transactions up to a place, and the one there
 pub transactions_push : (block place n i : ℕ) (es : List Envelope) (fs : List Flag) (e : Envelope) (d : Flag) → n ≡ place + i → i < length es →

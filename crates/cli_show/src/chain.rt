@@ -1,12 +1,12 @@
 //! The lines of a chain.
 
-ghost use Rattle.std.specs.Prelude.{◌≡◌, None, Some, IfErr, IfOk, OnErr, OnOk, option_map, string_bytes};
+ghost use Rattle.std.specs.Prelude.{◌≡◌, None, IfErr, IfOk, OnErr, OnOk, option_map, string_bytes};
 ghost use Rattle.cli_lines.specs.Told.{IsBrokenOff, Tells};
 ghost use Rattle.world_state.specs.Shared.{blocks_in};
 ghost use Rattle.endorsement_policy.specs.Membership.{standing_by};
 ghost use Rattle.json_chain.specs.Blocks.{block_json};
+ghost use Rattle.json_chain.specs.Plain.{IsTextOf};
 ghost use Rattle.json_chain.specs.Standing.{blocks_json, membership_behind};
-ghost use Rattle.serde_json.specs.Read.{read};
 ghost use Rattle.cli_show.specs.Lines.{HasLines, PrintsFirst, chain_json};
 ghost use Rattle.cli_show.specs.Spans.{before, within};
 
@@ -97,9 +97,10 @@ fn line_behind(
     committed: &CommittedBlock,
 ) -> Result<String, AllocError>
     ensures { IfOk result
-        (λ s. read (string_bytes s)
-        ≡ Some (block_json (standing_by rules.now (option_map (λ m. m.now) membership.entry)).orgs
-        committed.now)) }
+        (λ s. IsTextOf
+        (block_json (standing_by rules.now (option_map (λ m. m.now) membership.entry)).orgs
+        committed.now)
+        (string_bytes s)) }
 {
     let standing = Standing::after(alloc, rules, membership)?;
     block_line(alloc, standing.organisations(), committed)

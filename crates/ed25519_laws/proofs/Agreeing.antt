@@ -16,7 +16,7 @@ equation : (r k s : ℕ) → multiple ((r + k * s) % order) base ≡ sum (multip
 equation r k s =
     base_residue (r + k * s) ∙ multiple_sum base base_is r (k * s) ∙ ap (sum (multiple r base)) (sym (multiple_multiple base base_is k s))
 
-key_decoded : (seed : List ℕ) → decoded (public_key seed) ≡ Some (multiple (secret seed) base)
+pub key_decoded : (seed : List ℕ) → decoded (public_key seed) ≡ Some (multiple (secret seed) base)
 unfolding public_key
 key_decoded seed = decoded-encoded _ (base_multiple (secret seed))
 

@@ -1,12 +1,36 @@
--- Laws of signatures (RFC 8032, sections 5.1.6 and 5.1.7).
-use Rattle.std.specs.Prelude.{◌≡◌, ℕ, ◌%◌, ◌<◌, List, ◌++◌, length, take, true}
+-- Laws of keys and signatures (RFC 8032, sections 5.1.2, 5.1.3 and 5.1.5 to 5.1.7).
+use Rattle.std.specs.Prelude.{◌≡◌, ◌↔◌, ℕ, ◌+◌, ◌-◌, ◌^◌, ◌%◌, ◌<◌, nat_eq, List, [], ◌∷◌, ◌++◌, Some, length, take, true}
+use Rattle.std.specs.List.{AllByRecursion, list_any}
 use Rattle.field25519.specs.Bytes.{number, bytes_of}
-use Rattle.edwards_model.specs.Curve.{base, order, multiple}
-use Rattle.edwards_model.specs.Encoding.{encoded}
-use Rattle.ed25519.specs.Signing.{public_key, signature, challenge, verifies, IsOfSmallOrder}
+use Rattle.field25519.specs.Modulo.{p}
+use Rattle.edwards_model.specs.Curve.{Affine, base, order, multiple}
+use Rattle.edwards_model.specs.Encoding.{encoded, decoded}
+use Rattle.ed25519.specs.Signing.{public_key, signature, challenge, verifies, IsOfSmallOrder, IsPublicKey}
+
+-- 32 bytes that are decoded are the encoding of the point
+abbrev pub EncodingIsUnique : Type 0
+EncodingIsUnique =
+    (bytes : List ℕ) (a : Affine) → length bytes ≡ 32 → AllByRecursion (λ b. b < 256) bytes → decoded bytes ≡ Some a → encoded a ≡ bytes
+
+-- the public key of a seed is decoded, and not of small order
+abbrev pub SeedsHavePublicKeys : Type 0
+SeedsHavePublicKeys = (seed : List ℕ) → IsPublicKey (public_key seed)
 
 abbrev pub SignedIsVerified : Type 0
 SignedIsVerified = (seed message : List ℕ) → verifies (public_key seed) message (signature seed message) ≡ true
+
+-- a y of order 8
+abbrev pub eighth : ℕ
+eighth = 2707385501144840649318225287225658788936804267575313519463743609750303402022
+
+-- the numbers of the encodings of small order: those of y = 0, 1 and -1, and of both y of order 8, with each sign of x that there is
+abbrev pub small_orders : List ℕ
+small_orders = 0 ∷ 2 ^ 255 ∷ 1 ∷ (p - 1) ∷ eighth ∷ (eighth + 2 ^ 255) ∷ (p - eighth) ∷ (p - eighth + 2 ^ 255) ∷ []
+
+-- 32 bytes are of small order exactly where their number is one of these eight
+abbrev pub SmallOrdersAreEight : Type 0
+SmallOrdersAreEight =
+    (bytes : List ℕ) → length bytes ≡ 32 → AllByRecursion (λ b. b < 256) bytes → IsOfSmallOrder bytes ↔ (list_any (nat_eq (number bytes)) small_orders ≡ true)
 
 -- two signatures of one message under one key that begin with the same 32 bytes have the same number after them
 abbrev pub SignatureIsUnique : Type 0

@@ -21,7 +21,8 @@ use Rattle.wire.proofs.Codec.{whole_known, whole_read}
 use Rattle.wire.proofs.DefinitionLaws.{definition}
 use Rattle.policy_language.specs.GoodSets.{Names, needs_someone}
 use Rattle.endorsement_policy.specs.Endorsed.{defined_policy}
-use Rattle.endorsement_policy.specs.Installed.{Installed, IsPlaced, id_of, names_for, names_known, place_for, place_of, used_at, usable_by, usable_in}
+use Rattle.endorsement_policy.specs.Installed.{Installed, IsPlaced, id_of, names_for, names_known, org_names, place_for, place_of, used_at}
+use Rattle.endorsement_policy.specs.Installed.{usable_by, usable_in}
 use Rattle.policy_language.specs.Limits.{IsText}
 use Rattle.policy_language.specs.Reading.{policy_in_text}
 use Rattle.endorsement_policy.specs.declared.installed.ModuleId.{ModuleId}
@@ -129,7 +130,7 @@ module _ (i : Installed) (d : Definition) (u : Usable) (is : usable_by i d ≡ O
           let same_policy = same (names_in_text d.policy) d.policy p u.policy (own_names orgs p d.policy k) h in
           subst (λ (q : Policy). IsText orgs q d.policy) same_policy k
 
-      by_kind : (b : Bool) → IsText (cond b (names_in_text d.policy) i.orgs) u.policy d.policy → b ≡ true →
+      by_kind : (b : Bool) → IsText (cond b (names_in_text d.policy) (org_names i.orgs)) u.policy d.policy → b ≡ true →
           (not b || is_some (policy_in_text orgs d.policy)) ≡ true → IsText orgs u.policy d.policy
       by_kind true h is known = by_found (policy_in_text orgs d.policy) refl h known
       by_kind false h is known = absurd cc

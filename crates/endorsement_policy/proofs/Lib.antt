@@ -5,3 +5,5 @@ pub mod Stands
 pub mod Sources
 pub mod Rights
 pub mod RightOrgs
+pub mod OwnKeys
+pub mod Parts

@@ -4,7 +4,6 @@ use Rattle.std.proofs.Common.{ap, ◌∙◌}
 use Rattle.std.proofs.Common.{subst, ◌⊎◌, inl, inr}
 use Rattle.std.specs.FinMap.{get}
 use Rattle.std.specs.List.{find, list_all}
-use Rattle.std.specs.Result.{is_ok}
 use Rattle.std.proofs.lemmas.Option.{same_Some}
 use Rattle.fab_types.specs.Proposals.{definition_key}
 use Rattle.fab_types.specs.declared.proposal.Proposal.{Proposal}
@@ -12,17 +11,16 @@ use Rattle.fab_types.specs.declared.proposal.Proposal.TheVariants as proposal
 use Rattle.fab_types.specs.declared.envelope.Envelope.{Envelope}
 use Rattle.ledger_model.specs.Chain.{Bytes}
 use Rattle.ledger_model.specs.Defined.{definition_by}
-use Rattle.ledger_model.specs.Views.{Plain}
-use Rattle.fab_types.specs.Memberships.{membership_key}
+use Rattle.ledger_model.specs.Views.{Versioned, values_of}
 use Rattle.policy_language.specs.GoodSets.{Name, Names, is_satisfied, needs_someone}
-use Rattle.endorsement_policy.specs.Installed.{names_known, usable_by}
 use Rattle.policy_language.specs.declared.policy.Policy.{Policy}
 use Rattle.endorsement_policy.specs.declared.rules.ChaincodePolicy.{ChaincodePolicy}
 use Rattle.endorsement_policy.specs.Endorsed.{Listed, do_need_someone, is_policy_of, is_right, right_orgs, is_met_by, listed_policy}
-use Rattle.endorsement_policy.specs.Endorsed.{defined_policy, policy_in, reads_own, names_no_other, is_amend_payload, is_upgrade_payload, org_names}
+use Rattle.endorsement_policy.specs.Endorsed.{defined_policy, policy_in, reads_own, names_no_other}
 use Rattle.endorsement_policy.specs.Endorsed.{is_endorsed_as, is_endorsed, CarriesRight}
-use Rattle.endorsement_policy.specs.Membership.{is_next, listed_in}
+use Rattle.endorsement_policy.specs.Membership.{listed_in}
 use Rattle.endorsement_policy.proofs.Definitions.{defined_needs}
+use Rattle.endorsement_policy.proofs.Parts.{amend_met, upgrade_met}
 use Rattle.endorsement_policy.proofs.Stands.{standing_needs}
 
 both : (a b : Bool) → (a && b) ≡ true → (a ≡ true) × (b ≡ true)
@@ -83,24 +81,24 @@ by_definition r name None need p e = listed_needs r.policies name need p e
 by_definition r name (Some bytes) need p e = defined_needs r.installed bytes p e
 
 -- an envelope that is endorsed is so by somebody
-by_someone : (q : Proposal) (r : Listed) (m : Plain) (e : Envelope) → do_need_someone r.policies ≡ true → needs_someone r.upgrade ≡ true →
+by_someone : (q : Proposal) (r : Listed) (m : Versioned) (e : Envelope) → do_need_someone r.policies ≡ true → needs_someone r.upgrade ≡ true →
     is_endorsed_as q r m e ≡ true → right_orgs r.orgs e ≡ [] → ⊥
 by_someone (proposal.Call c) r m e need upgrade met =
-    met_by_someone (policy_in r m c.chaincode) (right_orgs r.orgs e) (by_definition r c.chaincode (get m (definition_key c.chaincode)) need)
-    (both (reads_own e.payload && names_no_other e.payload) (is_met_by (right_orgs r.orgs e) (policy_in r m c.chaincode)) met).1
+    let there = values_of m in
+    met_by_someone (policy_in r there c.chaincode) (right_orgs r.orgs e) (by_definition r c.chaincode (get there (definition_key c.chaincode)) need)
+    (both (reads_own e.payload && names_no_other e.payload) (is_met_by (right_orgs r.orgs e) (policy_in r there c.chaincode)) met).1
 by_someone (proposal.Upgrade u) r m e need upgrade met =
     met_by_someone (Some r.upgrade) (right_orgs r.orgs e) (λ p is. subst (λ (z : Policy). needs_someone z ≡ true) (same_Some r.upgrade p is) upgrade)
-    (both (is_upgrade_payload u e.payload && is_ok (usable_by r.installed u.definition) && names_known (org_names r.orgs) u.definition)
-    (is_satisfied r.upgrade (right_orgs r.orgs e)) met).1
+    (upgrade_met r m u e met).agreed
 by_someone (proposal.Amend a) r m e need upgrade met =
     met_by_someone (Some r.upgrade) (right_orgs r.orgs e) (λ p is. subst (λ (z : Policy). needs_someone z ≡ true) (same_Some r.upgrade p is) upgrade)
-    (both (is_amend_payload a e.payload && is_next r.installed.orgs (get m membership_key) a.membership) (is_satisfied r.upgrade (right_orgs r.orgs e)) met).1
+    (amend_met r m a e met).agreed
 
-pub carries : (r : Listed) (m : Plain) (e : Envelope) → do_need_someone r.policies ≡ true → needs_someone r.upgrade ≡ true → is_endorsed r m e ≡ true →
-    CarriesRight (listed_in r m).orgs e
+pub carries : (r : Listed) (m : Versioned) (e : Envelope) → do_need_someone r.policies ≡ true → needs_someone r.upgrade ≡ true →
+    is_endorsed r m e ≡ true → CarriesRight (listed_in r (values_of m)).orgs e
 carries r m e need upgrade met =
-    let l = listed_in r m in
+    let l = listed_in r (values_of m) in
     elim (none_or_one (is_right l.orgs e.payload) e.endorsements) [
-      | inl h ↦ absurd (by_someone e.payload.proposal l m e need (standing_needs r m upgrade) met (ap (map (λ x. x.org)) h))
+      | inl h ↦ absurd (by_someone e.payload.proposal l m e need (standing_needs r (values_of m) upgrade) met (ap (map (λ x. x.org)) h))
       | inr h ↦ record { place = h.place; endorsement = h.one; stands = h.there; right = h.passes }
     ]

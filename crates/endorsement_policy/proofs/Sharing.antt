@@ -23,7 +23,7 @@ sync_chaincode_policy : IsSync chaincode_policy_type.the_row
 sync_chaincode_policy = search (sendable, crosses, name.the_sync, sync_policy_field) depth 30
 
 sync_rules : IsSync rules_type.the_row
-sync_rules = search (sendable, crosses, organisation.the_sync, sync_chaincode_policy, sync_policy_field, installed.the_sync) depth 30
+sync_rules = search (sendable, crosses, sync_chaincode_policy, sync_policy_field, installed.the_sync) depth 30
 
 sync_policy : IsSync policy_type.the_row
 sync_policy = search (sendable, crosses, org_name.the_sync, policy_knot.crosses) depth 30

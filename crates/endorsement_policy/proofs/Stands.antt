@@ -1,23 +1,19 @@
 -- Who stands in a state: nobody changes anything without endorsements, and without a membership those of the genesis do.
-use Rattle.std.proofs.Common.{◌≡◌, ℕ, Bool, true, false, cond, List, Option, Some, None, refl, sym, ap, ap₂, ◌∙◌}
-use Rattle.std.specs.Prelude.{is_some}
+use Rattle.std.proofs.Common.{◌≡◌, true, cond, List, Option, Some, None, refl, sym, ap, ap₂, ◌∙◌}
 use Rattle.std.specs.FinMap.{get}
 use Rattle.grammar.specs.Reading.{◌>>=◌, whole_at}
 use Rattle.fab_types.specs.Memberships.{membership_key}
 use Rattle.fab_types.specs.declared.membership.Member.{Member}
-use Rattle.fab_types.specs.declared.membership.MemberKey.TheVariants.{Public}
 use Rattle.fab_types.specs.declared.membership.Membership.{Membership}
 use Rattle.wire.specs.Reading.{membership_at}
 use Rattle.ledger_model.specs.Chain.{Bytes}
 use Rattle.ledger_model.specs.Views.{Plain}
-use Rattle.policy_language.specs.GoodSets.{Name, Names, needs_someone}
+use Rattle.policy_language.specs.GoodSets.{needs_someone}
 use Rattle.policy_language.specs.declared.policy.Policy.{Policy}
 use Rattle.policy_language.proofs.Whole.{text_needs}
-use Rattle.org_keys.specs.Keys.{is_public_key}
-use Rattle.org_keys.specs.declared.organisation.OrgKey.TheVariants as org_key
 use Rattle.org_keys.specs.declared.organisation.Organisation.{Organisation}
 use Rattle.endorsement_policy.specs.Listed.{Listed}
-use Rattle.endorsement_policy.specs.Membership.{is_usable, listed_in, member_names, membership_policy, org_by_key, standing_as, standing_by, standing_in}
+use Rattle.endorsement_policy.specs.Membership.{is_usable, listed_in, member_names, membership_policy, standing_as, standing_by, standing_in}
 use Rattle.endorsement_policy.specs.Membership.{usable_membership, with_standing}
 
 -- ---- the policy that stands needs somebody
@@ -42,34 +38,26 @@ unchanged r m none = ap (λ (value : Option Bytes). with_standing r (standing_by
 
 -- ---- what is found
 
--- by names and a value that are those of a state
-pub found_in : (r : Listed) (m : Plain) (names : Names) (value : Option Bytes) (found : Option Membership) → names ≡ r.installed.orgs →
-    value ≡ get m membership_key → found ≡ usable_membership names value → found ≡ usable_membership r.installed.orgs (get m membership_key)
-found_in r m names value found names_are value_is is = is ∙ ap₂ usable_membership names_are value_is
+-- by organisations and a value that are those of a state
+pub found_in : (r : Listed) (m : Plain) (orgs : List Organisation) (value : Option Bytes) (found : Option Membership) → orgs ≡ r.installed.orgs →
+    value ≡ get m membership_key → found ≡ usable_membership orgs value → found ≡ usable_membership r.installed.orgs (get m membership_key)
+found_in r m orgs value found orgs_are value_is is = is ∙ ap₂ usable_membership orgs_are value_is
 
 -- a membership is read, and then tested
-abbrev pub tested : Names → Membership → Option Membership
-tested names s = cond (is_usable names s) (Some s) None
+abbrev pub tested : List Organisation → Membership → Option Membership
+tested orgs s = cond (is_usable orgs s) (Some s) None
 
-read_first : (names : Names) (value : Option Bytes) → usable_membership names value ≡ ((value >>= whole_at membership_at) >>= tested names)
-read_first names None = refl
-read_first names (Some bytes) = refl
+read_first : (orgs : List Organisation) (value : Option Bytes) → usable_membership orgs value ≡ ((value >>= whole_at membership_at) >>= tested orgs)
+read_first orgs None = refl
+read_first orgs (Some bytes) = refl
 
-pub usable_by : (names : Names) (value : Option Bytes) (found : Option Membership) → found ≡ (value >>= whole_at membership_at) →
-    (usable : Option Membership) → (found >>= tested names) ≡ usable → usable_membership names value ≡ usable
-usable_by names value found found_is usable is = read_first names value ∙ ap (λ (o : Option Membership). o >>= tested names) (sym found_is) ∙ is
+pub usable_by : (orgs : List Organisation) (value : Option Bytes) (found : Option Membership) → found ≡ (value >>= whole_at membership_at) →
+    (usable : Option Membership) → (found >>= tested orgs) ≡ usable → usable_membership orgs value ≡ usable
+usable_by orgs value found found_is usable is = read_first orgs value ∙ ap (λ (o : Option Membership). o >>= tested orgs) (sym found_is) ∙ is
 
 -- by what the value of a state spells, and whether that can be used
 pub stands_by : (r : Listed) (m : Plain) (value : Option Bytes) (found : Option Membership) → value ≡ get m membership_key →
     found ≡ (value >>= whole_at membership_at) → (usable : Option Membership) → (found >>= tested r.installed.orgs) ≡ usable → standing_in r m ≡ standing_by r usable
 stands_by r m value found value_is found_is usable is =
-    let names = r.installed.orgs in
-    ap (standing_by r) (ap (usable_membership names) (sym value_is) ∙ usable_by names value found found_is usable is)
-
--- a member's own key is known where it gives an organisation
-pub own_found : (orgs : List Organisation) (name : Name) (k : List ℕ) → is_some (org_by_key orgs name (Public k)) ≡ is_public_key k
-own_found orgs name k = decided (is_public_key k)
-  where
-    decided : (b : Bool) → is_some (cond {A = Option Organisation} b (Some (record { name = name; key = org_key.Public k })) None) ≡ b
-    decided true = refl
-    decided false = refl
+    let orgs = r.installed.orgs in
+    ap (standing_by r) (ap (usable_membership orgs) (sym value_is) ∙ usable_by orgs value found found_is usable is)

@@ -1,11 +1,12 @@
 -- Whose tags are right, and which envelopes are endorsed.
-use Rattle.std.specs.Prelude.{◌≡◌, ℕ, List, [], ◌∷◌, Option, Some, None, Bool, true, false, ◌&&◌, ◌||◌, map, option_map, bytes_eq, slice_get}
+use Rattle.std.specs.Prelude.{◌≡◌, ℕ, List, [], ◌∷◌, Option, Some, None, Bool, true, false, not, ◌&&◌, ◌||◌, map, option_map, bytes_eq, slice_get}
 use Rattle.std.specs.FinMap.{get}
 use Rattle.std.specs.List.{find, filter, list_all, list_any}
 use Rattle.std.specs.Result.{is_ok}
 use Rattle.fab_types.specs.Order.{is_shown}
 use Rattle.fab_types.specs.Memberships.{membership_key}
 use Rattle.fab_types.specs.Proposals.{definition_key, own_key}
+use Rattle.fab_types.specs.Touched.{is_older}
 use Rattle.fab_types.specs.declared.items.ReadItem.{ReadItem}
 use Rattle.fab_types.specs.declared.items.WriteItem.{WriteItem}
 use Rattle.fab_types.specs.declared.proposal.Amend.{Amend}
@@ -21,9 +22,12 @@ use Rattle.org_keys.specs.Keys.{is_right_by}
 use Rattle.org_keys.specs.Signers.{Seeds, tag_for}
 use Rattle.org_keys.specs.declared.organisation.OrgKey.{OrgKey}
 use Rattle.fab_types.specs.Spelling.{definition_bytes, membership_bytes, payload_bytes}
+use Rattle.ledger_model.specs.Chain.{Version}
 use Rattle.ledger_model.specs.Defined.{definition_in}
-use Rattle.ledger_model.specs.Views.{Plain}
+use Rattle.ledger_model.specs.Flags.{version_at}
+use Rattle.ledger_model.specs.Views.{Plain, Versioned, values_of}
 use Rattle.policy_language.specs.GoodSets.{Name, Names, is_satisfied}
+pub use Rattle.endorsement_policy.specs.Installed.{org_names}
 use Rattle.endorsement_policy.specs.Installed.{Installed, names_known, usable_by, usable_in}
 pub use Rattle.endorsement_policy.specs.Listed.{Listed, is_org, is_policy_of, do_need_someone}
 use Rattle.endorsement_policy.specs.Membership.{is_next, listed_in}
@@ -115,34 +119,43 @@ is_upgrade_payload u p = is_put_payload (definition_key u.chaincode) (definition
 abbrev pub is_amend_payload : Amend → Payload → Bool
 is_amend_payload a p = is_put_payload membership_key (membership_bytes a.membership) p
 
-abbrev pub org_names : List Organisation → Names
-org_names orgs = map (λ o. o.name) orgs
+-- what was read is no newer than what stands: absent, or of a version that is no later
+abbrev pub is_no_newer : (stands read : Option Version) → Bool
+is_no_newer stands None = true
+is_no_newer None (Some v) = false
+is_no_newer (Some s) (Some v) = not (is_older s v)
+
+-- so is each key that is read: of no version that the block itself gives, or a later one
+abbrev pub reads_no_newer : Versioned → Payload → Bool
+reads_no_newer m p = list_all (λ r. is_no_newer (version_at m r.key) r.version) p.reads
 
 -- a call falls under the policy that its chaincode has in the state, whose definition it read
 abbrev pub is_call_endorsed : Listed → Plain → Call → Envelope → Bool
 is_call_endorsed r m c e =
     reads_own e.payload && names_no_other e.payload && is_met_by (right_orgs r.orgs e) (policy_in r m c.chaincode)
 
--- an upgrade to a definition that can be used falls under the policy of upgrades, whatever the chaincode's own policy is
-abbrev pub is_upgrade_endorsed : Listed → Upgrade → Envelope → Bool
-is_upgrade_endorsed r u e =
-    is_upgrade_payload u e.payload && is_ok (usable_by r.installed u.definition) && names_known (org_names r.orgs) u.definition
+-- an upgrade to a definition that can be used falls under the policy of upgrades, whatever the chaincode's own policy is; what it read is no
+-- newer than the state
+abbrev pub is_upgrade_endorsed : Listed → Versioned → Upgrade → Envelope → Bool
+is_upgrade_endorsed r m u e =
+    is_upgrade_payload u e.payload && reads_no_newer m e.payload && is_ok (usable_by r.installed u.definition)
+    && names_known (org_names r.orgs) u.definition && is_satisfied r.upgrade (right_orgs r.orgs e)
+
+-- an amendment to the next membership falls under the policy that stands, whatever the new one is; what it read is no newer than the state
+abbrev pub is_amend_endorsed : Listed → Versioned → Amend → Envelope → Bool
+is_amend_endorsed r m a e =
+    is_amend_payload a e.payload && reads_no_newer m e.payload && is_next r.installed.orgs (get (values_of m) membership_key) a.membership
     && is_satisfied r.upgrade (right_orgs r.orgs e)
 
--- an amendment to the next membership falls under the policy that stands, whatever the new one is
-abbrev pub is_amend_endorsed : Listed → Plain → Amend → Envelope → Bool
-is_amend_endorsed r m a e =
-    is_amend_payload a e.payload && is_next r.installed.orgs (get m membership_key) a.membership && is_satisfied r.upgrade (right_orgs r.orgs e)
-
 -- by the organisations and the policy of upgrades that are listed here
-abbrev pub is_endorsed_as : Proposal → Listed → Plain → Envelope → Bool
-is_endorsed_as (proposal.Call c) r m e = is_call_endorsed r m c e
-is_endorsed_as (proposal.Upgrade u) r m e = is_upgrade_endorsed r u e
+abbrev pub is_endorsed_as : Proposal → Listed → Versioned → Envelope → Bool
+is_endorsed_as (proposal.Call c) r m e = is_call_endorsed r (values_of m) c e
+is_endorsed_as (proposal.Upgrade u) r m e = is_upgrade_endorsed r m u e
 is_endorsed_as (proposal.Amend a) r m e = is_amend_endorsed r m a e
 
 -- in a state, the organisations of which the envelope carries a right tag suffice: by who stands there
-abbrev pub is_endorsed : Listed → Plain → Envelope → Bool
-is_endorsed r m e = is_endorsed_as e.payload.proposal (listed_in r m) m e
+abbrev pub is_endorsed : Listed → Versioned → Envelope → Bool
+is_endorsed r m e = is_endorsed_as e.payload.proposal (listed_in r (values_of m)) m e
 
 -- a right tag stands on the envelope
 pub record CarriesRight (orgs : List Organisation) (e : Envelope) : Type 0 where

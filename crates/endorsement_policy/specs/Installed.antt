@@ -1,6 +1,6 @@
 -- Which definitions of chaincodes can be used, and as what.
 use Rattle.std.specs.Prelude.{◌≡◌, ℕ, List, Option, Some, None, Result, Ok, Err, bytes_eq, ◌==◌, ◌&&◌, ◌||◌, Bool, true, false, not, is_some, if◌then◌else◌}
-use Rattle.std.specs.Prelude.{option_map, slice_get}
+use Rattle.std.specs.Prelude.{map, option_map, slice_get}
 use Rattle.std.specs.List.{position}
 use Rattle.std.specs.Result.{result_ok}
 use Rattle.wasm_profile.specs.Numbers.{number_of}
@@ -12,6 +12,7 @@ use Rattle.policy_language.specs.GoodSets.{Names}
 use Rattle.policy_language.specs.Names.{names_in_text}
 use Rattle.policy_language.specs.Reading.{policy_in_text}
 use Rattle.policy_language.specs.declared.policy.Policy.{Policy}
+use Rattle.org_keys.specs.declared.organisation.Organisation.{Organisation}
 use Rattle.endorsement_policy.specs.declared.fault.DefinitionFault.{DefinitionFault}
 use Rattle.endorsement_policy.specs.declared.fault.DefinitionFault.TheVariants.{NotInstalled, BadPolicy}
 use Rattle.endorsement_policy.specs.declared.installed.ModuleId.{ModuleId}
@@ -19,10 +20,14 @@ use Rattle.endorsement_policy.specs.declared.installed.ModulePlace.{ModulePlace}
 use Rattle.endorsement_policy.specs.declared.installed.ModulePlace.TheVariants as at
 use Rattle.endorsement_policy.specs.declared.installed.Usable.{Usable}
 
--- what every peer has installed: the ids of the modules, and the organisations whose names a policy may have
+-- what every peer has installed: the ids of the modules, and the organisations of the genesis, whose names a policy may have and whose keys
+-- their members may keep
 pub record Installed : Type 0 where
   pub modules : List ModuleId
-  pub orgs : Names
+  pub orgs : List Organisation
+
+abbrev pub org_names : List Organisation → Names
+org_names orgs = map (λ o. o.name) orgs
 
 -- digest and profile are the same
 abbrev pub is_id : ModuleId → ModuleId → Bool
@@ -42,7 +47,7 @@ place_for i d = if d.is_open then Some (at.Named (id_of d)) else option_map at.I
 
 -- the organisations whose names its policy may have: any, if it is open
 abbrev pub names_for : Installed → Definition → Names
-names_for i d = if d.is_open then names_in_text d.policy else i.orgs
+names_for i d = if d.is_open then names_in_text d.policy else org_names i.orgs
 
 -- what a place, a fuel and a policy come to
 abbrev pub used_at : Option ModulePlace → ℕ → Option Policy → Result Usable DefinitionFault

@@ -28,7 +28,7 @@ abbrev pub orgs_behind : Listed → Chain → List Organisation
 orgs_behind r chain = (listed_in r (plain_after chain)).orgs
 
 abbrev pub judges : Judge → Envelope → Bool
-judges j e = is_endorsed_as e.payload.proposal j.listed (plain_after j.chain) e
+judges j e = is_endorsed_as e.payload.proposal j.listed (state (history j.chain)) e
 
 -- who judges a block behind a chain
 abbrev pub judge_behind : Listed → Chain → Judge

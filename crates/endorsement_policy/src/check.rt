@@ -3,7 +3,6 @@
 ghost use Rattle.std.specs.Prelude.{◌≡◌, IfOk, length, map, take};
 ghost use Rattle.ledger_model.specs.Chain.{history};
 ghost use Rattle.ledger_model.specs.State.{state};
-ghost use Rattle.ledger_model.specs.Views.{values_of};
 ghost use Rattle.endorsement_policy.specs.Endorsed.{is_endorsed, right_orgs};
 ghost use Rattle.endorsement_policy.specs.Judge.{judges, orgs_behind};
 
@@ -29,7 +28,7 @@ pub fn is_endorsed(
     envelope: &Envelope,
 ) -> Result<bool, AllocError>
     ensures { IfOk result
-        (λ b. b ≡ is_endorsed rules.now (values_of (state (history snapshot.now))) envelope.now) }
+        (λ b. b ≡ is_endorsed rules.now (state (history snapshot.now)) envelope.now) }
 {
     let judge = Judge::new(alloc, rules, snapshot, &[])?;
     let answer = judge.is_endorsed(alloc, envelope, None);
@@ -46,7 +45,7 @@ pub fn check_plain(
     envelopes: &[Envelope],
 ) -> Result<Vec<bool>, AllocError>
     ensures { IfOk result (λ v. v.items
-        ≡ map (is_endorsed rules.now (values_of (state (history snapshot.now))))
+        ≡ map (is_endorsed rules.now (state (history snapshot.now)))
         envelopes.now) }
 {
     check_with_first(alloc, rules, snapshot, envelopes, &[])
@@ -64,7 +63,7 @@ pub fn check_with_right_orgs(
 ) -> Result<Vec<bool>, AllocError>
     requires { right.now ≡ map (right_orgs (orgs_behind rules.now snapshot.now)) envelopes.now }
     ensures { IfOk result (λ v. v.items
-        ≡ map (is_endorsed rules.now (values_of (state (history snapshot.now))))
+        ≡ map (is_endorsed rules.now (state (history snapshot.now)))
         envelopes.now) }
 {
     check_with_first(alloc, rules, snapshot, envelopes, right)
@@ -82,7 +81,7 @@ fn check_with_first(
         ≡ take (length right.now)
         (map (right_orgs (orgs_behind rules.now snapshot.now)) envelopes.now) }
     ensures { IfOk result (λ v. v.items
-        ≡ map (is_endorsed rules.now (values_of (state (history snapshot.now))))
+        ≡ map (is_endorsed rules.now (state (history snapshot.now)))
         envelopes.now) }
 {
     let judge = Judge::new(alloc, rules, snapshot, envelopes)?;

@@ -2,11 +2,13 @@
 
 ghost use Rattle.std.specs.Prelude.{◌≡◌, ◌&&◌, IfOk};
 ghost use Rattle.std.specs.Result.{is_ok};
-ghost use Rattle.endorsement_policy.specs.Installed.{id_of, names_for, names_known, place_for, place_of, usable_by, usable_in};
+ghost use Rattle.endorsement_policy.specs.Installed.{id_of, names_for, names_known, org_names, place_for, place_of, usable_by, usable_in};
 ghost use Rattle.policy_language.specs.Reading.{policy_in_text};
 
 use crate::fault::DefinitionFault;
+use crate::organisations::names_of;
 use fab_types::{Definition, Fuel, OrgName};
+use org_keys::Organisation;
 use policy_language::{Policy, names_in_text, policy_in_text};
 use std::alloc::{AllocError, Global};
 use std::marker::Model;
@@ -43,19 +45,25 @@ pub enum ModulePlace {
     Named(ModuleId),
 }
 
-/// The ids of the modules, and the organisations whose names a policy may have.
+/// The ids of the modules, and the organisations of the genesis, whose names a policy may have and
+/// whose keys their members may keep.
 #[derive(Drop)]
 pub struct Installed {
     modules: Vec<ModuleId>,
-    orgs: Vec<OrgName>,
+    organisations: Vec<Organisation>,
+    /// Their names.
+    names: Vec<OrgName>,
 }
 
 impl Model for Installed {
-    ghost use Rattle.endorsement_policy.specs.Installed.{Installed};
+    ghost use Rattle.std.specs.Prelude.{◌≡◌};
+    ghost use Rattle.endorsement_policy.specs.Installed.{Installed, org_names};
 
     ghost Value = { Installed };
 
-    ghost view = { λ i. record { modules = i.modules.items; orgs = i.orgs.items } };
+    ghost view = { λ i. record { modules = i.modules.items; orgs = i.organisations.items } };
+
+    ghost invariant = { λ i. i.names.items ≡ org_names i.organisations.items };
 }
 
 /// How a definition is used.
@@ -70,10 +78,21 @@ pub struct Usable {
 }
 
 impl Installed {
-    pub fn new(modules: Vec<ModuleId>, orgs: Vec<OrgName>) -> Installed
-        ensures { result ≡ record { modules = modules.items; orgs = orgs.items } }
+    /// The only error is want of memory.
+    pub fn new(
+        alloc: Global,
+        modules: Vec<ModuleId>,
+        organisations: Vec<Organisation>,
+    ) -> Result<Installed, AllocError>
+        ensures { IfOk result
+            (λ i. i ≡ record { modules = modules.items; orgs = organisations.items }) }
     {
-        Installed { modules, orgs }
+        let names = names_of(alloc, &organisations)?;
+        Ok(Installed {
+            modules,
+            organisations,
+            names,
+        })
     }
 
     /// The id of each module.
@@ -83,11 +102,18 @@ impl Installed {
         &self.modules
     }
 
-    /// The organisations whose names a policy may have.
-    pub fn orgs(&self) -> &[OrgName]
+    /// The organisations of the genesis.
+    pub fn organisations(&self) -> &[Organisation]
         ensures { result.now ≡ self.now.orgs }
     {
-        &self.orgs
+        &self.organisations
+    }
+
+    /// Their names, those that a policy may have.
+    pub fn names(&self) -> &[OrgName]
+        ensures { result.now ≡ org_names self.now.orgs }
+    {
+        &self.names
     }
 
     /// Where the first installed module of this id stands.
@@ -144,7 +170,7 @@ impl Installed {
             let names = names_in_text(alloc, text)?;
             return policy_in_text(alloc, text, &names);
         }
-        policy_in_text(alloc, text, &self.orgs)
+        policy_in_text(alloc, text, self.names())
     }
 
     /// Whether an upgrade may put a definition: it can be used, and its policy is of organisations
@@ -183,7 +209,8 @@ impl Clone for Installed {
     fn clone(&self) -> Result<Installed, AllocError> {
         Ok(Installed {
             modules: self.modules.clone()?,
-            orgs: self.orgs.clone()?,
+            organisations: self.organisations.clone()?,
+            names: self.names.clone()?,
         })
     }
 }

@@ -4,7 +4,9 @@ ghost use Rattle.std.specs.Prelude.{◌≡◌, ◌&&◌, IfOk, IfSome, option_ma
 ghost use Rattle.std.specs.Result.{is_ok};
 ghost use Rattle.std.specs.FinMap.{get};
 ghost use Rattle.fab_types.specs.Memberships.{membership_key};
-ghost use Rattle.endorsement_policy.specs.Endorsed.{is_amend_endorsed, is_call_endorsed, is_met_by, is_upgrade_endorsed, org_names, right_orgs};
+ghost use Rattle.ledger_model.specs.Chain.{history};
+ghost use Rattle.ledger_model.specs.State.{state};
+ghost use Rattle.endorsement_policy.specs.Endorsed.{is_amend_endorsed, is_call_endorsed, is_met_by, is_upgrade_endorsed, org_names, reads_no_newer, right_orgs};
 ghost use Rattle.endorsement_policy.specs.Installed.{names_known, usable_by};
 ghost use Rattle.endorsement_policy.specs.Judge.{judge_behind, judged_policy, judges, plain_after, policy_from};
 ghost use Rattle.endorsement_policy.specs.Membership.{is_next};
@@ -12,12 +14,14 @@ ghost use Rattle.policy_language.specs.GoodSets.{is_satisfied};
 
 use crate::evaluate::satisfied;
 use crate::membership::{is_next, membership_value};
-use crate::payloads::{is_amend_payload, is_upgrade_payload, names_no_other, reads_own};
+use crate::payloads::{
+    is_amend_payload, is_upgrade_payload, names_no_other, reads_no_newer, reads_own,
+};
 use crate::rules::Rules;
 use crate::source::{Known, Source};
 use crate::standing::Standing;
 use crate::tags::right_orgs;
-use fab_types::{Amend, Call, Definition, Envelope, Membership, Name, Proposal, Upgrade};
+use fab_types::{Amend, Call, Definition, Envelope, Membership, Name, Payload, Proposal, Upgrade};
 use policy_language::{OrgSet, Policy};
 use std::alloc::{AllocError, Global};
 use std::marker::Model;
@@ -194,10 +198,14 @@ impl<'a> Judge<'a> {
     ) -> Result<bool, AllocError>
         requires { IfSome right
             (λ orgs. orgs.now ≡ right_orgs self.now.listed.orgs envelope.now) }
-        ensures { IfOk result (λ b. b ≡ is_upgrade_endorsed self.now.listed upgrade.now
+        ensures { IfOk result (λ b. b
+            ≡ is_upgrade_endorsed self.now.listed (state (history self.now.chain)) upgrade.now
             envelope.now) }
     {
         if !is_upgrade_payload(alloc, upgrade, &envelope.payload)? {
+            return Ok(false);
+        }
+        if !self.reads_no_newer(&envelope.payload) {
             return Ok(false);
         }
         if !self.may_be_put(alloc, &upgrade.definition)? {
@@ -228,10 +236,13 @@ impl<'a> Judge<'a> {
         requires { IfSome right
             (λ orgs. orgs.now ≡ right_orgs self.now.listed.orgs envelope.now) }
         ensures { IfOk result (λ b. b
-            ≡ is_amend_endorsed self.now.listed (plain_after self.now.chain) amend.now
+            ≡ is_amend_endorsed self.now.listed (state (history self.now.chain)) amend.now
             envelope.now) }
     {
         if !is_amend_payload(alloc, amend, &envelope.payload)? {
+            return Ok(false);
+        }
+        if !self.reads_no_newer(&envelope.payload) {
             return Ok(false);
         }
         if !self.is_next(alloc, &amend.membership)? {
@@ -258,14 +269,26 @@ impl<'a> Judge<'a> {
         is_met_by(alloc, &self.standing, policy, envelope, right)
     }
 
+    /// Whether each key that is read is no newer than in the state.
+    fn reads_no_newer(&self, payload: &Payload) -> bool
+        ensures { result ≡ reads_no_newer (state (history self.now.chain)) payload.now }
+    {
+        reads_no_newer(self.snapshot, payload)
+    }
+
     /// Whether a membership may come next in the state.
     fn is_next(&self, alloc: Global, membership: &Membership) -> Result<bool, AllocError>
         ensures { IfOk result (λ b. b
             ≡ is_next self.now.listed.installed.orgs
             (get (plain_after self.now.chain) membership_key) membership.now) }
     {
-        let names = self.rules.installed().orgs();
-        is_next(alloc, names, membership_value(self.snapshot), membership)
+        let organisations = self.rules.installed().organisations();
+        is_next(
+            alloc,
+            organisations,
+            membership_value(self.snapshot),
+            membership,
+        )
     }
 }
 

@@ -6,11 +6,12 @@ ghost use Rattle.fab_types.specs.Memberships.{membership_key};
 ghost use Rattle.fab_types.specs.Limits.{IsPolicyText};
 ghost use Rattle.fab_types.specs.declared.definition.Definition.{Definition};
 ghost use Rattle.fab_types.specs.declared.envelope.Envelope.{Envelope};
-ghost use Rattle.ledger_model.specs.Views.{Plain};
+ghost use Rattle.fab_types.specs.declared.membership.Membership.{Membership};
+ghost use Rattle.ledger_model.specs.Views.{Plain, Versioned, values_of};
 ghost use Rattle.fab_types.specs.Spelling.{definition_bytes};
 ghost use Rattle.fab_types.specs.Within.{IsDefinition};
 ghost use Rattle.endorsement_policy.specs.Endorsed.{CarriesRight, Listed, is_endorsed};
-ghost use Rattle.endorsement_policy.specs.Membership.{listed_in};
+ghost use Rattle.endorsement_policy.specs.Membership.{KeysDiffer, listed_in, standing_in, usable_membership};
 ghost use Rattle.endorsement_policy.specs.Installed.{Installed, IsPlaced, names_for, names_known, place_for, usable_by, usable_in};
 ghost use Rattle.policy_language.specs.GoodSets.{Names};
 ghost use Rattle.policy_language.specs.Limits.{IsText};
@@ -22,8 +23,8 @@ use crate::rules::Rules;
 
 /// Where an envelope is endorsed, in whatever state, a right tag of who stands there is on it.
 pub fn an_endorsed_envelope_carries_a_right_tag(rules: &Rules)
-    ensures { (m : Plain) (e : Envelope) → is_endorsed rules.now m e ≡ true →
-        CarriesRight (listed_in rules.now m).orgs e }
+    ensures { (m : Versioned) (e : Envelope) → is_endorsed rules.now m e ≡ true →
+        CarriesRight (listed_in rules.now (values_of m)).orgs e }
 {
     let _policies = rules.policies();
     let _upgrade = rules.upgrade();
@@ -32,6 +33,15 @@ pub fn an_endorsed_envelope_carries_a_right_tag(rules: &Rules)
 /// In a state without a membership those of the genesis stand.
 pub fn unamended()
     ensures { (r : Listed) (m : Plain) → get m membership_key ≡ None → listed_in r m ≡ r }
+{}
+
+/// Those who stand by a membership have different public keys, kept ones too (`members`); and so
+/// have those who stand in any state where the genesis' organisations have them (`all`).
+pub fn public_keys_differ()
+    ensures members { (r : Listed) (m : Plain) (s : Membership) →
+        usable_membership r.installed.orgs (get m membership_key) ≡ Some s →
+        KeysDiffer (standing_in r m).orgs }
+    ensures all { (r : Listed) (m : Plain) → KeysDiffer r.orgs → KeysDiffer (standing_in r m).orgs }
 {}
 
 /// A definition that can be used has a text that spells its policy within the limits (`spelled`),

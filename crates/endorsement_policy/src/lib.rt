@@ -23,6 +23,7 @@ mod fault;
 mod installed;
 mod judge;
 mod laws;
+mod members;
 mod membership;
 mod organisations;
 mod parallel;
@@ -39,7 +40,8 @@ pub use evaluate::satisfied;
 pub use fault::DefinitionFault;
 pub use installed::{Installed, ModuleId, ModulePlace, Usable};
 pub use laws::{
-    an_endorsed_envelope_carries_a_right_tag, unamended, usable_definitions_are_spelled,
+    an_endorsed_envelope_carries_a_right_tag, public_keys_differ, unamended,
+    usable_definitions_are_spelled,
 };
 pub use membership::{is_next, is_usable, membership_value, usable_membership};
 pub use organisations::is_tag;

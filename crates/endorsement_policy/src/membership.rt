@@ -1,17 +1,18 @@
 //! Which memberships can be used, and which may come next.
 
-ghost use Rattle.std.specs.Prelude.{◌≡◌, IfOk, option_and_then, option_map};
+ghost use Rattle.std.specs.Prelude.{◌≡◌, ◌&&◌, IfOk, option_and_then, option_map};
 ghost use Rattle.std.specs.FinMap.{get};
-ghost use Rattle.std.specs.List.{list_all, list_any};
+ghost use Rattle.std.specs.List.{list_all};
 ghost use Rattle.grammar.specs.Reading.{whole_at};
 ghost use Rattle.fab_types.specs.Memberships.{membership_key};
 ghost use Rattle.wire.specs.Reading.{membership_at};
 ghost use Rattle.endorsement_policy.specs.Judge.{plain_after};
-ghost use Rattle.endorsement_policy.specs.Membership.{has_known_key, have_own_keys, is_next, is_same_key, is_usable, member_names, membership_policy, serial_of, usable_membership};
+ghost use Rattle.endorsement_policy.specs.Membership.{has_known_key, have_own_keys, is_next, is_usable, member_names, membership_policy, orgs_by, serial_of, usable_membership};
 
-use fab_types::{Key, Member, MemberKey, Membership, OrgName, Value};
-use org_keys::is_public_key;
-use policy_language::{Policy, is_among, policy_in_text};
+use crate::members::{have_own_keys, organisations_by};
+use fab_types::{Key, Member, Membership, OrgName, Value};
+use org_keys::Organisation;
+use policy_language::{Policy, policy_in_text};
 use std::alloc::{AllocError, Global};
 use wire::{WireFault, decode_membership};
 use world_state::Snapshot;
@@ -27,20 +28,20 @@ pub fn membership_value(snapshot: &Snapshot) -> Option<&Value>
     }
 }
 
-/// The membership that a value spells, if it can be used where the genesis has organisations of
-/// these names. None where it cannot, or spells none. The only error is want of memory.
+/// The membership that a value spells, if it can be used where the genesis has these organisations.
+/// None where it cannot, or spells none. The only error is want of memory.
 pub fn usable_membership(
     alloc: Global,
-    names: &[OrgName],
+    organisations: &[Organisation],
     value: Option<&Value>,
 ) -> Result<Option<Membership>, AllocError>
     ensures { IfOk result (λ s. s
-        ≡ usable_membership names.now (option_map (λ v. v.now) value.entry)) }
+        ≡ usable_membership organisations.now (option_map (λ v. v.now) value.entry)) }
 {
     let Some(membership) = spelled_membership(alloc, value)? else {
         return Ok(None);
     };
-    if !is_usable(alloc, names, &membership)? {
+    if !is_usable(alloc, organisations, &membership)? {
         return Ok(None);
     }
     Ok(Some(membership))
@@ -66,48 +67,47 @@ pub(crate) fn spelled_membership(
 
 /// Whether a membership may come next where the key of the membership has this value: its serial
 /// number is one more than that of what stands, which is 0 by the genesis, and it can be used. The
-/// genesis has organisations of these names. The only error is want of memory.
+/// genesis has these organisations. The only error is want of memory.
 pub fn is_next(
     alloc: Global,
-    names: &[OrgName],
+    organisations: &[Organisation],
     value: Option<&Value>,
     membership: &Membership,
 ) -> Result<bool, AllocError>
     ensures { IfOk result (λ b. b
-        ≡ is_next names.now (option_map (λ v. v.now) value.entry) membership.now) }
+        ≡ is_next organisations.now (option_map (λ v. v.now) value.entry) membership.now) }
 {
-    let serial = standing_serial(alloc, names, value)?;
+    let serial = standing_serial(alloc, organisations, value)?;
     let follows = u64::from(membership.serial) == u64::from(serial) + 1;
-    Ok(follows && is_usable(alloc, names, membership)?)
+    Ok(follows && is_usable(alloc, organisations, membership)?)
 }
 
 /// The serial number of what stands: 0 by the genesis.
 fn standing_serial(
     alloc: Global,
-    names: &[OrgName],
+    organisations: &[Organisation],
     value: Option<&Value>,
 ) -> Result<u32, AllocError>
     ensures { IfOk result (λ n. n
-        ≡ serial_of (usable_membership names.now (option_map (λ v. v.now) value.entry))) }
+        ≡ serial_of (usable_membership organisations.now (option_map (λ v. v.now) value.entry))) }
 {
-    match usable_membership(alloc, names, value)? {
+    match usable_membership(alloc, organisations, value)? {
         Some(membership) => Ok(membership.serial),
         None => Ok(0),
     }
 }
 
-/// Whether a membership can be used: each member that keeps its key has one of these names, each
-/// other has a public key that is to be taken in and no other member's, and the text is a policy of
-/// the members. The only error is want of memory.
+/// Whether a membership can be used: each member that keeps its key is one of these organisations,
+/// each other has a public key that is to be taken in, no two have one public key, be it kept, and
+/// the text is a policy of the members. The only error is want of memory.
 pub fn is_usable(
     alloc: Global,
-    names: &[OrgName],
+    organisations: &[Organisation],
     membership: &Membership,
 ) -> Result<bool, AllocError>
-    ensures { IfOk result (λ b. b ≡ is_usable names.now membership.now) }
+    ensures { IfOk result (λ b. b ≡ is_usable organisations.now membership.now) }
 {
-    let members = membership.members.as_slice();
-    if !have_known_keys(names, members) || !have_own_keys(members) {
+    if !can_stand(alloc, organisations, membership.members.as_slice())? {
         return Ok(false);
     }
     let policy = membership_policy(alloc, membership)?;
@@ -116,52 +116,20 @@ pub fn is_usable(
     Ok(is_policy)
 }
 
-/// Whether each key that is kept is that of one of these names, and each member's own is to be
-/// taken in.
-fn have_known_keys(names: &[OrgName], members: &[Member]) -> bool
-    ensures { result ≡ list_all (has_known_key names.now) members.now }
+/// Whether each member has a key, and no two the same public one.
+fn can_stand(
+    alloc: Global,
+    organisations: &[Organisation],
+    members: &[Member],
+) -> Result<bool, AllocError>
+    ensures { IfOk result (λ b. b
+        ≡ (list_all (has_known_key organisations.now) members.now
+        && have_own_keys (orgs_by organisations.now members.now))) }
 {
-    members.iter().all(|m| has_known_key(names, m))
-}
-
-/// Whether a key that is kept is that of one of these names, or a member's own is to be taken in.
-fn has_known_key(names: &[OrgName], member: &Member) -> bool
-    ensures { result ≡ has_known_key names.now member.now }
-{
-    match &member.key {
-        MemberKey::Kept => is_among(names, &member.name),
-        MemberKey::Public(bytes) => is_public_key(bytes),
-    }
-}
-
-/// Whether no two members have one public key.
-pub(crate) fn have_own_keys(members: &[Member]) -> bool
-    ensures { result ≡ have_own_keys members.now }
-{
-    match members {
-        [] => true,
-        [first, rest @ ..] => !shares_key(first, rest) && have_own_keys(rest),
-    }
-}
-
-/// Whether one of the others has this member's public key.
-fn shares_key(member: &Member, others: &[Member]) -> bool
-    ensures { result
-        ≡ list_any (λ other. is_same_key member.now.key other.key) others.now }
-{
-    others
-        .iter()
-        .any(|other| is_same_key(&member.key, &other.key))
-}
-
-/// Whether both are a public key, the same.
-fn is_same_key(one: &MemberKey, other: &MemberKey) -> bool
-    ensures { result ≡ is_same_key one.now other.now }
-{
-    match (one, other) {
-        (MemberKey::Public(one), MemberKey::Public(other)) => *one == *other,
-        _ => false,
-    }
+    let (found, are_known) = organisations_by(alloc, organisations, members)?;
+    let are_own = have_own_keys(&found);
+    drop(found);
+    Ok(are_known && are_own)
 }
 
 /// The policy of its members that the text of a membership is. The only error is want of memory.

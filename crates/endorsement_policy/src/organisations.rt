@@ -1,11 +1,12 @@
 //! Organisations by their names, and their tags.
 
-ghost use Rattle.std.specs.Prelude.{◌≡◌, option_map};
+ghost use Rattle.std.specs.Prelude.{◌≡◌, IfOk, option_map};
 ghost use Rattle.std.specs.List.{find};
-ghost use Rattle.endorsement_policy.specs.Endorsed.{is_org, is_tag_of};
+ghost use Rattle.endorsement_policy.specs.Endorsed.{is_org, is_tag_of, org_names};
 
 use fab_types::{Endorsement, OrgName};
 use org_keys::Organisation;
+use std::alloc::{AllocError, Global};
 
 /// The first of these organisations that has this name.
 pub(crate) fn find_organisation<'o>(
@@ -15,6 +16,20 @@ pub(crate) fn find_organisation<'o>(
     ensures { option_map (λ o. o.now) result ≡ find (is_org name.now) organisations.now }
 {
     organisations.iter().find(|o| is_named(o, name))
+}
+
+/// The names of organisations. The only error is want of memory.
+pub(crate) fn names_of(
+    alloc: Global,
+    organisations: &[Organisation],
+) -> Result<Vec<OrgName>, AllocError>
+    ensures { IfOk result (λ v. v.items ≡ org_names organisations.now) }
+{
+    let mut names = Vec::with_capacity(alloc, organisations.len())?;
+    for organisation in organisations {
+        names.push(organisation.name.clone()?)?;
+    }
+    Ok(names)
 }
 
 fn is_named(organisation: &Organisation, name: &OrgName) -> bool

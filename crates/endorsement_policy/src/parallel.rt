@@ -3,7 +3,6 @@
 ghost use Rattle.std.specs.Prelude.{◌≡◌, ℕ, ◌+◌, ◌*◌, ◌≤◌, ◌<◌, IfOk, length, map, slice_index_or};
 ghost use Rattle.ledger_model.specs.Chain.{history};
 ghost use Rattle.ledger_model.specs.State.{state};
-ghost use Rattle.ledger_model.specs.Views.{values_of};
 ghost use Rattle.endorsement_policy.specs.Endorsed.{is_endorsed};
 ghost use Rattle.endorsement_policy.specs.Judge.{judges};
 ghost use Rattle.endorsement_policy.specs.Shares.{IsShare};
@@ -39,7 +38,7 @@ pub fn check_all<R: Threads + Sync, G: Gate>(
     gate: &G,
 ) -> Result<Vec<bool>, AllocError>
     ensures { IfOk result (λ v. v.items
-        ≡ map (is_endorsed rules.now (values_of (state (history snapshot.now))))
+        ≡ map (is_endorsed rules.now (state (history snapshot.now)))
         envelopes.now) }
 {
     let rt = workers.rt();

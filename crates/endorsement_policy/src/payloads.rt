@@ -1,11 +1,15 @@
 //! What the payloads of calls, upgrades and amendments may name.
 
 ghost use Rattle.std.specs.Prelude.{◌≡◌, IfOk};
-ghost use Rattle.endorsement_policy.specs.Endorsed.{is_amend_payload, is_one_put, is_one_read, is_put_payload, is_upgrade_payload, is_value, names_no_other, reads_no_other, reads_own, writes_shown};
+ghost use Rattle.ledger_model.specs.Chain.{history};
+ghost use Rattle.ledger_model.specs.Flags.{version_at};
+ghost use Rattle.ledger_model.specs.State.{state};
+ghost use Rattle.endorsement_policy.specs.Endorsed.{is_amend_payload, is_no_newer, is_one_put, is_one_read, is_put_payload, is_upgrade_payload, is_value, names_no_other, reads_no_newer, reads_no_other, reads_own, writes_shown};
 
-use fab_types::{Amend, Key, Payload, ReadItem, Upgrade, Value, WriteItem, is_shown};
+use fab_types::{Amend, Key, Payload, ReadItem, Upgrade, Value, Version, WriteItem, is_shown};
 use std::alloc::{AllocError, Global};
 use wire::{encode_definition, encode_membership};
+use world_state::Snapshot;
 
 /// Whether the key that the proposal is about is read.
 pub(crate) fn reads_own(payload: &Payload) -> bool
@@ -39,6 +43,43 @@ pub(crate) fn names_no_other(payload: &Payload) -> bool
     ensures { result ≡ names_no_other payload.now }
 {
     reads_no_other(payload) && writes_shown(payload)
+}
+
+/// Whether each key that is read is no newer than in the state.
+pub(crate) fn reads_no_newer(snapshot: &Snapshot, payload: &Payload) -> bool
+    ensures { result ≡ reads_no_newer (state (history snapshot.now)) payload.now }
+{
+    let reads = payload.reads().as_slice();
+    reads.iter().all(|r| is_read_no_newer(snapshot, r))
+}
+
+/// Whether a key was read no newer than it is in the state.
+fn is_read_no_newer(snapshot: &Snapshot, read: &ReadItem) -> bool
+    ensures { result
+        ≡ is_no_newer (version_at (state (history snapshot.now)) read.now.key) read.now.version }
+{
+    is_no_newer(standing_version(snapshot, &read.key), read.version)
+}
+
+/// The version of a key in the state. None where the key is absent.
+fn standing_version(snapshot: &Snapshot, key: &Key) -> Option<Version>
+    ensures { result ≡ version_at (state (history snapshot.now)) key.now }
+{
+    match snapshot.get(key) {
+        Some(entry) => Some(entry.1),
+        None => None,
+    }
+}
+
+/// Whether what was read is absent, or of a version that is no later than the one that stands.
+fn is_no_newer(standing: Option<Version>, read: Option<Version>) -> bool
+    ensures { result ≡ is_no_newer standing read }
+{
+    match (standing, read) {
+        (_, None) => true,
+        (None, Some(_)) => false,
+        (Some(standing), Some(read)) => !(standing < read),
+    }
 }
 
 /// Whether this is what an upgrade makes: it puts the new definition at its key. The only error is

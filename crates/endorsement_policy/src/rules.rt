@@ -21,11 +21,10 @@ pub struct ChaincodePolicy {
 }
 
 /// The organisations with their keys, the policy of each chaincode by the genesis, the policy of
-/// upgrades and amendments, and what every peer has installed. Of several of one name the first
-/// counts. Each policy needs at least one endorsement.
+/// upgrades and amendments, and what every peer has installed, with the organisations among it. Of
+/// several of one name the first counts. Each policy needs at least one endorsement.
 #[derive(Drop)]
 pub struct Rules {
-    organisations: Vec<Organisation>,
     policies: Vec<ChaincodePolicy>,
     upgrade: Policy,
     installed: Installed,
@@ -43,7 +42,7 @@ impl Model for Rules {
     ghost coded = { Prim.hlevel (codes, policies_code) };
 
     ghost view = { λ r. record {
-      orgs = r.organisations.items;
+      orgs = r.installed.orgs;
       policies = r.policies.items;
       upgrade = r.upgrade;
       installed = r.installed;
@@ -68,10 +67,9 @@ fn do_need_someone(policies: &[ChaincodePolicy]) -> bool
 }
 
 impl Rules {
-    /// The rules of these organisations and policies. None where some policy is satisfied without
+    /// The rules of these policies and organisations. None where some policy is satisfied without
     /// any endorsement, as one with the threshold 0 is.
     pub fn new(
-        organisations: Vec<Organisation>,
         policies: Vec<ChaincodePolicy>,
         upgrade: Policy,
         installed: Installed,
@@ -79,7 +77,7 @@ impl Rules {
         ensures accepted { IsSome result ↔
             ((do_need_someone policies.items ≡ true) × (needs_someone upgrade ≡ true)) }
         ensures value { IfSome result (λ r. r ≡ record {
-          orgs = organisations.items;
+          orgs = installed.orgs;
           policies = policies.items;
           upgrade = upgrade;
           installed = installed;
@@ -92,18 +90,18 @@ impl Rules {
             return None;
         }
         Some(Rules {
-            organisations,
             policies,
             upgrade,
             installed,
         })
     }
 
-    /// The organisations.
+    /// The organisations, which are those that are installed.
     pub fn organisations(&self) -> &[Organisation]
-        ensures { result.now ≡ self.now.orgs }
+        ensures value { result.now ≡ self.now.orgs }
+        ensures installed { self.now.installed.orgs ≡ self.now.orgs }
     {
-        &self.organisations
+        self.installed.organisations()
     }
 
     /// The policies of chaincodes.
@@ -133,7 +131,7 @@ impl Rules {
     pub fn organisation(&self, name: &OrgName) -> Option<&Organisation>
         ensures { option_map (λ o. o.now) result ≡ find (is_org name.now) self.now.orgs }
     {
-        find_organisation(&self.organisations, name)
+        find_organisation(self.organisations(), name)
     }
 
     /// The policy of this chaincode.

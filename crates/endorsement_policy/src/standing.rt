@@ -1,18 +1,18 @@
 //! Who the organisations are before a block.
 
-ghost use Rattle.std.specs.Prelude.{◌≡◌, ◌||◌, [], Some, None, IfOk, not, option_and_then, option_map, if◌then◌else◌};
-ghost use Rattle.std.specs.List.{find, list_all};
+ghost use Rattle.std.specs.Prelude.{◌≡◌, ◌||◌, Some, None, IfOk, not, option_and_then, option_map, if◌then◌else◌};
+ghost use Rattle.std.specs.List.{find};
 ghost use Rattle.endorsement_policy.specs.Endorsed.{is_org, org_names};
 ghost use Rattle.endorsement_policy.specs.Judge.{plain_after};
-ghost use Rattle.endorsement_policy.specs.Membership.{has_known_key, is_usable, org_by_key, orgs_by, standing_by, standing_in};
-ghost use Rattle.fab_types.specs.declared.membership.MemberKey.TheVariants.{Kept, Public};
+ghost use Rattle.endorsement_policy.specs.Membership.{is_usable, standing_by, standing_in};
 
-use crate::membership::{have_own_keys, membership_policy, membership_value, spelled_membership};
-use crate::organisations::find_organisation;
+use crate::members::{have_own_keys, organisations_by};
+use crate::membership::{membership_policy, membership_value, spelled_membership};
+use crate::organisations::{find_organisation, names_of};
 use crate::rules::Rules;
-use fab_types::{Member, MemberKey, Membership, OrgName};
-use org_keys::{OrgKey, Organisation, PublicKey};
-use policy_language::{Policy, is_among};
+use fab_types::{Membership, OrgName};
+use org_keys::Organisation;
+use policy_language::Policy;
 use std::alloc::{AllocError, Global};
 use std::marker::Model;
 use world_state::Snapshot;
@@ -100,14 +100,15 @@ impl<'a> Standing<'a> {
             return Ok(Standing::by_genesis(rules));
         };
         let members = membership.members.as_slice();
-        let are_own = have_own_keys(members);
         let Some(upgrade) = membership_policy(alloc, membership)? else {
             return Ok(Standing::by_genesis(rules));
         };
-        let Ok((organisations, are_known)) = organisations_by(alloc, rules, members) else {
+        let genesis = rules.installed().organisations();
+        let Ok((organisations, are_known)) = organisations_by(alloc, genesis, members) else {
             drop(upgrade);
             return Err(AllocError);
         };
+        let are_own = have_own_keys(&organisations);
         if is_tested & !(are_known & are_own) {
             drop(organisations);
             drop(upgrade);
@@ -151,82 +152,6 @@ impl<'a> Standing<'a> {
     pub(crate) fn names(&self, alloc: Global) -> Result<Vec<OrgName>, AllocError>
         ensures { IfOk result (λ v. v.items ≡ org_names self.now.orgs) }
     {
-        let organisations = self.organisations();
-        let mut names = Vec::with_capacity(alloc, organisations.len())?;
-        for organisation in organisations {
-            names.push(organisation.name.clone()?)?;
-        }
-        Ok(names)
+        names_of(alloc, self.organisations())
     }
-}
-
-/// The organisations that members are, and whether each member's key is known. The only error is
-/// want of memory.
-fn organisations_by(
-    alloc: Global,
-    rules: &Rules,
-    members: &[Member],
-) -> Result<(Vec<Organisation>, bool), AllocError>
-    ensures organisations { IfOk result (λ o. o.0.items ≡ orgs_by rules.now.orgs members.now) }
-    ensures known { IfOk result
-        (λ o. o.1 ≡ list_all (has_known_key rules.now.installed.orgs) members.now) }
-{
-    let mut organisations = Vec::with_capacity(alloc, members.len())?;
-    let mut are_known = true;
-    for member in members {
-        let (organisation, is_known) = organisation_of(rules, member)?;
-        are_known &= is_known;
-        if let Some(organisation) = organisation {
-            organisations.push(organisation)?;
-        }
-    }
-    Ok((organisations, are_known))
-}
-
-/// The organisation that a member is, and whether the member's key is known. The only error is
-/// want of memory.
-fn organisation_of(
-    rules: &Rules,
-    member: &Member,
-) -> Result<(Option<Organisation>, bool), AllocError>
-    ensures organisation { IfOk result
-        (λ o. o.0 ≡ org_by_key rules.now.orgs member.now.name member.now.key) }
-    ensures known { IfOk result
-        (λ o. o.1 ≡ has_known_key rules.now.installed.orgs member.now) }
-{
-    match member.key {
-        MemberKey::Kept => {
-            let organisation = kept_organisation(rules, &member.name)?;
-            let is_known = is_among(rules.installed().orgs(), &member.name);
-            Ok((organisation, is_known))
-        }
-        MemberKey::Public(bytes) => {
-            let organisation = own_organisation(&member.name, bytes)?;
-            let is_known = organisation.is_some();
-            Ok((organisation, is_known))
-        }
-    }
-}
-
-/// The one of the genesis that has this name, with its key.
-fn kept_organisation(rules: &Rules, name: &OrgName) -> Result<Option<Organisation>, AllocError>
-    ensures { IfOk result (λ o. o ≡ org_by_key rules.now.orgs name.now Kept) }
-{
-    match rules.organisation(name) {
-        Some(organisation) => Ok(Some(organisation.clone()?)),
-        None => Ok(None),
-    }
-}
-
-/// The one of this name and this public key. None where the bytes are no key to take in.
-fn own_organisation(name: &OrgName, bytes: [u8; 32]) -> Result<Option<Organisation>, AllocError>
-    ensures { IfOk result (λ o. o ≡ org_by_key [] name.now (Public bytes)) }
-{
-    let Some(key) = PublicKey::new(bytes) else {
-        return Ok(None);
-    };
-    Ok(Some(Organisation {
-        name: name.clone()?,
-        key: OrgKey::Public(key),
-    }))
 }

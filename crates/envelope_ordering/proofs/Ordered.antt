@@ -1,8 +1,9 @@
 -- What an orderer was given, with one envelope more and with the timeout.
-use Rattle.std.proofs.Common.{◌≡◌, ◌≢◌, ◌+◌, ◌-◌, ◌^◌, ◌++◌, ℕ, List, [], ◌∷◌, length-append, append-nil, map, inl, inr, refl, sym, ◌∙◌, ap, subst, arith}
+use Rattle.std.proofs.Common.{◌≡◌, ◌≢◌, ◌≤◌, ◌+◌, ◌-◌, ◌^◌, ◌++◌, ℕ, List, [], ◌∷◌, length-append, append-nil, map, inl, inr, refl, sym, ◌∙◌, ap, subst, arith}
 use Rattle.std.specs.Prelude.{min}
 use Rattle.std.proofs.lemmas.List.{map-append}
 use mathlib.Core.List.{IsPrefix}
+use Rattle.fab_types.specs.Size.{envelope_size}
 use Rattle.fab_types.specs.declared.envelope.Envelope.{Envelope}
 use Rattle.batch_cutter.specs.Division.{Mark, message, timeout}
 use Rattle.orderer.specs.Ordering.{Ordering, IsOrdered, IsRefused, Takes}
@@ -15,11 +16,11 @@ use Rattle.envelope_ordering.proofs.Parting.{push_taken, push_refused, by_same}
 
 pub one_taken : (given : List Envelope) (e : Envelope) (old new : Ordering) (missing after : ℕ)
     → ((marks : List (Mark Envelope)) → IsOrdered marks old → IsOrdered (marks ++ message e ∷ []) new) → new.limits ≡ old.limits → new.reorder ≡ old.reorder →
-    after ≡ missing → WasGiven given old missing → WasGiven (given ++ e ∷ []) new after
-one_taken given e old new missing after step limits reorder kept h = (
+    after ≡ missing → envelope_size e ≤ old.limits.absolute → WasGiven given old missing → WasGiven (given ++ e ∷ []) new after
+one_taken given e old new missing after step limits reorder kept fits h = (
   h.0 ++ e ∷ [],
   h.1,
-  by_same old.limits new.limits old.reorder new.reorder (given ++ e ∷ []) (h.0 ++ e ∷ []) h.1 limits reorder (push_taken e h.2),
+  by_same old.limits new.limits old.reorder new.reorder (given ++ e ∷ []) (h.0 ++ e ∷ []) h.1 limits reorder (push_taken e fits h.2),
   subst (λ (marks : List (Mark Envelope)). IsOrdered marks new) (sym (map-append message h.0 (e ∷ []))) (step (map message h.0) h.3),
   kept ∙ h.4,
 )

@@ -1,14 +1,15 @@
 -- One envelope more that an orderer was given, and how many it was given.
-use Rattle.std.proofs.Common.{◌≡◌, ◌+◌, ◌++◌, Bool, List, [], ◌∷◌, length, append_assoc, append-nil, refl, sym, ◌∙◌, subst, arith}
+use Rattle.std.proofs.Common.{◌≡◌, ◌+◌, ◌≤◌, ◌++◌, Bool, List, [], ◌∷◌, length, append_assoc, append-nil, refl, sym, ◌∙◌, subst, arith}
+use Rattle.fab_types.specs.Size.{envelope_size}
 use Rattle.fab_types.specs.declared.envelope.Envelope.{Envelope}
 use Rattle.batch_cutter.specs.Division.{Limits}
 use Rattle.envelope_ordering.specs.Given.{AcceptsEach, IsRejected, ends, takes, refuses}
 
-pub push_taken : {l : Limits} {r : Bool} {taken given ordered refused : List Envelope} (e : Envelope) → AcceptsEach l r taken given ordered refused →
-    AcceptsEach l r taken (given ++ e ∷ []) (ordered ++ e ∷ []) refused
-push_taken e ends = takes ends
-push_taken e (takes h) = takes (push_taken e h)
-push_taken e (refuses why h) = refuses why (push_taken e h)
+pub push_taken : {l : Limits} {r : Bool} {taken given ordered refused : List Envelope} (e : Envelope) → envelope_size e ≤ l.absolute →
+    AcceptsEach l r taken given ordered refused → AcceptsEach l r taken (given ++ e ∷ []) (ordered ++ e ∷ []) refused
+push_taken e fits ends = takes fits ends
+push_taken e fits (takes size h) = takes size (push_taken e fits h)
+push_taken e fits (refuses why h) = refuses why (push_taken e fits h)
 
 next_in : {X : Type 0} (xs : List X) (x : X) (ys : List X) → xs ++ x ∷ ys ≡ (xs ++ x ∷ []) ++ ys
 next_in xs x ys = sym (append_assoc xs (x ∷ []) ys)
@@ -17,13 +18,13 @@ next_in xs x ys = sym (append_assoc xs (x ∷ []) ys)
 pub push_refused : (l : Limits) (r : Bool) (taken whole : List Envelope) (e : Envelope) {given ordered refused : List Envelope} → whole ≡ taken ++ ordered →
     IsRejected l r whole e → AcceptsEach l r taken given ordered refused → AcceptsEach l r taken (given ++ e ∷ []) ordered (refused ++ e ∷ [])
 push_refused l r taken whole e is why ends = refuses (subst (λ (es : List Envelope). IsRejected l r es e) (is ∙ append-nil taken) why) ends
-push_refused l r taken whole e is why (takes h) = takes (push_refused l r _ whole e (is ∙ next_in taken _ _) why h)
+push_refused l r taken whole e is why (takes size h) = takes size (push_refused l r _ whole e (is ∙ next_in taken _ _) why h)
 push_refused l r taken whole e is why (refuses first h) = refuses first (push_refused l r taken whole e is why h)
 
 pub parted_length : {l : Limits} {r : Bool} {taken given ordered refused : List Envelope} → AcceptsEach l r taken given ordered refused →
     length given ≡ length ordered + length refused
 parted_length ends = refl
-parted_length (takes h) = omega (arith, parted_length h)
+parted_length (takes size h) = omega (arith, parted_length h)
 parted_length (refuses why h) = omega (arith, parted_length h)
 
 pub by_same : (l m : Limits) (r s : Bool) (given ordered refused : List Envelope) → m ≡ l → s ≡ r → AcceptsEach l r [] given ordered refused →

@@ -1,5 +1,6 @@
 -- What an orderer made of the envelopes that it was given in turn, and of a timeout after them.
-use Rattle.std.specs.Prelude.{◌≡◌, ℕ, ◌-◌, ◌^◌, min, ◌⊎◌, Bool, List, [], ◌∷◌, ◌++◌, length, map}
+use Rattle.std.specs.Prelude.{◌≡◌, ℕ, ◌≤◌, ◌-◌, ◌^◌, min, ◌⊎◌, Bool, List, [], ◌∷◌, ◌++◌, length, map}
+use Rattle.fab_types.specs.Size.{envelope_size}
 use Rattle.fab_types.specs.declared.envelope.Envelope.{Envelope}
 use Rattle.batch_cutter.specs.Division.{Limits, message, timeout}
 use Rattle.orderer.specs.Ordering.{Ordering, IsOrdered, IsTooLarge, RunsOut}
@@ -10,11 +11,12 @@ IsRejected limits reorder taken e =
     IsTooLarge limits (message e)
     ⊎ ((now : Ordering) × (now.limits ≡ limits) × (now.reorder ≡ reorder) × IsOrdered (map message taken) now × RunsOut now (message e))
 
--- behind what it has taken an orderer is given some envelopes in turn: it orders those of the next list, and refuses the others, those of the last one
+-- behind what it has taken an orderer is given some envelopes in turn: it orders those of the next list, none of which is too large, and refuses
+-- the others, those of the last one
 pub data AcceptsEach (limits : Limits) (reorder : Bool) : (taken given ordered refused : List Envelope) → Type 0 where
   ends : {taken : List Envelope} → AcceptsEach limits reorder taken [] [] []
-  takes : {e : Envelope} {taken given ordered refused : List Envelope} → AcceptsEach limits reorder (taken ++ e ∷ []) given ordered refused →
-      AcceptsEach limits reorder taken (e ∷ given) (e ∷ ordered) refused
+  takes : {e : Envelope} {taken given ordered refused : List Envelope} → envelope_size e ≤ limits.absolute
+      → AcceptsEach limits reorder (taken ++ e ∷ []) given ordered refused → AcceptsEach limits reorder taken (e ∷ given) (e ∷ ordered) refused
   refuses : {e : Envelope} {taken given ordered refused : List Envelope} → IsRejected limits reorder taken e
       → AcceptsEach limits reorder taken given ordered refused → AcceptsEach limits reorder taken (e ∷ given) ordered (e ∷ refused)
 

@@ -7,7 +7,7 @@ use Rattle.ledger_model.specs.Execution.{Exec}
 use Rattle.ledger_model.specs.Judged.{AllEndorsed, AreEndorsed, block_of}
 use Rattle.ledger_model.specs.Serial.{AllHandedOut, IsHandedOut}
 use Rattle.ledger_model.specs.State.{state}
-use Rattle.ledger_model.specs.Views.{Plain, values_of}
+use Rattle.ledger_model.specs.Views.{Versioned, values_of}
 use Rattle.org_keys.specs.declared.organisation.Organisation.{Organisation}
 use Rattle.endorsement_policy.specs.Endorsed.{CarriesRight, Listed, is_endorsed, is_right}
 use Rattle.endorsement_policy.specs.Membership.{listed_in}
@@ -17,7 +17,7 @@ use Rattle.fabric_core.specs.Headline.{AreGenuine, AreUnforged, IsAmong, IsGenui
 
 -- whatever the state, an endorsed envelope carries a right tag of who stands there
 abbrev pub DoCarry : Listed → Type 0
-DoCarry listed = (m : Plain) (e : Envelope) → is_endorsed listed m e ≡ true → CarriesRight (listed_in listed m).orgs e
+DoCarry listed = (m : Versioned) (e : Envelope) → is_endorsed listed m e ≡ true → CarriesRight (listed_in listed (values_of m)).orgs e
 
 -- ---- where no tag was forged, those that a policy wants were handed out
 
@@ -38,12 +38,12 @@ block_genuine orgs endorsed replies (t ∷ ts) carries h unforged = (
 )
 
 pub all_genuine : (listed : Listed) (replies : List Reply) (before cs : Chain) → DoCarry listed →
-    AreEndorsed (λ ts. is_endorsed listed (values_of (state ts))) before cs → AreUnforged (right_of listed) replies before cs →
+    AreEndorsed (λ ts. is_endorsed listed (state ts)) before cs → AreUnforged (right_of listed) replies before cs →
     AreGenuine (right_of listed) replies before cs
 all_genuine listed replies before [] carries h unforged = tt
 all_genuine listed replies before (c ∷ cs) carries h unforged =
-    let m = values_of (state (history before)) in (
-      block_genuine (listed_in listed m).orgs (is_endorsed listed m) replies (block_of before c) (carries m) h.0 unforged.0,
+    let m = state (history before) in (
+      block_genuine (listed_in listed (values_of m)).orgs (is_endorsed listed m) replies (block_of before c) (carries m) h.0 unforged.0,
       all_genuine listed replies (before ++ c ∷ []) cs carries h.1 unforged.1,
     )
 

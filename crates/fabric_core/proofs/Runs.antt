@@ -257,7 +257,7 @@ honest_at exec alone listed carries seeds capacity w es replies new steps n =
     let blocks = new.orderer.chain in
     let chain = chain_at r new n in
     let flags = flags_judged (table_of listed) (take n blocks) in
-    let endorsed : List Placed → Envelope → Bool = λ before. is_endorsed listed (values_of (state before)) in
+    let endorsed : List Placed → Envelope → Bool = λ before. is_endorsed listed (state before) in
     let given : (p : Payload) (x : Endorsement) → IsAmong (Endorsed p x) replies → IsHandedOut exec chain p =
     λ p x among. handed_out r new n p (run_gives r w es replies new steps among.0 p x among.1) in
     record {

@@ -4,7 +4,6 @@ ghost use Rattle.std.specs.Prelude.{◌≡◌, ⊤, IfOk, map};
 ghost use Rattle.std.specs.Thread.{IsSync};
 ghost use Rattle.ledger_model.specs.Chain.{history};
 ghost use Rattle.ledger_model.specs.State.{state};
-ghost use Rattle.ledger_model.specs.Views.{values_of};
 ghost use Rattle.endorsement_policy.specs.Endorsed.{is_endorsed};
 
 use endorsement_policy::{Rules, Workers, check_plain};
@@ -30,7 +29,7 @@ pub trait Checks {
     ) -> Result<Vec<bool>, AllocError>
         requires { ready self.now }
         ensures { IfOk result (λ v. v.items
-            ≡ map (is_endorsed rules.now (values_of (state (history snapshot.now))))
+            ≡ map (is_endorsed rules.now (state (history snapshot.now)))
             envelopes.now) };
 }
 

@@ -19,7 +19,7 @@ use Rattle.org_keys.specs.declared.organisation.OrgKey.{OrgKey}
 use Rattle.org_keys.specs.declared.organisation.OrgKey.TheVariants as key
 use Rattle.org_keys.specs.declared.organisation.Organisation.{Organisation}
 use Rattle.endorsement_policy.specs.declared.rules.ChaincodePolicy.{ChaincodePolicy}
-use Rattle.endorsement_policy.specs.Endorsed.{Listed, key_of, listed_policy}
+use Rattle.endorsement_policy.specs.Endorsed.{Listed, key_of, listed_policy, org_names}
 use Rattle.chaincode_book.specs.declared.book.Chaincode.{Chaincode}
 use Rattle.ledger_setting.specs.declared.genesis.Genesis.{Genesis}
 use Rattle.serde_json.specs.Data.{Data, depth, items_depth, string, object, member, no_members}
@@ -124,7 +124,7 @@ genesis_low g =
       arith,
       pairs_low (chaincode_json g.rules.value.policies) 1 (chaincode_low g.rules.value.policies) book.chaincodes book.installed.modules,
       items_low module_json 1 module_low book.installed.modules,
-      items_low (org_json g.rules.value.orgs) 1 (org_low g.rules.value.orgs) book.installed.orgs,
+      items_low (org_json g.rules.value.orgs) 1 (org_low g.rules.value.orgs) (org_names book.installed.orgs),
       items_low string 0 string_low g.peers.items,
     )
 

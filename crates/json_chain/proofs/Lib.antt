@@ -1,4 +1,5 @@
 pub mod Depths
+pub mod Floats
 mod Collecting
 mod Written
 mod Stands

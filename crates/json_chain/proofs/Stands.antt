@@ -1,23 +1,17 @@
 -- Who is shown as standing before a block is who stands in the state there.
-use Rattle.std.proofs.Common.{◌≡◌, ℕ, zero, suc, ◌+◌, ◌≤◌, Bool, cond, ◌&&◌, true, false, List, [], ◌∷◌, ◌++◌, length, take, Option, Some, None}
-use Rattle.std.proofs.Common.{refl, sym, ap, ap₂, ◌∙◌, arith, slice_get, option_map, bytes_eq}
+use Rattle.std.proofs.Common.{◌≡◌, ℕ, zero, suc, ◌+◌, ◌≤◌, true, List, [], ◌∷◌, ◌++◌, length, take, Option, Some, None, inl, inr}
+use Rattle.std.proofs.Common.{refl, sym, ap, ◌∙◌, arith, slice_get, option_map}
 use Rattle.std.specs.FinMap.{get}
-use Rattle.std.specs.List.{AllByRecursion, list_all}
+use Rattle.std.specs.List.{AllByRecursion}
 use Rattle.std.specs.Option.{option_or}
-use Rattle.std.specs.Ordering.{eq_by_cmp}
-use Rattle.std.specs.Result.{is_ok}
 use Rattle.std.proofs.lemmas.Bool.{and_parts}
-use Rattle.std.proofs.lemmas.Slice.Eq.{bytes_eq-Decides}
 use Rattle.fab_types.specs.BlockWithin.{IsBlock, IsEnvelope}
 use Rattle.fab_types.specs.Committed.{Committed}
 use Rattle.fab_types.specs.Memberships.{membership_key}
-use Rattle.fab_types.specs.Order.{is_shown}
-use Rattle.fab_types.specs.Payloads.{Payload}
 use Rattle.fab_types.specs.Proposals.{definition_key}
-use Rattle.fab_types.specs.Spelling.{definition_bytes, membership_bytes}
+use Rattle.fab_types.specs.Spelling.{membership_bytes}
 use Rattle.fab_types.specs.Within.{IsMembership, IsProposal}
 use Rattle.fab_types.specs.declared.envelope.Envelope.{Envelope}
-use Rattle.fab_types.specs.declared.items.WriteItem.{WriteItem}
 use Rattle.fab_types.specs.declared.membership.Membership.{Membership}
 use Rattle.fab_types.specs.declared.proposal.Proposal.{Proposal}
 use Rattle.fab_types.specs.declared.proposal.Proposal.TheVariants as proposal
@@ -29,58 +23,21 @@ use Rattle.ledger_model.specs.Chain.{Bytes, Version, Flag, Valid, EndorsementPol
 use Rattle.ledger_model.specs.Chain.{Chain, Placed, history, placed_from, transactions_from}
 use Rattle.ledger_model.specs.Judged.{AllEndorsed, AreEndorsed, AreFlagsBy}
 use Rattle.ledger_model.specs.State.{last_write, state, value_and_version, write_of, write_to}
-use Rattle.ledger_model.specs.Views.{Plain, key_cmp, values_of}
+use Rattle.ledger_model.specs.Views.{Versioned, values_of}
 use Rattle.ledger_model.proofs.Judged.{judged_endorsed}
-use Rattle.ledger_model.proofs.Keys.{by_key, tie_self}
 use Rattle.org_keys.specs.declared.organisation.Organisation.{Organisation}
-use Rattle.policy_language.specs.GoodSets.{is_satisfied}
-use Rattle.endorsement_policy.specs.Endorsed.{Listed, is_amend_payload, is_endorsed, is_endorsed_as, is_met_by, is_none, is_one_put, is_one_read}
-use Rattle.endorsement_policy.specs.Endorsed.{is_put_payload, is_upgrade_payload, is_value, names_no_other, org_names, policy_in, reads_no_other}
-use Rattle.endorsement_policy.specs.Endorsed.{reads_own, right_orgs, writes_shown}
-use Rattle.endorsement_policy.specs.Installed.{names_known, usable_by}
+use Rattle.endorsement_policy.specs.Endorsed.{Listed, is_endorsed, is_endorsed_as}
 use Rattle.endorsement_policy.specs.Judge.{orgs_behind, plain_after}
-use Rattle.endorsement_policy.specs.Membership.{is_next, is_usable, listed_in, standing_by, usable_membership}
+use Rattle.endorsement_policy.specs.Membership.{is_usable, listed_in, standing_by, usable_membership}
+use Rattle.endorsement_policy.proofs.Parts.{amend_met, paid}
 use Rattle.endorsement_policy.proofs.Sources.{value_after}
-use Rattle.ledger_setting.specs.Amended.{AreNamed, IsNamed}
 use Rattle.ledger_setting.specs.Rule.{table_of}
+use Rattle.ledger_setting.proofs.Written.{written as wrote, written_here}
 use Rattle.json_chain.specs.Blocks.{block_json}
 use Rattle.json_chain.specs.Standing.{IsChainOf, amended, amended_by, blocks_json, membership_behind}
 
--- ---- what a payload does to the key of the membership
-
-apart : (key : Bytes) → (membership_key ≡ key → ⊥) → eq_by_cmp key_cmp membership_key key ≡ false
-apart key other = by_key (λ b. b ≡ false) membership_key key (λ same. absurd (other same)) (λ e. refl)
-
-apart_shown : (key : Bytes) → is_shown key ≡ true → membership_key ≡ key → ⊥
-apart_shown key shown same = let wrong : is_shown membership_key ≡ true = ap is_shown same ∙ shown in cc
-
 apart_named : (name : Bytes) → 1 ≤ length name → membership_key ≡ definition_key name → ⊥
 apart_named name some same = omega (arith, some, ap (λ (key : Bytes). length key) same)
-
-shown_alone : (ws : List WriteItem) → list_all (λ w. is_shown w.key) ws ≡ true → write_to ws membership_key ≡ None
-shown_alone [] h = refl
-shown_alone (w ∷ ws) h =
-    let parts = and_parts (is_shown w.key) (list_all (λ x. is_shown x.key) ws) h in
-    λ i. option_or (shown_alone ws parts.1 i) (cond (apart w.key (apart_shown w.key parts.0) i) (Some w.value) None)
-
-value_there : (bytes : Bytes) (o : Option Bytes) → is_value bytes o ≡ true → o ≡ Some bytes
-value_there bytes None e = absurd cc
-value_there bytes (Some value) e = ap Some ((bytes_eq-Decides value bytes).0 e)
-
--- what one put leaves there: its value, where its key is that of the membership
-abbrev put_there : Bytes → Option Bytes → Option (Option Bytes)
-put_there key value = cond (eq_by_cmp key_cmp membership_key key) (Some value) None
-
-one_put : (key value : Bytes) (ws : List WriteItem) → is_one_put key value ws ≡ true → write_to ws membership_key ≡ put_there key (Some value)
-one_put key value [] e = absurd cc
-one_put key value (w ∷ []) e =
-    let parts = and_parts (bytes_eq w.key key) (is_value value w.value) e in
-    ap₂ put_there ((bytes_eq-Decides w.key key).0 parts.0) (value_there value w.value parts.1)
-one_put key value (w ∷ x ∷ ws) e = absurd cc
-
-puts : (key value : Bytes) (p : Payload) → is_put_payload key value p ≡ true → write_to p.writes membership_key ≡ put_there key (Some value)
-puts key value p e =
-    one_put key value p.writes (and_parts (is_one_read key p.reads && is_none p.ranges && is_none p.result) (is_one_put key value p.writes) e).1
 
 -- ---- what a key holds then
 
@@ -136,40 +93,26 @@ module _ (r : Listed) where
 
   -- ---- what a VALID transaction leaves
 
-  by_proposal : (q : Proposal) (there : Plain) (e : Envelope) (version : Version) → IsProposal q → is_endorsed_as q (listed_in r there) there e ≡ true →
+  by_proposal : (q : Proposal) (there : Versioned) (e : Envelope) (version : Version) → IsProposal q →
+      is_endorsed_as q (listed_in r (values_of there)) there e ≡ true →
       Leaves (did version (write_to e.payload.writes membership_key)) (λ was. amended was Valid q)
   by_proposal (proposal.Call c) there e version known met =
-      let p = e.payload in
-      let stands = listed_in r there in
-      let called = and_parts (reads_own p && names_no_other p) (is_met_by (right_orgs stands.orgs e) (policy_in stands there c.chaincode)) met in
-      let names = and_parts (reads_own p) (names_no_other p) called.0 in
-      let shown = and_parts (reads_no_other p) (writes_shown p) names.1 in
-      unwritten version (write_to p.writes membership_key) (shown_alone p.writes shown.1)
+      unwritten version (write_to e.payload.writes membership_key) (wrote membership_key refl (proposal.Call c) (listed_in r (values_of there)) there e met)
   by_proposal (proposal.Upgrade u) there e version known met =
-      let p = e.payload in
-      let stands = listed_in r there in
-      let bytes = definition_bytes u.definition in
-      let meant = is_ok (usable_by stands.installed u.definition) in
-      let known_names = names_known (org_names stands.orgs) u.definition in
-      let agreed = and_parts (is_upgrade_payload u p && meant && known_names) (is_satisfied stands.upgrade (right_orgs stands.orgs e)) met in
-      let pays = and_parts (is_upgrade_payload u p) meant (and_parts (is_upgrade_payload u p && meant) known_names agreed.0).0 in
-      let other = apart (definition_key u.chaincode) (apart_named u.chaincode known.chaincode.0) in
-      unwritten version (write_to p.writes membership_key)
-      (puts (definition_key u.chaincode) bytes p pays.0 ∙ ap (λ (b : Bool). cond b (Some (Some bytes)) None) other)
+      elim (wrote membership_key refl (proposal.Upgrade u) (listed_in r (values_of there)) there e met) [
+        | inl none ↦ unwritten version (write_to e.payload.writes membership_key) none
+        | inr put ↦ absurd (apart_named u.chaincode known.chaincode.0 put.0)
+      ]
   by_proposal (proposal.Amend a) there e version known met =
       let p = e.payload in
       let s = a.membership in
-      let stands = listed_in r there in
-      let next = is_next r.installed.orgs (get there membership_key) s in
-      let agreed = and_parts (is_amend_payload a p && next) (is_satisfied stands.upgrade (right_orgs stands.orgs e)) met in
-      let pays = and_parts (is_amend_payload a p) next agreed.0 in
       let bytes = membership_bytes s in
-      let put : write_to p.writes membership_key ≡ Some (Some bytes) =
-      puts membership_key bytes p pays.0 ∙ ap (λ (b : Bool). cond b (Some (Some bytes)) None) (tie_self membership_key) in
-      written version (write_to p.writes membership_key) s put known.membership (and_parts _ (is_usable r.installed.orgs s) pays.1).1
+      let h = amend_met (listed_in r (values_of there)) there a e met in
+      let put = written_here membership_key bytes p.writes (paid membership_key bytes p h.payload).put in
+      written version (write_to p.writes membership_key) s put known.membership (and_parts _ (is_usable r.installed.orgs s) h.next).1
 
   -- whatever its flag is
-  by_flag : (f : Flag) (there : Plain) (block place : ℕ) (e : Envelope) → IsEnvelope e → (f ≡ Valid → is_endorsed r there e ≡ true) →
+  by_flag : (f : Flag) (there : Versioned) (block place : ℕ) (e : Envelope) → IsEnvelope e → (f ≡ Valid → is_endorsed r there e ≡ true) →
       Leaves (write_of (record { version = record { block = block; place = place }; envelope = e; flag = f }) membership_key)
       (λ was. amended was f e.payload.proposal)
   by_flag Valid there block place e known met =
@@ -182,7 +125,7 @@ module _ (r : Listed) where
   -- ---- along a chain
 
   -- the transactions of a block, and later ones
-  in_block : (there : Plain) (judged block place : ℕ) (es : List Envelope) (fs : List Flag) (later : List Placed) (next : Left) →
+  in_block : (there : Versioned) (judged block place : ℕ) (es : List Envelope) (fs : List Flag) (later : List Placed) (next : Left) →
       AllByRecursion IsEnvelope es → AllEndorsed (is_endorsed r there) (transactions_from judged place es fs) → Leaves (last_write later membership_key) next →
       Leaves (last_write (transactions_from block place es fs ++ later) membership_key) (λ was. next (amended_by was es fs))
   in_block there judged block place [] fs later next known met h = h
@@ -194,16 +137,16 @@ module _ (r : Listed) where
       (by_flag f there block place e known.0 met.0) (in_block there judged block (suc place) es fs later next known.1 met.1 h)
 
   behind_all : (block : ℕ) (before cs : Chain) → AllByRecursion (λ (c : Committed). IsBlock c.block) cs →
-      AreEndorsed (λ ts. is_endorsed r (values_of (state ts))) before cs →
+      AreEndorsed (λ ts. is_endorsed r (state ts)) before cs →
       Leaves (last_write (placed_from block cs) membership_key) (λ was. membership_behind was cs)
   behind_all block before [] known met = λ old. refl
   behind_all block before (c ∷ cs) known met =
-      in_block (plain_after before) (length before + 1) block 0 c.block.envelopes c.flags (placed_from (suc block) cs) (λ was. membership_behind was cs)
+      in_block (state (history before)) (length before + 1) block 0 c.block.envelopes c.flags (placed_from (suc block) cs) (λ was. membership_behind was cs)
       known.0.each_envelope met.0 (behind_all (suc block) (before ++ c ∷ []) cs known.1 met.1)
 
   pub behind : (chain : Chain) → IsChainOf r chain → membership_behind None chain ≡ usable (get (plain_after chain) membership_key)
   behind chain h =
-      let endorsed = judged_endorsed id_of (λ before. is_endorsed r (values_of (state before))) [] chain h.flags in
+      let endorsed = judged_endorsed id_of (λ before. is_endorsed r (state before)) [] chain h.flags in
       let value = value_after chain membership_key ∙ held_first (last_write (history chain) membership_key) in
       sym (ap usable value ∙ behind_all 1 [] chain h.blocks endorsed None)
 
@@ -236,29 +179,3 @@ module _ (r : Listed) where
       slice_get (blocks_json r None chain) place ≡ option_map (block_json (orgs_behind r (take place chain))) (slice_get chain place)
   shown chain h place =
       shown_at None chain place ∙ ap (λ (orgs : List Organisation). option_map (block_json orgs) (slice_get chain place)) (taken chain h place)
-
--- ---- what else holds of it
-
-named_by : (q : Proposal) → IsProposal q → IsNamed q
-named_by (proposal.Call c) known = tt
-named_by (proposal.Upgrade u) known = known.chaincode.0
-named_by (proposal.Amend a) known = tt
-
-abbrev Named : Placed → Type 0
-Named t = IsNamed t.envelope.payload.proposal
-
--- the transactions of a block, and later ones
-named_block : (block place : ℕ) (es : List Envelope) (fs : List Flag) (later : List Placed) → AllByRecursion IsEnvelope es → AllByRecursion Named later →
-    AllByRecursion Named (transactions_from block place es fs ++ later)
-named_block block place [] fs later known h = h
-named_block block place (e ∷ es) [] later known h = h
-named_block block place (e ∷ es) (f ∷ fs) later known h =
-    (named_by e.payload.proposal known.0.payload.proposal, named_block block (suc place) es fs later known.1 h)
-
-named_all : (block : ℕ) (cs : Chain) → AllByRecursion (λ (c : Committed). IsBlock c.block) cs → AllByRecursion Named (placed_from block cs)
-named_all block [] known = tt
-named_all block (c ∷ cs) known =
-    named_block block 0 c.block.envelopes c.flags (placed_from (suc block) cs) known.0.each_envelope (named_all (suc block) cs known.1)
-
-pub named : (r : Listed) (chain : Chain) → IsChainOf r chain → AreNamed chain
-named r chain h = named_all 1 chain h.blocks

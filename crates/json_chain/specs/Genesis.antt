@@ -4,7 +4,7 @@ use Rattle.wasm_profile.specs.Numbers.{number_of}
 use Rattle.org_keys.specs.declared.organisation.OrgKey.{OrgKey}
 use Rattle.org_keys.specs.declared.organisation.OrgKey.TheVariants as key
 use Rattle.org_keys.specs.declared.organisation.Organisation.{Organisation}
-use Rattle.endorsement_policy.specs.Endorsed.{key_of, listed_policy}
+use Rattle.endorsement_policy.specs.Endorsed.{key_of, listed_policy, org_names}
 use Rattle.endorsement_policy.specs.declared.installed.ModuleId.{ModuleId}
 use Rattle.policy_language.specs.declared.policy.Policy.{Policy}
 use Rattle.endorsement_policy.specs.declared.rules.ChaincodePolicy.{ChaincodePolicy}
@@ -50,7 +50,8 @@ genesis_json g =
     object (member (codes "absolute") (number (unsigned g.absolute))
     (member (codes "chaincodes") (array (items_of (chaincodes_json rules.policies book.chaincodes book.installed.modules)))
     (member (codes "count") (number (unsigned g.count)) (member (codes "ledger") (number (unsigned 1))
-    (member (codes "modules") (list_json module_json book.installed.modules) (member (codes "orgs") (list_json (org_json rules.orgs) book.installed.orgs)
+    (member (codes "modules") (list_json module_json book.installed.modules)
+    (member (codes "orgs") (list_json (org_json rules.orgs) (org_names book.installed.orgs))
     (member (codes "peers") (list_json string g.peers.items) (member (codes "preferred") (number (unsigned g.preferred))
     (member (codes "reorder") (boolean g.reorder) (member (codes "upgrade") (string (policy_text rules.upgrade)) no_members))))))))))
 
@@ -68,5 +69,5 @@ with_book g ms =
     let book = g.book.value in
     let rules = g.rules.value in
     put (codes "upgrade") (string (policy_text rules.upgrade)) (put (codes "peers") (list_json string g.peers.items)
-    (put (codes "orgs") (list_json (org_json rules.orgs) book.installed.orgs) (put (codes "modules") (list_json module_json book.installed.modules)
+    (put (codes "orgs") (list_json (org_json rules.orgs) (org_names book.installed.orgs)) (put (codes "modules") (list_json module_json book.installed.modules)
     (put (codes "chaincodes") (array (items_of (chaincodes_json rules.policies book.chaincodes book.installed.modules))) ms))))

@@ -1,4 +1,5 @@
 pub mod Texts
+pub mod Plain
 pub mod Members
 pub mod Sets
 pub mod Memberships

@@ -1,5 +1,5 @@
 -- What transactions wrote to a key, and the line of a write.
-use Rattle.std.specs.Prelude.{◌≡◌, ℕ, List, Option, Some, String, map, option_map, option_to_list, string_bytes}
+use Rattle.std.specs.Prelude.{ℕ, List, Option, Some, None, String, map, option_map, option_to_list, string_bytes}
 use Rattle.std.specs.List.{flat_map}
 use Rattle.std.specs.declared.alloc.Global.{Global}
 use Rattle.fab_types.specs.declared.envelope.Envelope.{Envelope}
@@ -8,8 +8,8 @@ use Rattle.ledger_model.specs.Chain.{Placed, Version}
 use Rattle.ledger_model.specs.State.{write_of}
 use Rattle.wire.specs.Ids.{id_of}
 use Rattle.serde_json.specs.Data.{Data}
-use Rattle.serde_json.specs.Read.{read}
 use Rattle.json_chain.specs.Entries.{placed_write_json}
+use Rattle.json_chain.specs.Plain.{IsTextOf}
 
 abbrev pub placed_at : Envelope → Flag → (block place : ℕ) → Placed
 placed_at e flag block place = record { version = record { block = block; place = place }; envelope = e; flag = flag }
@@ -26,12 +26,14 @@ write_json key t = map (did_json t key) (option_to_list (write_of t key))
 abbrev pub writes_json : List ℕ → List Placed → List Data
 writes_json key ts = flat_map (write_json key) ts
 
--- the value that a line reads as, if there is a line
-abbrev pub read_line : Option (String Global) → Option (Option Data)
-read_line line = option_map (λ s. read (string_bytes s)) line
+-- a line is there where data are, and is their text
+abbrev pub IsLineOf : Option Data → Option (String Global) → Type 0
+IsLineOf None None = Unit {0}
+IsLineOf None (Some s) = ⊥
+IsLineOf (Some d) None = ⊥
+IsLineOf (Some d) (Some s) = IsTextOf d (string_bytes s)
 
 -- what the transaction did to the key, if it did anything
 abbrev pub IsWriteLine : Envelope → Flag → List ℕ → (block place : ℕ) → Option (String Global) → Type 0
 IsWriteLine e flag key block place line =
-    read_line line ≡ option_map (λ w. Some (placed_write_json (id_of e.payload.proposal) w.0.block w.0.place key w.1))
-    (write_of (placed_at e flag block place) key)
+    IsLineOf (option_map (λ w. placed_write_json (id_of e.payload.proposal) w.0.block w.0.place key w.1) (write_of (placed_at e flag block place) key)) line

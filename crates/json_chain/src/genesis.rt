@@ -57,7 +57,7 @@ fn put_book(alloc: Global, object: &mut Object, genesis: &Genesis) -> Result<(),
         chaincodes_of(alloc, &genesis.rules, chaincodes, ids)?,
     )?;
     object.put_list("modules", ids)?;
-    object.put("orgs", orgs_of(alloc, &genesis.rules, installed.orgs())?)?;
+    object.put("orgs", orgs_of(alloc, &genesis.rules, installed.names())?)?;
     object.put_list("peers", &genesis.peers)?;
     object.put(
         "upgrade",

@@ -1,14 +1,16 @@
 //! Lines of JSON.
 
-ghost use Rattle.std.specs.Prelude.{◌≡◌, ◌≤◌, Some, IfOk, string_bytes};
+ghost use Rattle.std.specs.Prelude.{◌≡◌, ◌≤◌, Some, false, IfOk, string_bytes};
 ghost use Rattle.serde_json.specs.Data.{depth};
 ghost use Rattle.serde_json.specs.Read.{max_depth, read};
 ghost use Rattle.serde_json.specs.View.{view};
+ghost use Rattle.serde_json.specs.Written.{compact_text, has_float};
 ghost use Rattle.json_chain.specs.Blocks.{block_json};
 ghost use Rattle.json_chain.specs.Endings.{ending_json};
 ghost use Rattle.json_chain.specs.Entries.{entry_json};
 ghost use Rattle.json_chain.specs.Genesis.{genesis_json};
 ghost use Rattle.json_chain.specs.Memberships.{standing_behind};
+ghost use Rattle.json_chain.specs.Plain.{IsTextOf};
 ghost use Rattle.json_chain.specs.Writes.{IsWriteLine};
 
 use crate::block::block_of;
@@ -26,17 +28,20 @@ use serde_json::Value;
 use std::alloc::{AllocError, Global};
 use world_state::Snapshot;
 
-/// A value as a line, which is read back as the value. The only error is want of memory.
+/// A value as one line: without spaces, the fields of each object in the byte order of their names,
+/// where it has no float; and it is read back as the value. The only error is want of memory.
 pub fn line_of(alloc: Global, value: &Value) -> Result<String, AllocError>
     requires { depth (view value.now) ≤ max_depth }
-    ensures { IfOk result (λ s. read (string_bytes s) ≡ Some (view value.now)) }
+    ensures text { IfOk result (λ s. has_float (view value.now) ≡ false →
+        string_bytes s ≡ compact_text (view value.now)) }
+    ensures read { IfOk result (λ s. read (string_bytes s) ≡ Some (view value.now)) }
 {
     value.to_string(alloc)
 }
 
 /// What a ledger begins with, but for the shared keys. The only error is want of memory.
 pub fn genesis_line(alloc: Global, genesis: &Genesis) -> Result<String, AllocError>
-    ensures { IfOk result (λ s. read (string_bytes s) ≡ Some (genesis_json genesis.now)) }
+    ensures { IfOk result (λ s. IsTextOf (genesis_json genesis.now) (string_bytes s)) }
 {
     line_of(alloc, &genesis_of(alloc, genesis)?)
 }
@@ -49,7 +54,7 @@ pub fn block_line(
     committed: &CommittedBlock,
 ) -> Result<String, AllocError>
     ensures { IfOk result
-        (λ s. read (string_bytes s) ≡ Some (block_json organisations.now committed.now)) }
+        (λ s. IsTextOf (block_json organisations.now committed.now) (string_bytes s)) }
 {
     line_of(alloc, &block_of(alloc, organisations, committed)?)
 }
@@ -62,7 +67,7 @@ pub fn standing_line(
     snapshot: &Snapshot,
 ) -> Result<String, AllocError>
     ensures { IfOk result
-        (λ s. read (string_bytes s) ≡ Some (standing_behind rules.now snapshot.now)) }
+        (λ s. IsTextOf (standing_behind rules.now snapshot.now) (string_bytes s)) }
 {
     line_of(alloc, &standing_of(alloc, rules, snapshot)?)
 }
@@ -75,7 +80,7 @@ pub fn ending_line(
     blocks: usize,
     end: End,
 ) -> Result<String, AllocError>
-    ensures { IfOk result (λ s. read (string_bytes s) ≡ Some (ending_json finding blocks end)) }
+    ensures { IfOk result (λ s. IsTextOf (ending_json finding blocks end) (string_bytes s)) }
 {
     line_of(alloc, &ending_of(alloc, finding, blocks, end)?)
 }
@@ -89,7 +94,7 @@ pub fn entry_line(
     version: Version,
 ) -> Result<String, AllocError>
     ensures { IfOk result
-        (λ s. read (string_bytes s) ≡ Some (entry_json key.now value.now version)) }
+        (λ s. IsTextOf (entry_json key.now value.now version) (string_bytes s)) }
 {
     line_of(alloc, &entry_of(alloc, key, value, version)?)
 }

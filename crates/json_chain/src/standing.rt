@@ -20,8 +20,8 @@ use world_state::Snapshot;
 pub fn standing_of(alloc: Global, rules: &Rules, snapshot: &Snapshot) -> Result<Value, AllocError>
     ensures { IfOk result (λ v. view v ≡ standing_behind rules.now snapshot.now) }
 {
-    let names = rules.installed().orgs();
-    let found = usable_membership(alloc, names, membership_value(snapshot))?;
+    let organisations = rules.installed().organisations();
+    let found = usable_membership(alloc, organisations, membership_value(snapshot))?;
     match found {
         Some(membership) => membership.to_json(alloc),
         None => listed_of(alloc, rules),

@@ -90,25 +90,27 @@ one_definition orgs d x y h k =
     let policy = same orgs k.2 _ _ (subst (λ t. IsText orgs x.policy.policy t) text h.9) k.9 in
     same_definition x y (same_chaincode _ _ name one.0 fuel) one.1 (same_policy _ _ (h.10 ∙ name ∙ sym k.10) policy)
 
-same_book : (orgs : Names) (held : List Held) (d e : Data) (cs cs' : List Definition) (ms ms' : List Held) → IsListOf (IsDefinition orgs) 1 16 d cs
-    → IsListOf (IsDefinition orgs) 1 16 d cs' → IsListOf IsInstalled 0 16 e ms → IsListOf IsInstalled 0 16 e ms'
+same_book : (orgs : List Organisation) (held : List Held) (d e : Data) (cs cs' : List Definition) (ms ms' : List Held)
+    → IsListOf (IsDefinition (names_of orgs)) 1 16 d cs → IsListOf (IsDefinition (names_of orgs)) 1 16 d cs' → IsListOf IsInstalled 0 16 e ms
+    → IsListOf IsInstalled 0 16 e ms'
     → book_of orgs held cs ms ≡ book_of orgs held cs' ms'
 same_book orgs held d e cs cs' ms ms' c c' m m' =
-    ap (λ x. book_of orgs held x ms) (IsListOf-same (IsDefinition orgs) (one_definition orgs) 1 16 d cs cs' c c') ∙
+    ap (λ x. book_of orgs held x ms) (IsListOf-same (IsDefinition (names_of orgs)) (one_definition (names_of orgs)) 1 16 d cs cs' c c') ∙
     ap (λ x. book_of orgs held cs' x) (IsListOf-same IsInstalled one_installed 0 16 e ms ms' m m')
 
-pub one_book : (orgs : Names) (held : List Held) (d e : Data) (a b : Book) (ps qs : List ChaincodePolicy) → IsBookOf orgs held d e a ps
+pub one_book : (orgs : List Organisation) (held : List Held) (d e : Data) (a b : Book) (ps qs : List ChaincodePolicy) → IsBookOf orgs held d e a ps
     → IsBookOf orgs held d e b qs
     → (a ≡ b) × (ps ≡ qs)
 one_book orgs held d e a b ps qs h k = (
   h.5 ∙ same_book orgs held d e _ _ _ _ h.2 k.2 h.3 k.3 ∙ sym k.5,
-  h.6 ∙ ap policies_of (IsListOf-same (IsDefinition orgs) (one_definition orgs) 1 16 d _ _ h.2 k.2) ∙ sym k.6,
+  h.6 ∙ ap policies_of (IsListOf-same (IsDefinition (names_of orgs)) (one_definition (names_of orgs)) 1 16 d _ _ h.2 k.2) ∙ sym k.6,
 )
 
 -- ---- a part that is refused
 
 -- chaincodes and modules that make no book
-pub NoneIs-book : (orgs : Names) (held : List Held) (d e : Data) (cs : List Definition) (ms : List Held) → IsListOf (IsDefinition orgs) 1 16 d cs
+pub NoneIs-book : (orgs : List Organisation) (held : List Held) (d e : Data) (cs : List Definition) (ms : List Held)
+    → IsListOf (IsDefinition (names_of orgs)) 1 16 d cs
     → IsListOf IsInstalled 0 16 e ms → ¬ IsBook (book_of orgs held cs ms)
     → (b : Book × List ChaincodePolicy) → ¬ IsBookOf orgs held d e b.0 b.1
 NoneIs-book orgs held d e cs ms c m not b spelled =
@@ -122,13 +124,19 @@ NoneIs-different of d os h not xs listed spelled =
     let other : are_different (of os) ≡ true = subst (λ ys. are_different (of ys) ≡ true) same spelled in
     cc
 
+-- a part that rests on the organisations
+pub NoneIs-of : {A : Type 0} (Is : List Organisation → A → Type 0) (part : Genesis → A) (held : List Held) (p : Parts) (os : List Organisation)
+    (r : GenesisRefusal) → ((g : Genesis) → IsGenesis held p g → Is g.rules.value.orgs (part g)) → AreOrganisations p.orgs os → NoneIs (Is os) r
+    → NoneIs (IsGenesis held p) r
+NoneIs-of Is part held p os r has h none = (
+  none.0,
+  λ real g spelled.
+      none.1 real (part g) (subst (λ xs. Is xs (part g)) (sym (one_list p.orgs os _ h.0 spelled.organisations.0)) (has g spelled)),
+)
+
 -- a part that rests on the names of the organisations
 pub NoneIs-part : {A : Type 0} (Is : Names → A → Type 0) (part : Genesis → A) (held : List Held) (p : Parts) (os : List Organisation) (orgs : Names) (r : GenesisRefusal)
     → ((g : Genesis) → IsGenesis held p g → Is (names_of g.rules.value.orgs) (part g)) → AreOrganisations p.orgs os → orgs ≡ names_of os
     → NoneIs (Is orgs) r → NoneIs (IsGenesis held p) r
-NoneIs-part Is part held p os orgs r has h is none = (
-  none.0,
-  λ real g spelled.
-      let same = is ∙ ap names_of (one_list p.orgs os _ h.0 spelled.organisations.0) in
-      none.1 real (part g) (subst (λ ns. Is ns (part g)) (sym same) (has g spelled)),
-)
+NoneIs-part Is part held p os orgs r has h is none =
+    NoneIs-of (λ xs. Is (names_of xs)) part held p os r has h (subst (λ ns. NoneIs (Is ns) r) is none)

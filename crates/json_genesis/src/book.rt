@@ -1,11 +1,11 @@
 //! The book.
 
-ghost use Rattle.std.specs.Prelude.{IfOk, IfErr, List};
+ghost use Rattle.std.specs.Prelude.{◌≡◌, IfOk, IfErr, List};
 ghost use Rattle.serde_json.specs.View.{view};
 ghost use Rattle.endorsement_policy.specs.declared.rules.ChaincodePolicy.{ChaincodePolicy};
 ghost use Rattle.chaincode_book.specs.Books.{Book};
 ghost use Rattle.json_genesis.specs.Refused.{NoneIs};
-ghost use Rattle.json_genesis.specs.Spelling.{IsBookOf};
+ghost use Rattle.json_genesis.specs.Spelling.{IsBookOf, names_of};
 
 use crate::chaincodes::{Apart, DefinitionReader, parted};
 use crate::lists::read_list;
@@ -15,35 +15,41 @@ use chaincode_book::{Book, Held};
 use endorsement_policy::{ChaincodePolicy, Installed};
 use fab_types::OrgName;
 use fab_types::limits::{MOST_CHAINCODES, MOST_MODULES};
+use org_keys::Organisation;
 use serde_json::Value;
 use std::alloc::Global;
 
-/// The book of the chaincodes and modules that are listed, with those modules at hand that are held,
-/// and the policies of its chaincodes.
+/// The book of the chaincodes and modules that are listed, where the ledger has these
+/// organisations, of these names, and those modules are at hand that are held; and the policies of
+/// its chaincodes.
 pub(crate) fn book(
     alloc: Global,
     chaincodes: &Value,
     modules: &Value,
-    orgs: Vec<OrgName>,
+    organisations: Vec<Organisation>,
+    orgs: &[OrgName],
     held: Vec<Held>,
 ) -> Result<(Book, Vec<ChaincodePolicy>), GenesisRefusal>
+    requires { orgs.now ≡ names_of organisations.items }
     ensures ok { IfOk result
-        (λ b. IsBookOf orgs.items held.items (view chaincodes.now) (view modules.now) b.0 b.1.items) }
+        (λ b. IsBookOf organisations.items held.items (view chaincodes.now) (view modules.now) b.0
+        b.1.items) }
     ensures refused { IfErr result
         (λ r. NoneIs
-        (λ (b : Book × List ChaincodePolicy). IsBookOf orgs.items held.items (view chaincodes.now)
-        (view modules.now) b.0 b.1) r) }
+        (λ (b : Book × List ChaincodePolicy). IsBookOf organisations.items held.items
+        (view chaincodes.now) (view modules.now) b.0 b.1) r) }
 {
-    let reader = DefinitionReader { orgs: &orgs };
+    let reader = DefinitionReader { orgs };
     let definitions = read_list(alloc, &reader, chaincodes, 1, MOST_CHAINCODES)?;
-    let installed = read_list(alloc, &ModuleReader, modules, 0, MOST_MODULES)?;
+    let more = read_list(alloc, &ModuleReader, modules, 0, MOST_MODULES)?;
     let Apart {
         chaincodes,
         ids,
         policies,
     } = parted(alloc, definitions)?;
-    let (modules, ids) = modules_apart(alloc, installed, ids)?;
-    match Book::new(chaincodes, modules, Installed::new(ids, orgs), held) {
+    let (modules, ids) = modules_apart(alloc, more, ids)?;
+    let installed = Installed::new(alloc, ids, organisations)?;
+    match Book::new(chaincodes, modules, installed, held) {
         Some(book) => Ok((book, policies)),
         None => Err(GenesisRefusal::Names),
     }

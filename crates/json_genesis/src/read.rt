@@ -159,9 +159,16 @@ fn genesis_with(
         peers,
         upgrade,
     } = setting;
-    let (book, policies) = book(alloc, fields.chaincodes, fields.modules, orgs, held)?;
+    let (book, policies) = book(
+        alloc,
+        fields.chaincodes,
+        fields.modules,
+        organisations,
+        &orgs,
+        held,
+    )?;
     let installed = book.installed().clone()?;
-    let Some(rules) = Rules::new(organisations, policies, upgrade, installed) else {
+    let Some(rules) = Rules::new(policies, upgrade, installed) else {
         return Err(GenesisRefusal::Policy);
     };
     Ok(Genesis {

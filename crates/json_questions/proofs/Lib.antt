@@ -3,4 +3,5 @@ mod OrgLists
 mod Placing
 mod Refusals
 mod AnswerDepths
+mod AnswerFloats
 mod Absent

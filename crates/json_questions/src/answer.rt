@@ -1,9 +1,9 @@
 //! The answer to a question.
 
-ghost use Rattle.std.specs.Prelude.{◌≡◌, ◌-◌, Some, IfOk, length, slice_get, string_bytes};
-ghost use Rattle.serde_json.specs.Read.{read};
+ghost use Rattle.std.specs.Prelude.{◌≡◌, ◌-◌, IfOk, length, slice_get, string_bytes};
 ghost use Rattle.serde_json.specs.View.{view};
 ghost use Rattle.json_chain.specs.Blocks.{block_json};
+ghost use Rattle.json_chain.specs.Plain.{IsTextOf};
 ghost use Rattle.json_chain.specs.Standing.{orgs_before};
 ghost use Rattle.json_questions.specs.Answers.{answer_json, answered_json, or_null};
 
@@ -31,10 +31,9 @@ pub fn answer_line(
     question: &Question,
 ) -> Result<String, AllocError>
     ensures { IfOk result
-        (λ s. read (string_bytes s)
-        ≡ Some
-        (answered_json (answer_json genesis.now question.now snapshot.now)
-        (length snapshot.now))) }
+        (λ s. IsTextOf
+        (answered_json (answer_json genesis.now question.now snapshot.now) (length snapshot.now))
+        (string_bytes s)) }
 {
     let answer = answer_of(alloc, genesis, snapshot, question)?;
     line_of(alloc, &answered(alloc, answer, snapshot.height())?)

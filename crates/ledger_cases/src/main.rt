@@ -51,8 +51,9 @@
 //! `w:KEY=VALUE` and `d:KEY` for a key put and deleted, `n:BYTE` for its nonce, `e:no` for one that
 //! is not endorsed, and `u:BYTE,FUEL,POLICY` for an upgrade of `kv` to the module of profile 1
 //! whose digest has this byte alone, in place of a call; `u2:` in place of `u:` is for profile 2,
-//! and `u17:` and `u18:` are for an open definition of profile 1 or 2. `a:SERIAL,NAMES,POLICY` is
-//! an amendment, with `+` between the names of members, each of which keeps its key.
+//! and `u17:` and `u18:` are for an open definition of profile 1 or 2. `a:SERIAL,MEMBERS,POLICY`
+//! is an amendment, with `+` between the members: a name, whose key is kept, or a name, `!` and
+//! the name that is the seed of the member's own public key.
 //! Bytes are written as they are where all of them are printed characters or blanks, and else in
 //! hex behind `0x`. Transactions stand between ` | ` in a block, and blocks between ` / ` in a
 //! chain. Where no nonce is said, each has its own.

@@ -85,11 +85,10 @@ fn policy_of(alloc: Global, known: &str, text: &str) -> Result<Policy, CaseFault
 
 /// The organisations with their keys, the policy of calls and of upgrades, and a module.
 fn rules_of(alloc: Global, known: &str, text: &str) -> Result<Rules, CaseFault> {
-    let organisations = organisations_of(alloc, known)?;
     let installed = installed(alloc, known)?;
     let policies = policies_of(alloc, known, text)?;
     let upgrade = policy_of(alloc, known, text)?;
-    Rules::new(organisations, policies, upgrade, installed).ok_or(CaseFault::BadLine)
+    Rules::new(policies, upgrade, installed).ok_or(CaseFault::BadLine)
 }
 
 /// The policy of calls.
@@ -105,7 +104,8 @@ fn installed(alloc: Global, known: &str) -> Result<Installed, CaseFault> {
         digest: [7; 32],
         profile: Profile::Core1,
     };
-    Ok(Installed::new(vec![in alloc; id]?, orgs_of(alloc, known)?))
+    let modules = vec![in alloc; id]?;
+    Ok(Installed::new(alloc, modules, organisations_of(alloc, known)?)?)
 }
 
 /// The transaction of these words, with these tags.

@@ -4,10 +4,11 @@ use crate::bytes::{split_fuel, split_word};
 use crate::chains::next_block;
 use crate::fault::CaseFault;
 use crate::modules::valid_module;
+use crate::tags::organisations_of;
 use crate::texts::{separate, write_payload};
 use crate::transactions::{call_with, change_of, name_of, unendorsed};
 use endorsement_policy::{Installed, ModuleId};
-use fab_types::{Flag, OrgName, Payload, Proposal, Value};
+use fab_types::{Flag, Payload, Proposal, Value};
 use simulator::{Book, Chaincode, SimRefusal, simulate};
 use std::alloc::{AllocError, Global};
 use std::fmt::Write;
@@ -47,9 +48,8 @@ fn chaincodes_of(alloc: Global, head: &str, profile: Profile) -> Result<Vec<Chai
 /// A module of this profile whose digest has bytes 7, and the organisation A.
 fn installed(alloc: Global, profile: Profile) -> Result<Installed, CaseFault> {
     let digest = [7; 32];
-    let org = OrgName::from_slice(b"A").ok_or(CaseFault::BadLine)?;
     let modules = vec![in alloc; ModuleId { digest, profile }]?;
-    Ok(Installed::new(modules, vec![in alloc; org]?))
+    Ok(Installed::new(alloc, modules, organisations_of(alloc, "A")?)?)
 }
 
 /// The valid module of a profile that the bytes spell. A bad line where they spell none.

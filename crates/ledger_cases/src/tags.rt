@@ -46,12 +46,17 @@ pub fn organisations_of(alloc: Global, list: &str) -> Result<Vec<Organisation>, 
 fn organisation_of(alloc: Global, word: &str) -> Result<Organisation, CaseFault> {
     let (text, is_signed) = split_kind(word);
     let key = if is_signed {
-        OrgKey::Public(PublicKey::new(public_key(&seed_of(text)?)).ok_or(CaseFault::BadLine)?)
+        OrgKey::Public(PublicKey::new(public_of(text)?).ok_or(CaseFault::BadLine)?)
     } else {
         OrgKey::Shared(TagKey::new(text.as_bytes().to_vec(alloc)?).ok_or(CaseFault::BadLine)?)
     };
     let name = org_of(text)?;
     Ok(Organisation { name, key })
+}
+
+/// The public key of an organisation's seed.
+pub fn public_of(name: &str) -> Result<[u8; 32], CaseFault> {
+    Ok(public_key(&seed_of(name)?))
 }
 
 /// The seed of an organisation: its name, with zeros behind it.

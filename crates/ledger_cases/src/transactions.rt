@@ -1,7 +1,7 @@
 //! Transactions from their words.
 
 use crate::fault::CaseFault;
-use crate::tags::org_of;
+use crate::tags::{org_of, public_of};
 use fab_types::{
     Amend, Bound, Call, Definition, Endorsements, Envelope, Fuel, Key, Member, MemberKey, Members,
     Membership, Name, Payload, PayloadParts, PolicyText, Proposal, RangeEntry, RangeItem, Ranges,
@@ -117,12 +117,12 @@ pub fn change_of(
     }))
 }
 
-/// `SERIAL,NAMES,POLICY`, where `+` stands between the names and each member keeps its key.
+/// `SERIAL,MEMBERS,POLICY`, where `+` stands between the members.
 fn membership_of(alloc: Global, text: &str) -> Result<Membership, CaseFault> {
-    let (serial, names, policy) = in_three(text).ok_or(CaseFault::BadLine)?;
+    let (serial, members, policy) = in_three(text).ok_or(CaseFault::BadLine)?;
     let serial = serial.parse::<u32>()?;
     let policy = policy_text_of(alloc, policy)?;
-    let members = members_of(alloc, names)?;
+    let members = members_of(alloc, members)?;
     Ok(Membership {
         serial,
         members,
@@ -137,13 +137,26 @@ fn in_three(text: &str) -> Option<(&str, &str, &str)> {
     Some((first, second, third))
 }
 
-fn members_of(alloc: Global, names: &str) -> Result<Members, CaseFault> {
+fn members_of(alloc: Global, words: &str) -> Result<Members, CaseFault> {
     let mut members = Vec::new(alloc);
-    for name in names.split('+') {
-        let (name, key) = (org_of(name)?, MemberKey::Kept);
-        members.push(Member { name, key })?;
+    for word in words.split('+') {
+        members.push(member_of(word)?)?;
     }
     Members::new(members).ok_or(CaseFault::BadLine)
+}
+
+/// A name, whose key is kept; or a name, `!` and the seed of the member's own public key.
+fn member_of(word: &str) -> Result<Member, CaseFault> {
+    match word.split_once('!') {
+        Some((name, seed)) => {
+            let (name, key) = (org_of(name)?, MemberKey::Public(public_of(seed)?));
+            Ok(Member { name, key })
+        }
+        None => {
+            let (name, key) = (org_of(word)?, MemberKey::Kept);
+            Ok(Member { name, key })
+        }
+    }
 }
 
 /// The call of the chaincode with an argument.

@@ -1,2 +1,5 @@
 pub mod Judged
-mod Amended
+pub mod Written
+pub mod Standing
+pub mod Amended
+pub mod Once

@@ -3,7 +3,6 @@
 ghost use Rattle.std.specs.Prelude.{◌≡◌, [], ◌∷◌, ◌++◌, map, IfOk, OnOk, OnErr, IfErr, IfSome};
 ghost use Rattle.ledger_model.specs.Chain.{history};
 ghost use Rattle.ledger_model.specs.State.{state};
-ghost use Rattle.ledger_model.specs.Views.{values_of};
 ghost use Rattle.endorsement_policy.specs.Endorsed.{is_endorsed, right_orgs};
 ghost use Rattle.endorsement_policy.specs.Judge.{orgs_behind};
 ghost use Rattle.committer.specs.Fits.{Fits, IsRefused, blocks_of};
@@ -101,7 +100,7 @@ pub fn check_by_workers<T: Threads + Sync>(
     envelopes: &[Envelope],
 ) -> Result<Vec<bool>, AllocError>
     ensures { IfOk result (λ v. v.items
-        ≡ map (is_endorsed rules.now (values_of (state (history snapshot.now))))
+        ≡ map (is_endorsed rules.now (state (history snapshot.now)))
         envelopes.now) }
 {
     check_all(workers, alloc, rules, snapshot, envelopes, &NoGate)
@@ -120,7 +119,7 @@ fn check_with(
         (λ orgs. orgs.now
         ≡ map (right_orgs (orgs_behind rules.now snapshot.now)) envelopes.now) }
     ensures { IfOk result (λ v. v.items
-        ≡ map (is_endorsed rules.now (values_of (state (history snapshot.now))))
+        ≡ map (is_endorsed rules.now (state (history snapshot.now)))
         envelopes.now) }
 {
     match right {
@@ -140,7 +139,7 @@ pub fn judge_checked(
 ) -> Result<Judged, AllocError>
     requires fits { Fits (blocks_of snapshot.now) block.now }
     requires endorsed { endorsed.now
-        ≡ map (is_endorsed rules.now (values_of (state (history snapshot.now))))
+        ≡ map (is_endorsed rules.now (state (history snapshot.now)))
         block.now.envelopes }
     ensures { IfOk result
         (λ judged. IsJudged (table_of rules.now) snapshot.now block.now judged) }

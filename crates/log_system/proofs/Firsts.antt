@@ -22,7 +22,6 @@ use Rattle.ledger_model.specs.Judged.{BlockRule, judge, judge_onto, judged_chain
 use Rattle.ledger_model.specs.Legal.{DiffersBefore}
 use Rattle.ledger_model.specs.Serial.{IsPrefix}
 use Rattle.ledger_model.specs.State.{state}
-use Rattle.ledger_model.specs.Views.{values_of}
 use Rattle.ledger_model.proofs.Judged.{judged_grows, judged_onto-append}
 use Rattle.ledger_model.proofs.Kept.{block_legal}
 use Rattle.committer.specs.Fits.{Fits, blocks_of}
@@ -203,7 +202,7 @@ onto_older s before (b ∷ blocks) are old =
     let rule : BlockRule = table_of s.listed in
     let ts = history before in
     let next : Committed = record { block = b; flags = judge (rule ts) ts (length before + 1) 0 b.envelopes } in
-    let endorsed : Envelope → Bool = λ e. is_endorsed s.listed (values_of (state ts)) e in
+    let endorsed : Envelope → Bool = λ e. is_endorsed s.listed (state ts) e in
     onto_older s (before ++ next ∷ []) blocks are.1
     (older_more before next old (block_legal id_of endorsed ts (length before + 1) b.envelopes are.0))
 

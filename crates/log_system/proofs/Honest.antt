@@ -92,7 +92,7 @@ honest_machine behind s lines told log machines m alone carries reads are there 
     let flags : AreFlagsBy (table_of s.listed) [] chain =
     subst (λ (c : Chain). AreFlagsBy (table_of s.listed) [] c) (sym first) (flags_judged (table_of s.listed) (take (length chain) log.chain))
     in
-    let endorsed : List Placed → Envelope → Bool = λ before. is_endorsed s.listed (values_of (state before)) in
+    let endorsed : List Placed → Envelope → Bool = λ before. is_endorsed s.listed (state before) in
     let given : (p : Payload) (x : Endorsement) → IsAmong (Endorsed p x) replies → IsHandedOut exec chain p =
     λ p x among. handed behind s lines told log reads machines chain p x are first (machines_given machines p x among) in
     record {

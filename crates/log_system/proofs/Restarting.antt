@@ -1,7 +1,7 @@
 -- A machine that begins again has a chain that the log's begins.
-use Rattle.std.proofs.Common.{◌≡◌, ◌≤◌, ℕ, zero, suc, ◌+◌, List, [], ◌∷◌, ◌++◌, length, length-append, length-take, map, take, Option, Some, Ok, option_map}
-use Rattle.std.proofs.Common.{refl, sym, ap, subst, ◌∙◌, slice_get, arith}
-use Rattle.std.proofs.lemmas.List.{append-nil, append_assoc, length-map, map-append}
+use Rattle.std.proofs.Common.{◌≡◌, ◌≤◌, ℕ, zero, suc, ◌+◌, List, [], ◌∷◌, ◌++◌, length, length-append, length-take, map, take, drop, Option, Some, Ok}
+use Rattle.std.proofs.Common.{option_map, refl, sym, ap, subst, ◌∙◌, slice_get, arith}
+use Rattle.std.proofs.lemmas.List.{append-nil, append_assoc, length-map, map-append, take-append-drop}
 use Rattle.std.proofs.lemmas.Option.{slice_get_within}
 use Rattle.fab_types.specs.declared.block.Block.{Block}
 use Rattle.orderer.specs.Ordering.{Ordering}
@@ -20,8 +20,10 @@ use Rattle.log_roles.specs.Committing.{Commits, Receives, header_hash, own_hash}
 use Rattle.log_roles.specs.declared.receiving.Received.{Received}
 use Rattle.log_roles.specs.declared.receiving.Received.TheVariants.{Committed as WasCommitted, Known}
 use Rattle.fabric_core.specs.Headline.{IsAmong}
-use Rattle.log_system.specs.Machines.{DoesEach, IsRead, Joins, Setting, unread}
+use Rattle.fabric_core.specs.System.{chain_of_first}
+use Rattle.log_system.specs.Machines.{Act, DoesEach, IsRead, Joins, Setting, unread}
 use Rattle.log_system.specs.Restarts.{AreToldApart, ReceivesEach}
+use Rattle.log_system.proofs.Acting.{IsBehind, acted_each}
 use Rattle.log_system.proofs.Among.{later_among, none_among, same_some}
 use Rattle.log_system.proofs.Firsts.{blocks_onto, log_linked}
 use Rattle.log_system.proofs.Roles.{follower_acts}
@@ -152,6 +154,14 @@ none_left : {X : Type 0} (xs ys : List X) → length (xs ++ ys) ≤ length xs �
 none_left xs [] h = refl
 none_left xs (y ∷ ys) h = let long = length-append xs (y ∷ ys) in absurd (omega (arith, h, long))
 
+-- where the chain is no longer than the log's, it has the same blocks
+same_blocks : (rule : BlockRule) (log : List Block) (new : Chain) → IsAhead rule log log new → length new ≤ length log → blocks_of new ≡ log
+same_blocks rule log new is short =
+    let tall = ap (λ (bs : List Block). length bs) is.parts in
+    let same = length-map new (λ (c : Committed). c.block) in
+    let none = none_left log is.rest (omega (arith, tall, same, short)) in
+    sym is.parts ∙ ap (λ (bs : List Block). log ++ bs) none ∙ append-nil log
+
 -- it did no more than to commit the log's blocks from an empty chain on
 pub restart_joins : AreReceived → (s : Setting) (lines : List (List ℕ)) (answers : List (Option (List BatchReport))) (log : Ordering) (org : Bytes)
     (stored new : Chain) → ReadsEach (unread s) lines answers log → AreLawful (table_of s.listed) [] stored → AreToldApart (blocks_of stored) log.chain →
@@ -159,8 +169,43 @@ pub restart_joins : AreReceived → (s : Setting) (lines : List (List ℕ)) (ans
 restart_joins laws s lines answers log org stored new reads lawful apart got short =
     let rule : BlockRule = table_of s.listed in
     let is = ahead laws rule log.chain stored new (log_linked s log lines answers reads) lawful apart got in
-    let tall = ap (λ (bs : List Block). length bs) is.parts in
-    let same = length-map new (λ (c : Committed). c.block) in
-    let none = none_left log.chain is.rest (omega (arith, tall, same, short)) in
-    let blocks : blocks_of new ≡ log.chain = sym is.parts ∙ ap (λ (bs : List Block). log.chain ++ bs) none ∙ append-nil log.chain in
-    joined_each s lines answers log reads org [] new (laws.replayed rule new (blocks_of new) is.commits) blocks
+    joined_each s lines answers log reads org [] new (laws.replayed rule new (blocks_of new) is.commits) (same_blocks rule log.chain new is short)
+
+-- ---- with what it did before
+
+first_begins : (rule : BlockRule) (blocks : List Block) (n : ℕ) → IsPrefix (chain_of_first rule blocks n) (judged_chain rule blocks)
+first_begins rule blocks n =
+    let more = judged_grows rule (judged_chain rule (take n blocks)) (drop n blocks) in
+    (more.0, more.1 ∙ sym (judged_onto-append rule [] (take n blocks) (drop n blocks)) ∙ ap (judged_chain rule) (take-append-drop n blocks))
+
+lawful_behind : (rule : BlockRule) (chain front back : Chain) → AreLawful rule chain (front ++ back) → AreLawful rule (chain ++ front) back
+lawful_behind rule chain [] back h = subst (λ (d : Chain). AreLawful rule d back) (sym (append-nil chain)) h
+lawful_behind rule chain (c ∷ front) back h =
+    subst (λ (d : Chain). AreLawful rule d back) (append_assoc chain (c ∷ []) front) (lawful_behind rule (chain ++ c ∷ []) front back h.2)
+
+does_more : (s : Setting) (lines : List (List ℕ)) (org : Bytes) (old mid new : Chain) (acts more : List Act) → DoesEach s lines org old acts mid →
+    DoesEach s lines org mid more new → DoesEach s lines org old (acts ++ more) new
+does_more s lines org old mid new [] more did does = subst (λ (d : Chain). DoesEach s lines org d more new) did does
+does_more s lines org old mid new (act ∷ acts) more did does = (did.0, did.1, does_more s lines org did.0 mid new acts more did.2 does)
+
+-- what it did before, and the commits of the log's other blocks, are what one machine did
+pub restart_goes_on : IsBehind → AreReceived → (s : Setting) (lines : List (List ℕ)) (answers : List (Option (List BatchReport))) (log : Ordering)
+    (org : Bytes) (acts : List Act) (before stored new : Chain) → ReadsEach (unread s) lines answers log → DoesEach s lines org [] acts before →
+    AreLawful (table_of s.listed) [] stored → AreToldApart (blocks_of stored) log.chain → ReceivesEach (table_of s.listed) stored log.chain new →
+    length new ≤ length log.chain → (rest : Chain) × (before ++ rest ≡ new) × DoesEach s lines org [] (acts ++ map Joins rest) new
+restart_goes_on behind laws s lines answers log org acts before stored new reads did lawful apart got short =
+    let rule : BlockRule = table_of s.listed in
+    let is = ahead laws rule log.chain stored new (log_linked s log lines answers reads) lawful apart got in
+    let blocks = same_blocks rule log.chain new is short in
+    let first = (acted_each behind s 1 1 lines answers log reads (omega arith) [] [] org [] before acts refl did).1 in
+    let more = first_begins rule log.chain (length before) in
+    let rest = more.0 in
+    let whole : before ++ rest ≡ new =
+    ap (λ (c : Chain). c ++ rest) first ∙ more.1 ∙ sym (is.commits.1 ∙ ap (judged_chain rule) blocks) in
+    let good = lawful_behind rule [] before rest (subst (AreLawful rule []) (sym whole) (laws.replayed rule new (blocks_of new) is.commits)) in
+    let on = joined_each s lines answers log reads org before rest good (ap (λ (c : Chain). blocks_of c) whole ∙ blocks) in (
+      rest,
+      whole,
+      does_more s lines org [] before new acts (map Joins rest) did
+          (subst (λ (c : Chain). DoesEach s lines org before (map Joins rest) c) whole on),
+    )

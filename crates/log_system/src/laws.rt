@@ -27,8 +27,9 @@ ghost use Rattle.endorser.specs.Endorsing.{endorsed_on};
 ghost use Rattle.log_roles.specs.declared.receiving.Received.TheVariants as received;
 ghost use Rattle.fabric_core.specs.System.{chain_of_first};
 ghost use Rattle.fabric_core.specs.Headline.{ConflictsAreOlder, IsAmong, IsHonest};
-ghost use Rattle.log_system.specs.Machines.{AreMachines, Does, DoesEach, IsRead, Machine, Setting};
-ghost use Rattle.log_system.specs.Machines.{Endorses, Joins, endorsing_at, endorsing_with, unread};
+ghost use Rattle.log_system.specs.Machines.{Act, AreMachines, Does, DoesEach, IsRead, Machine};
+ghost use Rattle.log_system.specs.Machines.{Endorses, Joins, Setting, endorsing_at, endorsing_with};
+ghost use Rattle.log_system.specs.Machines.{unread};
 ghost use Rattle.log_system.specs.OneSystem.{IsOneSystem, replies_of_machines};
 ghost use Rattle.log_system.specs.Restarts.{AreToldApart, ReceivesEach};
 
@@ -154,8 +155,10 @@ pub fn machines_are_honest(book: &Book, rules: &Rules)
 /// and receives the blocks that the log makes from the first on, none of which is refused: its chain
 /// begins with the log's (`begins`). Where it is no longer than that, it is the chain of a machine
 /// that committed the log's blocks from nothing (`joins`), so that the laws of machines hold of it,
-/// whatever stood in the store. The premise is that no block of the store has the header hash of
-/// another block of the log.
+/// whatever stood in the store; and what a machine of this organisation did before, from an empty
+/// chain on, with the commits of the blocks behind its chain then, is what one machine did
+/// (`goes_on`), so that the laws hold of what it answered before it was cut off, too. The premise
+/// is that no block of the store has the header hash of another block of the log.
 pub fn a_restart_follows_the_log()
     ensures begins { (setting : Setting) (lines : List (List ℕ))
         (answers : List (Option (List BatchReport))) (log : Ordering) (stored new : Chain) →
@@ -171,6 +174,18 @@ pub fn a_restart_follows_the_log()
         AreToldApart (blocks_of stored) log.chain →
         ReceivesEach (table_of setting.listed) stored log.chain new →
         length new ≤ length log.chain → DoesEach setting lines org [] (map Joins new) new }
+    ensures goes_on { (setting : Setting) (lines : List (List ℕ))
+        (answers : List (Option (List BatchReport))) (log : Ordering) (org : Bytes)
+        (acts : List Act) (before stored new : Chain) →
+        ReadsEach (unread setting) lines answers log →
+        DoesEach setting lines org [] acts before →
+        AreLawful (table_of setting.listed) [] stored →
+        AreToldApart (blocks_of stored) log.chain →
+        ReceivesEach (table_of setting.listed) stored log.chain new →
+        length new ≤ length log.chain →
+        (rest : Chain) × (before ++ rest ≡ new)
+        × DoesEach setting lines org [] (acts ++ map Joins rest) new }
 {
+    log_laws();
     peers_agree();
 }

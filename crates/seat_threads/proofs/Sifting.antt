@@ -27,7 +27,7 @@ module _ (P : Envelope → Type 0) where
 
   accepted : {l : Limits} {r : Bool} {taken given ordered refused : List Envelope} → AcceptsEach l r taken given ordered refused → AllIn given → AllIn ordered
   accepted ends all = tt
-  accepted (takes h) all = (all.0, accepted h all.1)
+  accepted (takes size h) all = (all.0, accepted h all.1)
   accepted (refuses why h) all = accepted h all.1
 
   -- it holds of each message

@@ -228,7 +228,12 @@ fn is_next_on<V: View>(
 {
     let key = Key::of_membership();
     let (value, _) = look_up(view, &key);
-    is_next(alloc, book.installed().orgs(), value, &amend.membership)
+    is_next(
+        alloc,
+        book.installed().organisations(),
+        value,
+        &amend.membership,
+    )
 }
 
 /// Whether the module of a definition is at hand, if it is open.

@@ -79,6 +79,8 @@ impl<D: Read + Drop> CountedRead for Counted<D> {
 impl<D: Write + Drop> CountedWrite for Counted<D> {
     ghost written = { λ c. c.history.moved };
 
+    ghost contents = { λ c. D.contents c.device };
+
     ghost failures = { λ c. c.history.failures };
 
     fn write(&mut self, bytes: &[u8]) -> Result<usize, DeviceError> {

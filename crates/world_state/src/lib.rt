@@ -11,6 +11,7 @@ mod index;
 mod judged;
 mod ranges;
 mod snapshot;
+mod within;
 mod writes;
 
 pub use ids::{TxIds, add_id, tx_ids};

@@ -3,9 +3,11 @@
 ghost use Rattle.std.specs.Prelude.{◌≡◌, ◌≤◌, ◌+◌, ◌-◌, [], ◌∷◌, ◌++◌, length, map, ◌||◌, IfOk, OnOk, OnErr, IfNone, option_map, slice_get};
 ghost use Rattle.std.specs.Arc.{arc_value};
 ghost use Rattle.std.specs.FinMap.{entries};
+ghost use Rattle.std.specs.List.{AllByRecursion};
 ghost use Rattle.std.specs.List.Sorted.{IsStrictlySortedBy};
 ghost use Rattle.std.specs.Map.{keys_of};
 ghost use Rattle.std.specs.Map.Iter.{deref_pair};
+ghost use Rattle.fab_types.specs.BlockWithin.{IsBlock};
 ghost use Rattle.ledger_model.specs.Chain.{Bytes, history};
 ghost use Rattle.ledger_model.specs.Views.{key_cmp, first, entries_within};
 ghost use Rattle.ledger_model.specs.State.{state, state_at};
@@ -20,6 +22,7 @@ use crate::ids::tx_ids;
 use crate::index::{IdIndex, index_all, is_indexed};
 use crate::judged::Judged;
 use crate::ranges::{first_entries, range_in};
+use crate::within::show_block;
 use crate::writes::{StateMap, apply_block};
 use fab_types::limits::LAST_BLOCK;
 use fab_types::{Block, Bound, CommittedBlock, Flag, Key, Value, Version};
@@ -64,6 +67,7 @@ fn after_block(
 ) -> Result<(StateMap, IdIndex), AllocError>
     requires { length flags.now ≡ length block.now.envelopes }
     ensures limits { OnOk result (block.now.header.number ≤ LAST_BLOCK) }
+    ensures within { IsBlock block.now }
     ensures map { IfOk result
         (λ t. as_state t.0.entries
         ≡ put_block (as_state map.now.entries) block.now.header.number 0 block.now.envelopes
@@ -73,6 +77,7 @@ fn after_block(
         is_known (keys_of t.1.entries) sought
         ≡ (is_known (keys_of known.now.entries) sought || has_id ids.now sought)) }
 {
+    show_block(block);
     let mut map = map.clone()?;
     let mut known = known.clone()?;
     apply_block(&mut map, block, flags)?;
@@ -124,10 +129,12 @@ impl Snapshot {
         self.blocks.len()
     }
 
-    /// The blocks with their flags, from block 1 on. There are at most 65,535.
+    /// The blocks with their flags, from block 1 on. There are at most 65,535, each within the
+    /// ledger's limits.
     pub fn blocks(&self) -> &[Arc<CommittedBlock>]
         ensures value { blocks_in result.now ≡ self.now }
         ensures limits { length self.now ≤ LAST_BLOCK }
+        ensures within { AllByRecursion (λ c. IsBlock c.block) self.now }
     {
         &self.blocks
     }

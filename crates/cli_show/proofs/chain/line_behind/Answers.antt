@@ -1,12 +1,12 @@
-use Rattle.std.proofs.Common.{◌≡◌, ◌∙◌, IfOk, List, Some, ap, string_bytes, subst}
+use Rattle.std.proofs.Common.{◌∙◌, IfOk, List, ap, string_bytes, subst}
 use Rattle.endorsement_policy.specs.Membership.{Standing}
 use Rattle.org_keys.specs.declared.organisation.Organisation.{Organisation}
-use Rattle.serde_json.specs.Read.{read}
 use Rattle.json_chain.specs.Blocks.{block_json}
+use Rattle.json_chain.specs.Plain.{IsTextOf}
 use Rattle.cli_show.proofs.chain.line_behind.Goals as goal
 
 pub returns : goal.returns
 returns c =
     let orgs = c.organisations.ensures ∙ ap (λ (s : Standing). s.orgs) c.in_ok-standing.ensures in
-    subst (λ (os : List Organisation). IfOk c.block_line.result (λ s. read (string_bytes s) ≡ Some (block_json os c.args.committed.now))) orgs
+    subst (λ (os : List Organisation). IfOk c.block_line.result (λ s. IsTextOf (block_json os c.args.committed.now) (string_bytes s))) orgs
     c.block_line.ensures

@@ -1,4 +1,4 @@
-use Rattle.std.proofs.Common.{◌≡◌, ◌+◌, List, [], ◌∷◌, None, Option, Some, option_map, take, drop, sym, ap, subst, ◌∙◌, arith, rules, string_bytes}
+use Rattle.std.proofs.Common.{◌≡◌, ◌+◌, List, [], ◌∷◌, None, Option, option_map, take, drop, sym, ap, subst, ◌∙◌, arith, rules, string_bytes}
 use Rattle.std.proofs.lemmas.List.{drop_all, drop_more, take-append-drop}
 use Rattle.std.specs.declared.sync.Arc.{Arc}
 use Rattle.std.specs.declared.alloc.Global.{Global}
@@ -7,8 +7,8 @@ use Rattle.fab_types.specs.declared.membership.Membership.{Membership}
 use Rattle.endorsement_policy.specs.Membership.{standing_by}
 use Rattle.world_state.specs.Shared.{blocks_in}
 use Rattle.serde_json.specs.Data.{Data}
-use Rattle.serde_json.specs.Read.{read}
 use Rattle.json_chain.specs.Blocks.{block_json}
+use Rattle.json_chain.specs.Plain.{IsTextOf}
 use Rattle.json_chain.specs.Standing.{amended_by, blocks_json, membership_behind}
 use Rattle.cli_lines.proofs.Printing.{nothing_same, on_err}
 use Rattle.cli_lines.proofs.Silence.{and_more}
@@ -44,8 +44,8 @@ loop-committed-preserved g c =
     drop_more xs k x (omega (arith, c.loop-committed-test.true)) ∙ ap (λ (a : Arc Committed Global). a ∷ drop (k + 1) xs) (sym c.committed-item.is) in
     let split : drop k all ≡ json ∷ rest = inv.left ∙ ap (λ (ys : List (Arc Committed Global)). blocks_json r was (blocks_in ys)) here in
     let text = string_bytes c.in_ok-line.line in
-    let reads : read text ≡ Some json =
-    c.in_ok-line.ensures ∙ ap (λ (b : Committed). Some (block_json (standing_by r was).orgs b)) c.deref.ensures in
+    let is : IsTextOf json text =
+    subst (λ (b : Committed). IsTextOf (block_json (standing_by r was).orgs b) text) c.deref.ensures c.in_ok-line.ensures in
     let next : option_map (λ s. s.now) c.amended_by-membership.result ≡ behind =
     c.amended_by-membership.ensures ∙ ap (λ (b : Committed). amended_by was b.block.envelopes b.flags) c.deref-in-loop-committed.ensures in
     record {
@@ -56,7 +56,7 @@ loop-committed-preserved g c =
           ∙ ap (λ (m : Option Membership). blocks_json r m (blocks_in (drop (k + 1) xs))) (sym next);
       lines =
           line_behind (take k all) (take (k + 1) all) json text c.args.out.now.bytes c.loop-committed.out.bytes c.print_line.new.out.bytes
-          (taken_more k all json rest split) inv.lines reads c.in_ok-print_line.ensures.line;
+          (taken_more k all json rest split) inv.lines is c.in_ok-print_line.ensures.line;
     }
 
 pub returns-clause-lines : goal.returns-clause-lines

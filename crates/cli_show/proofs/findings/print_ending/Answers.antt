@@ -6,11 +6,11 @@ use Rattle.cli_show.proofs.findings.print_ending.Goals as goal
 pub returns-clause-line : goal.returns-clause-line
 returns-clause-line g c =
     let finding = c.in_ok-finding.finding in
-    let reads = rw c.height.ensures.value at c.in_ok-line.ensures in (
+    let is = rw c.height.ensures.value at c.in_ok-line.ensures in (
       finding,
       c.in_ok-finding.ensures,
       c.is_good.ensures,
-      one_line _ (string_bytes c.in_ok-line.line) c.args.out.now.bytes c.print_line.new.out.bytes reads c.in_ok-print_line.ensures.line,
+      one_line _ (string_bytes c.in_ok-line.line) c.args.out.now.bytes c.print_line.new.out.bytes is c.in_ok-print_line.ensures.line,
     )
 
 pub returns-in_err-finding-clause-nothing : goal.returns-in_err-finding-clause-nothing

@@ -2,7 +2,6 @@ use Rattle.std.proofs.Common.{◌≡◌, ◌∙◌, ap, sym, subst, Some, slice_
 use Rattle.ledger_model.specs.Execution.{ReadsAlone}
 use Rattle.ledger_model.specs.Chain.{Envelope, Placed}
 use Rattle.ledger_model.specs.State.{state}
-use Rattle.ledger_model.specs.Views.{values_of}
 use Rattle.endorsement_policy.specs.Endorsed.{is_endorsed}
 use Rattle.simulator.specs.Execution.{exec_of}
 use Rattle.ledger_setting.specs.Limits.{limits_of}
@@ -92,7 +91,7 @@ returns-clause-conflicts c on peer chain is =
     let genesis = c.args.genesis.now in
     let ran = c.loop-event-test.ran in
     let r = rules_of (exec_of genesis.book.value) genesis.rules.value genesis.signers.value genesis.queue in
-    let endorsed : List Placed → Envelope → Bool = λ before. is_endorsed genesis.rules.value (values_of (state before)) in
+    let endorsed : List Placed → Envelope → Bool = λ before. is_endorsed genesis.rules.value (state before) in
     older_run id_of endorsed r genesis.peers.items genesis.seats (limits_of genesis) genesis.reorder c.args.events.now
     ran.replies.items ran.system.world ran.refused refl (returns-clause-run c) on peer chain is
 

@@ -14,8 +14,8 @@ pub returns-in-Some : goal.returns-in-Some
 returns-in-Some c =
     let r = c.args.rules.now in
     let state = plain_after c.args.snapshot.now in
-    let names = c.orgs-names.ensures ∙ ap (λ (i : Installed). i.orgs) c.installed.ensures in
-    let found = found_in r state _ _ c.in_ok-found.found names c.membership_value.ensures c.in_ok-found.ensures in
+    let orgs = c.organisations-organisations.ensures ∙ ap (λ (i : Installed). i.orgs) c.installed.ensures in
+    let found = found_in r state _ _ c.in_ok-found.found orgs c.membership_value.ensures c.in_ok-found.ensures in
     let there : usable_membership r.installed.orgs (get state membership_key) ≡ Some c.in-Some.membership = sym found ∙ c.in-Some.is in
     subst (λ (o : Option Membership). IfOk c.to_json.result (λ v. view v ≡ standing_json r o)) (sym there) c.to_json.ensures
 
@@ -23,7 +23,7 @@ pub returns-in-None : goal.returns-in-None
 returns-in-None c =
     let r = c.args.rules.now in
     let state = plain_after c.args.snapshot.now in
-    let names = c.orgs-names.ensures ∙ ap (λ (i : Installed). i.orgs) c.installed.ensures in
-    let found = found_in r state _ _ c.in_ok-found.found names c.membership_value.ensures c.in_ok-found.ensures in
+    let orgs = c.organisations-organisations.ensures ∙ ap (λ (i : Installed). i.orgs) c.installed.ensures in
+    let found = found_in r state _ _ c.in_ok-found.found orgs c.membership_value.ensures c.in_ok-found.ensures in
     let there : usable_membership r.installed.orgs (get state membership_key) ≡ None = sym found ∙ c.in-None.is in
     subst (λ (o : Option Membership). IfOk c.listed_of.result (λ v. view v ≡ standing_json r o)) (sym there) c.listed_of.ensures

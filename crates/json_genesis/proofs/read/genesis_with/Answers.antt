@@ -1,19 +1,24 @@
-use Rattle.std.proofs.Common.{sym, ◌∙◌, true≢false}
+use Rattle.std.proofs.Common.{ap, sym, ◌∙◌, true≢false}
 use Rattle.std.proofs.lemmas.Result.{err_from_is_err_and}
+use Rattle.chaincode_book.specs.Books.{Book}
+use Rattle.endorsement_policy.specs.Installed.{Installed}
 use Rattle.json_genesis.specs.Fields.{parts_of}
 use Rattle.json_genesis.specs.Spelling.{IsBookOf}
 use Rattle.json_genesis.proofs.Opens.{all_needed, policy_needed}
-use Rattle.json_genesis.proofs.Whole.{NoneIs-part}
+use Rattle.json_genesis.proofs.Whole.{NoneIs-of}
 use Rattle.json_genesis.proofs.read.genesis_with.Goals as goal
+
+pub book-requires : goal.book-requires
+book-requires c = c.deref.ensures.value ∙ c.requires.spelled.names
 
 pub returns-in_err-book-clause-refused : goal.returns-in_err-book-clause-refused
 returns-in_err-book-clause-refused c =
     let p = err_from_is_err_and c.from_residual.result c.from_residual.ensures.1 in
     let parts = parts_of c.args.fields.now in
     rw (p.1, p.2)
-    (NoneIs-part (λ orgs b. IsBookOf orgs c.args.held.items parts.chaincodes parts.modules b.0 b.1) (λ g. (g.book.value, g.rules.value.policies))
-    _ _ _ _ _ (λ g h. h.book)
-    c.requires.spelled.organisations c.requires.spelled.names c.in_err-book.ensures.refused)
+    (NoneIs-of (λ orgs b. IsBookOf orgs c.args.held.items parts.chaincodes parts.modules b.0 b.1) (λ g. (g.book.value, g.rules.value.policies))
+    _ _ _ _ (λ g h. h.book)
+    c.requires.spelled.organisations c.in_err-book.ensures.refused)
 
 pub returns-in_default-clause-refused : goal.returns-in_default-clause-refused
 returns-in_default-clause-refused c =
@@ -27,6 +32,8 @@ returns-clause-ok c =
     let setting = c.requires.spelled in
     let names = sym setting.names in
     let rules = c.in_ok-new-2.ensures.ok ∙ c.in-Some.ensures.value in
+    let installed = c.in_ok-installed.ensures.cases ∙ c.installed.ensures in
+    let orgs = ap (λ (i : Installed). i.orgs) installed ∙ ap (λ (b : Book). b.installed.orgs) c.in_ok-book.ensures.ok.5 in
     record {
       seats = setting.seats;
       queue = setting.queue;
@@ -34,10 +41,10 @@ returns-clause-ok c =
       preferred = setting.preferred;
       absolute = setting.absolute;
       reorder = setting.reorder;
-      organisations = rw rules setting.organisations;
-      peers = rw (rules, names) setting.peers;
-      book = rw (c.in_ok-new.ensures.ok, rules, names) c.in_ok-book.ensures.ok;
-      upgrade = rw (rules, names) setting.upgrade;
-      installed = rw (rules, c.in_ok-new.ensures.ok) (c.in_ok-installed.ensures.cases ∙ c.installed.ensures);
+      organisations = rw (rules, orgs) setting.organisations;
+      peers = rw (rules, orgs, names) setting.peers;
+      book = rw (c.in_ok-new.ensures.ok, rules, orgs) c.in_ok-book.ensures.ok;
+      upgrade = rw (rules, orgs, names) setting.upgrade;
+      installed = rw (rules, c.in_ok-new.ensures.ok) installed;
       signers = c.in_ok-new-3.ensures.ok ∙ c.none.ensures;
     }

@@ -1,4 +1,4 @@
-use Rattle.log_system.proofs.Restarting.{AreReceived, restart_begins, restart_joins}
+use Rattle.log_system.proofs.Restarting.{AreReceived, restart_begins, restart_goes_on, restart_joins}
 use Rattle.log_system.proofs.laws.a_restart_follows_the_log.Goals as goal
 
 pub returns : goal.returns
@@ -8,4 +8,5 @@ returns c =
     record {
       begins = restart_begins laws;
       joins = restart_joins laws;
+      goes_on = restart_goes_on c.log_laws.ensures.behind laws;
     }

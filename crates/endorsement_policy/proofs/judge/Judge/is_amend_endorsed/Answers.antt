@@ -1,7 +1,9 @@
 use Rattle.std.proofs.Common.{rules, ◌≡◌, true}
 use Rattle.std.specs.FinMap.{get}
 use Rattle.fab_types.specs.Memberships.{membership_key}
-use Rattle.endorsement_policy.specs.Endorsed.{is_amend_payload}
+use Rattle.ledger_model.specs.Chain.{history}
+use Rattle.ledger_model.specs.State.{state}
+use Rattle.endorsement_policy.specs.Endorsed.{is_amend_payload, reads_no_newer}
 use Rattle.endorsement_policy.specs.Judge.{plain_after}
 use Rattle.endorsement_policy.specs.Membership.{is_next}
 use Rattle.endorsement_policy.proofs.judge.Judge.is_amend_endorsed.Goals as goal
@@ -12,4 +14,5 @@ returns c =
     let a = c.args.amend.now in
     let paid : is_amend_payload a c.args.envelope.now.payload ≡ true = search rules in
     let next : is_next judge.listed.installed.orgs (get (plain_after judge.chain) membership_key) a.membership ≡ true = search rules in
-    rw (paid, next) c.is_agreed.ensures
+    let older : reads_no_newer (state (history judge.chain)) c.args.envelope.now.payload ≡ true = search rules in
+    rw (paid, older, next) c.is_agreed.ensures

@@ -20,7 +20,8 @@ invariant_of-result c =
     c.requires.judged.one_each
     (c.in_ok-map.ensures.map ∙
     (λ i. put_block (as_state c.self.inside.map.entries) b.header.number 0 b.envelopes (c.deref.ensures.value i)))
-    (λ q. c.in_ok-map.ensures.ids q ∙ ap (λ ids. is_known (keys_of c.self.inside.ids.entries) q || has_id ids q) (c.deref-2.ensures.value ∙ c.requires.judged.ids)))
+    (λ q. c.in_ok-map.ensures.ids q ∙ ap (λ ids. is_known (keys_of c.self.inside.ids.entries) q || has_id ids q) (c.deref-2.ensures.value ∙ c.requires.judged.ids))
+    c.in_ok-map.ensures.within)
 
 pub returns : goal.returns
 returns c =

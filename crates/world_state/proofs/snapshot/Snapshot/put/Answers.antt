@@ -1,6 +1,7 @@
 use Rattle.std.proofs.Common.{◌≡◌, ◌≤◌, ◌∙◌, ap, sym, refl, ◌+◌, length, arith, ◌||◌, subst}
 use Rattle.std.specs.Arc.{arc_value}
 use Rattle.std.specs.Map.{keys_of}
+use Rattle.fab_types.specs.BlockWithin.{IsBlock}
 use Rattle.fab_types.specs.declared.block.Block.{Block}
 use Rattle.ledger_model.specs.Chain.{Committed, Chain}
 use Rattle.world_state.specs.Writing.{as_state, put_block}
@@ -26,4 +27,5 @@ invariant_of-self-2 c =
     subst (λ (bs : Chain). IsRight bs c.in_ok-map.map.entries (keys_of c.in_ok-map.ids.entries)) (sym pushed)
     (right_more chain new s.map.entries _ (keys_of s.ids.entries) _ c.self.invariant number limit each
     (c.in_ok-map.ensures.map ∙ (λ i. put_block (as_state s.map.entries) (block i).header.number 0 (block i).envelopes (flags i)))
-    (λ q. c.in_ok-map.ensures.ids q ∙ ap (λ ids. is_known (keys_of s.ids.entries) q || has_id ids q) c.requires.ids))
+    (λ q. c.in_ok-map.ensures.ids q ∙ ap (λ ids. is_known (keys_of s.ids.entries) q || has_id ids q) c.requires.ids)
+    (subst IsBlock block c.in_ok-map.ensures.within))

@@ -1,0 +1,11 @@
+-- Data as one line of text.
+use Rattle.std.specs.Prelude.{◌≡◌, Some}
+use Rattle.serde_json.specs.Data.{Data}
+use Rattle.serde_json.specs.Read.{read}
+use Rattle.serde_json.specs.Written.{compact_text}
+use Rattle.ledger_model.specs.Chain.{Bytes}
+
+-- the text is the data without spaces, the fields of each object in the byte order of their names, and is read back as them
+pub record IsTextOf (d : Data) (text : Bytes) : Type 0 where
+  pub exact : text ≡ compact_text d
+  pub read : read text ≡ Some d
