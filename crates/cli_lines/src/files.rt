@@ -5,8 +5,8 @@ ghost use Rattle.cli_lines.specs.Places.{ChangesOnly, FilesHeld, IsFileOf, IsFre
 ghost use Rattle.cli_lines.specs.Told.{IsHeld};
 
 use std::alloc::{AllocError, Global};
-use std::fs::OpenFile;
-use std::io::{self, ErrorKind, Read, Seek, Write};
+use std::io::{self, ErrorKind, Read, Write};
+use store_devices::StoreFile;
 use store_replay::Watch;
 
 /// Where the program's files are.
@@ -15,7 +15,7 @@ pub trait Files {
 
     type Writer: Write + Drop;
 
-    type Store: Read + Write + Seek + OpenFile + Drop;
+    type Store: StoreFile;
 
     type Input: Read + Drop;
 

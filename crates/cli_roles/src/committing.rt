@@ -32,9 +32,9 @@ use hex::FromHexError;
 use log_roles::Received;
 use log_store::StoredChain;
 use std::alloc::{AllocError, Global};
-use std::fs::OpenFile;
-use std::io::{Read, Seek, Write};
+use std::io::{Read, Write};
 use std::thread::Threads;
+use store_devices::StoreFile;
 use store_replay::{TagChecks, Watch};
 use wire::{WireFault, decode_block, header_hash};
 
@@ -94,14 +94,7 @@ struct Peer<'a, T> {
 }
 
 /// Opens the store of a file, and commits the block of each line that has one.
-fn commit_to<
-    T: Threads + Sync,
-    F: Files,
-    V: Watch + Drop,
-    D: Read + Write + Seek + OpenFile + Drop,
-    R: Read + Drop,
-    W: Write,
->(
+fn commit_to<T: Threads + Sync, F: Files, V: Watch + Drop, D: StoreFile, R: Read + Drop, W: Write>(
     files: &mut F,
     peer: &Peer<'_, T>,
     watch: V,
@@ -136,13 +129,7 @@ fn commit_to<
 }
 
 /// Prints with how many blocks a store was opened, and commits the block of each line.
-fn commit_behind<
-    T: Threads + Sync,
-    F: Files,
-    D: Read + Write + Seek + OpenFile + Drop,
-    R: Read + Drop,
-    W: Write,
->(
+fn commit_behind<T: Threads + Sync, F: Files, D: StoreFile, R: Read + Drop, W: Write>(
     files: &mut F,
     peer: &Peer<'_, T>,
     chain: &mut StoredChain<D>,
@@ -197,13 +184,7 @@ fn print_cut<W: Write>(cut: usize, out: &mut Printer<'_, W>) -> Result<(), Failu
 }
 
 /// Commits the block of each line that has one, and judges each that was seen.
-fn commit_lines<
-    T: Threads + Sync,
-    F: Files,
-    D: Read + Write + Seek + OpenFile + Drop,
-    R: Read + Drop,
-    W: Write,
->(
+fn commit_lines<T: Threads + Sync, F: Files, D: StoreFile, R: Read + Drop, W: Write>(
     files: &mut F,
     peer: &Peer<'_, T>,
     chain: &mut StoredChain<D>,
@@ -232,7 +213,7 @@ fn commit_lines<
 }
 
 /// Commits the block of a line, or judges one that was seen, if it has one.
-fn take_line<T: Threads + Sync, F: Files, D: Read + Write + Seek + OpenFile + Drop, W: Write>(
+fn take_line<T: Threads + Sync, F: Files, D: StoreFile, W: Write>(
     files: &mut F,
     peer: &Peer<'_, T>,
     chain: &mut StoredChain<D>,
@@ -257,7 +238,7 @@ fn take_line<T: Threads + Sync, F: Files, D: Read + Write + Seek + OpenFile + Dr
 }
 
 /// The same of a line that is text.
-fn take_text<T: Threads + Sync, F: Files, D: Read + Write + Seek + OpenFile + Drop, W: Write>(
+fn take_text<T: Threads + Sync, F: Files, D: StoreFile, W: Write>(
     files: &mut F,
     peer: &Peer<'_, T>,
     chain: &mut StoredChain<D>,
@@ -283,7 +264,7 @@ fn take_text<T: Threads + Sync, F: Files, D: Read + Write + Seek + OpenFile + Dr
 }
 
 /// Commits the block that hex stands for.
-fn take_block<T: Threads + Sync, F: Files, D: Read + Write + Seek + OpenFile + Drop, W: Write>(
+fn take_block<T: Threads + Sync, F: Files, D: StoreFile, W: Write>(
     files: &mut F,
     peer: &Peer<'_, T>,
     chain: &mut StoredChain<D>,
@@ -379,7 +360,7 @@ fn number_of(block: &Block) -> u32
 }
 
 /// Commits a block, and prints what became of it.
-fn receive<T: Threads + Sync, F: Files, D: Read + Write + Seek + OpenFile + Drop, W: Write>(
+fn receive<T: Threads + Sync, F: Files, D: StoreFile, W: Write>(
     files: &mut F,
     peer: &Peer<'_, T>,
     chain: &mut StoredChain<D>,
@@ -417,7 +398,7 @@ fn receive<T: Threads + Sync, F: Files, D: Read + Write + Seek + OpenFile + Drop
 }
 
 /// Prints the number and the flags of the newest block, which is on the disk.
-fn print_newest<D: Read + Write + Seek + OpenFile + Drop, W: Write>(
+fn print_newest<D: StoreFile, W: Write>(
     chain: &StoredChain<D>,
     out: &mut Printer<'_, W>,
 ) -> Result<(), Failure>
@@ -437,7 +418,7 @@ fn print_newest<D: Read + Write + Seek + OpenFile + Drop, W: Write>(
 
 /// Prints that an organisation has signed that it has another block than the chain's, if a line
 /// says so.
-fn print_fork<D: Read + Write + Seek + OpenFile + Drop, W: Write>(
+fn print_fork<D: StoreFile, W: Write>(
     alloc: Global,
     log: &LogGenesis,
     chain: &StoredChain<D>,
@@ -458,7 +439,7 @@ fn print_fork<D: Read + Write + Seek + OpenFile + Drop, W: Write>(
 }
 
 /// The same of a block that an organisation says it has.
-fn print_judged<D: Read + Write + Seek + OpenFile + Drop, W: Write>(
+fn print_judged<D: StoreFile, W: Write>(
     alloc: Global,
     log: &LogGenesis,
     chain: &StoredChain<D>,
@@ -484,7 +465,7 @@ fn print_judged<D: Read + Write + Seek + OpenFile + Drop, W: Write>(
 
 /// Whether a block that is said to be seen is told as a fork: the chain has another one of its
 /// number, or none, and it is signed by who stands behind the chain. The signature is judged last.
-fn is_fork<D: Read + Write + Seek + OpenFile + Drop>(
+fn is_fork<D: StoreFile>(
     alloc: Global,
     genesis: &[u8; 32],
     chain: &StoredChain<D>,

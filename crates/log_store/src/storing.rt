@@ -19,11 +19,9 @@ use endorsement_policy::{Rules, Standing, Workers};
 use fab_types::{Block, CommittedBlock};
 use log_roles::{Committer, Received};
 use std::alloc::{AllocError, Global};
-use std::fs::OpenFile;
-use std::io::{Read, Seek, Write};
 use std::sync::Arc;
 use std::thread::Threads;
-use store_devices::Counted;
+use store_devices::{Counted, StoreFile};
 use store_replay::{TagChecks, Watch, recommit};
 
 /// A chain to which the blocks of a log are committed, and the file that it is stored in.
@@ -37,7 +35,7 @@ pub struct StoredChain<D: Drop> {
     alloc: Global,
 }
 
-impl<D: Read + Write + Seek + OpenFile + Drop> StoredChain<D> {
+impl<D: StoreFile> StoredChain<D> {
     /// The chain of a store, which is committed again as it stands, and how many bytes were cut off
     /// behind its whole records. The file is read from its first byte on. The answer is the same
     /// whoever checks the tags.
@@ -149,7 +147,7 @@ fn held_of(loaded: &Loaded) -> Result<usize, StoreRefusal>
 }
 
 /// Puts the record of the newest block at the end of a file, and waits until it is on the disk.
-fn append_newest<D: Write + Seek + OpenFile + Drop>(
+fn append_newest<D: StoreFile>(
     alloc: Global,
     committer: &Committer,
     file: &mut Counted<D>,

@@ -1,18 +1,22 @@
 //! A reader or a writer of std as a device of the block store.
 //!
 //! [`Counted`] keeps what its calls moved and how many of them failed in a history that exists in
-//! contracts alone: it takes no memory, and the count has no greatest.
+//! contracts alone: it takes no memory, and the count has no greatest. [`StoreFile`] is the file of a
+//! store.
 #![tactic(auto)]
 
 ghost use Rattle.std.specs.Prelude.{◌≡◌, suc, OnOk, OnErr};
+ghost use Rattle.std.specs.Io.KnownBytes.{Keeps};
 ghost use Rattle.store_devices.specs.History.{cut_back, fresh};
+ghost use Rattle.store_devices.specs.StoreFile.{CutsBack};
 
 mod history;
+mod store_file;
 
 use crate::history::{Call, History};
 use block_store::{CountedRead, CountedWrite, DeviceError};
-use std::fs::OpenFile;
-use std::io::{self, Read, Seek, SeekFrom, Write};
+use std::io::{Read, Write};
+pub use store_file::StoreFile;
 
 /// A reader or a writer with the history of its calls. Each error is a failed call, an interrupted
 /// one too, and so is a write that takes no byte.
@@ -97,19 +101,21 @@ impl<D: Write + Drop> CountedWrite for Counted<D> {
     }
 }
 
-impl<D: Seek + OpenFile + Drop> Counted<D> {
+impl<D: StoreFile> Counted<D> {
     /// Takes so many bytes away from the end of a file. An error is a failed call; then the history
     /// has them still, and the file may have them or not.
     pub fn cut_back(&mut self, count: usize) -> Result<(), DeviceError>
         ensures cut { OnOk result
             (self.new.history.moved ≡ cut_back count self.old.history.moved) }
+        ensures known { OnOk result
+            (CutsBack count (D.contents self.old.device) (D.contents self.new.device)) }
         ensures failed { OnErr result ((self.new.history.moved ≡ self.old.history.moved)
             × (self.new.history.failures ≡ suc self.old.history.failures)) }
         ensures counted { OnOk result
             (self.new.history.failures ≡ self.old.history.failures) }
         ensures synced { self.new.history.synced ≡ self.old.history.synced }
     {
-        match shorten(&mut self.device, count) {
+        match self.device.cut_back(count) {
             Ok(()) => {
                 self.history = self.history.and(&Call::CutBack(count));
                 Ok(())
@@ -126,13 +132,15 @@ impl<D: Seek + OpenFile + Drop> Counted<D> {
     pub fn sync(&mut self) -> Result<(), DeviceError>
         ensures synced { OnOk result
             (self.new.history.synced ≡ self.new.history.moved) }
+        ensures known { OnOk result (Keeps (D.contents self.new.device) (D.on_disk self.new.device)) }
+        ensures kept { Keeps (D.contents self.old.device) (D.contents self.new.device) }
         ensures moved { self.new.history.moved ≡ self.old.history.moved }
         ensures failed { OnErr result
             (self.new.history.failures ≡ suc self.old.history.failures) }
         ensures counted { OnOk result
             (self.new.history.failures ≡ self.old.history.failures) }
     {
-        match self.device.sync_all() {
+        match self.device.sync() {
             Ok(()) => {
                 self.history = self.history.and(&Call::Synced);
                 Ok(())
@@ -143,14 +151,4 @@ impl<D: Seek + OpenFile + Drop> Counted<D> {
             }
         }
     }
-}
-
-/// Goes to where a file ends that has so many bytes less, and makes it end there.
-fn shorten<D: Seek + OpenFile>(file: &mut D, count: usize) -> io::Result<()> {
-    let length = file.seek(SeekFrom::End(0))?;
-    let Some(left) = length.checked_sub(count as u64) else {
-        return Err(io::Error::from(io::ErrorKind::UnexpectedEof));
-    };
-    file.seek(SeekFrom::Start(left))?;
-    file.set_len(left)
 }
