@@ -8,7 +8,6 @@ use Rattle.fab_types.specs.Memberships.{membership_key}
 use Rattle.fab_types.specs.Order.{is_shown}
 use Rattle.fab_types.specs.Proposals.{definition_key}
 use Rattle.fab_types.specs.Spelling.{definition_bytes, membership_bytes}
-use Rattle.fab_types.specs.Payloads.{Payload}
 use Rattle.fab_types.specs.declared.envelope.Envelope.{Envelope}
 use Rattle.fab_types.specs.declared.items.WriteItem.{WriteItem}
 use Rattle.fab_types.specs.declared.proposal.Proposal.{Proposal}

@@ -1,6 +1,6 @@
 -- A machine that begins again has a chain that the log's begins.
 use Rattle.std.proofs.Common.{◌≡◌, ◌≤◌, ℕ, zero, suc, ◌+◌, List, [], ◌∷◌, ◌++◌, length, length-append, length-take, map, take, drop, Option, Some, Ok}
-use Rattle.std.proofs.Common.{option_map, refl, sym, ap, subst, ◌∙◌, slice_get, arith}
+use Rattle.std.proofs.Common.{refl, sym, ap, subst, ◌∙◌, slice_get, arith}
 use Rattle.std.proofs.lemmas.List.{append-nil, append_assoc, length-map, map-append, take-append-drop}
 use Rattle.std.proofs.lemmas.Option.{slice_get_within}
 use Rattle.fab_types.specs.declared.block.Block.{Block}
@@ -9,7 +9,7 @@ use Rattle.orderer.specs.declared.report.BatchReport.{BatchReport}
 use Rattle.orderer.proofs.Linking.{linked_at}
 use Rattle.wire.specs.Links.{AreLinked}
 use Rattle.ledger_model.specs.Chain.{Bytes, Chain, Committed}
-use Rattle.ledger_model.specs.Judged.{BlockRule, judge_onto, judged_chain}
+use Rattle.ledger_model.specs.Judged.{BlockRule, judged_chain}
 use Rattle.ledger_model.specs.Serial.{IsPrefix}
 use Rattle.ledger_model.proofs.Judged.{judged_grows, judged_onto-append}
 use Rattle.ledger_setting.specs.Rule.{table_of}
