@@ -1,22 +1,24 @@
 -- What the program tells by the lines that it prints.
 use Rattle.std.specs.Prelude.{◌≡◌, ◌<◌, ◌≤◌, ◌⊎◌, ◌++◌, ℕ, List, Bool, true, false, Option, Result, Ok, Err, IfSome}
-use Rattle.std.specs.Io.KnownBytes.{Appends}
+use Rattle.std.specs.Io.KnownBytes.{Appends, Keeps}
 use Rattle.cli_lines.specs.declared.failure.Failure.{Failure}
 use Rattle.cli_lines.specs.declared.failure.Failure.TheVariants as failure
 
--- how many texts were printed, whether one could not be, whether one waits to be handed on, and all that the writer holds, where that is known
+-- how many texts were printed, whether one could not be, whether one may wait to be handed on, and, where that is known, the bytes that were printed,
+-- behind those that the writer held, and those that it holds
 pub record Told : Type 0 where
   pub printed : ℕ
   pub failed : Bool
   pub waits : Bool
   pub bytes : Option (List ℕ)
+  pub handed : Option (List ℕ)
 
 abbrev pub nothing_told : Option (List ℕ) → Told
-nothing_told bytes = record { printed = 0; failed = false; waits = false; bytes = bytes }
+nothing_told bytes = record { printed = 0; failed = false; waits = false; bytes = bytes; handed = bytes }
 
--- no text waits, unless one could not be printed or handed on
+-- no text waits: the writer holds all that was printed, unless one could not be printed or handed on
 abbrev pub IsHandedOn : Told → Type 0
-IsHandedOn told = told.failed ≡ false → told.waits ≡ false
+IsHandedOn told = told.failed ≡ false → (told.waits ≡ false) × Keeps told.bytes told.handed
 
 -- nothing of it is taken back
 pub record IsMore (before after : Told) : Type 0 where

@@ -1,27 +1,29 @@
 //! Where lines are printed.
 
-ghost use Rattle.std.specs.Prelude.{◌≡◌, ◌<◌, true, false, IfErr, IfSome, OnOk, OnErr};
+ghost use Rattle.std.specs.Prelude.{◌≡◌, ◌<◌, true, false, IfErr, IfOk, IfSome, OnOk, OnErr};
 ghost use Rattle.std.specs.Io.KnownBytes.{Appends, Keeps};
 ghost use Rattle.cli_lines.specs.Told.{IsBrokenOff, Prints, PrintsNothing, Says, Tells, Told, nothing_told};
 
 use crate::failure::Failure;
+use std::alloc::Global;
 use std::fmt::Display;
-use std::io::{self, ErrorKind, Write};
+use std::io::{self, BufWriter, ErrorKind, Write};
 use std::marker::Model;
 
-/// A writer on which texts are printed. It keeps how many were, whether one could not be, and
-/// whether one waits in the writer. Contracts see this, and the bytes that the writer holds, where
-/// they are known.
+/// A writer on which texts are printed, behind a buffer. It keeps how many were, whether one could
+/// not be, and whether one may wait in the buffer. Contracts see this, the bytes that were printed,
+/// behind those that the writer held, and those that the writer holds, where they are known.
 #[derive(Drop)]
 pub struct Printer<'w, W: Write> {
-    out: &'w mut W,
+    out: BufWriter<&'w mut W>,
     printed: u64,
     has_failed: bool,
-    /// Whether texts were printed since the writer handed on what it held.
+    /// Whether texts were printed since all was handed on.
     waits: bool,
 }
 
 impl<'w, W: Write> Model for Printer<'w, W> {
+    ghost use Rattle.std.specs.Io.Buffered.{writer_contents, writer_inner};
     ghost use Rattle.cli_lines.specs.Told.{Told};
 
     ghost Value = { Told };
@@ -31,21 +33,22 @@ impl<'w, W: Write> Model for Printer<'w, W> {
           printed = p.printed;
           failed = p.has_failed;
           waits = p.waits;
-          bytes = W.contents p.out.now;
+          bytes = writer_contents (λ w. W.contents w.now) p.out;
+          handed = W.contents (writer_inner p.out).now;
         } };
 }
 
 impl<'w, W: Write> Printer<'w, W> {
     /// Nothing was printed yet.
-    pub fn new(out: &'w mut W) -> Printer<'w, W>
-        ensures { result ≡ nothing_told (W.contents out.old) }
+    pub fn new(alloc: Global, out: &'w mut W) -> io::Result<Printer<'w, W>>
+        ensures { IfOk result (λ p. p ≡ nothing_told (W.contents out.old)) }
     {
-        Printer {
-            out,
+        Ok(Printer {
+            out: BufWriter::new(alloc, out)?,
             printed: 0,
             has_failed: false,
             waits: false,
-        }
+        })
     }
 
     /// Prints a text, by `write!` and `writeln!`. Refused where the writer refuses it, and behind
@@ -78,11 +81,13 @@ impl<'w, W: Write> Printer<'w, W> {
         }
     }
 
-    /// Hands on what was printed. Refused where the writer refuses it.
+    /// Hands on what was printed: then the writer holds all of it. Refused where the writer refuses
+    /// it.
     pub fn flush(&mut self) -> Result<(), Failure>
         ensures tells { Tells self.old self.new result }
         ensures printed { self.new.printed ≡ self.old.printed }
         ensures bytes { Keeps self.old.bytes self.new.bytes }
+        ensures handed { OnOk result (Keeps self.new.bytes self.new.handed) }
         ensures handed_on { OnOk result (self.new.waits ≡ false) }
         ensures failed { OnErr result (self.new.failed ≡ true) }
         ensures nothing { OnErr result (PrintsNothing self.old self.new) }

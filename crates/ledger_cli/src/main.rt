@@ -5,7 +5,7 @@
 #![tactic(auto)]
 
 use cli_program::{Disk, Printer, program};
-use std::io::{BufWriter, ErrorKind};
+use std::io::ErrorKind;
 use std::process::ExitCode;
 use std::{env, io};
 
@@ -28,13 +28,13 @@ fn words_of(rt: &HostRuntime) -> io::Result<Vec<String>> {
 /// Runs the program on the words of the command line.
 fn main(rt: HostRuntime) -> io::Result<ExitCode> {
     let words = words_of(&rt)?;
-    let mut output = BufWriter::new(rt.alloc(), io::writer(&rt))?;
+    let mut output = io::writer(&rt);
     let status = program(
         &rt,
         rt.alloc(),
         &words,
         &mut Disk::new(&rt),
-        &mut Printer::new(&mut output),
+        &mut Printer::new(rt.alloc(), &mut output)?,
     );
     Ok(ExitCode::from(status))
 }

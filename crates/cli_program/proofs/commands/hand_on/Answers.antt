@@ -11,3 +11,6 @@ returns-in-Ok-clause-kept g c =
 
 pub returns-in-Err-clause-handed_on : goal.returns-in-Err-clause-handed_on
 returns-in-Err-clause-handed_on g c = λ whole. absurd (true≢false (sym c.in-Err.ensures.failed ∙ whole))
+
+pub returns-in-Ok-clause-handed_on : goal.returns-in-Ok-clause-handed_on
+returns-in-Ok-clause-handed_on g c = λ whole. (c.in-Ok.ensures.handed_on, c.in-Ok.ensures.handed)
