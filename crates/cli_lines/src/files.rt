@@ -1,6 +1,6 @@
 //! The files that the program is given.
 
-ghost use Rattle.std.specs.Prelude.{◌≡◌, ◌∷◌, ℕ, Bool, true, false, [], List, Option, Some, None, IfSome, IfOk, IsTrue, OnOk, take};
+ghost use Rattle.std.specs.Prelude.{◌≡◌, ◌∷◌, ℕ, Bool, true, false, [], List, Option, Some, None, IfNone, IfSome, IfOk, IsTrue, OnOk, take};
 ghost use Rattle.cli_lines.specs.Places.{ChangesOnly, FilesHeld, IsFileOf, IsFree};
 ghost use Rattle.cli_lines.specs.Told.{IsHeld};
 
@@ -63,7 +63,8 @@ pub trait Files {
     /// Makes an empty file of a name that no file has, and takes it as `lock` does. None where that
     /// cannot be done.
     fn lock_new(&mut self, name: &str) -> Option<Self::Lock>
-        ensures others { ChangesOnly is_known (name.now ∷ []) (bytes self.old) (bytes self.new) };
+        ensures others { ChangesOnly is_known (name.now ∷ []) (bytes self.old) (bytes self.new) }
+        ensures refused { is_known ≡ true → IfNone result (bytes self.new ≡ bytes self.old) };
 
     /// Makes a file for writing, in the place of a file of that name, and takes it as `lock` does.
     /// None where that cannot be done, where anything but a file has the name, and where another one
@@ -77,15 +78,18 @@ pub trait Files {
         ensures kept { bytes self.new ≡ bytes self.old };
 
     /// Closes a file that was made for writing and gives it another name, in the place of a file
-    /// that has it. Answers whether that was done.
+    /// that has it. Answers whether that was done: where it was not, that one stays.
     fn keep(&mut self, writer: Self::Writer, from: &str, to: &str) -> bool
         ensures moved { is_known ≡ true → IsTrue result
             → bytes self.new to.now ≡ Self.Writer.contents writer }
+        ensures refused { is_known ≡ true → result ≡ false
+            → bytes self.new to.now ≡ bytes self.old to.now }
         ensures others { ChangesOnly is_known (from.now ∷ to.now ∷ []) (bytes self.old)
             (bytes self.new) };
 
     /// Takes a file away, where that can be done.
     fn remove(&mut self, name: &str)
+        ensures removed { is_known ≡ true → bytes self.new name.now ≡ None }
         ensures others { ChangesOnly is_known (name.now ∷ []) (bytes self.old) (bytes self.new) };
 
     /// Opens a file for reading, from its first byte on, and for writing at its end, and makes it
@@ -94,6 +98,12 @@ pub trait Files {
     fn open_store(&mut self, name: &str) -> Option<Self::Store>
         ensures read { IfSome result (λ s. Self.Store.remaining s ≡ bytes self.old name.now) }
         ensures input { input_bytes self.new ≡ input_bytes self.old }
+        ensures others { ChangesOnly is_known (name.now ∷ []) (bytes self.old) (bytes self.new) };
+
+    /// Closes a file that was opened by `open_store` under a name. It holds what was left in it.
+    fn close_store(&mut self, store: Self::Store, name: &str)
+        ensures stored { is_known ≡ true → IfSome (bytes self.old name.now)
+            (λ held. bytes self.new name.now ≡ Self.Store.contents store) }
         ensures others { ChangesOnly is_known (name.now ∷ []) (bytes self.old) (bytes self.new) };
 
     /// The standard input, from where it was read to.

@@ -18,6 +18,7 @@ mod keys;
 mod lines;
 mod meanings;
 mod memory_files;
+mod memory_store;
 mod opening;
 mod printer;
 mod verdict;
@@ -35,6 +36,7 @@ pub use lines::{
 };
 pub use meanings::{TAKE_AGAIN, block_words, flags_words, meaning, simulation_words};
 pub use memory_files::MemoryFiles;
+pub use memory_store::MemoryStore;
 pub use opening::{genesis_holding, genesis_in, modules_in};
 pub use printer::Printer;
 pub use verdict::print_audit;

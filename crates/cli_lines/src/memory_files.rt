@@ -1,35 +1,41 @@
 //! Files in memory, of which every byte is known.
 
-ghost use Rattle.std.specs.Prelude.{◌≡◌, ◌∷◌, ℕ, List, [], true, None, Some, IfOk, OnOk};
+ghost use Rattle.std.specs.Prelude.{◌≡◌, ◌∷◌, ℕ, List, [], true, None, Some, IfOk, OnErr, OnOk};
 ghost use Rattle.cli_lines.specs.Memory.{bytes_in};
 ghost use Rattle.cli_lines.specs.Places.{ChangesOnly};
 
 use crate::files::{Access, FileFault, Files, Target};
+use crate::memory_store::MemoryStore;
 use std::alloc::{AllocError, Global};
 use std::collections::BTreeMap;
-use std::fs::File;
-use std::io::{self, Cursor, Empty};
+use std::io::Cursor;
+use std::mem;
 use store_replay::Unwatched;
 
-/// Files in memory, by their names. Nobody else has them, and contracts see the bytes of each: what
-/// is said of files whose bytes are known is said of these. No store is opened there, and the
-/// standard input is empty. What is made for writing is no file before `keep` gives it a name, and
-/// a file of the name that it has until then stays.
+/// Files in memory, by their names. Nobody else has them, and contracts see the bytes of each, and of
+/// the standard input: what is said of files whose bytes are known is said of these. What is made for
+/// writing is no file before `keep` gives it a name, and a file of the name that it has until then
+/// stays. A store is opened where there is a file, which may be empty, and that stays as it was until
+/// the store is closed.
 #[derive(Drop)]
 pub struct MemoryFiles {
     /// Where the files take their memory from.
     pub alloc: Global,
     pub by_name: BTreeMap<String, Vec<u8>>,
+    /// The standard input, from where it was read to.
+    pub input: Vec<u8>,
 }
 
 impl MemoryFiles {
-    /// No files.
-    pub fn new(alloc: Global) -> MemoryFiles
-        ensures { (name : List ℕ) → bytes_in result name ≡ None }
+    /// No files, and this standard input.
+    pub fn new(alloc: Global, input: Vec<u8>) -> MemoryFiles
+        ensures files { (name : List ℕ) → bytes_in result name ≡ None }
+        ensures input { result.input ≡ input }
     {
         MemoryFiles {
             alloc,
             by_name: BTreeMap::new(alloc),
+            input,
         }
     }
 
@@ -37,6 +43,7 @@ impl MemoryFiles {
     pub fn put(&mut self, name: &str, bytes: Vec<u8>) -> Result<(), AllocError>
         ensures put { OnOk result (bytes_in self.new name.now ≡ Some bytes.items) }
         ensures others { ChangesOnly true (name.now ∷ []) (bytes_in self.old) (bytes_in self.new) }
+        ensures refused { OnErr result (bytes_in self.new ≡ bytes_in self.old) }
     {
         let name = String::from_str(self.alloc, name)?;
         self.by_name.insert(name, bytes)?;
@@ -59,7 +66,7 @@ impl Files for MemoryFiles {
 
     ghost bytes = { bytes_in };
 
-    ghost input_bytes = { λ _. Some [] };
+    ghost input_bytes = { λ files. Some files.input.items };
 
     ghost is_known = { true };
 
@@ -67,9 +74,9 @@ impl Files for MemoryFiles {
 
     type Writer = Vec<u8>;
 
-    type Store = File;
+    type Store = MemoryStore;
 
-    type Input = Empty;
+    type Input = Cursor<Vec<u8>>;
 
     type Lock = ();
 
@@ -102,7 +109,10 @@ impl Files for MemoryFiles {
         if self.by_name.contains_key(name) {
             return None;
         }
-        self.put(name, Vec::new(self.alloc)).ok()
+        match self.put(name, Vec::new(self.alloc)) {
+            Ok(()) => Some(()),
+            Err(_) => None,
+        }
     }
 
     fn create(&mut self, _name: &str) -> Option<Vec<u8>> {
@@ -114,19 +124,32 @@ impl Files for MemoryFiles {
     }
 
     fn keep(&mut self, writer: Vec<u8>, _from: &str, to: &str) -> bool {
-        self.put(to, writer).is_ok()
+        match self.put(to, writer) {
+            Ok(()) => true,
+            Err(_) => false,
+        }
     }
 
     fn remove(&mut self, name: &str) {
         self.by_name.remove(name);
     }
 
-    fn open_store(&mut self, _name: &str) -> Option<File> {
-        None
+    fn open_store(&mut self, name: &str) -> Option<MemoryStore> {
+        let bytes = self.by_name.get(name)?;
+        let unread = copy_of(self.alloc, bytes.as_slice()).ok()?;
+        let held = copy_of(self.alloc, bytes.as_slice()).ok()?;
+        Some(MemoryStore::new(unread, held))
     }
 
-    fn input(&mut self) -> Empty {
-        io::empty()
+    fn close_store(&mut self, store: MemoryStore, name: &str) {
+        if let Some(bytes) = self.by_name.get_mut(name) {
+            *bytes = store.into_bytes();
+        }
+    }
+
+    fn input(&mut self) -> Cursor<Vec<u8>> {
+        let left = Vec::new(self.alloc);
+        Cursor::new(mem::replace(&mut self.input, left))
     }
 
     fn watch(&mut self) -> Unwatched {

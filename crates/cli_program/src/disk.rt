@@ -129,6 +129,8 @@ impl<'a> Files for Disk<'a> {
         self.locked(name, file)
     }
 
+    fn close_store(&mut self, _store: File, _name: &str) {}
+
     fn input(&mut self) -> Stdin {
         self.0.stdin()
     }

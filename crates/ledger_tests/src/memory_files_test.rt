@@ -17,7 +17,7 @@ fn has(alloc: Global, files: &mut MemoryFiles, name: &str, bytes: &[u8]) -> bool
 #[test]
 fn files_keep_what_they_are_given(rt: HostRuntime) -> Result<(), Fail> {
     let alloc = rt.alloc();
-    let mut files = MemoryFiles::new(alloc);
+    let mut files = MemoryFiles::new(alloc, Vec::new(alloc));
     files.put("first", b"none".to_vec(alloc)?)?;
     files.put("first", b"one".to_vec(alloc)?)?;
     let is_kept = files.keep(b"two".to_vec(alloc)?, "second.part", "second");
