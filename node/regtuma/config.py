@@ -349,10 +349,12 @@ def owners(reader: Reader, table: str, name: str, file: str) -> list[str | None]
 
 
 def owners_of(file: str) -> list[str | None]:
+    """The organisation of each authority in a file; none where its name has several, of which the proxy would take another one."""
     tls = ssl.SSLContext(ssl.PROTOCOL_TLS_CLIENT)
     tls.load_verify_locations(cadata=pathlib.Path(file).read_text(encoding="ascii"))
     found: list[Table] = tls.get_ca_certs()
-    return [dict(pair for part in it["subject"] for pair in part).get("organizationName") for it in found]
+    named = [[value for part in it["subject"] for kind, value in part if kind == "organizationName"] for it in found]
+    return [it[0] if len(it) == 1 else None for it in named]
 
 
 def ticks_of(reader: Reader) -> Ticks:

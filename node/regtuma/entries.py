@@ -20,6 +20,8 @@ ENTRY_CHARACTERS, ENTRY_LINES = 1_000_000, 500
 PART = re.compile(rb"([A-Za-z0-9_]{1,32})/")
 # The entry in which a tick of a number counts, and the names of those that fill a new log from a store.
 TICK, REFILL = re.compile(rb"[A-Za-z0-9_]{1,32}/tick-([1-9][0-9]{0,9})(?:-[0-9a-f]+)?"), b"/refill-"
+# The entry in which an organisation says what its block of a number is.
+SEEN = re.compile(rb"([A-Za-z0-9_]{1,32})/seen-([1-9][0-9]{0,4})")
 ENVELOPE, GENESIS = re.compile(rb"[0-9A-Fa-f]+"), re.compile(rb"genesis [0-9a-f]{64}")
 # Whose the blocks of a refill are.
 NOBODY = b""
@@ -102,7 +104,7 @@ class Lines:
     """Makes of entries lines `<revision>.<line> <mark>`, as `ledger order` reads them, of the marks that count: alike wherever and
     whenever the log is read from its beginning.
 
-    An organisation says what it has seen in its own part. An envelope counts in any organisation's part, as far as that one's share
+    An organisation says what it has seen in its own part, of each block once, in its entry `ORG/seen-N`. An envelope counts in any organisation's part, as far as that one's share
     goes, and a tick in its entry `ORG/tick-N`, where it is the Nth that counts, and there is an envelope behind the one before. What
     the first entry's organisation puts next, as `ORG/refill-..`, is a chain that was, and costs nobody's share.
     """
@@ -113,6 +115,8 @@ class Lines:
         self.revision = self.lines = 0
         # How many ticks have counted, and whose envelopes stand behind the last one.
         self.ticks, self.behind = 0, set[bytes]()
+        # The entries in which somebody has said what was seen.
+        self.seen = set[bytes]()
         # How names of entries that fill the log begin, as long as no other entry has come behind the first.
         self.is_begun, self.refill = False, b""
 
@@ -154,7 +158,7 @@ class Lines:
         if mark == b"tick":
             return self._ticks(part, name)
         if mark.startswith(b"seen "):
-            return name.startswith(mark.split(b" ", 2)[1] + b"/")
+            return self._says(name, mark)
         return GENESIS.fullmatch(mark) is not None
 
     def _takes(self, part: bytes, size: int) -> bool:
@@ -163,6 +167,15 @@ class Lines:
         if is_paid:
             self.behind.add(part)
         return is_paid
+
+    def _says(self, name: bytes, mark: bytes) -> bool:
+        """Whether what was seen counts in the entry of a name. It may cost each node the verification of a signature, so that there is
+        one for each block of an organisation."""
+        found = SEEN.fullmatch(name)
+        if found is None or name in self.seen or not mark.startswith(b"seen %s %s " % found.groups()):
+            return False
+        self.seen.add(name)
+        return True
 
     def _ticks(self, part: bytes, name: bytes) -> bool:
         """Whether a tick counts in the entry of a name."""

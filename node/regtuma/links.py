@@ -1,6 +1,5 @@
 """Other organisations' nodes, which are asked for endorsements."""
 import asyncio
-import json
 import re
 import time
 from collections.abc import Callable, Sequence
@@ -10,7 +9,7 @@ import aiohttp
 from .config import Config
 from .fields import CALLER_HEADER
 from .proposals import is_hex, matches
-from .waiting import whole
+from .waiting import value_of, whole
 from .wire import Object
 
 ENDORSE_SECONDS, DOWN_SECONDS, CHANGE_SECONDS = 3.0, 5.0, 60.0
@@ -18,8 +17,8 @@ ENDORSE_SECONDS, DOWN_SECONDS, CHANGE_SECONDS = 3.0, 5.0, 60.0
 REQUESTS, MOST_PROPOSALS, ENOUGH = 2, 250, 1.0
 # How much slower than of late a node may be until it counts as dead.
 SLACK = 4
-# The longest answer that is read, in bytes.
-LONGEST = 64 << 20
+# The longest answer that is read, in bytes, and how many commas it has for each proposal at most: an answer has two, but for its words.
+LONGEST, MOST_COMMAS = 64 << 20, 1000
 REFUSAL = re.compile(r"refused \d{1,3}( .*)?")
 # A proposal, the height on which it is simulated at least, and who waits for the answer.
 Waiting = tuple[Object, int, asyncio.Future[Object | None]]
@@ -118,8 +117,10 @@ class Link(Batches):
         """What the node answers to these, each by one."""
         try:
             body, timeout = {"proposals": proposals, "height": height}, aiohttp.ClientTimeout(total=patience)
-            async with self.http.post(self.url + "/endorse", json=body, timeout=timeout) as answer:
-                return answers_of(answer.status, json.loads(await whole(answer.content, LONGEST)), len(proposals))
+            # It may be anybody's program: it sends this node nowhere else.
+            async with self.http.post(self.url + "/endorse", json=body, timeout=timeout, allow_redirects=False) as answer:
+                said = value_of(await whole(answer.content, LONGEST), MOST_COMMAS * len(proposals))
+                return answers_of(answer.status, said, len(proposals))
         except asyncio.TimeoutError:
             why = f"no answer in {patience:.1f} s"
         except (ValueError, RecursionError, OSError, aiohttp.ClientError) as error:

@@ -1,11 +1,16 @@
 """Waiting for a limited time, and reading so much at most."""
 import asyncio
+import json
 from collections.abc import Coroutine
 from typing import Any, TypeVar
 
 import aiohttp
 
 T = TypeVar("T")
+
+
+class TooMuch(ValueError):
+    """Somebody answers more than is read."""
 
 
 async def within(seconds: float, doing: Coroutine[Any, Any, T]) -> T:
@@ -31,5 +36,13 @@ async def whole(content: aiohttp.StreamReader, longest: int) -> bytes:
     async for piece in content.iter_any():
         data += piece
         if len(data) > longest:
-            raise ValueError(f"its answer has more than {longest >> 20} MiB")
+            raise TooMuch(f"its answer has more than {longest >> 20} MiB")
     return bytes(data)
+
+
+def value_of(data: bytes, most: int) -> object:
+    """The JSON value that somebody's bytes spell, with so many commas at most: what lies between them takes up to thirty times as much
+    in memory, and time."""
+    if data.count(b",") > most:
+        raise ValueError(f"its answer has more than {most:,} commas")
+    return json.loads(data)

@@ -1,5 +1,6 @@
 """Who a caller is, by certificates that openssl makes: an organisation speaks for itself alone."""
 import base64
+import datetime
 import pathlib
 import ssl
 import subprocess
@@ -9,6 +10,10 @@ from unittest import mock
 
 import support
 from aiohttp.test_utils import make_mocked_request
+from cryptography import x509
+from cryptography.hazmat.primitives import hashes, serialization
+from cryptography.hazmat.primitives.asymmetric import ec
+from cryptography.x509.oid import NameOID
 from regtuma.access import Access
 from regtuma.config import Config
 from regtuma.fields import CERTIFICATE_HEADER
@@ -29,6 +34,20 @@ class Certificates:
         words = ["openssl", "req", "-x509", "-newkey", *kind, "-nodes", "-keyout", f"{name}.key", *signed, "-subj", subject, "-addext", extension, "-addext", "subjectAltName=IP:127.0.0.1",
                  "-out", f"{name}.pem"]
         subprocess.run(words, cwd=self.room, check=True, stderr=subprocess.DEVNULL)
+
+
+    def respell(self, name: str, signer: str, by: str) -> None:
+        """One of a node, by an authority that spells the organisation of its own name so."""
+        authority = x509.load_pem_x509_certificate((self.room / f"{by}.pem").read_bytes())
+        key = serialization.load_pem_private_key((self.room / f"{by}.key").read_bytes(), None)
+        own = [it if it.oid != NameOID.ORGANIZATION_NAME else x509.NameAttribute(it.oid, signer) for it in authority.subject]
+        subject = [*authority.subject.get_attributes_for_oid(NameOID.ORGANIZATION_NAME), x509.NameAttribute(NameOID.COMMON_NAME, "node")]
+        begin, made = authority.not_valid_before, ec.generate_private_key(ec.SECP256R1())
+        unsigned = x509.CertificateBuilder(x509.Name(own), x509.Name(subject), made.public_key(), x509.random_serial_number(), begin,
+                                           begin + datetime.timedelta(days=1))
+        form, kind, secret = serialization.Encoding.PEM, serialization.PrivateFormat.PKCS8, serialization.NoEncryption()
+        (self.room / f"{name}.pem").write_bytes(unsigned.sign(key, hashes.SHA256()).public_bytes(form))
+        (self.room / f"{name}.key").write_bytes(made.private_bytes(form, kind, secret))
 
 
 def made(room: pathlib.Path) -> None:

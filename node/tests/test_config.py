@@ -122,6 +122,12 @@ class Mistakes(unittest.TestCase):
                 self.folder.config(('"node.sock"', f'"{socket}"')).check_sockets()
         self.folder.config().check_sockets()
 
+    def test_an_authority_has_the_name_of_one_organisation(self):
+        """Of several the proxy takes the first one, so that another organisation would be charged."""
+        (self.folder.path / "carrier.ca.pem").write_text(support.authority("Maker/O=Carrier", "/O=Carrier"))
+        with self.assertRaisesRegex(config.Mistake, r"\[authorities\] Carrier names .*carrier.ca.pem, with an authority of None$"):
+            self.folder.config()
+
     def test_secrets_are_the_owners_alone(self):
         for name in ("maker.key", "node.key", "etcd.password"):
             with self.subTest(name=name):

@@ -41,6 +41,8 @@ RIGHTS = "\n".join(f'{it} = ["Maker/*", "Carrier/*"]' for it in ("read", "observ
 MALFORMED = (b"GARBAGE\r\n\r\n", b"GET /\xff HTTP/1.1\r\nHost: x\r\n\r\n", b"GET /" + b"a" * 20000 + b" HTTP/1.1\r\n\r\n",
              b"GET /height HTTP/1.1\r\nHost: x\r\na b: c\r\n\r\n", b"GET /height\r\n\r\n")
 JSON = "Content-Type: application/json"
+# How the Carrier may spell its own name as a signer: to TLS all are one.
+SPELLINGS = {"upper": "CARRIER", "mixed": "cArrieR", "before": " Carrier", "behind": "Carrier  "}
 WAITS = f"/transactions/{'ab' * 32}?wait=600"
 
 
@@ -95,6 +97,8 @@ class Doors(unittest.TestCase):
             made.make(name, f"/O=Maker/CN={name}", by="maker.ca")
         made.make("carrier", "/O=Carrier/CN=node", by="carrier.ca")
         made.make("forged", "/O=Maker/CN=alice", by="carrier.ca")
+        for name, spelling in SPELLINGS.items():
+            made.respell(name, spelling, by="carrier.ca")
         made.make("stranger", "/O=Maker/CN=alice")
         folder.config(('read = ["Maker/*"]', RIGHTS))
         for name, parts in (("proxy.pem", ("node.pem", "node.key")), ("proxy.ca.pem", ("maker.ca.pem", "carrier.ca.pem"))):
@@ -167,8 +171,8 @@ class Doors(unittest.TestCase):
         found = re.search(rf'regtuma_requests_total{{route="{route}",status="{status}"}} (\S+)', self.get("/metrics")[1])
         return float(found[1]) if found else 0.0
 
-    def others_are_served(self, name: str = "bob") -> None:
-        for path, by in (("/height", ""), ("/metrics", ""), ("/height", name), ("/height", "carrier")):
+    def others_are_served(self, *names: str) -> None:
+        for path, by in (("/height", ""), ("/metrics", ""), *(("/height", it) for it in names or ("bob", "carrier"))):
             self.assertEqual(self.get(path, by)[0], 200, f"{path} {by} {self.said()[-500:]}")
         self.assertLess(self.memory(), MOST_MEMORY)
 
@@ -211,6 +215,16 @@ class Doors(unittest.TestCase):
         for it in held:
             it.close()
         self.come(lambda: self.get("/height", "alice")[0] == 200)
+
+    def test_an_organisation_has_one_share_however_it_spells_its_name(self):
+        for name in ("before", "behind"):
+            with self.subTest(name=name):
+                self.assertEqual(self.get("/height", name)[0], 0)
+        for name in ("carrier", "upper", "mixed"):
+            for _ in range(70):
+                self.connect(name, source="127.0.0.5")
+        self.come(lambda: self.get("/height", "mixed")[0] == 429)
+        self.others_are_served("alice")
 
     def test_where_the_node_ends_a_client_asks_again(self):
         """So it takes 503, and that alone."""

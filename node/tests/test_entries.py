@@ -29,11 +29,17 @@ def counted(lines: Lines, *given: tuple[str, str], first: int = 2) -> list[str]:
 class Counts(unittest.TestCase):
     def test_what_can_be_no_mark_does_not(self):
         noise = "\n\nno hex\n00 \nTICK\ngenesis 00\nmodule 1 0061736d\nseen\nseen \nseen Maker\n\xff"
-        self.assertEqual(counted(Lines(), ("Maker/a", noise + "\naB")), ["2.9 seen Maker", "2.11 aB"])
+        self.assertEqual(counted(Lines(), ("Maker/a", noise + "\naB")), ["2.11 aB"])
 
     def test_an_organisation_speaks_for_itself(self):
-        given = [("Shop/a", "seen Maker 1 00\n00"), ("Maker/a", "seen Maker 1 \xff"), ("seen", "seen")]
+        given = [("Shop/seen-1", "seen Maker 1 00\n00"), ("Maker/seen-1", "seen Maker 1 \xff"), ("seen", "seen")]
         self.assertEqual(counted(Lines(), *given), ["2.1 00", "3.0 seen Maker 1 \xff"])
+
+    def test_an_organisation_says_of_each_block_once_what_it_is(self):
+        given = [("Shop/a", "seen Shop 64 00"), ("Shop/seen-64", "seen Shop 65 00\nseen Shop 6\n00\nseen Shop 64 01\nseen Shop 64 02"),
+                 ("Shop/seen-64", "seen Shop 64 03"), ("Shop/seen-064", "seen Shop 064 00"), ("Shop/seen-65", "seen Shop 65 04"),
+                 ("Shop/x/seen-66", "seen Shop 66 00"), ("Maker/seen-64", "seen Maker 64 05"), ("Shop/seen-100000", "seen Shop 100000 00")]
+        self.assertEqual(counted(Lines(), *given), ["3.2 00", "3.3 seen Shop 64 01", "6.0 seen Shop 65 04", "8.0 seen Maker 64 05"])
 
     def test_the_first_genesis_stands_there(self):
         self.assertEqual(counted(Lines(), ("Maker/genesis", f"genesis {'0f' * 32}")), [f"2.0 genesis {'0f' * 32}"])
@@ -113,6 +119,12 @@ class Attacks(unittest.TestCase):
             shares = lines.shares
             self.assertEqual((had, shares.paid[b"Maker"] // shares.block, shares.paid[b"Shop"] // shares.block), (450, 0, 399))
             self.others_go_on(lines, 9000)
+
+    def test_by_signatures_that_all_verify(self):
+        lines = Lines()
+        attack = [(f"Shop/seen-{it % 9 + 1}", f"seen Shop {it % 9 + 1} {'00' * 32} {'11' * 64}\n" * 400) for it in range(50)]
+        self.assertEqual(len(counted(lines, *attack, ("Shop/x", attack[0][1]))), 9)
+        self.others_go_on(lines, 90)
 
     def test_all_together_have_no_more_than_the_chain(self):
         with mock.patch.object(entries, "LAST_BLOCK", 600):

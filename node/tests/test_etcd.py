@@ -80,6 +80,17 @@ class Node:
         return web.Response(status=status, text=said if isinstance(said, str) else json.dumps(said), content_type="application/json")
 
 
+class Elsewhere(Node):
+    """One that sends all who ask it to another place."""
+
+    def __init__(self, place: str):
+        super().__init__()
+        self.place = place
+
+    async def answer(self, request: web.Request) -> web.StreamResponse:
+        raise web.HTTPTemporaryRedirect(self.place + request.path)
+
+
 class Case(unittest.IsolatedAsyncioTestCase):
     async def asyncSetUp(self):
         # A busy machine is no failure of etcd.
@@ -249,9 +260,40 @@ class Failures(Case):
         self.assertEqual([it["request_range"]["key"] for it in asked[3]["success"]], [base64_of("log/Maker/b"), base64_of("log/Maker/a")])
         self.assertEqual(asked[4]["create_request"]["start_revision"], "11")
 
+    async def test_names_as_long_as_an_entry_count_for_nothing_and_hold_nobody_up(self):
+        """They are left out of a watch, and of what is left: fewer are asked for at a time, and none of their entries."""
+        long = event(5, "00", key="log/Shop/" + "a" * 200)
+        gone: list = [{"result": {"canceled": True, "compact_revision": "7"}}]
+        names = {"key": long["kv"]["key"], "create_revision": "5"}
+        short = {"key": base64_of("log/Shop/b"), "create_revision": "6"}
+        pages = [{"header": {"revision": "6"}, "kvs": [names], "more": True}, {"header": {"revision": "6"}, "kvs": [short]}]
+        node = Node([told(long, event(6, "01"))], gone, (200, {"kvs": "x" * 2000}), *((200, it) for it in pages),
+                    (200, {"responses": [{"response_range": {"kvs": [event(6, "02", key="log/Shop/b")["kv"]]}}]}))
+        log = await self.log(node)
+        self.assertEqual(await self.watched(log, 1), [b"6.0 01\n"])
+        with mock.patch.object(etcd, "LONGEST", 1000), contextlib.redirect_stdout(io.StringIO()):
+            self.assertEqual(await self.watched(log, 1), [b"6.0 02\n"])
+        asked = [body for _, body, _ in node.asked]
+        self.assertEqual([it["limit"] for it in asked[2:5]], [1000, 125, 250])
+        self.assertEqual([it["request_range"]["key"] for it in asked[5]["success"]], [short["key"]])
+
+    async def test_entries_of_one_revision_have_one_order(self):
+        """That of their names, whether a watch tells them in pieces or their keys are left."""
+        first, second = (event(5, text, key=f"log/Shop/{name}") for name, text in (("z", "00"), ("+", "01")))
+        cut = {"result": {"header": {}, "fragment": True, "events": [event(4, "02"), first]}}
+        in_order = [b"4.0 02\n", b"5.0 01\n", b"5.1 00\n"]
+        self.assertEqual(await self.watched(await self.log(Node([cut, told(second)])), 3), in_order)
+        keys = [{"key": it["kv"]["key"], "create_revision": it["kv"]["mod_revision"]} for it in (event(4, ""), second, first)]
+        left = [{"response_range": {"kvs": [it["kv"]]}} for it in (event(4, "02"), second, first)]
+        node = Node([{"result": {"compact_revision": "7"}}], (200, {"header": {"revision": "5"}, "kvs": keys}), (200, {"responses": left}))
+        with contextlib.redirect_stdout(io.StringIO()):
+            self.assertEqual(await self.watched(await self.log(node), 3), in_order)
+        self.assertEqual([it["request_range"]["key"] for it in node.asked[2][1]["success"]], [it["key"] for it in keys])
+
     async def test_what_is_left_in_no_form_is_told(self):
         gone: list = [{"result": {"compact_revision": "7"}}]
         for answers in ([{}], [{"header": {"revision": "9"}, "kvs": [7]}],
+                        [{"header": {"revision": "9"}, "kvs": [{"key": base64_of("log/"), "create_revision": "4"}], "more": True}] * 2,
                         [{"header": {"revision": "9"}, "kvs": [{"key": base64_of("log/a"), "create_revision": "4"}]}, {"responses": [7]}]):
             with self.subTest(answers=answers), self.assertRaisesRegex(LogError, "tells what is no key or entry: "):
                 await self.watched(await self.log(Node(gone, *((200, it) for it in answers))), 1)
@@ -285,6 +327,27 @@ class Liars(Case):
             self.assertEqual(await self.watched(await self.log(Node(endless), Node([told(event(5, "a"))])), 1), [b"5.0 a\n"])
             with self.assertRaisesRegex(LogError, "its answer has more than 1 MiB$"):
                 await (await self.log(Node(*[endless] * 9))).append("Maker/a", ["x"], 0.0)
+
+    async def test_a_revision_without_end(self):
+        cut = json.dumps({"result": {"fragment": True, "events": [event(5, "a" * 1000)]}}).encode() + b"\n"
+        with mock.patch.object(etcd, "LONGEST_LINE", 2000):
+            self.assertEqual(await self.watched(await self.log(Node([cut] * 9), Node([told(event(5, "b"))])), 1), [b"5.0 b\n"])
+
+    async def test_many_values(self):
+        """What is short as bytes may be long in memory."""
+        many = b"[" + b"[]," * 1000 + b"[]]"
+        with mock.patch.object(etcd, "MOST_COMMAS", 900):
+            self.assertEqual(await self.watched(await self.log(Node([many + b"\n"]), Node([told(event(5, "a"))])), 1), [b"5.0 a\n"])
+            with self.assertRaisesRegex(LogError, "its answer has more than 900 commas$"):
+                await (await self.log(Node((200, many.decode())))).append("Maker/a", ["x"], 0.0)
+
+    async def test_nobody_is_sent_elsewhere(self):
+        inner = Node(DONE)
+        log = await self.log(inner)
+        log.endpoints = [(await self.enterAsyncContext(Elsewhere(inner.url))).url]
+        with self.assertRaisesRegex(LogError, "in 0 s: "):
+            await log.append("Maker/a", ["x"], 0.0)
+        self.assertEqual(inner.asked, [])
 
     async def test_what_is_read(self):
         for said in ({"kvs": 5}, {"kvs": [5]}, {"kvs": {"a": 1}}, {"kvs": [{"value": 5}]}, {"kvs": [{"value": "a"}]}):

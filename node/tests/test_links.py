@@ -12,7 +12,7 @@ from regtuma.etcd import EtcdLog as Log
 from regtuma.etcd import base64_of
 from regtuma.links import Link
 from test_chain import CALL, ENDORSED
-from test_etcd import DONE, NOT_DONE, Node
+from test_etcd import DONE, NOT_DONE, Elsewhere, Node
 
 
 CHANGE = {"members": [{"name": "Maker"}], "policy": "'Maker'", "serial": 1, "nonce": "07" * 16}
@@ -76,6 +76,18 @@ class Links(unittest.IsolatedAsyncioTestCase):
         with mock.patch.object(links, "LONGEST", 9):
             self.assertIsNone(await link.ask(CALL, 0))
         self.assertEqual(self.said, ["no endorsement of Carrier: its answer has more than 0 MiB"])
+
+    async def test_an_answer_of_many_values_is_none(self):
+        link = await self.link((200, '{"answers":[' + "[]," * 2000 + "[]]}"), answers(2))
+        self.assertEqual(await asyncio.gather(link.ask(CALL, 0)), [None])
+        self.assertEqual(self.said, ["no endorsement of Carrier: its answer has more than 1,000 commas"])
+        self.assertEqual(await asyncio.gather(link.ask(CALL, 0), link.ask(CALL, 0)), [ANSWER] * 2)
+
+    async def test_a_node_sends_another_one_nowhere(self):
+        link = await self.link(answers(1))
+        link.url = (await self.enterAsyncContext(Elsewhere(self.node.url))).url
+        self.assertIsNone(await link.ask(CALL, 0))
+        self.assertEqual(self.node.asked, [])
 
     async def test_a_change_has_its_time(self):
         link = await self.link()

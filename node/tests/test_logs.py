@@ -106,7 +106,7 @@ class Of:
         async def test_lines_have_their_numbers(self):
             log = await self.log()
             await log.append("Maker/a", ["00", "tick", "ff"])
-            await log.append("Shop/b", ["seen Maker 1 00", "seen Shop 1 \xff"])
+            await log.append("Shop/seen-1", ["seen Maker 1 00", "seen Shop 1 \xff"])
             await log.append("Shop/tick-1", ["tick"])
             entries = await watched(log, 3)
             first, second, third = (it.revision for it in entries)
