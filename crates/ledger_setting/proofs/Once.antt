@@ -30,7 +30,7 @@ use Rattle.ledger_model.specs.Views.{Versioned, values_of}
 use Rattle.ledger_model.proofs.Checks.{optional_same, valid_line}
 use Rattle.ledger_model.proofs.Defined.{kept_from_before}
 use Rattle.ledger_model.proofs.State.{get-state, last_write-append}
-use Rattle.ledger_model.proofs.Versions.{Member, kept_some, writer, written_by}
+use Rattle.ledger_model.proofs.Versions.{Member, in_block, kept_some, member_append, writer, written_by}
 use Rattle.endorsement_policy.specs.Endorsed.{Listed, is_endorsed, is_endorsed_as, is_no_newer, reads_no_newer}
 use Rattle.endorsement_policy.specs.Membership.{listed_in}
 use Rattle.endorsement_policy.proofs.Parts.{IsPut, amend_met, paid, upgrade_met}
@@ -42,21 +42,13 @@ use Rattle.ledger_setting.proofs.Written.{IsWritten, valid_flag, written, writte
 -- ---- versions
 
 -- a transaction of a chain stands in one of its blocks
-in_block : (block place : ℕ) (es : List Envelope) (fs : List Flag) (u : Placed) → Member u (transactions_from block place es fs) → u.version.block ≡ block
-in_block block place [] fs u h = absurd h
-in_block block place (e ∷ es) [] u h = absurd h
-in_block block place (e ∷ es) (f ∷ fs) u h = elim h [ inl is ↦ ap (λ x. x.version.block) is | inr m ↦ in_block block (suc place) es fs u m ]
-
-either : {A : Type 0} (x : A) (xs ys : List A) (P : Type 0) → (Member x xs → P) → (Member x ys → P) → Member x (xs ++ ys) → P
-either x [] ys P f g h = g h
-either x (z ∷ xs) ys P f g h = elim h [ inl e ↦ f (inl e) | inr m ↦ either x xs ys P (λ n. f (inr n)) g m ]
-
 below : (block : ℕ) (chain : Chain) (u : Placed) → Member u (placed_from block chain) → u.version.block < block + length chain
 below block [] u h = absurd h
 below block (c ∷ chain) u h =
-    either u (transactions_from block 0 c.block.envelopes c.flags) (placed_from (suc block) chain) (u.version.block < block + length (c ∷ chain))
-    (λ m. let is = in_block block 0 c.block.envelopes c.flags u m in omega arith)
-    (λ m. let less = below (suc block) chain u m in omega arith) h
+    elim (member_append u (transactions_from block 0 c.block.envelopes c.flags) (placed_from (suc block) chain) h) [
+      | inl m ↦ let here = in_block block 0 c.block.envelopes c.flags u m in omega arith
+      | inr m ↦ let less = below (suc block) chain u m in omega arith
+    ]
 
 -- so the version that stands at a key
 stands_below : (before : Chain) (key : Bytes) (s : Version) → version_at (state (history before)) key ≡ Some s → s.block < length before + 1

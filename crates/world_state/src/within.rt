@@ -10,8 +10,8 @@ pub(crate) fn show_block(block: &Block)
     ensures { IsBlock block.now }
 {
     let _number = block.header.number.get();
-    let _previous = block.header.previous_hash.len();
-    let _data = block.header.data_hash.len();
+    let _previous: &[u8] = &block.header.previous_hash;
+    let _data: &[u8] = &block.header.data_hash;
     show_envelopes(block.envelopes.as_slice());
 }
 

@@ -27,10 +27,10 @@ loop-at-preserved g c =
     let joined : take at bytes ++ take n (drop at bytes) ≡ take (at + n) bytes = sym (take-add at n bytes) in
     record {
       within = omega (arith, some, within, length-drop at bytes);
-      known = subst (Appends (contents c.args.writer.now) (contents c.write.new.writer)) joined
-          (Appends-trans (contents c.args.writer.now) (contents c.loop-at.writer) (contents c.write.new.writer) (take at bytes) (take n (drop at bytes))
+      known = subst (Appends (contents c.args.writer.now) (contents c.write.new.self)) joined
+          (Appends-trans (contents c.args.writer.now) (contents c.loop-at.writer) (contents c.write.new.self) (take at bytes) (take n (drop at bytes))
           c.loop-at.invariant.known
-          (subst (λ (t : List ℕ). Appends (contents c.loop-at.writer) (contents c.write.new.writer) (take n t)) (slice_to_end at bytes) c.in-Ok.ensures.known));
+          (subst (λ (t : List ℕ). Appends (contents c.loop-at.writer) (contents c.write.new.self) (take n t)) (slice_to_end at bytes) c.in-Ok.ensures.known));
       written = e.2 ∙ ap (λ (t : List ℕ). g.W.CountedWrite.written c.loop-at.writer ++ take n t) (slice_to_end at bytes) ∙
           ap (λ (w : List ℕ). w ++ take n (drop at bytes)) c.loop-at.invariant.written ∙ append_assoc before (take at bytes) (take n (drop at bytes)) ∙
           ap (λ (t : List ℕ). before ++ t) joined;
@@ -40,7 +40,7 @@ loop-at-preserved g c =
 pub returns-in-Err-clause-known : goal.returns-in-Err-clause-known
 returns-in-Err-clause-known g c =
     let contents = g.W.CountedWrite.contents in
-    Appends-kept (contents c.args.writer.now) (contents c.loop-at.writer) (contents c.write.new.writer) (take c.loop-at.at c.args.bytes.now)
+    Appends-kept (contents c.args.writer.now) (contents c.loop-at.writer) (contents c.write.new.self) (take c.loop-at.at c.args.bytes.now)
     c.loop-at.invariant.known c.in-Err.ensures.known
 
 pub returns-clause-known : goal.returns-clause-known
