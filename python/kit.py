@@ -44,7 +44,7 @@ def edited(crate: pathlib.Path, edit: pathlib.Path) -> dict[str, str]:
 
 
 def end_with_parent(number: int) -> Callable[[], None]:
-    """What a new process calls so that this signal ends it where its parent goes, be that by SIGKILL."""
+    """What a new process calls, so that this signal ends it when its parent goes, even by SIGKILL."""
     parent = os.getpid()
 
     def ask() -> None:
