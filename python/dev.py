@@ -6,7 +6,6 @@ file. Nodes answer this user's programs alone, by HTTP on the loopback. The firs
 network that was killed: what its nodes told is in it, and is committed first.
 """
 import concurrent.futures
-import ctypes
 import dataclasses
 import fcntl
 import json
@@ -49,7 +48,6 @@ WAIT = 0.1
 PATIENCE, LAST_SECONDS, SOON = 300.0, 10.0, 3.0
 # How many lines of a node's output are told where it ends, and how much of a file is compared at a time.
 LAST_LINES, PIECE = 5, 1 << 20
-PR_SET_PDEATHSIG = 1
 
 
 class NoNetwork(Mistake):
@@ -240,16 +238,11 @@ def toml(name: str, fields: dict[str, str] | dict[str, float]) -> Iterator[str]:
 
 def begin(network: Network, organisation: str, held: int) -> subprocess.Popen[bytes]:
     """Begins a node, in a session of its own: a terminal's key ends this process, which ends the nodes in order."""
-    room, parent = network.room(organisation), os.getpid()
-
-    def end_with_parent() -> None:
-        ctypes.CDLL(None).prctl(PR_SET_PDEATHSIG, signal.SIGTERM)
-        if os.getppid() != parent:
-            os._exit(1)
+    room = network.room(organisation)
     with (room / OUTPUT).open("wb") as out:
         return subprocess.Popen([PYTHON, "-P", "-m", "regtuma.node", CONFIGURATION], cwd=room, stdin=subprocess.DEVNULL, stdout=out,
                                 stderr=out, env={**os.environ, "PYTHONPATH": str(NODE)}, start_new_session=True, pass_fds=[held],
-                                preexec_fn=end_with_parent)
+                                preexec_fn=kit.end_with_parent(signal.SIGTERM))
 
 
 def await_nodes(network: Network, nodes: dict[str, subprocess.Popen[bytes]], urls: dict[str, str]) -> int:

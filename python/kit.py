@@ -1,5 +1,6 @@
 """The kit's command `rt`, run so that what it has begun ends with the one that asked for it; folders for its copies; its edits."""
 import contextlib
+import ctypes
 import os
 import pathlib
 import signal
@@ -9,6 +10,8 @@ from collections.abc import Callable, Iterator
 
 # How a kit that keeps what `rt ci` proved lets it be proved again.
 ANEW = "--anew"
+# What asks Linux for a signal once the process that began this one has gone.
+PR_SET_PDEATHSIG = 1
 # The signals that end what is done here.
 ENDINGS = (signal.SIGINT, signal.SIGTERM, signal.SIGHUP)
 
@@ -40,11 +43,22 @@ def edited(crate: pathlib.Path, edit: pathlib.Path) -> dict[str, str]:
     return texts
 
 
+def end_with_parent(number: int) -> Callable[[], None]:
+    """What a new process calls, so that this signal ends it when its parent goes, even by SIGKILL."""
+    parent = os.getpid()
+
+    def ask() -> None:
+        ctypes.CDLL(None).prctl(PR_SET_PDEATHSIG, number)
+        if os.getppid() != parent:
+            os._exit(1)
+    return ask
+
+
 def run(words: list[str], room: pathlib.Path, settings: dict[str, str], say: Callable[[str], None]) -> int:
     """Runs `rt` in a folder, with these settings in its environment, and hands on each line that it says. Its status."""
     env = {**os.environ, "PYTHONUNBUFFERED": "1", **settings}
     with subprocess.Popen(["rt", *words], cwd=room, env=env, stdin=subprocess.DEVNULL, stdout=subprocess.PIPE,
-                          stderr=subprocess.STDOUT, text=True, errors="replace") as ran:
+                          stderr=subprocess.STDOUT, text=True, errors="replace", preexec_fn=end_with_parent(signal.SIGKILL)) as ran:
         try:
             for line in ran.stdout or ():
                 say(line)

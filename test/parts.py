@@ -162,6 +162,11 @@ def made(report: Report, at: Setting) -> None:
         at.run(report, script, [sys.executable, script])
         for file, before in kept.items():
             report.case(f"{file.name} is what {script} writes", file.exists() and file.read_bytes() == before)
+    page = at.room / "page.md"
+    page.write_text("A member signs.\n\nWho is no member counts for nothing.\n")
+    said = at.run(report, "test/english", ["test/english", page])
+    report.case("a turn is found", said.startswith(f"{page}:3: 'Who' (") and said.count("\n") == 1, said)
+    at.run(report, "test/english of all pages", ["test/english"])
 
 
 def chaincode(report: Report, at: Setting) -> None:
