@@ -38,14 +38,15 @@ outcome_plain : (r : Result Payload SimRefusal) → has_float (outcome_json r) �
 outcome_plain (Ok p) = payload_plain p
 outcome_plain (Err r) = refl
 
+or_later : (a b c : Bool) → (a || b) ≡ false → (b ≡ false → c ≡ false) → (a || c) ≡ false
+or_later true b c h later = h
+or_later false b c h later = later h
+
 joined_plain : (xs ys : List Data) → items_have_float (items_of xs) ≡ false → items_have_float (items_of ys) ≡ false →
     items_have_float (items_of (xs ++ ys)) ≡ false
 joined_plain [] ys plain also = also
-joined_plain (x ∷ xs) ys plain also = by_first (has_float x) plain
-  where
-    by_first : (b : Bool) → (b || items_have_float (items_of xs)) ≡ false → (b || items_have_float (items_of (xs ++ ys))) ≡ false
-    by_first true h = h
-    by_first false h = joined_plain xs ys h also
+joined_plain (x ∷ xs) ys plain also =
+    or_later (has_float x) (items_have_float (items_of xs)) (items_have_float (items_of (xs ++ ys))) plain (λ rest. joined_plain xs ys rest also)
 
 did_plain : (key : Bytes) (t : Placed) (w : Version × Option Bytes) → has_float (did_json t key w) ≡ false
 did_plain key t w = placed_write_plain (id_of t.envelope.payload.proposal) w.0.block w.0.place key w.1

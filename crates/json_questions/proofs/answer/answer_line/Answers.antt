@@ -19,7 +19,7 @@ returns c =
     let g = c.args.genesis.now in
     let chain = c.args.snapshot.now in
     let answer = answer_json g c.args.question.now chain in
-    let is : view c.in_ok-answered.answered ≡ answered_json answer (length chain) =
+    let is : view c.in_ok-answered.field-0 ≡ answered_json answer (length chain) =
     c.in_ok-answered.ensures ∙ ap (λ (d : Data). answered_json d c.height.result) c.in_ok-answer.ensures
     ∙ ap (answered_json answer) c.height.ensures.value in
     let plain : has_float (answered_json answer (length chain)) ≡ false = rw (answer_plain g c.args.question.now chain) refl in
