@@ -33,8 +33,7 @@ pub line_of_write : (e : Envelope) (f : Flag) (key : Bytes) (n place : ℕ) (sho
     IsWriteLine e f key n place shown → shown ≡ Some text → Appends a b (line (string_bytes text)) → HasLines (write_json key (placed_at e f n place)) a b
 line_of_write e f key n place shown text a b h is app =
     let there = rw is at h in
-    written (λ w. placed_write_json (id_of e.payload.proposal) w.0.block w.0.place key w.1) (write_of (placed_at e f n place) key) (string_bytes text) a b there
-    app
+    written (λ w. placed_write_json (id_of e.payload.proposal) w.0.block w.0.place key w.1) (write_of (placed_at e f n place) key) text a b there app
 
 pub no_line_of_write : (e : Envelope) (f : Flag) (key : Bytes) (n place : ℕ) (shown : Option (String Global)) (b : Option Bytes) →
     IsWriteLine e f key n place shown → shown ≡ None → HasLines (write_json key (placed_at e f n place)) b b
