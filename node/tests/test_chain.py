@@ -402,6 +402,36 @@ class Endorsements(Case):
             {"payload": "aa", "endorsement": "01", "height": 0}, {"refused": "refused 404 status 2", "height": 0},
             {"refused": "refused 303", "height": 0}, {"denied": "it has ended", "height": 0}])
 
+    async def test_an_endorser_has_so_many_calls_of_one_asker_at_a_time(self):
+        """However many one asks for, those of others come soon."""
+        asked: list[asyncio.Future[str]] = []
+
+        def ask(_line: str) -> asyncio.Future[str]:
+            asked.append(asyncio.get_running_loop().create_future())
+            return asked[-1]
+
+        async def rest() -> int:
+            for _ in range(5):
+                await asyncio.sleep(0)
+            return len(asked)
+        self.endorsing.endorsers = [mock.Mock(ask=ask)]
+        many = [asyncio.ensure_future(self.endorsing.answers("Carrier/node", [CALL] * 500)) for _ in range(4)]
+        self.assertEqual(await rest(), endorsing.OF_ASKER)
+        one = asyncio.ensure_future(self.endorsing.answers("Shop/node", [CALL]))
+        self.assertEqual(await rest(), endorsing.OF_ASKER + 1)
+        for it in asked[:]:
+            it.set_result("endorsed aa 01")
+        self.assertEqual((await one)[0]["payload"], "aa")
+        self.assertEqual(await rest(), 2 * endorsing.OF_ASKER + 1)
+        for it in many:
+            it.cancel()
+        await asyncio.gather(*many, return_exceptions=True)
+        had = await rest()
+        self.assertLess(had, 3 * endorsing.OF_ASKER)
+        again = asyncio.ensure_future(self.endorsing.answers("Carrier/node", [CALL] * 500))
+        self.assertEqual(await rest(), had + endorsing.OF_ASKER)
+        again.cancel()
+
     async def test_who_is_no_member_endorses_nothing(self):
         self.endorsing.out_of_place = "it is no member"
         self.assertEqual(await self.endorsed(), [{"denied": "it is no member", "height": 0}])
