@@ -30,6 +30,8 @@ from .wire import Object
 Handler = Callable[[web.Request], Awaitable[web.StreamResponse]]
 # Whose certificates are kept in mind, and how often it is looked whether callers are there still, in seconds.
 MOST_CALLERS, LOOK = 256, 1.0
+# What python3-cryptography raises where a certificate, which any partner may sign, is none or has what it does not know.
+UNREADABLE = (ValueError, TypeError, LookupError, x509.InvalidVersion)
 # What is counted where the caller has gone before it was answered.
 GONE = 499
 
@@ -116,7 +118,7 @@ class Access:
         try:
             found = x509.load_der_x509_certificate(base64.b64decode(certificate))
             organisation, name = only(found, NameOID.ORGANIZATION_NAME), only(found, NameOID.COMMON_NAME)
-        except ValueError:
+        except UNREADABLE:
             return None
         authorities = self.authorities.get(organisation, [])
         is_own = found not in authorities and any(is_signed(found, it) for it in authorities)

@@ -4,6 +4,7 @@ import asyncio
 import json
 import os
 import time
+import weakref
 from collections.abc import Awaitable, Coroutine
 from typing import Any
 
@@ -21,6 +22,8 @@ NO_MEMBER, OLD_SEED = ("the organisation is no member: not yet, or no more",
 NO_PLACE = {"refused 806": NO_MEMBER, "refused 808": OLD_SEED}
 # For how long a change is agreed to.
 AGREED_SECONDS = 7 * 86400.0
+# How many of one asker's calls an endorser is given at a time: it takes them one behind the other, and others come between.
+OF_ASKER = 16
 # The words of a `seen` that is signed.
 SIGNED_WORDS = 5
 # After how many seconds it is begun again then, and how long one endorsement of a change may take, and an answer of the approver.
@@ -102,6 +105,8 @@ class Endorsing:
         self.approver = Approver("the approver", ledger.approver) if ledger.approver else None
         self.agreed = Agreed(ledger.store + ".agreed")
         self.turn = 0
+        # The calls that are given to endorsers, by who asks.
+        self.turns: weakref.WeakValueDictionary[str, asyncio.Semaphore] = weakref.WeakValueDictionary()
         # Why nothing is endorsed: the organisation is no member, or its seed is not at hand; and by which membership that was looked at.
         self.out_of_place: str | None = None
         self.looked = -1
@@ -190,16 +195,30 @@ class Endorsing:
         if self.approver:
             asked = [self.approver.ask(json.dumps({"asker": asker, **it})) for it in proposals]
             denials = [why or (None if said == "yes" else said) for why, said in zip(denials, await asyncio.gather(*asked))]
-        lines = [self.line_of(it) if why is None else None for it, why in zip(proposals, denials)]
-        return [{"denied": why, "height": height} if line is None else await answer_of(line, height)
-                for line, why in zip(lines, denials)]
+        lines = [self.line_of(asker, it) if why is None else None for it, why in zip(proposals, denials)]
+        try:
+            return [{"denied": why, "height": height} if line is None else await answer_of(line, height)
+                    for line, why in zip(lines, denials)]
+        finally:
+            # Nobody waits any more for those that are left.
+            for line in lines:
+                if line is not None:
+                    line.close() if asyncio.iscoroutine(line) else line.cancel()
 
-    def line_of(self, proposal: Object) -> Awaitable[str]:
-        """What an endorser will answer to a proposal."""
+    def line_of(self, asker: str, proposal: Object) -> Coroutine[Any, Any, str] | asyncio.Task[str]:
+        """What an endorser will answer to a proposal: to a change once it is waited for, to a call as soon as may be."""
         if "chaincode" not in proposal:
             return self.changed(proposal)
-        self.turn = (self.turn + 1) % len(self.endorsers)
-        return self.endorsers[self.turn].ask(json.dumps(proposal))
+        task = asyncio.ensure_future(self.called(asker, proposal))
+        # One that fails as nobody waits any more is no matter: else asyncio says that nobody asked.
+        task.add_done_callback(lambda it: it.cancelled() or it.exception())
+        return task
+
+    async def called(self, asker: str, proposal: Object) -> str:
+        """What an endorser answers to a call, once it is the asker's turn."""
+        async with self.turns.setdefault(asker, asyncio.Semaphore(OF_ASKER)):
+            self.turn = (self.turn + 1) % len(self.endorsers)
+            return await self.endorsers[self.turn].ask(json.dumps(proposal))
 
     def denial(self, proposal: Object) -> str | None:
         """Why a proposal is not even simulated, if so."""

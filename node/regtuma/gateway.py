@@ -21,6 +21,7 @@ TRIES = 12
 SURE, SURE_OF_PAYLOADS = 3, 6
 OTHER_CALL, OTHER_KEY, OTHER_PAYLOAD = ("its payload is that of another call", "its endorsement is not by the key by which it stands",
                                         "its payload is not what this node's own execution gives")
+TOO_HIGH = "it does not agree, and says that it has blocks which this node does not get"
 # How many calls are endorsed and put at a time, and how many of one caller: more are refused, and asked for again later.
 MOST_UNDER_WAY, MOST_OF_CALLER = 4000, 1000
 # For how long it is remembered which organisations satisfy a policy, in seconds.
@@ -163,12 +164,15 @@ class Gateway:
                 if named:
                     break
                 continue
-            faults = await self.faults(proposal, answers, said.get(self.config.organisation))
+            own = said.get(self.config.organisation)
+            faults = await self.faults(proposal, answers, own)
             if made := made_of(answers, faults):
                 return made
+            faults = {**self.too_high(answers, height, own), **faults}
             for organisation in asking.judge(answers, faults):
                 self.leave_out(organisation, faults[organisation], asking)
-            height, why = self.next_height(answers, height), "the organisations do not simulate on one state"
+                del answers[organisation]
+            height, why = self.next_height(answers, height, own), "the organisations do not simulate on one state"
             await asyncio.sleep(0.01 * turn)
         raise Refused(503, {"why": why})
 
@@ -200,12 +204,19 @@ class Gateway:
             self.links[organisation].pass_over(fault)
         asking.refuse(organisation, {"why": f"no endorsement of {organisation}: {fault}"}, 503)
 
-    def next_height(self, answers: dict[str, Object], asked: int) -> int:
+    def too_high(self, answers: dict[str, Object], asked: int, own: Object | None) -> dict[str, str]:
+        """What is wrong with those who say that they have more blocks than this node got, where it has waited for these."""
+        if own is None or own["height"] >= asked:
+            return {}
+        return {it: TOO_HIGH for it in answers.keys() & self.links.keys() if answers[it]["height"] > own["height"]}
+
+    def next_height(self, answers: dict[str, Object], asked: int, own: Object | None) -> int:
         """The height on which all are asked anew, where some are behind: that of the one that is ahead.
 
         Who did not come up to the last one is passed over, as one whose node of etcd has lost the others, and so is who says that
-        there are more blocks than there can be.
+        there are more blocks than there can be. Nobody has to come up to what this node has not.
         """
+        asked = min(asked, own["height"]) if own else asked
         most, heights = self.chain.most_blocks, {it: said["height"] for it, said in answers.items()}
         for organisation in heights.keys() & self.links.keys():
             had = heights[organisation]

@@ -96,6 +96,14 @@ class Callers(unittest.TestCase):
                 found = ssl.PEM_cert_to_DER_cert((self.room / f"{name}.pem").read_text())
                 self.assertEqual(self.named(base64.b64encode(found).decode()), caller)
 
+    def test_a_certificate_that_nobody_reads_names_nobody(self):
+        """Of a version that has no extensions, which TLS takes all the same, or with a name that is no text."""
+        found = ssl.PEM_cert_to_DER_cert((self.room / "alice.pem").read_text())
+        for old, new in ((b"\xa0\x03\x02\x01\x02", b"\xa0\x03\x02\x01\x01"), (b"\x0c\x05alice", b"\x05\x05alice")):
+            with self.subTest(new=new):
+                self.assertEqual(found.count(old), 1)
+                self.assertIsNone(self.named(base64.b64encode(found.replace(old, new)).decode()))
+
     def test_what_is_no_certificate_names_nobody(self):
         for it in ("", "x", "AAAA", "\u00ff", base64.b64encode(b"0" * 1000).decode()):
             self.assertIsNone(self.named(it))

@@ -402,6 +402,36 @@ class Endorsements(Case):
             {"payload": "aa", "endorsement": "01", "height": 0}, {"refused": "refused 404 status 2", "height": 0},
             {"refused": "refused 303", "height": 0}, {"denied": "it has ended", "height": 0}])
 
+    async def test_an_endorser_has_so_many_calls_of_one_asker_at_a_time(self):
+        """However many one asks for, those of others come soon."""
+        asked: list[asyncio.Future[str]] = []
+
+        def ask(_line: str) -> asyncio.Future[str]:
+            asked.append(asyncio.get_running_loop().create_future())
+            return asked[-1]
+
+        async def rest() -> int:
+            for _ in range(5):
+                await asyncio.sleep(0)
+            return len(asked)
+        self.endorsing.endorsers = [mock.Mock(ask=ask)]
+        many = [asyncio.ensure_future(self.endorsing.answers("Carrier/node", [CALL] * 500)) for _ in range(4)]
+        self.assertEqual(await rest(), endorsing.OF_ASKER)
+        one = asyncio.ensure_future(self.endorsing.answers("Shop/node", [CALL]))
+        self.assertEqual(await rest(), endorsing.OF_ASKER + 1)
+        for it in asked[:]:
+            it.set_result("endorsed aa 01")
+        self.assertEqual((await one)[0]["payload"], "aa")
+        self.assertEqual(await rest(), 2 * endorsing.OF_ASKER + 1)
+        for it in many:
+            it.cancel()
+        await asyncio.gather(*many, return_exceptions=True)
+        had = await rest()
+        self.assertLess(had, 3 * endorsing.OF_ASKER)
+        again = asyncio.ensure_future(self.endorsing.answers("Carrier/node", [CALL] * 500))
+        self.assertEqual(await rest(), had + endorsing.OF_ASKER)
+        again.cancel()
+
     async def test_who_is_no_member_endorses_nothing(self):
         self.endorsing.out_of_place = "it is no member"
         self.assertEqual(await self.endorsed(), [{"denied": "it is no member", "height": 0}])
@@ -458,6 +488,30 @@ class Calls(Case):
         self.assertEqual(self.asked, [("Maker", 0), ("Carrier", 0), ("Maker", 3), ("Carrier", 3)])
         self.assertEqual(self.said, ["no endorsement of Carrier: it has 2 blocks, and not yet 3"])
 
+    def shop(self) -> None:
+        """The Shop has a node as well, and may endorse in the Carrier's place."""
+        self.chain.query.satisfying = [{"Maker", "Carrier"}, {"Maker", "Shop"}]
+        with mock.patch.object(config.Config, "node_tls", return_value=None):
+            self.config.nodes["Shop"] = "https://127.0.0.3:7051"
+            self.gateway.links["Shop"] = gateway.Link("Shop", self.config, self.said.append)
+
+    async def test_who_says_that_it_has_blocks_that_nobody_gets_is_passed_over(self):
+        """Else the others, who do not come up to these, would be passed over for it, and each call would end with no answer."""
+        self.shop()
+        shop = {**ENDORSED, "endorsement": "02"}
+        told = f"no endorsement of Carrier: {gateway.TOO_HIGH}"
+        for lie in ({"refused": "refused 404", "height": 53}, {**ENDORSED, "payload": "bb", "height": 53}):
+            with self.subTest(lie=lie):
+                self.gateway.chosen, self.gateway.links["Carrier"].down = {}, 0
+                self.answer(Maker=[ENDORSED] * 12, Carrier=[lie] * 12, Shop=[shop] * 12)
+                self.assertEqual(await self.gateway.endorsed("Maker/alice", CALL, None), "aa020102")
+                self.assertEqual(([it for it, _ in self.asked].count("Carrier"), self.asked[-1]), (4, ("Shop", 3)))
+        self.chain.query.satisfying = [{"Maker", "Carrier", "Shop"}]
+        self.gateway.chosen, self.gateway.links["Carrier"].down = {}, 0
+        self.answer(Maker=[ENDORSED] * 12, Carrier=[lie] * 12, Shop=[shop] * 12)
+        self.assertEqual(await self.refusal(), (503, told))
+        self.assertEqual(self.said, [told] * 3)
+
     async def test_who_says_that_there_are_more_blocks_than_can_be_is_passed_over(self):
         self.chain.given, self.chain.read = 12, 2
         self.answer(Maker=[ENDORSED], Carrier=[{**ENDORSED, "height": LAST_BLOCK, "payload": "bb"}])
@@ -483,10 +537,7 @@ class Calls(Case):
         self.assertEqual(await self.gateway.endorsed("Maker/alice", CALL, None), "aa020101")
 
     async def test_another_one_is_asked_in_the_place_of_who_refuses(self):
-        self.chain.query.satisfying = [{"Maker", "Carrier"}, {"Maker", "Shop"}]
-        with mock.patch.object(config.Config, "node_tls", return_value=None):
-            self.config.nodes["Shop"] = "https://127.0.0.3:7051"
-            self.gateway.links["Shop"] = gateway.Link("Shop", self.config, self.said.append)
+        self.shop()
         refused = {"refused": "refused 406", "height": 3}
         for carrier in ([{"denied": "not today", "height": 3}], [refused] * 3):
             self.gateway.chosen, turns = {}, len(carrier) + 1
