@@ -20,6 +20,8 @@ ENTRY_CHARACTERS, ENTRY_LINES = 1_000_000, 500
 PART = re.compile(rb"([A-Za-z0-9_]{1,32})/")
 # The entry in which a tick of a number counts, and the names of those that fill a new log from a store.
 TICK, REFILL = re.compile(rb"[A-Za-z0-9_]{1,32}/tick-([1-9][0-9]{0,9})(?:-[0-9a-f]+)?"), b"/refill-"
+# The entry in which an organisation says what it has seen of a block.
+SEEN = re.compile(rb"([A-Za-z0-9_]{1,32})/seen-([1-9][0-9]{0,4})")
 ENVELOPE, GENESIS = re.compile(rb"[0-9A-Fa-f]+"), re.compile(rb"genesis [0-9a-f]{64}")
 # Whose the blocks of a refill are.
 NOBODY = b""
@@ -102,9 +104,10 @@ class Lines:
     """Makes of entries lines `<revision>.<line> <mark>`, as `ledger order` reads them, of the marks that count: alike wherever and
     whenever the log is read from its beginning.
 
-    An organisation says what it has seen in its own part. An envelope counts in any organisation's part, as far as that one's share
-    goes, and a tick in its entry `ORG/tick-N`, where it is the Nth that counts, and there is an envelope behind the one before. What
-    the first entry's organisation puts next, as `ORG/refill-..`, is a chain that was, and costs nobody's share.
+    An organisation says once of each block what it has seen, by the first line of its entry `ORG/seen-N`. An envelope counts in any
+    organisation's part, as far as that one's share goes, and a tick in its entry `ORG/tick-N`, where it is the Nth that counts, and
+    there is an envelope behind the one before. What the first entry's organisation puts next, as `ORG/refill-..`, is a chain that
+    was, and costs nobody's share. Which genesis file counts says the first line that counts, and no other one.
     """
 
     def __init__(self, count: int = 512, preferred: int = 65536):
@@ -115,6 +118,8 @@ class Lines:
         self.ticks, self.behind = 0, set[bytes]()
         # How names of entries that fill the log begin, as long as no other entry has come behind the first.
         self.is_begun, self.refill = False, b""
+        # Whether a line has counted.
+        self.has_lines = False
 
     @classmethod
     def by(cls, genesis: str) -> "Lines":
@@ -132,7 +137,8 @@ class Lines:
         part, found = self._part(entry.name), {}
         marks = entry.value.split(b"\n", ENTRY_LINES)[:ENTRY_LINES]
         for place, mark in enumerate(marks):
-            if part is not None and self._counts(part, entry.name, mark):
+            if part is not None and self._counts(part, entry.name, place, mark):
+                self.has_lines = True
                 # Any byte is a character, the same on each machine, so that each line is UTF-8.
                 found[place] = f"{self.revision}.{self.lines + place} {mark.decode('latin-1')}\n".encode()
         self.lines += len(marks)
@@ -147,15 +153,17 @@ class Lines:
         self.is_begun = True
         return found[1] if found else None
 
-    def _counts(self, part: bytes, name: bytes, mark: bytes) -> bool:
-        """Whether a line counts in the entry of a name. One that can be no mark is left out here: `ledger order` would skip it."""
+    def _counts(self, part: bytes, name: bytes, place: int, mark: bytes) -> bool:
+        """Whether a line counts at a place of the entry of a name. One that can be no mark is left out here: `ledger order` would skip
+        it."""
         if ENVELOPE.fullmatch(mark):
             return self._takes(part, len(mark) // 2)
         if mark == b"tick":
             return self._ticks(part, name)
         if mark.startswith(b"seen "):
-            return name.startswith(mark.split(b" ", 2)[1] + b"/")
-        return GENESIS.fullmatch(mark) is not None
+            found = SEEN.fullmatch(name)
+            return place == 0 and found is not None and mark.startswith(b"seen %b %b " % found.groups())
+        return not self.has_lines and GENESIS.fullmatch(mark) is not None
 
     def _takes(self, part: bytes, size: int) -> bool:
         """Whether an envelope of so many bytes counts. What a refill has is paid by its ticks, one behind each block."""
