@@ -310,7 +310,7 @@ class Endorsements(Case):
             self.assertEqual([(it["id"], it["words"]) for it in held.listed()], [("ab", "the words of ab"), ("ef", "the words of ef")])
         Agreed(agreed.file).add("gh", "behind a torn line")
         self.assertTrue(Agreed(agreed.file).holds("gh"))
-        with mock.patch.object(endorsing.time, "time", return_value=time.time() + endorsing.AGREED_SECONDS + 1):
+        with mock.patch.object(endorsing.time, "time", return_value=time.time() + 7 * 86400 + 1):
             self.assertEqual(agreed.listed(), [])
 
     async def test_a_change_has_an_endorser_of_its_own(self):
