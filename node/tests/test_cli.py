@@ -17,7 +17,7 @@ from unittest import mock
 
 import support
 from regtuma import cli, client as clients
-from regtuma.client import Client, Failed, Link, NoAnswer, Pending, Refused
+from regtuma.client import Client, Failed, Invalid, Link, NoAnswer, Pending, Refused
 
 TXS = [{"id": "ab", "flag": 0, "chaincode": "assets", "arg": "61"}, {"id": "cd", "flag": 0, "chaincode": "assets", "upgrade": {"fuel": 1}},
        {"id": "ef", "flag": 2, "amend": {}}]
@@ -226,6 +226,17 @@ class Clients(unittest.TestCase):
             with contextlib.redirect_stdout(io.StringIO()) as out:
                 self.assertEqual((cli.main(["submit", "assets", "x"]), out.getvalue()), (3, "the time is up: it is in no block yet, id ab\n"))
 
+    def test_conflicts_are_tried_again_until_the_time_is_up(self):
+        nonces = set()
+
+        def begin(_link: Link, _method: str, _path: str, body: dict, _seconds: float) -> Answer:
+            nonces.add(body["nonce"])
+            time.sleep(0.3)
+            return Answer(200, b'{"id":"ab","flag":2,"valid":false,"why":"call again"}')
+        with mock.patch.object(Link, "begin", begin), self.assertRaisesRegex(Invalid, "^call again$"):
+            client_of("https://1:1").submit("assets", "x", tries=50)
+        self.assertLess(len(nonces), 9)
+
     def test_a_node_that_says_nothing_is_not_waited_for(self):
         with socket.create_server(("127.0.0.1", 0)) as silent:
             client = Client([f"http://127.0.0.1:{silent.getsockname()[1]}"], seconds=0.6)
@@ -264,10 +275,23 @@ class InJavascript(unittest.TestCase):
 
     def test_a_call_that_is_pending_returns_once_its_time_is_up(self):
         said = self.said(WAITING + """
+            const limits = [], { timeout } = AbortSignal;
+            AbortSignal.timeout = limit => (limits.push(limit), timeout.call(AbortSignal, limit));
             await waiting.submit("assets", ["x"], { tries: 5 }).catch(error => console.log(error.name, error.message, error.said.id, nonces.size));
             const answers = await waiting.submitAll([callOf("assets", "x"), callOf("assets", "y")]);
-            console.log(answers.map(it => it.pending), waits[0] > 0.6, waits.reduce((sum, it) => sum + it) < 2.5);""")
+            console.log(answers.map(it => it.pending), limits.every(Number.isInteger), waits.reduce((sum, it) => sum + it) < 2.5);""")
         self.assertEqual(said, "Pending the time is up: it is in no block yet ab 1\n[ true, true ] true true\n")
+
+    def test_conflicts_are_tried_again_until_the_time_is_up(self):
+        said = self.said("""
+            let asked = 0;
+            const busy = new Client(["https://1:1"], async () => {
+              asked++;
+              await new Promise(resolve => setTimeout(resolve, 300));
+              return new Response('{"id":"ab","flag":2,"valid":false,"why":"call again"}');
+            }, { seconds: 1 });
+            await busy.submit("assets", ["x"], { tries: 50 }).catch(error => console.log(error.message, asked < 9));""")
+        self.assertEqual(said, "call again true\n")
 
     def test_a_node_that_says_nothing_is_not_waited_for(self):
         with socket.create_server(("127.0.0.1", 0)) as silent:
@@ -280,9 +304,9 @@ class InJavascript(unittest.TestCase):
     def test_waiting_is_measured_by_a_clock_that_never_goes_back(self):
         said = self.said(WAITING + DEAD + """
             Date.now = () => 0;
-            const ends = [waiting.submit("assets", ["x"]), waiting.submitAll([callOf("assets", "x")]), dead.health(), dead.blocks().next()];
+            const ends = [waiting.submit("assets", ["x"]), dead.health(), dead.blocks().next()];
             console.log((await Promise.allSettled(ends)).map(it => it.reason?.name));""")
-        self.assertEqual(said, "[ 'Pending', undefined, 'NoAnswer', 'NoAnswer' ]\n")
+        self.assertEqual(said, "[ 'Pending', 'NoAnswer', 'NoAnswer' ]\n")
 
     def test_a_node_has_a_url(self):
         env = {it: "none" for it in clients.SETTINGS}
