@@ -131,7 +131,8 @@ class Starts(unittest.TestCase):
         self.assertEqual((said, status), ([b"READY=1", b"WATCHDOG=1", b"WATCHDOG=1"], 0))
 
     def test_the_watchdog_is_fed_by_the_loop_alone(self):
-        """A loop that stands still tells nothing."""
+        """A loop that stands still tells nothing, for which its unit has the node begun again."""
+        self.assertIn("\nWatchdogSec=60\nRestart=always\n", (support.ROOT / "node/systemd/regtuma-node.service").read_text())
         systemd = self.systemd()
         systemd.settimeout(60)
 
