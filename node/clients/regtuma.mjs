@@ -26,7 +26,7 @@ export const text = bytes => new TextDecoder().decode(bytes);
 const isFinal = error => error instanceof NotValid && error.status !== 503;
 /** Where calls are posted, so that a node answers before the time is up. */
 const transactions = until => {
-  const left = Math.max(0, until - Date.now()) / 1000;
+  const left = Math.max(0, until - performance.now()) / 1000;
   return `/transactions?wait=${(left - Math.min(5, left / 4)).toFixed(3)}`;
 };
 const pause = milliseconds => new Promise(resolve => setTimeout(resolve, milliseconds));
@@ -73,27 +73,28 @@ export class Client {
    * by `Pending`, where the call is in no block yet.
    */
   async submit(chaincode, args, { organisations, tries = 1, nonce } = {}) {
-    const until = Date.now() + 1000 * this.seconds;
+    const until = performance.now() + 1000 * this.seconds;
     for (let left = tries - 1; ; left--, nonce = undefined) {
       const said = await this.outcome(callOf(chaincode, args, { organisations, nonce }), until);
       if (said.valid) return said;
       if (said.pending) throw new Pending(said);
-      if (left <= 0 || Date.now() > until || !CONFLICTS.includes(said.flag) && !ABORTED.includes(said.refused)) throw new NotValid(200, said);
+      const isLast = left <= 0 || performance.now() > until;
+      if (isLast || !CONFLICTS.includes(said.flag) && !ABORTED.includes(said.refused)) throw new NotValid(200, said);
     }
   }
 
   /** What becomes of a call, whatever that is; `pending` where its time is up. Who asks again for the same waits for it. */
-  async outcome(call, until = Date.now() + 1000 * this.seconds) {
+  async outcome(call, until = performance.now() + 1000 * this.seconds) {
     for (;;) {
       const said = await this.ask("POST", transactions(until), call, [], until);
-      if (!said.pending || until - Date.now() < LEAST) return said;
+      if (!said.pending || until - performance.now() < LEAST) return said;
     }
   }
 
   /** Has several calls committed by one request, each made by `callOf`: the answer to each, in order. They must not conflict. */
   async submitAll(calls) {
-    const until = Date.now() + 1000 * this.seconds, { answers } = await this.ask("POST", transactions(until), { calls }, [], until);
-    return Promise.all(answers.map((said, at) => said.pending && Date.now() < until ? this.outcome(calls[at], until) : said));
+    const until = performance.now() + 1000 * this.seconds, { answers } = await this.ask("POST", transactions(until), { calls }, [], until);
+    return Promise.all(answers.map((said, at) => said.pending && performance.now() < until ? this.outcome(calls[at], until) : said));
   }
 
   /** The bytes of the result of a call that changes nothing, on the state that the node has. */
@@ -120,8 +121,8 @@ export class Client {
 
   /** What became of a transaction, for which it waits so many seconds; `pending` where it is in no block. */
   async status(id, wait = 0) {
-    for (const until = Date.now() + 1000 * wait; ;) {
-      const left = Math.max(0, until - Date.now()) / 1000, part = Math.min(left, this.#patience).toFixed(3);
+    for (const until = performance.now() + 1000 * wait; ;) {
+      const left = Math.max(0, until - performance.now()) / 1000, part = Math.min(left, this.#patience).toFixed(3);
       const said = await this.ask("GET", `/transactions/${encodeURIComponent(id)}?wait=${part}`, undefined, [404]);
       if (!said.pending || !left) return said;
     }
@@ -148,8 +149,8 @@ export class Client {
         }
       } catch (failure) {
         const error = failure instanceof NotValid ? failure : new NoAnswer(this.nodes, failure);
-        until ||= Date.now() + 1000 * this.seconds;
-        if (isFinal(error) || Date.now() > until) throw error;
+        until ||= performance.now() + 1000 * this.seconds;
+        if (isFinal(error) || performance.now() > until) throw error;
       }
       this.turn++;
       await pause(PAUSE);
@@ -157,19 +158,19 @@ export class Client {
   }
 
   /** What a node answers. The next one is asked where one gives no answer, or cannot do it now (503). */
-  async ask(method, path, body, accept = [], until = Date.now() + 1000 * this.seconds) {
+  async ask(method, path, body, accept = [], until = performance.now() + 1000 * this.seconds) {
     for (;;) {
       let error;
       try {
         const answer = await this.fetch(this.node + path, { method, headers: { "Content-Type": "application/json" },
-          body: body && JSON.stringify(body), signal: AbortSignal.timeout(Math.max(LEAST, until - Date.now())) });
+          body: body && JSON.stringify(body), signal: AbortSignal.timeout(Math.max(LEAST, Math.ceil(until - performance.now()))) });
         const said = await answer.json();
         if (answer.status < 400 || accept.includes(answer.status)) return said;
         error = new NotValid(answer.status, said);
       } catch (failure) {
         error = new NoAnswer(this.nodes, failure);
       }
-      if (isFinal(error) || Date.now() > until) throw error;
+      if (isFinal(error) || performance.now() > until) throw error;
       this.turn++;
       await pause(PAUSE);
     }

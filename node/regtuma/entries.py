@@ -104,9 +104,10 @@ class Lines:
     """Makes of entries lines `<revision>.<line> <mark>`, as `ledger order` reads them, of the marks that count: alike wherever and
     whenever the log is read from its beginning.
 
-    An organisation says what it has seen in its own part, of each block once, in its entry `ORG/seen-N`. An envelope counts in any organisation's part, as far as that one's share
-    goes, and a tick in its entry `ORG/tick-N`, where it is the Nth that counts, and there is an envelope behind the one before. What
-    the first entry's organisation puts next, as `ORG/refill-..`, is a chain that was, and costs nobody's share.
+    An organisation says what it has seen of each block once, in its own part, in its entry `ORG/seen-N`. An envelope counts in any
+    organisation's part, as far as that one's share goes, and a tick in its entry `ORG/tick-N`, where it is the Nth that counts, and
+    there is an envelope behind the one before. What the first entry's organisation puts next, as `ORG/refill-..`, is a chain that
+    was, and costs nobody's share. Which genesis file counts says the first line that counts, and no other one.
     """
 
     def __init__(self, count: int = 512, preferred: int = 65536):
@@ -119,6 +120,8 @@ class Lines:
         self.seen = set[bytes]()
         # How names of entries that fill the log begin, as long as no other entry has come behind the first.
         self.is_begun, self.refill = False, b""
+        # Whether a line has counted.
+        self.has_lines = False
 
     @classmethod
     def by(cls, genesis: str) -> "Lines":
@@ -136,7 +139,8 @@ class Lines:
         part, found = self._part(entry.name), {}
         marks = entry.value.split(b"\n", ENTRY_LINES)[:ENTRY_LINES]
         for place, mark in enumerate(marks):
-            if part is not None and self._counts(part, entry.name, mark):
+            if part is not None and self._counts(part, entry.name, place, mark):
+                self.has_lines = True
                 # Any byte is a character, the same on each machine, so that each line is UTF-8.
                 found[place] = f"{self.revision}.{self.lines + place} {mark.decode('latin-1')}\n".encode()
         self.lines += len(marks)
@@ -151,15 +155,16 @@ class Lines:
         self.is_begun = True
         return found[1] if found else None
 
-    def _counts(self, part: bytes, name: bytes, mark: bytes) -> bool:
-        """Whether a line counts in the entry of a name. One that can be no mark is left out here: `ledger order` would skip it."""
+    def _counts(self, part: bytes, name: bytes, place: int, mark: bytes) -> bool:
+        """Whether a line counts at a place of the entry of a name. One that can be no mark is left out here: `ledger order` would skip
+        it."""
         if ENVELOPE.fullmatch(mark):
             return self._takes(part, len(mark) // 2)
         if mark == b"tick":
             return self._ticks(part, name)
         if mark.startswith(b"seen "):
             return self._says(name, mark)
-        return GENESIS.fullmatch(mark) is not None
+        return not self.has_lines and GENESIS.fullmatch(mark) is not None
 
     def _takes(self, part: bytes, size: int) -> bool:
         """Whether an envelope of so many bytes counts. What a refill has is paid by its ticks, one behind each block."""

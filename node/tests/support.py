@@ -133,8 +133,9 @@ def ledger_of(folder: pathlib.Path, **limits: int) -> pathlib.Path:
     return genesis
 
 
-def endorsed(folder: pathlib.Path, organisation: str, call: dict) -> dict:
+def endorsed(folder: pathlib.Path, organisation: str, proposal: dict) -> dict:
     """What an organisation of that ledger endorses, as its node answers it."""
-    keys = [] if organisation == "Maker" else ["--keys", folder / organisation]
-    said = ledger("endorse", folder / "genesis.json", organisation, folder / "store", *keys, lines=json.dumps(call) + "\n").split()
+    options = [] if organisation == "Maker" else ["--keys", folder / organisation]
+    options += [] if "chaincode" in proposal else ["--agree"]
+    said = ledger("endorse", folder / "genesis.json", organisation, folder / "store", *options, lines=json.dumps(proposal) + "\n").split()
     return {"payload": said[1], "endorsement": said[2], "height": 0}

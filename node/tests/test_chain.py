@@ -141,6 +141,19 @@ class Ticks(Case):
             await self.passed("read 2.0 1")
             self.assertEqual(self.chain.awaited.since is not None, is_asked)
 
+    async def test_waiting_is_measured_by_a_clock_that_never_goes_back(self):
+        for revision, now in enumerate((0.0, 1e12), 2):
+            self.chain.awaited, self.chain.asking, began = Awaited(), Asking(), time.monotonic()
+            with self.subTest(now=now), mock.patch("time.time", return_value=now):
+                self.chain.counted(Entry(revision, b"Maker/call", b"00"))
+                await self.passed(f"read {revision}.0 1")
+                work = asyncio.ensure_future(self.chain.keep_time())
+                async with asyncio.timeout(60):
+                    while not self.chain.asking.number:
+                        await asyncio.sleep(0.01)
+                work.cancel()
+                self.assertEqual([began <= it < began + 60 for it in (self.chain.awaited.since, self.chain.asking.at)], [True, True])
+
     async def test_no_name_of_a_tick_is_known_before_from_the_second_try_on(self):
         for _ in range(3):
             self.chain.awaited = Awaited(4, 1, 0.0)
@@ -310,7 +323,7 @@ class Endorsements(Case):
             self.assertEqual([(it["id"], it["words"]) for it in held.listed()], [("ab", "the words of ab"), ("ef", "the words of ef")])
         Agreed(agreed.file).add("gh", "behind a torn line")
         self.assertTrue(Agreed(agreed.file).holds("gh"))
-        with mock.patch.object(endorsing.time, "time", return_value=time.time() + endorsing.AGREED_SECONDS + 1):
+        with mock.patch.object(endorsing.time, "time", return_value=time.time() + 7 * 86400 + 1):
             self.assertEqual(agreed.listed(), [])
 
     async def test_a_change_has_an_endorser_of_its_own(self):

@@ -6,6 +6,7 @@ import os
 import pathlib
 import re
 import shutil
+import socket
 import subprocess
 import sys
 import tempfile
@@ -16,7 +17,7 @@ from unittest import mock
 
 import support
 from regtuma import cli, client as clients
-from regtuma.client import Client, Failed, Link, NoAnswer, Pending, Refused
+from regtuma.client import Client, Failed, Invalid, Link, NoAnswer, Pending, Refused
 
 TXS = [{"id": "ab", "flag": 0, "chaincode": "assets", "arg": "61"}, {"id": "cd", "flag": 0, "chaincode": "assets", "upgrade": {"fuel": 1}},
        {"id": "ef", "flag": 2, "amend": {}}]
@@ -31,8 +32,9 @@ const asked = [], slow = new Client(["https://1:1"], async url => {
 });"""
 # One whose calls stay pending.
 WAITING = """
-const waits = [], waiting = new Client(["https://1:1"], async (url, { body }) => {
+const waits = [], nonces = new Set(), waiting = new Client(["https://1:1"], async (url, { body }) => {
   waits.push(Number(url.split("=")[1]));
+  nonces.add(JSON.parse(body).nonce);
   await new Promise(resolve => setTimeout(resolve, 1000 * waits.at(-1)));
   const said = { id: "ab", pending: true, why: "it is in no block yet" };
   return new Response(JSON.stringify(JSON.parse(body).calls ? { answers: [said, said] } : said), { status: 202 });
@@ -198,26 +200,49 @@ class Clients(unittest.TestCase):
         self.assertEqual((asked[0], asked[-1]), ("/transactions/a%20b%2Fc?wait=0.100", "/transactions/a%20b%2Fc?wait=0.000"))
 
     def test_a_call_that_is_pending_returns_once_its_time_is_up(self):
-        waits, limits = [], []
+        waits, limits, nonces = [], [], set()
 
         def begin(_link: Link, _method: str, path: str, body: dict, seconds: float) -> Answer:
+            nonces.add(body.get("nonce"))
             waits.append(float(path.rpartition("=")[2]))
             limits.append(seconds)
             time.sleep(waits[-1])
             said = {"id": "ab", "pending": True, "why": "it is in no block yet"}
             return Answer(202, json.dumps({"answers": [said] * 3} if "calls" in body else said).encode())
         client = client_of("https://1:1")
+        # The day's clock stands still.
+        self.enterContext(mock.patch("time.time", return_value=0.0))
         with mock.patch.object(Link, "begin", begin):
             for ask in (lambda: client.submit("assets", "x", tries=5), lambda: client.change({"nonce": "00" * 16}, ["Maker"])):
                 with self.assertRaisesRegex(Pending, "^the time is up: it is in no block yet$") as raised:
                     ask()
                 self.assertEqual(raised.exception.said["id"], "ab")
             self.assertEqual([it.get("pending") for it in client.submit_all([{}, {}, {}])], [True] * 3)
+        # What may still come into a block is not made anew.
+        self.assertEqual(len(nonces), 3)
         self.assertEqual([it < limit for it, limit in zip(waits, limits)], [True] * len(waits))
         self.assertLess(sum(waits), 3.0)
         with mock.patch.object(cli, "from_environment", return_value=client), mock.patch.object(Link, "begin", begin):
             with contextlib.redirect_stdout(io.StringIO()) as out:
                 self.assertEqual((cli.main(["submit", "assets", "x"]), out.getvalue()), (3, "the time is up: it is in no block yet, id ab\n"))
+
+    def test_conflicts_are_tried_again_until_the_time_is_up(self):
+        nonces = set()
+
+        def begin(_link: Link, _method: str, _path: str, body: dict, _seconds: float) -> Answer:
+            nonces.add(body["nonce"])
+            time.sleep(0.3)
+            return Answer(200, b'{"id":"ab","flag":2,"valid":false,"why":"call again"}')
+        with mock.patch.object(Link, "begin", begin), self.assertRaisesRegex(Invalid, "^call again$"):
+            client_of("https://1:1").submit("assets", "x", tries=50)
+        self.assertLess(len(nonces), 9)
+
+    def test_a_node_that_says_nothing_is_not_waited_for(self):
+        with socket.create_server(("127.0.0.1", 0)) as silent:
+            client = Client([f"http://127.0.0.1:{silent.getsockname()[1]}"], seconds=0.6)
+            for ask in (client.height, lambda: client.submit("assets", "x"), lambda: client.submit_all([{}])):
+                with self.assertRaisesRegex(NoAnswer, "^no node answers, of http://127.0.0.1:[0-9]+: timed out$"):
+                    ask()
 
     def test_a_node_has_a_url(self):
         for it in ("10.0.0.1:7051", "http://10.0.0.1:7051", "https://10.0.0.1", "https://[::1", ""):
@@ -250,10 +275,38 @@ class InJavascript(unittest.TestCase):
 
     def test_a_call_that_is_pending_returns_once_its_time_is_up(self):
         said = self.said(WAITING + """
-            await waiting.submit("assets", ["x"], { tries: 5 }).catch(error => console.log(error.name, error.message, error.said.id));
+            const limits = [], { timeout } = AbortSignal;
+            AbortSignal.timeout = limit => (limits.push(limit), timeout.call(AbortSignal, limit));
+            await waiting.submit("assets", ["x"], { tries: 5 }).catch(error => console.log(error.name, error.message, error.said.id, nonces.size));
             const answers = await waiting.submitAll([callOf("assets", "x"), callOf("assets", "y")]);
-            console.log(answers.map(it => it.pending), waits.reduce((sum, it) => sum + it) < 3);""")
-        self.assertEqual(said, "Pending the time is up: it is in no block yet ab\n[ true, true ] true\n")
+            console.log(answers.map(it => it.pending), limits.every(Number.isInteger), waits.reduce((sum, it) => sum + it) < 2.5);""")
+        self.assertEqual(said, "Pending the time is up: it is in no block yet ab 1\n[ true, true ] true true\n")
+
+    def test_conflicts_are_tried_again_until_the_time_is_up(self):
+        said = self.said("""
+            let asked = 0;
+            const busy = new Client(["https://1:1"], async () => {
+              asked++;
+              await new Promise(resolve => setTimeout(resolve, 300));
+              return new Response('{"id":"ab","flag":2,"valid":false,"why":"call again"}');
+            }, { seconds: 1 });
+            await busy.submit("assets", ["x"], { tries: 50 }).catch(error => console.log(error.message, asked < 9));""")
+        self.assertEqual(said, "call again true\n")
+
+    def test_a_node_that_says_nothing_is_not_waited_for(self):
+        with socket.create_server(("127.0.0.1", 0)) as silent:
+            said = self.said(f"""
+                const silent = new Client(["http://127.0.0.1:{silent.getsockname()[1]}"], undefined, {{ seconds: 0.6 }});
+                const asked = [silent.health(), silent.submit("assets", ["x"]), silent.submitAll([callOf("assets", "x")])];
+                console.log((await Promise.allSettled(asked)).map(it => it.reason?.name));""")
+        self.assertEqual(said, "[ 'NoAnswer', 'NoAnswer', 'NoAnswer' ]\n")
+
+    def test_waiting_is_measured_by_a_clock_that_never_goes_back(self):
+        said = self.said(WAITING + DEAD + """
+            Date.now = () => 0;
+            const ends = [waiting.submit("assets", ["x"]), dead.health(), dead.blocks().next()];
+            console.log((await Promise.allSettled(ends)).map(it => it.reason?.name));""")
+        self.assertEqual(said, "[ 'Pending', 'NoAnswer', 'NoAnswer' ]\n")
 
     def test_a_node_has_a_url(self):
         env = {it: "none" for it in clients.SETTINGS}

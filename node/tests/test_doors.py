@@ -35,12 +35,12 @@ CONFIGURATION = support.ROOT / "node/haproxy.cfg"
 # Behind it all, a node takes no more than this, in MiB.
 MOST_MEMORY = 200
 # How long something may take to come about, and within which time others are to be answered, in seconds.
-PATIENCE, SOON, FILES = 20.0, 5.0, 512
+PATIENCE, SOON, FILES = 60.0, 10.0, 512
 BLOCKS, LONG = 200, "x" * 300_000
 RIGHTS = "\n".join(f'{it} = ["Maker/*", "Carrier/*"]' for it in ("read", "observe", "evaluate", "submit", "endorse"))
 MALFORMED = (b"GARBAGE\r\n\r\n", b"GET /\xff HTTP/1.1\r\nHost: x\r\n\r\n", b"GET /" + b"a" * 20000 + b" HTTP/1.1\r\n\r\n",
              b"GET /height HTTP/1.1\r\nHost: x\r\na b: c\r\n\r\n", b"GET /height\r\n\r\n")
-JSON = "Content-Type: application/json"
+JSON, SOCKET_KEY = "Content-Type: application/json", "Sec-WebSocket-Version: 13\r\nSec-WebSocket-Key: dGhlIHNhbXBsZSBub25jZQ=="
 # How the Carrier may spell its own name as a signer: to TLS all are one.
 SPELLINGS = {"upper": "CARRIER", "mixed": "cArrieR", "before": " Carrier", "behind": "Carrier  "}
 WAITS = f"/transactions/{'ab' * 32}?wait=600"
@@ -248,10 +248,10 @@ class Doors(unittest.TestCase):
     # ------------------------------------------------ memory
 
     def flood(self, at: socket.socket, begin: bytes, more: bytes, size: int = 20 << 20) -> None:
-        """Sends as much as is taken within two seconds, at most so many bytes."""
+        """Sends as much as is taken, at most so many bytes."""
         at.sendall(begin)
-        at.settimeout(0.5)
-        until, sent = time.monotonic() + 2, 0
+        at.settimeout(1.0)
+        until, sent = time.monotonic() + PATIENCE, 0
         with contextlib.suppress(OSError):
             while sent < size and time.monotonic() < until:
                 sent += at.send(more)
@@ -263,10 +263,15 @@ class Doors(unittest.TestCase):
             self.others_are_served()
 
     def test_another_protocol(self):
+        """What comes behind a wish for one is no more than it is without."""
+        body = f"POST /transactions HTTP/1.1\r\nHost: 127.0.0.1\r\n{JSON}\r\nContent-Length: {1 << 30}\r\n\r\n".encode()
         for name in ("alice", ""):
             for protocol in ("websocket", "h2c"):
-                begin = f"GET /events HTTP/1.1\r\nHost: 127.0.0.1\r\nConnection: Upgrade\r\nUpgrade: {protocol}\r\n\r\n".encode()
-                self.flood(self.connect(name), begin, b"x" * 65536)
+                wish = f"HTTP/1.1\r\nHost: 127.0.0.1\r\nConnection: Upgrade\r\nUpgrade: {protocol}\r\n{SOCKET_KEY}\r\n\r\n".encode()
+                stream, asked = self.connect(name), self.connect(name)
+                self.flood(stream, b"GET /events " + wish, b"x" * 65536, 300 << 20)
+                self.assertEqual(self.answered(asked, b"GET /height " + wish)[0], 200)
+                self.flood(asked, body, b"x" * 65536, 300 << 20)
                 self.others_are_served()
 
     def test_who_has_gone_is_forgotten(self):
@@ -319,9 +324,12 @@ class Doors(unittest.TestCase):
         for number in range(400):
             for port in (self.page, self.port):
                 self.connect(port=port, source=f"127.0.0.{2 + number % 4}")
-        for _ in range(60):
-            self.connect("alice", source="127.0.0.9").sendall(b"GET /hei")
+        halves = [self.connect("alice", source="127.0.0.9") for _ in range(60)]
+        for it in halves:
+            it.sendall(b"GET /hei")
         self.others_are_served()
+        halves[0].settimeout(PATIENCE)
+        self.assertEqual(self.answered(halves[0])[0], 408)
 
     def test_a_charset_of_the_callers(self):
         """Punycode takes half a minute for a megabyte."""
@@ -364,6 +372,21 @@ class Doors(unittest.TestCase):
                 at.connect(str(self.room / "node.sock"))
                 self.assertLess(self.answered(at, data)[0], 500)
         self.others_are_served()
+        self.assertFalse("Traceback" in self.said(), self.said()[-2000:])
+
+    def test_a_body_that_breaks_off(self):
+        """By bytes that are none of its form, or by the caller's end: the journal has nothing of it."""
+        certificate = base64.b64encode(ssl.PEM_cert_to_DER_cert((self.room / "alice.pem").read_text())).decode()
+        begun = self.post(b'2\r\n{"\r\n', f"{JSON}\r\nRegtuma-Certificate: {certificate}\r\nTransfer-Encoding: chunked")
+        files = self.files()
+        for more in (b"zz\r\n", b""):
+            with socket.socket(socket.AF_UNIX) as at:
+                at.settimeout(PATIENCE)
+                at.connect(str(self.room / "node.sock"))
+                at.sendall(begun)
+                if more:
+                    self.assertEqual(self.answered(at, more)[0], 400)
+        self.come(lambda: self.files() <= files)
         self.assertFalse("Traceback" in self.said(), self.said()[-2000:])
 
 

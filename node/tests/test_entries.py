@@ -1,5 +1,4 @@
 """Which lines of a log count, and how many blocks each organisation's part of it may bring about."""
-import asyncio
 import json
 import pathlib
 import random
@@ -8,12 +7,9 @@ import unittest
 from unittest import mock
 
 import support
-import program
-from regtuma import chain as chains, entries
+from regtuma import entries
 from regtuma.entries import Entry, Lines, Shares
-from regtuma.filed import FileLog
 from regtuma.ticks import LAST_BLOCK
-from regtuma.wire import envelope, id_of
 
 # An envelope of the fewest bytes, which nobody has endorsed: a call of `a` with no argument, no reads, no writes.
 ENVELOPE = "0161" + "00" * 27
@@ -41,8 +37,11 @@ class Counts(unittest.TestCase):
                  ("Shop/x/seen-66", "seen Shop 66 00"), ("Maker/seen-64", "seen Maker 64 05"), ("Shop/seen-100000", "seen Shop 100000 00")]
         self.assertEqual(counted(Lines(), *given), ["3.2 00", "3.3 seen Shop 64 01", "6.0 seen Shop 65 04", "8.0 seen Maker 64 05"])
 
-    def test_the_first_genesis_stands_there(self):
-        self.assertEqual(counted(Lines(), ("Maker/genesis", f"genesis {'0f' * 32}")), [f"2.0 genesis {'0f' * 32}"])
+    def test_the_first_line_says_which_genesis_counts(self):
+        first, other = (f"genesis {it * 32}" for it in ("0f", "f0"))
+        for given in ([("Maker/genesis", first)], [("tick-1", other), ("Maker/genesis", first)], [("Maker/genesis", f"{first}\n{other}")] * 9,
+                      [("Maker/genesis", first), *((f"Shop/{it}", f"{other}\n" * 500) for it in range(9))]):
+            self.assertEqual([it.split(" ", 1)[1] for it in counted(Lines(), *given)], [first])
 
     def test_nothing_counts_in_what_is_nobodys_part(self):
         for name in ("tick-1", "tick-refill-1", "x", "", "/tick-1", "Ma-ker/tick-1", f"{'M' * 33}/tick-1"):
@@ -126,54 +125,30 @@ class Attacks(unittest.TestCase):
         self.assertEqual(len(counted(lines, *attack, ("Shop/x", attack[0][1]))), 9)
         self.others_go_on(lines, 90)
 
+    def test_by_what_it_says_that_it_has_seen(self):
+        """Each signature costs each committer its verification: of a block one counts."""
+        lines, said = Lines(), f"seen Shop 7 {'0f' * 32} {'0f' * 64}"
+        attack = [(f"Shop/{name}", f"{said}\n" * 500) for name in ("x", "seen-7", "seen-07", "seen-8", "seen-7-1", "x/seen-7", "seen-100007")]
+        self.assertEqual(counted(lines, *attack), [f"3.0 {said}"])
+        for wrong in ("\n" + said, f"seen Shop 70 {'0f' * 32}", "seen Shop 7"):
+            self.assertEqual(counted(lines, ("Shop/seen-7", wrong)), [])
+        self.others_go_on(lines, 9)
+
+    def test_two_leave_a_sixteenth(self):
+        with mock.patch.object(entries, "LAST_BLOCK", 600):
+            shares = Shares(512, 65536)
+            for part in (b"Shop", b"Depot"):
+                while shares.pay(part, shares.block):
+                    pass
+            left = 600 - shares.total // shares.block
+            self.assertEqual((left, shares.left(b"Shop"), shares.left(b"Depot"), shares.left(b"Maker") > 0), (38, 0, 0, True))
+
     def test_all_together_have_no_more_than_the_chain(self):
         with mock.patch.object(entries, "LAST_BLOCK", 600):
             shares = Shares(512, 65536)
             for it in range(10_000):
                 shares.pay(b"%d" % (it % 16), shares.block)
             self.assertTrue(580 <= shares.total // shares.block <= 600)
-
-
-class Network(unittest.IsolatedAsyncioTestCase):
-    """The same with a node's orderer and committer, over a log in a file."""
-
-    async def chain(self) -> chains.Chain:
-        """The Maker's part in the chain, as it runs. Its endorsements are made."""
-        folder = support.Folder()
-        self.addCleanup(folder.close)
-        for name in ("genesis.json", "maker.key"):
-            (folder.path / name).unlink()
-        support.ledger_of(folder.path, count=10)
-        changes = [('"ledger"', f'"{program.find()}"'), ('"chain.store"', '"store"'), ('keys = "maker.key"\n', "")]
-        chain = chains.Chain(folder.config(*changes, text=support.LOCAL), FileLog(str(folder.path / "log")), lambda _: None)
-        self.addAsyncCleanup(chain.log.close)
-        calls = [{"chaincode": "assets", "arg": f"create pallet-{it} Maker".encode().hex(), "nonce": f"{it:032x}"} for it in range(2)]
-        self.envelopes = {id_of(it): self.envelope(folder.path, it) for it in calls}
-        await chain.start()
-        self.addAsyncCleanup(chain.close)
-        self.addCleanup(chain.times.file.close)
-        works = [asyncio.ensure_future(it) for it in chain.works()]
-        self.addCleanup(lambda: [it.cancel() for it in works])
-        return chain
-
-    def envelope(self, folder: pathlib.Path, call: dict) -> str:
-        said = [support.endorsed(folder, it, call) for it in ("Maker", "Carrier")]
-        return envelope(said[0]["payload"], [it["endorsement"] for it in said])
-
-    async def test_others_calls_are_valid_behind_an_attack(self):
-        with mock.patch.object(entries, "LAST_BLOCK", 40):
-            chain = await self.chain()
-            for it in range(1, 50):
-                await chain.log.append(f"tick-{it}", [ENVELOPE, "tick"] * 500)
-                await chain.log.append(f"Shop/{it}", [ENVELOPE])
-                await chain.log.append(f"Shop/tick-{it}", ["tick"])
-            for id, made in self.envelopes.items():
-                waiter = chain.wait_for(id)
-                await chain.put(id, made)
-                async with asyncio.timeout(60):
-                    self.assertEqual((await waiter)["flag"], 0)
-            # An envelope costs a tenth of a block here, and its tick a block.
-            self.assertEqual((chain.height, chain.lines.shares.left(b"Shop"), chain.share), (27 + 2, 0, 5))
 
 
 class Blocks(unittest.TestCase):

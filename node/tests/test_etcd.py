@@ -323,7 +323,8 @@ class Liars(Case):
 
     async def test_a_line_and_an_answer_without_end(self):
         with mock.patch.multiple(etcd, LONGEST=1 << 20, LONGEST_LINE=1 << 20):
-            endless = [b"x" * (1 << 18)] * 8
+            # Behind that it says nothing, for longer than a watch is waited for here.
+            endless = [*[b"x" * (1 << 18)] * 8, "nothing"]
             self.assertEqual(await self.watched(await self.log(Node(endless), Node([told(event(5, "a"))])), 1), [b"5.0 a\n"])
             with self.assertRaisesRegex(LogError, "its answer has more than 1 MiB$"):
                 await (await self.log(Node(*[endless] * 9))).append("Maker/a", ["x"], 0.0)

@@ -106,7 +106,7 @@ class Of:
         async def test_lines_have_their_numbers(self):
             log = await self.log()
             await log.append("Maker/a", ["00", "tick", "ff"])
-            await log.append("Shop/seen-1", ["seen Maker 1 00", "seen Shop 1 \xff"])
+            await log.append("Shop/seen-1", ["seen Shop 1 \xff", "seen Shop 1 00"])
             await log.append("Shop/tick-1", ["tick"])
             entries = await watched(log, 3)
             first, second, third = (it.revision for it in entries)
@@ -114,7 +114,7 @@ class Of:
             self.assertLess(second, third)
             lines = Lines()
             self.assertEqual(b"".join(line for it in entries for line in lines.of(it).values()).decode("latin-1"),
-                             f"{first}.0 00\n{first}.2 ff\n{second}.1 seen Shop 1 \xc3\x83\xc2\xbf\n{third}.0 tick\n")
+                             f"{first}.0 00\n{first}.2 ff\n{second}.0 seen Shop 1 \xc3\x83\xc2\xbf\n{third}.0 tick\n")
 
         async def test_all_see_one_order(self):
             logs = [await self.log() for _ in range(3)]

@@ -104,11 +104,37 @@ class Starts(unittest.TestCase):
             node.tell_systemd("READY=1")
         made.return_value.__enter__.return_value.sendto.assert_called_once_with(b"READY=1", "\0regtuma")
 
+    def systemd(self) -> socket.socket:
+        """What hears a process as systemd does, and wants to hear from its watchdog each tenth of a second."""
+        made = self.enterContext(socket.socket(socket.AF_UNIX, socket.SOCK_DGRAM))
+        made.bind(name := str(self.folder.path / "notify"))
+        self.enterContext(mock.patch.dict("os.environ", {"NOTIFY_SOCKET": name, "WATCHDOG_USEC": "100000"}))
+        return made
+
+    def test_a_node_tells_systemd_that_it_is_there_and_goes_on(self):
+        systemd, program = self.systemd(), self.program("case $1 in version) echo '{\"lines\":1}'; exit;; commit) echo height 0;; esac; exec cat")
+        systemd.setblocking(False)
+        (self.folder.path / "genesis.json").write_text('{"count":1,"preferred":1}')
+        with socket.create_server(("127.0.0.1", 0)) as free:
+            place = f"127.0.0.1:{free.getsockname()[1]}"
+        settings = self.folder.config(('"ledger"', f'"{program}"'), ('"127.0.0.1:7051"', f'"{place}"'), text=support.LOCAL)
+
+        async def serve() -> tuple[list[bytes], int]:
+            served, said = asyncio.ensure_future(node.serve(settings)), []
+            async with asyncio.timeout(60):
+                while said.count(b"WATCHDOG=1") < 2:
+                    said.append(await asyncio.get_running_loop().sock_recv(systemd, 100))
+                os.kill(os.getpid(), signal.SIGTERM)
+                return said, await served
+        with contextlib.redirect_stdout(io.StringIO()):
+            said, status = asyncio.run(serve())
+        self.assertEqual((said, status), ([b"READY=1", b"WATCHDOG=1", b"WATCHDOG=1"], 0))
+
     def test_the_watchdog_is_fed_by_the_loop_alone(self):
-        """A loop that stands still tells nothing."""
-        systemd = self.enterContext(socket.socket(socket.AF_UNIX, socket.SOCK_DGRAM))
-        systemd.bind(str(self.folder.path / "notify"))
-        systemd.settimeout(0.5)
+        """A loop that stands still tells nothing, for which its unit has the node begun again."""
+        self.assertIn("\nWatchdogSec=60\nRestart=always\n", (support.ROOT / "node/systemd/regtuma-node.service").read_text())
+        systemd = self.systemd()
+        systemd.settimeout(60)
 
         async def stand_still() -> None:
             fed = asyncio.ensure_future(node.feed_watchdog())
@@ -120,8 +146,7 @@ class Starts(unittest.TestCase):
             time.sleep(0.3)
             self.assertRaises(BlockingIOError, systemd.recv, 100)
             fed.cancel()
-        with mock.patch.dict("os.environ", {"NOTIFY_SOCKET": str(self.folder.path / "notify"), "WATCHDOG_USEC": "100000"}):
-            asyncio.run(stand_still())
+        asyncio.run(stand_still())
 
 
 if __name__ == "__main__":

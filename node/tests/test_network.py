@@ -1,0 +1,226 @@
+"""A node's part in a network, by the program's own filters over a log in a file: what others put there, endorse, and take away."""
+import asyncio
+import json
+import unittest
+from collections.abc import Callable
+from unittest import mock
+
+import support
+import program
+from aiohttp import web
+from aiohttp.test_utils import TestServer
+from keys import keygen
+from regtuma import endorsing, entries, gateway
+from regtuma.chain import Chain
+from regtuma.endorsing import Endorsing
+from regtuma.filed import FileLog
+from regtuma.gateway import Gateway
+from regtuma.numbers import NUMBERS
+from regtuma.proposals import Refused
+from regtuma.wire import envelope, id_of
+from test_entries import ENVELOPE
+
+# How long something may take to come about, in seconds, with the unproved program on a busy machine too.
+PATIENCE = 240.0
+POLICY = "OutOf(2, 'Carrier', 'Maker', 'Shop')"
+
+
+def call(number: int) -> dict:
+    return {"chaincode": "assets", "arg": f"create pallet-{number} Maker".encode().hex(), "nonce": f"{number:032x}"}
+
+
+def broken(hex_: str) -> str:
+    """The same with another last byte."""
+    return hex_[:-2] + f"{int(hex_[-2:], 16) ^ 1:02x}"
+
+
+class Case(unittest.IsolatedAsyncioTestCase):
+    async def asyncSetUp(self):
+        self.folder = support.Folder()
+        self.addCleanup(self.folder.close)
+        self.at, self.said = self.folder.path, []
+        self.genesis, self.log = support.ledger_of(self.at, count=10), self.at / "log"
+        # A busy machine is no fault of another node.
+        self.enterContext(mock.patch.object(gateway.Link, "most", lambda _: 1))
+        self.enterContext(mock.patch("regtuma.links.ENDORSE_SECONDS", PATIENCE))
+
+    async def begin(self, organisation: str = "Maker", store: str = "store", **nodes: str) -> Gateway:
+        """A node's part as it runs, with other organisations' nodes at these URLs. Its works are cancelled behind the test."""
+        key = "" if organisation == "Maker" else f'keys = "{organisation}"\n'
+        others = "\n".join(f'{it} = "{url}"' for it, url in nodes.items())
+        changes = [('"Maker"', f'"{organisation}"'), ('"ledger"', f'"{program.find()}"'), ('"chain.store"', f'"{store}"'),
+                   ('keys = "maker.key"\n', key), ('Carrier = "http://127.0.0.1:7052"', others)]
+        config = self.folder.config(*changes, text=support.LOCAL)
+        chain = Chain(config, FileLog(str(self.log)), self.said.append)
+        self.addAsyncCleanup(chain.log.close)
+        made = Gateway(config, chain, Endorsing(config, chain))
+        self.addAsyncCleanup(made.close)
+        for it in (chain, made.endorsing):
+            self.addAsyncCleanup(it.close)
+            await it.start()
+        self.addCleanup(chain.times.file.close)
+        self.works = [asyncio.ensure_future(it) for it in [*chain.works(), *made.endorsing.works()]]
+        self.addAsyncCleanup(self.end, self.works)
+        return made
+
+    async def end(self, works: list[asyncio.Future]) -> None:
+        for it in works:
+            it.cancel()
+        await asyncio.gather(*works, return_exceptions=True)
+
+    async def come(self, is_so: Callable[[], object]) -> None:
+        async with asyncio.timeout(PATIENCE):
+            while not is_so():
+                await asyncio.sleep(0.02)
+
+    def enveloped(self, proposal: dict, *organisations: str) -> str:
+        said = [support.endorsed(self.at, it, proposal) for it in organisations]
+        return envelope(said[0]["payload"], [it["endorsement"] for it in said])
+
+    async def flag(self, chain: Chain, proposal: dict, made: str) -> int:
+        """What becomes of an envelope that is put as it is."""
+        waiter = chain.wait_for(id_of(proposal))
+        await chain.put(id_of(proposal), made)
+        async with asyncio.timeout(PATIENCE):
+            flag: int = (await waiter)["flag"]
+            return flag
+
+    async def replace_key(self, chain: Chain) -> None:
+        """The Maker and the Shop give the Carrier another key, of the key file `more`."""
+        public = json.loads(keygen(str(self.at / "more"), "Carrier", program=str(program.find())))["public"]
+        members = [{"name": "Carrier", "public": public}, {"name": "Maker"}, {"name": "Shop"}]
+        change = {"members": members, "policy": POLICY, "serial": 1, "nonce": "0f" * 16}
+        self.assertEqual(await self.flag(chain, change, self.enveloped(change, "Maker", "Shop")), 0)
+
+
+class Attacks(Case):
+    async def test_others_calls_are_valid_behind_an_attack(self):
+        made = {it: self.enveloped(call(it), "Maker", "Carrier") for it in range(2)}
+        with mock.patch.object(entries, "LAST_BLOCK", 40):
+            chain = (await self.begin()).chain
+            for it in range(1, 50):
+                await chain.log.append(f"tick-{it}", [ENVELOPE, "tick"] * 500)
+                await chain.log.append(f"Shop/{it}", [ENVELOPE])
+                await chain.log.append(f"Shop/tick-{it}", ["tick"])
+            for it in made:
+                self.assertEqual(await self.flag(chain, call(it), made[it]), 0)
+            # An envelope costs a tenth of a block here, and its tick a block.
+            self.assertEqual((chain.height, chain.lines.shares.left(b"Shop"), chain.share), (27 + 2, 0, 5))
+
+
+class Endorsers(Case):
+    """The Carrier's node answers by what `answer` makes of what the Carrier endorses; the Shop's is honest."""
+
+    async def asyncSetUp(self):
+        await super().asyncSetUp()
+        self.answer, self.asked = dict, 0
+        self.gateway = await self.begin(Carrier=await self.serve("Carrier"), Shop=await self.serve("Shop"))
+        self.chain = self.gateway.chain
+
+    async def serve(self, organisation: str) -> str:
+        """The URL of an organisation's node."""
+        async def endorse(request: web.Request) -> web.Response:
+            proposal, = (await request.json())["proposals"]
+            height, self.asked = self.chain.height, self.asked + (organisation == "Carrier")
+            said = await asyncio.to_thread(support.endorsed, self.at, organisation, proposal)
+            said["height"] = height
+            return web.json_response({"answers": [self.answer(said) if organisation == "Carrier" else said]})
+        app = web.Application()
+        app.router.add_post("/endorse", endorse)
+        server = TestServer(app)
+        self.addAsyncCleanup(server.close)
+        await server.start_server()
+        return str(server.make_url("")).rstrip("/")
+
+    async def submit(self, number: int, *organisations: str) -> dict:
+        named = {"organisations": list(organisations)} if organisations else {}
+        return await self.gateway.submit("Maker/alice", {**call(number), **named}, PATIENCE)
+
+    async def test_a_lying_endorser_is_passed_over_and_named(self):
+        other = await asyncio.to_thread(support.endorsed, self.at, "Carrier", call(9))
+        lies = [(gateway.OTHER_KEY, lambda said: {**said, "endorsement": broken(said["endorsement"])}),
+                (gateway.OTHER_KEY, lambda said: {**said, "endorsement": "00"}),
+                (gateway.OTHER_CALL, lambda said: {**other, "height": said["height"]})]
+        for number, (fault, lie) in enumerate(lies):
+            self.answer, self.gateway.links["Carrier"].down = lie, 0.0
+            # The Carrier's node is asked first, as it answers sooner.
+            self.gateway.links["Shop"].each = 100.0
+            done = await self.submit(number)
+            block = json.loads(await self.chain.block(done["block"]))
+            self.assertEqual((done["flag"], [it["org"] for it in block["txs"][done["place"]]["endorsements"]]), (0, ["Maker", "Shop"]))
+            self.assertEqual(self.said[-1], f"no endorsement of Carrier: {fault}")
+        with self.assertRaises(Refused) as raised:
+            await self.submit(8, "Maker", "Carrier")
+        self.assertEqual((raised.exception.status, str(raised.exception)), (503, f"no endorsement of Carrier: {gateway.OTHER_CALL}"))
+        self.assertEqual(self.log.read_text().count('"Maker/call-'), len(lies))
+
+    async def test_who_calls_is_told_of_a_line_that_the_orderer_skips(self):
+        """As where a lie got by."""
+        self.answer = lambda said: {**said, "endorsement": "00"}
+        with mock.patch.object(self.gateway, "faults", mock.AsyncMock(return_value={})):
+            said = await self.submit(0, "Maker", "Carrier")
+        self.assertEqual((said["refused"], said["why"]), (301, "the orderer skips its envelope (refused 301)"))
+        self.assertEqual(await self.gateway.status(id_of(call(0))), said)
+
+    async def test_behind_a_change_of_key_it_is_asked_again(self):
+        old = await asyncio.to_thread(support.endorsed, self.at, "Carrier", call(0))
+        await self.replace_key(self.chain)
+        (self.at / "more").replace(self.at / "Carrier")
+        self.answer = lambda said: {**old, "height": said["height"]} if self.asked < 3 else said
+        self.assertEqual(((await self.submit(0, "Maker", "Carrier"))["flag"], self.asked), (0, 3))
+
+
+class Places(Case):
+    async def test_a_node_says_that_its_seed_is_old(self):
+        node = await self.begin("Carrier", Maker="http://127.0.0.1:1")
+        await self.replace_key(node.chain)
+        await self.come(lambda: node.endorsing.out_of_place)
+        self.assertEqual(self.said[-1], f"nothing is endorsed: {endorsing.OLD_SEED}")
+        said, = await node.endorsing.answers("Maker/node", [call(0)])
+        self.assertEqual(said["denied"], endorsing.OLD_SEED)
+
+
+class Deletions(Case):
+    """An entry was deleted, and with etcd's history its first version: nodes that begin read what is left."""
+
+    async def asyncSetUp(self):
+        await super().asyncSetUp()
+        chain = (await self.begin()).chain
+        for it in range(3):
+            self.assertEqual(await self.flag(chain, call(it), self.enveloped(call(it), "Maker", "Carrier")), 0)
+        said = support.ledger("endorse", self.genesis, "Carrier", self.at / "store", "--keys", self.at / "Carrier", lines="seen 2\n")
+        self.assertRegex(said, "^seen Carrier 2 [0-9a-f]{64} [0-9a-f]{128}\n$")
+        given = chain.given
+        await chain.log.append("Carrier/seen-2", [said.strip()])
+        await self.come(lambda: chain.given > given and chain.read == chain.given)
+        self.assertIsNone(chain.forked)
+        await self.end(self.works)
+        await chain.close()
+        self.delete("Maker/call-", 1)
+
+    def delete(self, name: str, place: int = 0) -> None:
+        """Takes the entry at a place away, of those whose names begin so."""
+        lines = self.log.read_text().splitlines(keepends=True)
+        lines.remove([it for it in lines if f'"{name}' in it][place])
+        self.log.write_text("".join(lines))
+
+    async def test_a_node_with_a_store_ends(self):
+        await self.begin()
+        done, _ = await asyncio.wait(self.works, timeout=PATIENCE, return_when=asyncio.FIRST_EXCEPTION)
+        self.assertEqual([str(it.exception()) for it in done], ["ledger commit ended with status 1"])
+        self.assertEqual(self.said[-1], f"ledger commit: refused 602 block 2: {NUMBERS[602]}")
+
+    async def test_a_node_without_a_store_is_told_by_what_was_seen(self):
+        chain = (await self.begin(store="other")).chain
+        await self.come(lambda: chain.forked)
+        self.assertEqual((chain.forked, self.said[-1]), (words := "Carrier says that it has another block 2", f"forked: {words}"))
+
+    async def test_where_nothing_was_seen_it_is_not_told(self):
+        self.delete("Carrier/seen-2")
+        chain = (await self.begin(store="other")).chain
+        await self.come(lambda: chain.height == 2)
+        self.assertEqual((chain.forked, json.loads(await chain.block(2))["txs"][0]["id"]), (None, id_of(call(2))))
+
+
+if __name__ == "__main__":
+    unittest.main()
