@@ -235,6 +235,8 @@ def envelope(asked: Asked, program: str, orgs: list[str]) -> str:
         with concurrent.futures.ThreadPoolExecutor() as pool:
             said = list(pool.map(endorsed, orgs))
     except Refused as refused:
+        if refused.number == "808" and asked.keys:
+            raise Refused(refused.line, f"{asked.keys} lacks the seed of {refused.why.partition(':')[0]} (808)") from None
         raise refusal(asked, program, refused.line) if refused.number in ("401", *RUN) else refused from None
     payloads = {payload for _, payload, _ in said}
     if len(payloads) > 1:

@@ -7,6 +7,7 @@ import dataclasses
 import hashlib
 import io
 import json
+import os
 import pathlib
 import re
 import sys
@@ -107,8 +108,8 @@ def refusal(call: Call, program: str, line: str) -> Refused:
     number = line.split()[1]
     if number == "401":
         return Refused(line, Ledger(program, call.genesis, call.store).unknown(call.chaincode))
-    if number in RUN and (how := how_it_ended(call, program, line)):
-        return Refused(line, how)
+    if number in RUN and (run := rerun(call, program, line)):
+        return Refused(line, f"{run.sentence()} ({number})")
     try:
         answered(program, "sim", call.genesis, call.chaincode, call.arg or "-", "--store", call.store, *call.modules)
     except Refused as refused:
@@ -117,18 +118,27 @@ def refusal(call: Call, program: str, line: str) -> Refused:
     return Refused(line, "")
 
 
-def how_it_ended(call: Call, program: str, line: str) -> str:
-    """How a call ended that the program refuses; nothing where it ends otherwise here, or runs for too long."""
+def rerun(call: Call, program: str, line: str) -> "Run | None":
+    """A call that the program refuses by a line; nothing where it ends otherwise here, or runs for too long."""
     try:
         with state_of(program, call) as state:
             run = Run(call, state, most=MOST_FUEL)
             run.run()
     except (Grown, Ended, Refused):
-        return ""
-    if f"refused {run.refusal}" != line or run.refusal == "403" and run.given > MOST_FUEL:
-        return ""
-    said = f", and said: {shown(run.fabric.result)}" if run.fabric.result else ""
-    return f"the chaincode {run.end}{said}; {run.fuel()}; `ledger debug` shows where ({run.refusal[:3]})"
+        return None
+    is_so = f"refused {run.refusal}" == line and (run.refusal != "403" or run.given <= MOST_FUEL)
+    return run if is_so else None
+
+
+def tell_more(found: Given, program: str, line: str) -> None:
+    """Says of a call that `sim` refuses by a line what the program does not say: its fuel and its result."""
+    genesis, chaincode, arg = found.words
+    call = Call(genesis, found.option("--store") or NOTHING, modules(found), chaincode, arg.strip("-"), is_hex=True)
+    files = [genesis, *(it for name in ("--store", "--modules") for it in found.options.get(name, []))]
+    # What is no file cannot be read twice.
+    is_there = all(os.path.isfile(it) and not it.startswith("/dev/") for it in files)
+    if is_there and line.split()[1] in RUN and (run := rerun(call, program, line)):
+        say(f"sim: {run.sentence()}")
 
 
 class Definition(NamedTuple):
@@ -189,6 +199,11 @@ class Run:
 
     def fuel(self) -> str:
         return f"{self.used()} of {self.given} fuel used"
+
+    def sentence(self) -> str:
+        """How it ended, with what it had set as its result, and what tells more."""
+        said = f", and said: {shown(self.fabric.result)}" if self.fabric.result else ""
+        return f"the chaincode {self.end}{said}; {self.fuel()}; `ledger debug` shows where"
 
     def answer(self) -> dict[str, Any]:
         """What the program has to answer to the call."""

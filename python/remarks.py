@@ -9,7 +9,10 @@ from collections.abc import Iterator
 
 from commands import Command, Given, Misuse, given, no_chaincode
 from keys import tell_of_open_files
-from program import say
+from membership import Ledger
+from network import Mistake
+from program import find, say
+from rfc8032 import secret_to_public
 from wasm_module import CUSTOM, MOST_PAGES, Malformed, Reader
 
 GENESIS, MODULE, MODULES, STORE = "a genesis file", "a module", "a modules file", "a store"
@@ -33,8 +36,8 @@ ENCODINGS = [(b"\xef\xbb\xbf", "begins with a byte order mark: save it without")
              (b"\xff\xfe", "is in UTF-16: save it as UTF-8"), (b"\xfe\xff", "is in UTF-16: save it as UTF-8")]
 # `page` is done by `show`, and `modules` tells of each module where it is refused.
 TOLD_LATER = {"page", "modules"}
-# Commands that call a chaincode of the genesis file.
-BY_GENESIS = {"sim", "trace", "threads"}
+# Commands that call a chaincode, and those that sign for organisations; and what a key file has.
+CALLING, SIGNING, SEEDS = {"sim", "trace", "threads"}, {"run", "threads", "endorse"}, re.compile("([0-9A-Fa-f]{64}\n)+")
 # So much of a file is read to see of which kind it is, of a module, and of a genesis file.
 FIRST, WHOLE, MOST = 4096, 1 << 20, 1 << 26
 MEMORY = 5
@@ -53,7 +56,7 @@ def tell(command: Command, words: list[str]) -> None:
     for place, file in files_of(command, found):
         for it in of_file(place, file):
             say(it)
-    for it in of_chaincode(command, found):
+    for it in [*of_chaincode(command, found), *of_keys(command, found)]:
         say(it)
 
 
@@ -135,8 +138,50 @@ def chaincodes_in(genesis: str) -> list[str]:
 
 
 def of_chaincode(command: Command, found: Given) -> Iterator[str]:
-    """Which chaincode was meant of a genesis file's, where no store has others."""
-    if command.name in BY_GENESIS and "--store" not in found.options and len(found.words) > 1:
-        known = chaincodes_in(found.words[0])
-        if known and found.words[1] not in known:
+    """Which chaincode was meant of a genesis file's, and of those that a store has beside."""
+    if command.name not in CALLING or len(found.words) < 2:
+        return
+    known, store = chaincodes_in(found.words[0]), found.option("--store")
+    if not known or found.words[1] in known or store and not os.path.isfile(store):
+        return
+    # Of files that are refused it is told why.
+    with contextlib.suppress(ValueError, LookupError, TypeError, Mistake):
+        if store:
+            known = [name for name, _ in Ledger(str(find()), found.words[0], store).policies()]
+        if found.words[1] not in known:
             yield no_chaincode(found.words[1], known)
+
+
+def of_keys(command: Command, found: Given) -> Iterator[str]:
+    """Whose seeds a key file lacks, and whose it has."""
+    file = found.option("--keys")
+    if file is not None and command.name in SIGNING:
+        # Whoever takes files that are of another kind says so.
+        with contextlib.suppress(ValueError, LookupError, TypeError, AttributeError, RecursionError, Mistake):
+            lacking, had = in_key_file(command.name, found.words, file)
+            if lacking:
+                yield f"{file} lacks {seeds_of(lacking)}, and has {seeds_of(had)}"
+
+
+def in_key_file(name: str, words: list[str], file: str) -> tuple[list[str], list[str]]:
+    """The organisations that are to sign by a key file which has no seed of theirs, and those whose seeds it has."""
+    genesis, seeds = json.loads(first_of(words[0], MOST)), first_of(file, FIRST).decode("ascii")
+    if not SEEDS.fullmatch(seeds):
+        return [], []
+    publics = {secret_to_public(bytes.fromhex(it)).hex() for it in seeds.split()}
+    signers = words[1:2] if name == "endorse" else genesis["peers"][:1 if name == "threads" else None]
+    keys = [(it["name"], it.get("public")) for it in genesis["orgs"]]
+    if name == "endorse" and not is_able(words[1], keys, publics) and os.path.isfile(words[2]):
+        keys += [it for it in Ledger(str(find()), words[0], words[2]).stands().members.items() if it[1]]
+    lacking = [it for it in signers if it in dict(keys) and not is_able(it, keys, publics)]
+    return lacking, list(dict.fromkeys(name for name, key in keys if key and key.lower() in publics))
+
+
+def is_able(org: str, keys: list[tuple[str, str | None]], publics: set[str]) -> bool:
+    """Whether somebody can sign for an organisation who has the seeds of these public keys. Shared keys everybody has."""
+    return any(name == org and (key is None or key.lower() in publics) for name, key in keys)
+
+
+def seeds_of(names: list[str]) -> str:
+    """Seeds in words."""
+    return f"the seed{'s' if len(names) > 1 else ''} of {', '.join(names)}" if names else "none of this ledger's"

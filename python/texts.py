@@ -1,5 +1,6 @@
 """`--text` of `sim`, `trace`, `state` and `show`: what is given are texts, and what the program prints in hex is printed as text
-where it is one, by the rule of docs/OUTPUT.md. The program itself reads and prints hex."""
+where it is one, by the rule of docs/OUTPUT.md. The program itself reads and prints hex. Of a call that `sim` refuses more is said
+than the program does."""
 import dataclasses
 import io
 import json
@@ -8,7 +9,7 @@ import subprocess
 import sys
 from collections.abc import Iterator
 
-from commands import Command, Misuse, argument, checked
+from commands import Command, Misuse, argument, checked, given
 from outcome import results, shown
 from program import find
 
@@ -35,15 +36,21 @@ def is_asked(command: Command, words: list[str]) -> bool:
     return command.name in WORDS and OPTION in (words[:words.index("--")] if "--" in words else words)
 
 
-def run_as_text(command: Command, words: list[str]) -> int:
-    """Runs the program by words that are texts, and prints texts. Its status."""
+def run(command: Command, words: list[str]) -> int:
+    """Runs the program, by words that are texts and printing texts where that is asked for. Its status."""
+    is_text, line = is_asked(command, words), ""
+    taken = hex_words(command, words) if is_text else words
     if isinstance(sys.stdout, io.TextIOWrapper):
         sys.stdout.reconfigure(encoding="utf-8")
-    with subprocess.Popen([find(), command.name, *hex_words(command, words)], stdout=subprocess.PIPE, encoding="utf-8") as ran:
+    with subprocess.Popen([find(), command.name, *taken], stdout=subprocess.PIPE, encoding="utf-8") as ran:
         assert ran.stdout
         for line in ran.stdout:
-            for it in lines_of(line.removesuffix("\n")):
+            for it in lines_of(line.removesuffix("\n")) if is_text else [line.removesuffix("\n")]:
                 print(it)
+    if command.name == "sim" and line.startswith("refused "):
+        # What runs modules would hold up each other command.
+        import debug
+        debug.tell_more(given(command, taken), str(find()), line.removesuffix("\n"))
     return ran.returncode
 
 

@@ -51,13 +51,21 @@ REMARKS = [
     ("audit twice.json S", 'twice.json has the field "seats" twice in an object: the last one counts'),
     ("run G twice.jsonl --keys net/all.key", 'twice.jsonl has the field "do" twice in an object: the last one counts'),
     ("sim G kw -", 'there is no chaincode "kw"; did you mean "kv"?'), ("trace G other -", 'there is no chaincode "other"; there is kv'),
+    ("sim net kw -", 'there is no chaincode "kw"; did you mean "kv"?'),
+    ("sim cases/upgrades.json nx - --store cases/new.store", 'there is no chaincode "nx"; did you mean "nw"?'),
+    ("run cases/signed.json cases/signed.jsonl --keys cases/other.keys", "other.keys lacks the seed of B, and has none of this ledger's"),
+    ("threads cases/signed.json kv 1 --keys cases/other.keys", "other.keys lacks the seed of B, and has none of this ledger's"),
+    ("endorse cases/signed.json B cases/signed.store --keys cases/other.keys", "other.keys lacks the seed of B, and has none of"),
+    ("endorse cases/members.json C cases/members-joined.store --keys cases/sixteen.keys", "lacks the seed of C, and has the seed of B"),
     ("state net --at 2", "net/chain.store: there is no block 2; the last is 1"),
     ("show net --from 3", "net/chain.store: there is no block 3; the last is 1"),
     ("show net --from 4 --to 2", "net/chain.store: there is no block from 4 to 2"), ("page net --from 3", "there is no block 3; the last is 1"),
 ]
 # Words of which there is nothing to be said.
 SILENT = ["audit net", "state net --at 1", "show net --from 1 --to 1", "sim net kv -", "check put_a.wasm", "marks net", "public net/all.key",
-          "trace net kv -", "show net --from 1"]
+          "trace net kv -", "show net --from 1", "sim cases/upgrades.json nw - --store cases/new.store",
+          "threads cases/signed.json kv 1 --keys cases/signed.keys", "endorse cases/signed.json A cases/signed.store --keys cases/other.keys",
+          "endorse cases/members.json C cases/members-joined.store --keys cases/other.keys"]
 # Words behind those that make the network, and what is printed.
 TEXTS = [
     ("sim g.json kv a b --text", "tx [0-9a-f]{64}\nresult -\nread 0x006b76 absent\nwrite a put 1\n"),
@@ -163,6 +171,10 @@ def try_remarks(at: Asking) -> None:
     (at.room / "twice.json").write_text(genesis.replace('"seats":', '"seats": 3,\n "seats":'))
     at.case("a network to look at", made[0].status == made[1].status == 0, made[1])
     names = {"G": "net/genesis.json", "S": "net/chain.store", "N": "net/network.toml"}
+    shutil.copytree(at.tree / "test/cases/data", at.room / "cases")
+    for keys in at.room.glob("cases/*.keys"):
+        keys.chmod(0o600)
+    at.ledger("run", "cases/upgrades.json", "cases/versions.jsonl", "--store", "cases/new.store")
     with concurrent.futures.ThreadPoolExecutor(4) as pool:
         asked = [*REMARKS, *((words, "") for words in SILENT)]
         found = list(pool.map(lambda it: at.ledger(*(names.get(word, word) for word in it[0].split())), asked))

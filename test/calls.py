@@ -194,13 +194,17 @@ def try_ends(at: Calls) -> None:
     delete = [*files, "assets", "delete", "pallet-7", "--keys", "net/Shop/key"]
     told = f"assets needs {POLICY}; the seeds in net/Shop/key are those of Shop (808)"
     at.is_refused("a key short", "refused 808", told, *delete)
-    at.is_refused("one that is named, whose key is not at hand", "refused 808", "Maker: no seed", *delete, "--orgs", "Shop,Maker")
+    at.is_refused("one that is named, whose key is not at hand", "refused 808", "net/Shop/key lacks the seed of Maker (808)", *delete, "--orgs", "Shop,Maker")
     ran = at.call(*files, "assets", "--", "--dry-run")
     at.case("behind -- stands no option", ran.out == "refused 808\n", ran)
     ran = at.call("open.json", "open.store", "kv", "--modules", "modules.json")
     at.case("a module of an open definition", ran.out.startswith("write a put 1\nVALID in block 4, tx "), ran)
 
 
+    for chaincode, number, told in [("says", "404 status 4", "sim: the chaincode returned the status 4, and said: not yet; 69 of 10000 fuel used"),
+                                    ("trap", "402 trap 1", "unreachable; 1 of 10000 fuel used"), ("loop", "403", "10000 of 10000 fuel used")]:
+        ran = at.ledger("sim", "net", chaincode, "-")
+        at.case(f"sim of {chaincode}", (ran.status, ran.out) == (1, f"refused {number}\n") and ran.err.count(told + shows) == 1, ran)
 def try_nonces(at: Calls) -> None:
     """A call of a nonce that was used has its first outcome, and is in no new block."""
     words = ["net", "assets", "create", "pallet-9", "Shop", "--nonce", NONCE]
