@@ -57,7 +57,8 @@ FABRIC_INVOKE {
     IS(get_arg(0, 0), 3);
     IS(get_state(key, 0, 0, 0), FABRIC_KEY_LENGTH);
     IS(get_state("\\0a", 2, 0, 0), FABRIC_KEY_LENGTH);
-    for (int i = 0; i < 65; ++i) key[i] = 'k';
+    memset(key, 'k', 33);
+    memcpy(key + 33, key, 32);
     IS(get_state(key, 65, 0, 0), FABRIC_KEY_LENGTH);
     IS(get_state(key, 64, 0, 0), FABRIC_ABSENT);
     IS(get_state("a", 1, big, 1), 2);
