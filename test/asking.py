@@ -101,6 +101,7 @@ def try_asking(report: Report, tree: pathlib.Path, room: pathlib.Path, env: dict
     try_made(at, names)
     try_input(at)
     try_remarks(at)
+    try_head(at)
     try_texts(at)
     try_terminal(at)
     try_application(at)
@@ -170,11 +171,11 @@ def try_remarks(at: Asking) -> None:
     (at.room / "twice.jsonl").write_text('{"do":"take","do":"tick"}\n')
     (at.room / "twice.json").write_text(genesis.replace('"seats":', '"seats": 3,\n "seats":'))
     at.case("a network to look at", made[0].status == made[1].status == 0, made[1])
-    names = {"G": "net/genesis.json", "S": "net/chain.store", "N": "net/network.toml"}
     shutil.copytree(at.tree / "test/cases/data", at.room / "cases")
     for keys in at.room.glob("cases/*.keys"):
         keys.chmod(0o600)
     at.ledger("run", "cases/upgrades.json", "cases/versions.jsonl", "--store", "cases/new.store")
+    names = {"G": "net/genesis.json", "S": "net/chain.store", "N": "net/network.toml"}
     with concurrent.futures.ThreadPoolExecutor(4) as pool:
         asked = [*REMARKS, *((words, "") for words in SILENT)]
         found = list(pool.map(lambda it: at.ledger(*(names.get(word, word) for word in it[0].split())), asked))
@@ -183,6 +184,12 @@ def try_remarks(at: Asking) -> None:
             at.case(f"{words}: what is told", ran.err.count(told) == 1 and "Traceback" not in ran.err, ran)
         else:
             at.case(f"{words}: nothing is told", ran.status == 0 and not ran.err, ran)
+
+
+def try_head(at: Asking) -> None:
+    """Who reads no more than the beginning is told nothing."""
+    ran = run(["bash", "-c", f"{at.tree / 'ledger'} page net 2> told | head -c 15; grep -vE ': (unproved|sources)' told"], at.room, SECONDS, at.env)
+    at.case("the beginning of a page", ran.out == "<!doctype html>", ran)
 
 
 def try_texts(at: Asking) -> None:
