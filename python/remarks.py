@@ -144,8 +144,8 @@ def of_chaincode(command: Command, found: Given) -> Iterator[str]:
     known, store = chaincodes_in(found.words[0]), found.option("--store")
     if not known or found.words[1] in known or store and not os.path.isfile(store):
         return
-    # Of a store that is refused it is told why.
-    with contextlib.suppress(ValueError, LookupError, Mistake):
+    # Of files that are refused it is told why.
+    with contextlib.suppress(ValueError, LookupError, TypeError, Mistake):
         if store:
             known = [name for name, _ in Ledger(str(find()), found.words[0], store).policies()]
         if found.words[1] not in known:

@@ -1,4 +1,5 @@
 """./ledger call: its lines and refusals, a nonce that was used, calls at once, and calls that are killed."""
+import hashlib
 import json
 import os
 import pathlib
@@ -9,11 +10,13 @@ import time
 
 from report import Ran, Report, start
 from seeing import comes_to_be
-from tree import UNPROVED, program, run_ledger
+from tree import PROVED, UNPROVED, program, run_ledger
 
 # How long a command may take, in seconds.
 SECONDS = 120
 NONCE = "000102030405060708090a0b0c0d0e0f"
+# A chain has so many blocks at most.
+LAST_BLOCK = 65_535
 POLICY = "OutOf(2, 'Maker', 'Carrier', 'Shop')"
 # Modules by the code of `invoke`, which traps, branches for ever, or returns 7; and one that says "not yet" and returns 4.
 ENDS = {"trap": "0a05010300000b", "loop": "0a0b010900" "03400c000b41000b", "seven": "0a0601040041070b"}
@@ -146,6 +149,7 @@ def try_calls(report: Report, tree: pathlib.Path, room: pathlib.Path, env: dict[
     try_ends(at)
     try_nonces(at)
     try_torn(at)
+    try_full(at)
     try_at_once(at)
     try_kills(at)
 
@@ -197,6 +201,10 @@ def try_ends(at: Calls) -> None:
     at.is_refused("one that is named, whose key is not at hand", "refused 808", "net/Shop/key lacks the seed of Maker (808)", *delete, "--orgs", "Shop,Maker")
     ran = at.call(*files, "assets", "--", "--dry-run")
     at.case("behind -- stands no option", ran.out == "refused 808\n", ran)
+    for chaincode, number, told in [("says", "404 status 4", "sim: the chaincode returned the status 4, and said: not yet; 69 of 10000 fuel used"),
+                                    ("trap", "402 trap 1", "unreachable; 1 of 10000 fuel used"), ("loop", "403", "10000 of 10000 fuel used")]:
+        ran = at.ledger("sim", "net", chaincode, "-")
+        at.case(f"sim of {chaincode}", (ran.status, ran.out) == (1, f"refused {number}\n") and ran.err.count(told + shows) == 1, ran)
     ran = at.call("open.json", "open.store", "kv", "--modules", "modules.json")
     at.case("a module of an open definition", ran.out.startswith("write a put 1\nVALID in block 4, tx "), ran)
 
@@ -223,6 +231,31 @@ def try_torn(at: Calls) -> None:
     ran = at.call("put.json", "torn.store", "kv")
     is_so = ran.out.startswith("write a put 1\nVALID in block 2, tx ") and "bytes of a part of a record were cut off" in ran.err
     at.case("a torn end", is_so and ran.status == 0, ran)
+
+
+def chain_of(count: int) -> bytes:
+    """A store of so many blocks, each with a call that nobody endorsed."""
+    records, link = [], bytes(32)
+    for number in range(1, count + 1):
+        envelope = b"\2kv" + bytes(2) + number.to_bytes(16, "big") + bytes(9)
+        data = b"\0\1" + len(envelope).to_bytes(4, "big") + envelope
+        header = number.to_bytes(4, "big") + link + hashlib.sha256(data).digest()
+        record = len(header + data).to_bytes(4, "big") + header + data + b"\1"
+        records.append(record + hashlib.sha256(record).digest())
+        link = hashlib.sha256(header).digest()
+    return b"".join(records)
+
+
+def try_full(at: Calls, last: int = LAST_BLOCK) -> None:
+    """The last block of a chain is one's, and the next call is refused. An unproved program would read such a chain for minutes."""
+    if last == LAST_BLOCK and program() != PROVED:
+        print("calls: the program is unproved, so no full chain is tried", flush=True)
+        return
+    (at.room / "full.store").write_bytes(chain_of(last - 1))
+    at.is_valid("the last block", last, "put.json", "full.store", "kv")
+    at.is_refused("a full chain", "refused 422", "the chain is full (422)", "put.json", "full.store", "kv")
+    ran = at.call("put.json", "full.store", "kv", "--dry-run")
+    at.case("a dry run on a full chain", ran.status == 0 and ran.out == "write a put 1\n", ran)
 
 
 def try_at_once(at: Calls) -> None:
