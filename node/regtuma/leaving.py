@@ -11,7 +11,8 @@ from .etcd import EtcdLog
 
 async def leave_etcd(etcd: EtcdLog, organisation: str) -> list[str]:
     """Takes an organisation's users and members out of etcd, as its root: what was done, in words. Its users are those who may
-    write its own part of the log, and a member bears its name in small letters."""
+    write its own part of the log, and a member bears its name in small letters. A member may lie about its name, so that addresses are
+    told of those that are left."""
     said = []
     users = await etcd.users()
     for user, roles in list(users.items()):
@@ -22,10 +23,12 @@ async def leave_etcd(etcd: EtcdLog, organisation: str) -> list[str]:
             for role in (it for it in roles if not any(it in others for others in users.values())):
                 await etcd.delete("role", role)
     members = await etcd.members()
-    for name in [it for it in members if it.lower() == organisation.lower()]:
-        await etcd.remove_member(members.pop(name))
-        said.append(f"etcd has no member {name} any more")
-    return [*said, f"users of etcd: {', '.join(sorted(users))}; members: {', '.join(sorted(members))}"]
+    for id in [it for it, (name, _) in members.items() if name.lower() == organisation.lower()]:
+        name, address = members.pop(id)
+        await etcd.remove_member(id)
+        said.append(f"etcd has no member {name} any more, which was at {address}")
+    left = [f"{name} at {address}" for name, address in sorted(members.values())]
+    return [*said, f"users of etcd: {', '.join(sorted(users))}; members: {', '.join(left)}"]
 
 
 def left_here(config: Config, organisation: str) -> list[str]:

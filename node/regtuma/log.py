@@ -123,7 +123,9 @@ def main(words: list[str]) -> int:
             return 2
     try:
         said = asyncio.run(work(configuration.read(file), task))
-        sys.stdout.buffer.write(said if isinstance(said, bytes) else f"{said}\n".encode())
+        # Members of etcd have the names that they give themselves: nothing in what is said speaks to a terminal.
+        shown = said if isinstance(said, bytes) else "".join(it if it.isprintable() or it == "\n" else "?" for it in said).encode() + b"\n"
+        sys.stdout.buffer.write(shown)
         return 0
     except (Mistake, NotDone, LogError, OSError, ValueError) as error:
         print(f"regtuma-log: {error}", file=sys.stderr)

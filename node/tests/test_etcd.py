@@ -267,15 +267,15 @@ class Failures(Case):
         names = {"key": long["kv"]["key"], "create_revision": "5"}
         short = {"key": base64_of("log/Shop/b"), "create_revision": "6"}
         pages = [{"header": {"revision": "6"}, "kvs": [names], "more": True}, {"header": {"revision": "6"}, "kvs": [short]}]
-        node = Node([told(long, event(6, "01"))], gone, (200, {"kvs": "x" * 2000}), *((200, it) for it in pages),
+        node = Node([told(long, event(6, "01"))], gone, (200, {"kvs": "x" * 2000}), "nothing", *((200, it) for it in pages),
                     (200, {"responses": [{"response_range": {"kvs": [event(6, "02", key="log/Shop/b")["kv"]]}}]}))
         log = await self.log(node)
         self.assertEqual(await self.watched(log, 1), [b"6.0 01\n"])
-        with mock.patch.object(etcd, "LONGEST", 1000), contextlib.redirect_stdout(io.StringIO()):
+        with mock.patch.multiple(etcd, LONGEST=1000, NODE_SECONDS=5.0), contextlib.redirect_stdout(io.StringIO()):
             self.assertEqual(await self.watched(log, 1), [b"6.0 02\n"])
         asked = [body for _, body, _ in node.asked]
-        self.assertEqual([it["limit"] for it in asked[2:5]], [1000, 125, 250])
-        self.assertEqual([it["request_range"]["key"] for it in asked[5]["success"]], [short["key"]])
+        self.assertEqual([it["limit"] for it in asked[2:6]], [1000, 125, 15, 30])
+        self.assertEqual([it["request_range"]["key"] for it in asked[6]["success"]], [short["key"]])
 
     async def test_entries_of_one_revision_have_one_order(self):
         """That of their names, whether a watch tells them in pieces or their keys are left."""

@@ -10,6 +10,7 @@ import support
 from regtuma import config, links, log
 from regtuma.etcd import EtcdLog as Log
 from regtuma.etcd import base64_of
+from regtuma.leaving import leave_etcd
 from regtuma.links import Link
 from test_chain import CALL, ENDORSED
 from test_etcd import DONE, NOT_DONE, Elsewhere, Node
@@ -134,6 +135,23 @@ class ByHand(unittest.IsolatedAsyncioTestCase):
         self.assertEqual(await log.fetch(await self.log(other, right), self.config, digest), b"\0asm")
         with self.assertRaisesRegex(log.NotDone, f"no organisation has put the module {digest}"):
             await log.fetch(await self.log((200, {}), (200, {"kvs": [{"value": base64_of("no hex")}]})), self.config, digest)
+
+    async def test_who_leaves_does_not_hide_behind_a_name(self):
+        """A member of etcd says itself what its name is: by addresses one sees who is left."""
+        names = {"1": "carrier", "2": "carrier", "3": "shop", "4": "Shop"}
+        members = [{"ID": id, "name": name, "peerURLs": [f"https://10.0.0.{id}:2380"]} for id, name in names.items()]
+        log = await self.log((200, {}), (200, {"members": members}), (200, {}), (200, {}))
+        self.assertEqual(await leave_etcd(log, "Shop"), [
+            "etcd has no member shop any more, which was at https://10.0.0.3:2380",
+            "etcd has no member Shop any more, which was at https://10.0.0.4:2380",
+            "users of etcd: ; members: carrier at https://10.0.0.1:2380, carrier at https://10.0.0.2:2380"])
+        self.assertEqual([body["ID"] for path, body, _ in self.node.asked if path.endswith("remove")], ["3", "4"])
+
+    async def test_what_is_printed_speaks_to_no_terminal(self):
+        printed = io.BytesIO()
+        with mock.patch.object(log, "work", return_value="a\x1b[2J\nb"), contextlib.redirect_stdout(io.TextIOWrapper(printed)):
+            self.assertEqual(await asyncio.to_thread(log.main, [self.config.file, "begin"]), 0)
+            self.assertEqual(printed.getvalue(), b"a?[2J\nb\n")
 
     async def test_a_refusal_of_the_program_is_told(self):
         self.config.ledger.program = "false"
