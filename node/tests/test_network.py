@@ -164,6 +164,7 @@ class Endorsers(Case):
 
     async def test_behind_a_change_of_key_it_is_asked_again(self):
         old = await asyncio.to_thread(support.endorsed, self.at, "Carrier", call(0))
+        self.assertEqual(list(await self.chain.standing()), ["Maker", "Carrier", "Shop"])
         await self.replace_key(self.chain)
         (self.at / "more").replace(self.at / "Carrier")
         self.answer = lambda said: {**old, "height": said["height"]} if self.asked < 3 else said
