@@ -203,7 +203,7 @@ class Endorsing:
             # Nobody waits any more for those that are left.
             for line in lines:
                 if line is not None:
-                    line.close() if asyncio.iscoroutine(line) else line.cancel()
+                    line.cancel() if isinstance(line, asyncio.Task) else line.close()
 
     def line_of(self, asker: str, proposal: Object) -> Coroutine[Any, Any, str] | asyncio.Task[str]:
         """What an endorser will answer to a proposal: to a change once it is waited for, to a call as soon as may be."""

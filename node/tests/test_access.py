@@ -40,6 +40,7 @@ class Certificates:
         """One of a node, by an authority that spells the organisation of its own name so."""
         authority = x509.load_pem_x509_certificate((self.room / f"{by}.pem").read_bytes())
         key = serialization.load_pem_private_key((self.room / f"{by}.key").read_bytes(), None)
+        assert isinstance(key, ec.EllipticCurvePrivateKey)
         own = [it if it.oid != NameOID.ORGANIZATION_NAME else x509.NameAttribute(it.oid, signer) for it in authority.subject]
         subject = [*authority.subject.get_attributes_for_oid(NameOID.ORGANIZATION_NAME), x509.NameAttribute(NameOID.COMMON_NAME, "node")]
         begin, made = authority.not_valid_before, ec.generate_private_key(ec.SECP256R1())

@@ -14,6 +14,7 @@ from regtuma.endorsing import Agreed, Approver, Endorsing
 from regtuma.entries import Entry, LogError
 from regtuma.filters import Asked, Filter, FilterEnded
 from regtuma.gateway import Gateway
+from regtuma.links import Link
 from regtuma.proposals import Refused
 from regtuma.tags import Key
 from regtuma.ticks import LAST_BLOCK
@@ -506,7 +507,7 @@ class Calls(Case):
         self.chain.query.satisfying = [{"Maker", "Carrier"}, {"Maker", "Shop"}]
         with mock.patch.object(config.Config, "node_tls", return_value=None):
             self.config.nodes["Shop"] = "https://127.0.0.3:7051"
-            self.gateway.links["Shop"] = gateway.Link("Shop", self.config, self.said.append)
+            self.gateway.links["Shop"] = Link("Shop", self.config, self.said.append)
 
     async def test_who_says_that_it_has_blocks_that_nobody_gets_is_passed_over(self):
         """Else the others, who do not come up to these, would be passed over for it, and each call would end with no answer."""

@@ -55,15 +55,16 @@ class Case(unittest.IsolatedAsyncioTestCase):
         self.addAsyncCleanup(chain.log.close)
         made = Gateway(config, chain, Endorsing(config, chain))
         self.addAsyncCleanup(made.close)
-        for it in (chain, made.endorsing):
-            self.addAsyncCleanup(it.close)
-            await it.start()
+        self.addAsyncCleanup(chain.close)
+        await chain.start()
+        self.addAsyncCleanup(made.endorsing.close)
+        await made.endorsing.start()
         self.addCleanup(chain.times.file.close)
-        self.works = [asyncio.ensure_future(it) for it in [*chain.works(), *made.endorsing.works()]]
+        self.works: list[asyncio.Future[None]] = [asyncio.ensure_future(it) for it in [*chain.works(), *made.endorsing.works()]]
         self.addAsyncCleanup(self.end, self.works)
         return made
 
-    async def end(self, works: list[asyncio.Future]) -> None:
+    async def end(self, works: list[asyncio.Future[None]]) -> None:
         for it in works:
             it.cancel()
         await asyncio.gather(*works, return_exceptions=True)
@@ -164,6 +165,7 @@ class Endorsers(Case):
 
     async def test_behind_a_change_of_key_it_is_asked_again(self):
         old = await asyncio.to_thread(support.endorsed, self.at, "Carrier", call(0))
+        self.assertEqual(list(await self.chain.standing()), ["Maker", "Carrier", "Shop"])
         await self.replace_key(self.chain)
         (self.at / "more").replace(self.at / "Carrier")
         self.answer = lambda said: {**old, "height": said["height"]} if self.asked < 3 else said
