@@ -55,7 +55,8 @@ class Case(unittest.IsolatedAsyncioTestCase):
         self.addAsyncCleanup(chain.log.close)
         made = Gateway(config, chain, Endorsing(config, chain))
         self.addAsyncCleanup(made.close)
-        for it in (chain, made.endorsing):
+        parts: list[Chain | Endorsing] = [chain, made.endorsing]
+        for it in parts:
             self.addAsyncCleanup(it.close)
             await it.start()
         self.addCleanup(chain.times.file.close)
@@ -63,7 +64,7 @@ class Case(unittest.IsolatedAsyncioTestCase):
         self.addAsyncCleanup(self.end, self.works)
         return made
 
-    async def end(self, works: list[asyncio.Future]) -> None:
+    async def end(self, works: list[asyncio.Task[None]]) -> None:
         for it in works:
             it.cancel()
         await asyncio.gather(*works, return_exceptions=True)

@@ -120,7 +120,7 @@ class Starts(unittest.TestCase):
         settings = self.folder.config(('"ledger"', f'"{program}"'), ('"127.0.0.1:7051"', f'"{place}"'), text=support.LOCAL)
 
         async def serve() -> tuple[list[bytes], int]:
-            served, said = asyncio.ensure_future(node.serve(settings)), []
+            served, said = asyncio.ensure_future(node.serve(settings)), list[bytes]()
             async with asyncio.timeout(60):
                 while said.count(b"WATCHDOG=1") < 2:
                     said.append(await asyncio.get_running_loop().sock_recv(systemd, 100))
