@@ -358,7 +358,8 @@ def answer(it: dict, genesis: dict, blocks: list[dict], at_hand: Modules) -> obj
             return next((tx for tx in placed if tx["id"] == it["id"].lower()), None)
         case "satisfied":
             found = definition_of(it["chaincode"], genesis, blocks)
-            return found and is_satisfied(found[0]["policy"], it["orgs"])
+            standing = {member["name"] for member in standing_of(genesis, blocks)["members"]}
+            return found and is_satisfied(found[0]["policy"], [org for org in it["orgs"] if org in standing])
         case _:
             return outcome(it["chaincode"], genesis, blocks, at_hand)
 

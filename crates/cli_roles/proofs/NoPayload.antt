@@ -5,7 +5,7 @@ use Rattle.fab_types.specs.declared.proposal.Proposal.TheVariants as proposal
 use Rattle.fab_types.specs.Spelling.{proposal_bytes}
 use Rattle.fab_types.specs.Within.{IsProposal}
 
-first_byte : List ℕ → ℕ
+abbrev first_byte : List ℕ → ℕ
 first_byte [] = 0
 first_byte (byte ∷ bytes) = byte
 

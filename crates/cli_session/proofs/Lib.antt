@@ -5,3 +5,4 @@ pub mod Several
 pub mod Whole
 pub mod Stored
 pub mod Begun
+mod Staying

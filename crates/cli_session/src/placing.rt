@@ -1,7 +1,7 @@
 //! The place of the store that a run writes.
 
 ghost use Rattle.std.specs.Prelude.{◌≡◌, ◌++◌, true, IfErr, IfOk, IfSome, OnOk, codes, string_bytes};
-ghost use Rattle.cli_lines.specs.Places.{IsFileOf};
+ghost use Rattle.cli_lines.specs.Places.{IsFileOf, IsFree};
 ghost use Rattle.cli_lines.specs.Told.{IsBrokenOff, IsSilent};
 ghost use Rattle.cli_session.specs.Stored.{BeginsNoStore, HasStore};
 
@@ -50,6 +50,7 @@ pub(crate) fn place_of<F: Files>(
     ensures silent { IfErr result IsSilent }
     ensures lost { IfErr result IsBrokenOff }
     ensures file { F.is_known ≡ true → IfOk result (λ p. IsFileOf store.now p.target) }
+    ensures free { F.is_known ≡ true → IfOk result (λ p. IsFree (F.bytes files.old) p.target) }
     ensures store { F.is_known ≡ true
         → OnOk result
         (IfSome (F.bytes files.old store.now) (λ held. ¬ BeginsNoStore held)) }

@@ -13,7 +13,7 @@ ghost use Rattle.cli_lines.specs.Told.{Answers, Begins, IsBrokenOff, Prints, Pri
 ghost use Rattle.cli_session.specs.Replies.{begin_text, endorsed_text, finish_text, reply_text};
 ghost use Rattle.cli_session.specs.Running.{Does, DoesAll, DoesFirst, IsBadLine, IsBytes, IsLine, IsNamed, IsUnbound, MeetsBadLine, StopsAt};
 ghost use Rattle.cli_session.specs.Stages.{DoesPrint, Gets, IsStepOf, Stay, StepsTo, first_chain, stage_at};
-ghost use Rattle.cli_session.specs.Stored.{ChangesPlaced, HoldsAsked, HoldsPlaced, IsNotRun, WhereNoStore, store_names};
+ghost use Rattle.cli_session.specs.Stored.{ChangesPlaced, HoldsAsked, HoldsPlaced, IsNotRun, Stays, StaysPlaced, WhereNoStore, store_names};
 ghost use Rattle.cli_session.specs.Whole.{BeginsFrom, ComesTo, EndsPrinted, IsEnd, LinesBegin, LinesComeTo, RunBegins};
 
 use crate::explaining::{Refused, explain_line, next_explained, refused_by};
@@ -96,6 +96,10 @@ pub fn run<T: Threads + Sync, F: Files, W: Write>(
     ensures kept { names.now.store ≡ None → F.bytes files.new ≡ F.bytes files.old }
     ensures others { IfSome names.now.store
         (λ s. ChangesOnly F.is_known (store_names s.now) (F.bytes files.old) (F.bytes files.new)) }
+    // A run that is refused or broken off leaves the store as it was.
+    ensures stays { OnErr result
+        (IfSome names.now.store
+        (λ s. Stays F.is_known s.now (F.bytes files.old) (F.bytes files.new))) }
     // Where its file holds bytes with which no store begins, no file is written, and nothing is run.
     ensures spares { IfSome names.now.store
         (λ s. WhereNoStore F.is_known (F.bytes files.old) s.now
@@ -131,6 +135,9 @@ fn run_read<T: Threads + Sync, F: Files, B: BufRead, W: Write>(
     ensures kept { names.now.store ≡ None → F.bytes files.new ≡ F.bytes files.old }
     ensures others { IfSome names.now.store
         (λ s. ChangesOnly F.is_known (store_names s.now) (F.bytes files.old) (F.bytes files.new)) }
+    ensures stays { OnErr result
+        (IfSome names.now.store
+        (λ s. Stays F.is_known s.now (F.bytes files.old) (F.bytes files.new))) }
     ensures spares { IfSome names.now.store
         (λ s. WhereNoStore F.is_known (F.bytes files.old) s.now
         (F.bytes files.new ≡ F.bytes files.old)) }
@@ -186,6 +193,9 @@ fn run_into<T: Threads + Sync, F: Files, B: BufRead, W: Write>(
     ensures kept { store.entry ≡ None → F.bytes files.new ≡ F.bytes files.old }
     ensures others { IfSome store.entry
         (λ t. ChangesPlaced F.is_known t.now (F.bytes files.old) (F.bytes files.new)) }
+    ensures stays { OnErr result
+        (IfSome store.entry
+        (λ t. StaysPlaced F.is_known t.now (F.bytes files.old) (F.bytes files.new))) }
 {
     ordering_laws();
     let system = System::new(alloc, genesis)?;
@@ -233,6 +243,9 @@ impl<T: Threads + Sync> Session<'_, T> {
         ensures kept { store.entry ≡ None → F.bytes files.new ≡ F.bytes files.old }
         ensures others { IfSome store.entry
             (λ t. ChangesPlaced F.is_known t.now (F.bytes files.old) (F.bytes files.new)) }
+        ensures stays { OnErr result
+            (IfSome store.entry
+            (λ t. StaysPlaced F.is_known t.now (F.bytes files.old) (F.bytes files.new))) }
     {
         self.run_lines(files, lines, out)?;
         let is_good = self.print_end(genesis, out)?;

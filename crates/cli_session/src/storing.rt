@@ -1,12 +1,12 @@
 //! The store that a run writes.
 
-ghost use Rattle.std.specs.Prelude.{◌≡◌, ◌∷◌, ℕ, true, List, [], Some, IfErr, IfOk, OnOk};
+ghost use Rattle.std.specs.Prelude.{◌≡◌, ◌≢◌, ◌∷◌, ℕ, true, false, List, [], None, Some, IfErr, IfOk, OnErr, OnOk};
 ghost use Rattle.std.specs.Io.KnownBytes.{Appends};
 ghost use Rattle.block_store.specs.Record.{record_bytes};
 ghost use Rattle.world_state.specs.Shared.{blocks_in};
 ghost use Rattle.cli_lines.specs.Places.{ChangesOnly, IsFileOf};
 ghost use Rattle.cli_lines.specs.Told.{IsBrokenOff, IsSilent};
-ghost use Rattle.cli_session.specs.Stored.{ChangesPlaced, Holds, store_bytes, store_names};
+ghost use Rattle.cli_session.specs.Stored.{ChangesPlaced, Holds, Stays, StaysPlaced, store_bytes, store_names};
 
 use crate::placing::part_of;
 use block_store::encode_record;
@@ -33,6 +33,8 @@ pub(crate) fn write_store<F: Files>(
         ((name : List ℕ) → IsFileOf name target.now
         → Holds F.is_known (F.bytes files.new) name snapshot.now) }
     ensures others { ChangesPlaced F.is_known target.now (F.bytes files.old) (F.bytes files.new) }
+    ensures stays { OnErr result
+        (StaysPlaced F.is_known target.now (F.bytes files.old) (F.bytes files.new)) }
 {
     match target {
         Target::File(name) => write_beside(alloc, files, name, snapshot, true),
@@ -66,6 +68,9 @@ fn write_beside<F: Files>(
         (Holds F.is_known (F.bytes files.new) name.now snapshot.now) }
     ensures others { ChangesOnly F.is_known (store_names name.now) (F.bytes files.old)
         (F.bytes files.new) }
+    ensures stays { OnErr result
+        ((is_there ≡ false → F.bytes files.old name.now ≡ None)
+        → Stays F.is_known name.now (F.bytes files.old) (F.bytes files.new)) }
 {
     let part = part_of(alloc, name)?;
     let writer = write_part(alloc, files, &part, snapshot)?;
@@ -120,6 +125,8 @@ fn replace_file<F: Files>(
         (F.bytes files.new name.now ≡ F.Writer.contents writer) }
     ensures others { ChangesOnly F.is_known (part.now ∷ name.now ∷ []) (F.bytes files.old)
         (F.bytes files.new) }
+    ensures stays { OnErr result
+        (name.now ≢ part.now → Stays F.is_known name.now (F.bytes files.old) (F.bytes files.new)) }
 {
     if files.keep(writer, part, name) {
         Ok(())
@@ -145,6 +152,9 @@ fn place_file<F: Files>(
         (F.bytes files.new name.now ≡ F.Writer.contents writer) }
     ensures others { ChangesOnly F.is_known (part.now ∷ name.now ∷ []) (F.bytes files.old)
         (F.bytes files.new) }
+    ensures stays { OnErr result
+        ((name.now ≢ part.now) × (F.bytes files.old name.now ≡ None)
+        → Stays F.is_known name.now (F.bytes files.old) (F.bytes files.new)) }
 {
     let Some(_lock) = files.lock_new(name) else {
         explain_numbered(alloc, files, &Location::file(name), NAME_TAKEN, 703);

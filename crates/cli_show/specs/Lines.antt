@@ -15,7 +15,7 @@ use Rattle.cli_lines.specs.Told.{PrintsPart, Told}
 use Rattle.cli_show.specs.Spans.{within}
 
 -- texts, each of which is that of the value at its place
-pub AreTextsOf : List Data → List Bytes → Type 0
+abbrev pub AreTextsOf : List Data → List Bytes → Type 0
 AreTextsOf [] [] = Unit {0}
 AreTextsOf [] (text ∷ texts) = ⊥
 AreTextsOf (d ∷ ds) [] = ⊥

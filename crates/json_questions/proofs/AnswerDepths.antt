@@ -12,7 +12,7 @@ use Rattle.ledger_model.specs.Views.{first}
 use Rattle.policy_language.specs.GoodSets.{is_satisfied}
 use Rattle.policy_language.specs.declared.policy.Policy.{Policy}
 use Rattle.endorsement_policy.specs.Endorsed.{policy_in}
-use Rattle.endorsement_policy.specs.Judge.{plain_after}
+use Rattle.endorsement_policy.specs.Judge.{orgs_behind, plain_after}
 use Rattle.endorsement_policy.specs.Membership.{usable_membership}
 use Rattle.simulator.specs.Answers.{payload_or_refusal}
 use Rattle.simulator.specs.Execution.{exec_of}
@@ -23,7 +23,7 @@ use Rattle.json_chain.specs.Entries.{entry_json}
 use Rattle.json_chain.specs.Standing.{orgs_before}
 use Rattle.json_chain.specs.Writes.{did_json, write_json, writes_json}
 use Rattle.json_chain.proofs.Depths.{block_low, did_low, genesis_low, items_low, payload_low, placed_transaction_low, standing_low}
-use Rattle.json_questions.specs.Answers.{answer_json, call_of, has_id, or_null, outcome_json, placed_json}
+use Rattle.json_questions.specs.Answers.{answer_json, call_of, has_id, names_among, or_null, outcome_json, placed_json}
 use Rattle.json_questions.specs.declared.question.Question.{Question}
 use Rattle.json_questions.specs.declared.question.Question.TheVariants.{Setting, Members, Block, Get, Range, History, Transaction, Satisfied, Call}
 
@@ -63,6 +63,7 @@ answer_low g (Transaction id) chain =
     or_null_low (placed_json g.rules.value chain) 7
     (λ t. omega (arith, placed_transaction_low (orgs_before g.rules.value t.version.block chain) t)) (find (has_id id) (history chain))
 answer_low g (Satisfied chaincode orgs) chain =
-    or_null_low (λ (p : Policy). boolean (is_satisfied p orgs)) 7 (λ p. omega arith) (policy_in g.rules.value (plain_after chain) chaincode)
+    let standing = names_among (orgs_behind g.rules.value chain) orgs in
+    or_null_low (λ (p : Policy). boolean (is_satisfied p standing)) 7 (λ p. omega arith) (policy_in g.rules.value (plain_after chain) chaincode)
 answer_low g (Call chaincode argument) chain =
     omega (arith, outcome_low (payload_or_refusal (exec_of g.book.value) (call_of chaincode argument) chain))

@@ -15,7 +15,7 @@ use Rattle.wire.specs.Ids.{id_of}
 use Rattle.policy_language.specs.GoodSets.{is_satisfied}
 use Rattle.policy_language.specs.declared.policy.Policy.{Policy}
 use Rattle.endorsement_policy.specs.Endorsed.{policy_in}
-use Rattle.endorsement_policy.specs.Judge.{plain_after}
+use Rattle.endorsement_policy.specs.Judge.{orgs_behind, plain_after}
 use Rattle.endorsement_policy.specs.Membership.{usable_membership}
 use Rattle.simulator.specs.Answers.{payload_or_refusal}
 use Rattle.simulator.specs.Execution.{exec_of}
@@ -26,7 +26,7 @@ use Rattle.json_chain.specs.Entries.{entry_json}
 use Rattle.json_chain.specs.Standing.{orgs_before}
 use Rattle.json_chain.specs.Writes.{did_json, write_json, writes_json}
 use Rattle.json_chain.proofs.Floats.{block_plain, genesis_plain, items_plain, payload_plain, placed_transaction_plain, placed_write_plain, standing_plain}
-use Rattle.json_questions.specs.Answers.{answer_json, call_of, has_id, or_null, outcome_json, placed_json}
+use Rattle.json_questions.specs.Answers.{answer_json, call_of, has_id, names_among, or_null, outcome_json, placed_json}
 use Rattle.json_questions.specs.declared.question.Question.{Question}
 use Rattle.json_questions.specs.declared.question.Question.TheVariants.{Setting, Members, Block, Get, Range, History, Transaction, Satisfied, Call}
 
@@ -71,6 +71,7 @@ answer_plain g (Transaction id) chain =
     or_null_plain (placed_json g.rules.value chain) (λ t. placed_transaction_plain (orgs_before g.rules.value t.version.block chain) t)
     (find (has_id id) (history chain))
 answer_plain g (Satisfied chaincode orgs) chain =
-    or_null_plain (λ (p : Policy). boolean (is_satisfied p orgs)) (λ p. refl) (policy_in g.rules.value (plain_after chain) chaincode)
+    let standing = names_among (orgs_behind g.rules.value chain) orgs in
+    or_null_plain (λ (p : Policy). boolean (is_satisfied p standing)) (λ p. refl) (policy_in g.rules.value (plain_after chain) chaincode)
 answer_plain g (Call chaincode argument) chain =
     outcome_plain (payload_or_refusal (exec_of g.book.value) (call_of chaincode argument) chain)

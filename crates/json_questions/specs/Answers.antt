@@ -1,8 +1,8 @@
 -- What is answered to a question, by a genesis and a chain.
-use Rattle.std.specs.Prelude.{ℕ, ◌-◌, ◌++◌, List, Option, Some, None, Result, Ok, Err, Bool, bytes_eq, codes, replicate, slice_get}
+use Rattle.std.specs.Prelude.{ℕ, ◌-◌, ◌++◌, List, Option, Some, None, Result, Ok, Err, Bool, bytes_eq, codes, is_some, replicate, slice_get}
 use Rattle.std.specs.Fmt.{decimal, signed_decimal}
 use Rattle.std.specs.Int.{w32, cast_signed}
-use Rattle.std.specs.List.{find}
+use Rattle.std.specs.List.{filter, find}
 use Rattle.serde_json.specs.Data.{Data, null, boolean, number, unsigned, string, array, object, member, no_members}
 use Rattle.serde_json.specs.View.{items_of}
 use Rattle.fab_types.specs.Payloads.{Payload}
@@ -12,9 +12,10 @@ use Rattle.wire.specs.Ids.{id_of}
 use Rattle.ledger_model.specs.Chain.{Bytes, Chain, Placed, history}
 use Rattle.ledger_model.specs.State.{state, state_at}
 use Rattle.ledger_model.specs.Views.{first}
-use Rattle.policy_language.specs.GoodSets.{is_satisfied}
-use Rattle.endorsement_policy.specs.Endorsed.{Listed, policy_in}
-use Rattle.endorsement_policy.specs.Judge.{plain_after}
+use Rattle.policy_language.specs.GoodSets.{Names, is_satisfied}
+use Rattle.org_keys.specs.declared.organisation.Organisation.{Organisation}
+use Rattle.endorsement_policy.specs.Endorsed.{Listed, is_org, policy_in}
+use Rattle.endorsement_policy.specs.Judge.{orgs_behind, plain_after}
 use Rattle.wasm_ast.specs.Traps.{trap_number}
 use Rattle.simulator.specs.Execution.{exec_of}
 use Rattle.simulator.specs.Answers.{payload_or_refusal}
@@ -64,7 +65,12 @@ outcome_json (Err r) = object (member (codes "refused") (string (refusal_words r
 abbrev pub placed_json : Listed → Chain → Placed → Data
 placed_json r chain t = placed_transaction_json (orgs_before r t.version.block chain) t
 
--- The answer to a question after a chain: of its blocks, of the state after them, or of a policy in that state
+-- those of these names that organisations have
+abbrev pub names_among : List Organisation → Names → Names
+names_among orgs names = filter (λ name. is_some (find (is_org name) orgs)) names
+
+-- The answer to a question after a chain: of its blocks, of the state after them, or of a policy in that state, for whose leaves those count
+-- alone who stand there
 abbrev pub answer_json : Genesis → Question → Chain → Data
 answer_json g Setting chain = genesis_json g
 answer_json g Members chain = standing_behind g.rules.value chain
@@ -74,7 +80,8 @@ answer_json g (Range start end limit) chain = array (items_of (entries_json (fir
 answer_json g (History key) chain = array (items_of (writes_json key (history chain)))
 answer_json g (Transaction id) chain = or_null (placed_json g.rules.value chain) (find (has_id id) (history chain))
 answer_json g (Satisfied chaincode orgs) chain =
-    or_null (λ p. boolean (is_satisfied p orgs)) (policy_in g.rules.value (plain_after chain) chaincode)
+    let standing = names_among (orgs_behind g.rules.value chain) orgs in
+    or_null (λ p. boolean (is_satisfied p standing)) (policy_in g.rules.value (plain_after chain) chaincode)
 answer_json g (Call chaincode argument) chain = outcome_json (payload_or_refusal (exec_of g.book.value) (call_of chaincode argument) chain)
 
 -- {"answer":..,"height":7}: the answer, and how many blocks the chain has

@@ -7,6 +7,7 @@
 #![tactic(auto)]
 
 mod answer;
+mod asked_orgs;
 mod calling;
 mod entries;
 mod fields;
@@ -21,6 +22,7 @@ mod values;
 mod writes;
 
 pub use answer::answer_line;
+pub use asked_orgs::AskedOrgs;
 pub use laws::a_line_spells_one_question;
 pub use line::read_question;
 pub use question::Question;

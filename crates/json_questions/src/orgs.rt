@@ -6,19 +6,19 @@ ghost use Rattle.serde_json.specs.View.{items_view, view};
 ghost use Rattle.json_events.specs.Refused.{NoneIs};
 ghost use Rattle.json_questions.specs.Spelling.{AreOrgs, IsOrg};
 
+use crate::asked_orgs::AskedOrgs;
 use fab_types::OrgName;
 use json_events::BadLine;
-use policy_language::OrgSet;
 use serde_json::Value;
 use std::alloc::Global;
 
 /// The organisations whose names the items of a list are, up to 32.
-pub(crate) fn orgs(alloc: Global, values: &[Value]) -> Result<OrgSet, BadLine>
+pub(crate) fn orgs(alloc: Global, values: &[Value]) -> Result<AskedOrgs, BadLine>
     ensures ok { IfOk result (λ s. AreOrgs (items_view values.now) s) }
     ensures refused { IfErr result (λ r. NoneIs (AreOrgs (items_view values.now)) r) }
 {
     let found = each_org(alloc, values)?;
-    match OrgSet::new(found) {
+    match AskedOrgs::new(found) {
         Some(orgs) => Ok(orgs),
         None => Err(BadLine::NoForm),
     }

@@ -1,7 +1,7 @@
 //! What is asked of a ledger.
 
+use crate::asked_orgs::AskedOrgs;
 use fab_types::{BlockNumber, Bound, Key, Name, Value};
-use policy_language::OrgSet;
 
 /// What is asked of a ledger.
 #[derive(Drop)]
@@ -26,10 +26,10 @@ pub enum Question {
     History(Key),
     /// The first transaction of this id.
     Transaction([u8; 32]),
-    /// Whether these organisations satisfy the policy of a chaincode.
+    /// Whether those of these organisations that stand satisfy the policy of a chaincode.
     Satisfied {
         chaincode: Name,
-        orgs: OrgSet,
+        orgs: AskedOrgs,
     },
     /// What a call of a chaincode with an argument comes to.
     Call {

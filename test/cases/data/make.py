@@ -658,6 +658,8 @@ members += committed(begin(1, 3), 1) + committed(begin(0, 4)) + [amend(0, 5, 1, 
 members += committed(amend(0, 6, 2, "OR('A','B')", A, B)) + committed(begin(1, 7), 1)
 members += committed(amend(0, 8, 3, "'B'", B)) + committed(begin(0, 9))
 write("members.jsonl", members)
+# Behind it A, which has left, is named by the policy of calls, and satisfies nothing.
+write("members-left.jsonl", [json.dumps({"ask": "satisfied", "chaincode": "kv", "orgs": orgs}) for orgs in (["A"], ["A", "B"])])
 
 
 def membership(serial, policy, *members):

@@ -1,14 +1,16 @@
-use Rattle.std.proofs.Common.{◌≡◌, ◌∙◌, ℕ, true, false, List, [], Option, Err, inl, inr, option_map, ap, refl, subst}
+use Rattle.std.proofs.Common.{◌≡◌, ◌∙◌, ℕ, true, false, List, [], Option, IfSome, Err, OnErr, inl, inr, option_map, ap, refl, subst}
 use Rattle.std.specs.List.{list_any}
 use Rattle.std.proofs.lemmas.Result.{err_from_is_err_and}
 use Rattle.cli_lines.proofs.Answering.{begins_by}
-use Rattle.cli_lines.proofs.Printing.{nothing_same, prints_none}
+use Rattle.cli_lines.proofs.Printing.{nothing_same, on_err, prints_none}
 use Rattle.cli_lines.proofs.Silence.{no_less, tells_by}
+use Rattle.cli_lines.specs.Places.{FilesHeld}
 use Rattle.cli_lines.specs.Sealing.{lacks_seed}
 use Rattle.cli_lines.specs.Told.{Answers, Begins}
-use Rattle.cli_session.specs.Stored.{HoldsAsked}
+use Rattle.cli_session.specs.Stored.{HoldsAsked, Stays}
 use Rattle.cli_session.specs.Whole.{LinesBegin, LinesComeTo, RunBegins}
 use Rattle.cli_session.proofs.Pieces.{fresh_reader}
+use Rattle.cli_session.proofs.Staying.{asked_stay}
 use Rattle.cli_session.proofs.Stored.{asked_all, asked_behind, asked_kept, refuses_behind, spares_behind}
 use Rattle.cli_session.proofs.Whole.{with_seeds}
 use Rattle.cli_session.proofs.session.run.Goals as goal
@@ -26,6 +28,8 @@ returns-in_err-need_seeds g c =
       begins = λ broken. inl (nothing_same c.args.out.now);
       kept = λ none. c.in_err-need_seeds.ensures.kept;
       others = asked_kept g.F.Files.is_known c.args.names.now.store (g.F.Files.bytes c.args.files.now) (g.F.Files.bytes c.need_seeds.new.files)
+          c.in_err-need_seeds.ensures.kept;
+      stays = asked_stay g.F.Files.is_known c.args.names.now.store (g.F.Files.bytes c.args.files.now) (g.F.Files.bytes c.need_seeds.new.files)
           c.in_err-need_seeds.ensures.kept;
       spares = asked_all g.F.Files.is_known c.args.names.now.store (g.F.Files.bytes c.args.files.now) _ c.in_err-need_seeds.ensures.kept;
       refuses = asked_all g.F.Files.is_known c.args.names.now.store (g.F.Files.bytes c.args.files.now) _ (inr e.only);
@@ -117,3 +121,21 @@ returns-clause-tells g c = c.run_read.ensures.tells
 
 pub returns-clause-differs : goal.returns-clause-differs
 returns-clause-differs g c = c.run_read.ensures.differs
+
+pub returns-in_default-clause-stays : goal.returns-in_default-clause-stays
+returns-in_default-clause-stays g c =
+    asked_stay g.F.Files.is_known c.args.names.now.store (g.F.Files.bytes c.args.files.now) (g.F.Files.bytes c.explain_trouble.new.files)
+    (c.explain_trouble.ensures.kept ∙ c.open.ensures.kept ∙ c.need_seeds.ensures.kept)
+
+pub returns-in_err-lines-clause-stays : goal.returns-in_err-lines-clause-stays
+returns-in_err-lines-clause-stays g c =
+    on_err c.from_residual-in_err-lines.result _
+    (asked_stay g.F.Files.is_known c.args.names.now.store (g.F.Files.bytes c.args.files.now) (g.F.Files.bytes c.open.new.self)
+    (c.open.ensures.kept ∙ c.need_seeds.ensures.kept))
+
+pub returns-clause-stays : goal.returns-clause-stays
+returns-clause-stays g c =
+    let r = c.run_read in
+    let new = g.F.Files.bytes r.new.files in
+    subst (λ (h : FilesHeld). OnErr r.result (IfSome c.args.names.now.store (λ s. Stays g.F.Files.is_known s.now h new)))
+    (c.open.ensures.kept ∙ c.need_seeds.ensures.kept) r.ensures.stays

@@ -3,8 +3,10 @@ use Rattle.ledger_setting.specs.Limits.{limits_of}
 use Rattle.fabric_core.specs.System.{fresh_orderer}
 use Rattle.simulator.specs.Execution.{exec_of}
 use Rattle.cli_lines.proofs.Answering.{begins_by}
+use Rattle.cli_lines.proofs.Printing.{on_err}
 use Rattle.cli_session.specs.Stages.{Stage, stage_at}
 use Rattle.cli_session.specs.Whole.{BeginsFrom, LinesBegin}
+use Rattle.cli_session.proofs.Staying.{placed_stay}
 use Rattle.cli_session.proofs.Stored.{placed_kept}
 use Rattle.cli_session.proofs.Whole.{comes_to}
 use Rattle.cli_session.proofs.session.run_into.Goals as goal
@@ -46,3 +48,10 @@ returns-clause-tells g c = c.run_to_end.ensures.tells
 
 pub returns-clause-differs : goal.returns-clause-differs
 returns-clause-differs g c = c.run_to_end.ensures.differs
+
+pub returns-in_err-system-clause-stays : goal.returns-in_err-system-clause-stays
+returns-in_err-system-clause-stays g c =
+    let held = g.F.Files.bytes c.args.files.now in on_err c.from_residual.result _ (placed_stay g.F.Files.is_known c.args.store held held refl)
+
+pub returns-clause-stays : goal.returns-clause-stays
+returns-clause-stays g c = c.run_to_end.ensures.stays

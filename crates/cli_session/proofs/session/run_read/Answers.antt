@@ -1,11 +1,12 @@
 use Rattle.std.proofs.Common.{◌≡◌, Option, Some, None, IfSome, inl, option_map, sym, subst, refl, ◌∙◌}
 use Rattle.std.proofs.lemmas.Result.{err_from_is_err_and}
-use Rattle.cli_lines.proofs.Printing.{nothing_same}
+use Rattle.cli_lines.proofs.Printing.{nothing_same, on_err, printed_on_err}
 use Rattle.cli_lines.proofs.Silence.{no_less, tells_by}
 use Rattle.cli_lines.specs.Places.{ChangesOnly, FilesHeld}
 use Rattle.cli_lines.specs.Told.{Answers}
 use Rattle.cli_session.specs.Stored.{HoldsAsked, HoldsPlaced, IsNotRun, store_names}
 use Rattle.cli_session.specs.Whole.{LinesComeTo}
+use Rattle.cli_session.proofs.Staying.{asked_stay, asked_stay_by, asked_stay_none}
 use Rattle.cli_session.proofs.Stored.{asked_all, asked_by, asked_kept, asked_none, asked_nowhere, asked_store, some_none}
 use Rattle.cli_session.proofs.Whole.{asked_of_place, stored_by}
 use Rattle.cli_session.proofs.session.run_read.Goals as goal
@@ -21,6 +22,9 @@ returns-in_err-place-in-Some g c =
       kept = some_none c.args.names.now.store c.in-Some.store _ c.in-Some.is;
       others =
           asked_kept g.F.Files.is_known c.args.names.now.store (g.F.Files.bytes c.args.files.now) (g.F.Files.bytes c.place_of.new.files)
+          c.in_err-place-in-Some.ensures.kept;
+      stays =
+          asked_stay g.F.Files.is_known c.args.names.now.store (g.F.Files.bytes c.args.files.now) (g.F.Files.bytes c.place_of.new.files)
           c.in_err-place-in-Some.ensures.kept;
       spares = asked_all g.F.Files.is_known c.args.names.now.store (g.F.Files.bytes c.args.files.now) _ c.in_err-place-in-Some.ensures.kept;
       refuses = asked_all g.F.Files.is_known c.args.names.now.store (g.F.Files.bytes c.args.files.now) _ (inl c.in_err-place-in-Some.ensures.lost);
@@ -108,3 +112,19 @@ returns-in-None-clause-differs g c = c.run_into.ensures.differs
 
 pub returns-in-None-clause-begins : goal.returns-in-None-clause-begins
 returns-in-None-clause-begins g c = c.run_into.ensures.begins
+
+pub returns-in_ok-place-in-Some-clause-stays : goal.returns-in_ok-place-in-Some-clause-stays
+returns-in_ok-place-in-Some-clause-stays g c =
+    let bytes = g.F.Files.bytes in
+    let r = c.run_into-ran in
+    let place = c.in_ok-place-in-Some in
+    printed_on_err r.result _ _
+    (asked_stay_by g.F.Files.is_known c.args.names.now.store c.in-Some.store place.place.target (bytes c.args.files.now) (bytes c.place_of.new.files)
+    (bytes r.new.files) (bytes c.explain_replaced.new.files) c.in-Some.is place.ensures.file place.ensures.free place.ensures.kept
+    c.explain_replaced.ensures.kept)
+    r.ensures.stays
+
+pub returns-in-None-clause-stays : goal.returns-in-None-clause-stays
+returns-in-None-clause-stays g c =
+    on_err c.run_into.result _
+    (asked_stay_none g.F.Files.is_known c.args.names.now.store (g.F.Files.bytes c.args.files.now) (g.F.Files.bytes c.run_into.new.files) c.in-None.is)

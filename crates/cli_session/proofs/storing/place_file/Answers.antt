@@ -1,4 +1,5 @@
-use Rattle.std.proofs.Common.{ℕ, List, [], ◌∷◌}
+use Rattle.std.proofs.Common.{ℕ, List, [], ◌∷◌, ap, sym, ◌∙◌}
+use Rattle.cli_lines.specs.Places.{FilesHeld}
 use Rattle.cli_lines.proofs.Changes.{changes_first, changes_kept, changes_next, changes_then}
 use Rattle.cli_session.proofs.storing.place_file.Goals as goal
 
@@ -41,3 +42,12 @@ returns-clause-others g c =
     changes_then known names old tried new
     (changes_then known names old mid tried (changes_next known part name old mid c.lock_new.ensures.others) c.replace_file.ensures.others)
     (changes_next known part name tried new c.remove-in-Err.ensures.others)
+
+pub returns-in_default-clause-stays : goal.returns-in_default-clause-stays
+returns-in_default-clause-stays g c =
+    let name = c.args.name.now in
+    λ free writes. c.remove.ensures.others writes name (free.0, tt)
+    ∙ ap (λ (h : FilesHeld). h name) (c.explain_numbered.ensures.kept ∙ c.in_default.ensures.refused writes)
+
+pub returns-clause-stays : goal.returns-clause-stays
+returns-clause-stays g c = λ free writes. c.remove-in-Err.ensures.removed writes ∙ sym free.1

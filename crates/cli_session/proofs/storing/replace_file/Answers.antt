@@ -1,4 +1,5 @@
-use Rattle.std.proofs.Common.{ℕ, List, [], ◌∷◌}
+use Rattle.std.proofs.Common.{ℕ, List, [], ◌∷◌, ap, rules, ◌∙◌}
+use Rattle.cli_lines.specs.Places.{FilesHeld}
 use Rattle.cli_lines.proofs.Changes.{changes_first, changes_kept, changes_then}
 use Rattle.cli_session.proofs.storing.replace_file.Goals as goal
 
@@ -15,3 +16,9 @@ returns-else-keep-clause-others g c =
     changes_then known names old told new
     (changes_kept known names old (bytes c.keep.new.self) told c.explain_numbered.ensures.kept c.keep.ensures.others)
     (changes_first known part name told new c.remove.ensures.others)
+
+pub returns-else-keep-clause-stays : goal.returns-else-keep-clause-stays
+returns-else-keep-clause-stays g c =
+    let name = c.args.name.now in
+    λ apart writes. c.remove.ensures.others writes name (apart, tt) ∙ ap (λ (h : FilesHeld). h name) c.explain_numbered.ensures.kept
+    ∙ c.keep.ensures.refused writes (search rules)

@@ -1,9 +1,11 @@
 use Rattle.std.proofs.Common.{◌∙◌, arith, inl, inr}
 use Rattle.std.proofs.lemmas.Result.{err_from_is_err_and}
 use Rattle.simulator.specs.Execution.{exec_of}
+use Rattle.cli_lines.proofs.Printing.{on_err}
 use Rattle.cli_lines.proofs.Silence.{tells_by, and_more}
 use Rattle.cli_session.specs.Stages.{stage_at}
 use Rattle.cli_session.proofs.Begun.{all_begun, end_begun, first_begun}
+use Rattle.cli_session.proofs.Staying.{placed_stay, placed_stay_by}
 use Rattle.cli_session.proofs.Stored.{placed_by, placed_kept, some_none}
 use Rattle.cli_session.proofs.session.Session.run_to_end.Goals as goal
 
@@ -18,6 +20,9 @@ returns-in_err-write_store g c =
       stops = inl c.in_err-write_store.ensures.lost;
       stored = tt;
       kept = some_none c.args.store c.in-Some-Some.target _ c.in-Some-Some.is-0;
+      stays =
+          placed_stay_by g.F.Files.is_known c.args.store c.in-Some-Some.target (g.F.Files.bytes c.args.files.now) (g.F.Files.bytes c.run_lines.new.files)
+          (g.F.Files.bytes c.write_store.new.files) c.in-Some-Some.is-0 c.run_lines.ensures.kept c.in_err-write_store.ensures.stays;
       others =
           placed_by g.F.Files.is_known c.args.store c.in-Some-Some.target (g.F.Files.bytes c.args.files.now) (g.F.Files.bytes c.run_lines.new.files)
           (g.F.Files.bytes c.write_store.new.files) c.in-Some-Some.is-0 c.run_lines.ensures.kept c.write_store.ensures.others;
@@ -121,3 +126,13 @@ pub returns-in_err-is_good-clause-stops : goal.returns-in_err-is_good-clause-sto
 returns-in_err-is_good-clause-stops g c =
     let p = err_from_is_err_and c.from_residual-in_err-is_good.result c.from_residual-in_err-is_good.ensures.1 in
     rw (p.1, p.2) (inl c.in_err-is_good.ensures.lost)
+
+pub returns-in_err-run_lines-clause-stays : goal.returns-in_err-run_lines-clause-stays
+returns-in_err-run_lines-clause-stays g c =
+    on_err c.from_residual.result _
+    (placed_stay g.F.Files.is_known c.args.store (g.F.Files.bytes c.args.files.now) (g.F.Files.bytes c.run_lines.new.files) c.run_lines.ensures.kept)
+
+pub returns-in_err-is_good-clause-stays : goal.returns-in_err-is_good-clause-stays
+returns-in_err-is_good-clause-stays g c =
+    on_err c.from_residual-in_err-is_good.result _
+    (placed_stay g.F.Files.is_known c.args.store (g.F.Files.bytes c.args.files.now) (g.F.Files.bytes c.run_lines.new.files) c.run_lines.ensures.kept)
