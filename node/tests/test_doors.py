@@ -385,7 +385,8 @@ class Doors(unittest.TestCase):
                 at.connect(str(self.room / "node.sock"))
                 at.sendall(begun)
                 if more:
-                    self.assertEqual(self.answered(at, more)[0], 400)
+                    # Where they come behind the header, aiohttp leaves the handler to its time.
+                    self.assertIn(self.answered(at, more)[0], (400, 408))
         self.come(lambda: self.files() <= files)
         self.assertFalse("Traceback" in self.said(), self.said()[-2000:])
 
