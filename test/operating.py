@@ -213,7 +213,7 @@ class Operating:
 
     def leave(self) -> None:
         """The Shop leaves: the others take away what they are shown of it."""
-        self.shop.stop("regtuma-node")
+        self.shop.stop("regtuma-proxy", "regtuma-node")
         self.maker.type(self.report, *self.block("regtuma-log node.toml leave"))
         self.shop.stop("regtuma-etcd")
         self.maker.env["ETCDCTL_ENDPOINTS"] = self.maker.env["ETCDCTL_ENDPOINTS"].rpartition(",")[0]
