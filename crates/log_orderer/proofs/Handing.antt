@@ -6,7 +6,7 @@ use Rattle.fab_types.specs.declared.block.Block.{Block}
 use Rattle.orderer.specs.Making.{number_in}
 use Rattle.orderer.specs.declared.making.Made.{Made}
 use Rattle.log_orderer.specs.Handed.{blocks_of}
-use Rattle.log_orderer.specs.Headers.{AreOwn, blocks_made, reports_made}
+use Rattle.orderer.specs.Headers.{AreOwn, blocks_made, reports_made}
 use Rattle.log_orderer.specs.Reported.{reports_of}
 use Rattle.log_orderer.specs.declared.batch.LogBatch.{LogBatch}
 

@@ -1,5 +1,3 @@
-mod Walks
-mod Heading
 mod Marking
 mod Logging
 mod Idling
@@ -11,4 +9,3 @@ mod Recut
 mod Fresh
 mod Recutting
 mod Handing
-mod Batches

@@ -8,6 +8,4 @@ pub mod Told
 pub mod Cutting
 pub mod Asking
 pub mod Marks
-pub mod Headers
-pub mod Chain
 pub mod Handed

@@ -4,7 +4,7 @@ ghost use Rattle.std.specs.Prelude.{◌≡◌, ◌≤◌, ◌+◌, [], IfOk, len
 ghost use Rattle.std.specs.Vec.{vec_capacity};
 ghost use Rattle.log_orderer.specs.Cutting.{AreAt, ArePlacesBelow, IsCut, IsFront, size_of};
 ghost use Rattle.log_orderer.specs.Cutting.{AreCut, AreFront, HaveRoom};
-ghost use Rattle.log_orderer.specs.Headers.{reports_made};
+ghost use Rattle.orderer.specs.Headers.{reports_made};
 
 use fab_types::Block;
 use orderer::{AbortCause, BatchReport, Made};

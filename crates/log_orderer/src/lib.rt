@@ -8,9 +8,7 @@
 
 mod asked;
 mod batch;
-mod chain;
 mod laws;
-mod lean;
 mod replica;
 mod skip;
 

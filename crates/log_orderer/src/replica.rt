@@ -7,7 +7,7 @@ ghost use Rattle.orderer.specs.Ordering.{AreLimits};
 ghost use Rattle.orderer.specs.declared.report.OrderCause.TheVariants.{Memory};
 ghost use Rattle.log_orderer.specs.Asking.{IsSkipOf, AnswersMark};
 ghost use Rattle.log_orderer.specs.Handed.{HandsOut};
-ghost use Rattle.log_orderer.specs.Headers.{hash_at};
+ghost use Rattle.orderer.specs.Headers.{hash_at};
 ghost use Rattle.log_orderer.specs.Ids.{ids_of};
 ghost use Rattle.log_orderer.specs.Lines.{IsMark};
 ghost use Rattle.log_orderer.specs.Log.{Reads};
@@ -17,10 +17,9 @@ ghost use Rattle.wire.specs.Ids.{id_of};
 
 use crate::asked::{Asked, Unread, asked_by};
 use crate::batch::{LogBatch, Room, cut, cut_each};
-use crate::lean::LeanOrderer;
 use crate::skip::Skip;
 use fab_types::{Envelope, Payload};
-use orderer::OrderCause;
+use orderer::{BlockMaker, OrderCause};
 use seq::Seq;
 use std::alloc::{AllocError, Global};
 use std::marker::Model;
@@ -52,7 +51,7 @@ pub enum LineReport {
 /// header, 32 bytes.
 #[derive(Drop)]
 pub struct Replica {
-    orderer: LeanOrderer,
+    maker: BlockMaker,
     /// The ids of the envelopes that wait.
     waiting: Vec<[u8; 32]>,
     alloc: Global,
@@ -67,10 +66,10 @@ impl Model for Replica {
 
     ghost Value = { Ordering };
 
-    ghost view = { λ r. r.orderer };
+    ghost view = { λ r. r.maker };
 
-    ghost invariant = { λ r. (r.waiting.items ≡ ids_of r.orderer.pending) ×
-        IsPending envelope_size r.orderer.limits r.orderer.pending };
+    ghost invariant = { λ r. (r.waiting.items ≡ ids_of r.maker.pending) ×
+        IsPending envelope_size r.maker.limits r.maker.pending };
 }
 
 impl Replica {
@@ -98,7 +97,7 @@ impl Replica {
             } }
     {
         Replica {
-            orderer: LeanOrderer::new(alloc, count, preferred, absolute, reorder),
+            maker: BlockMaker::new(alloc, count, preferred, absolute, reorder),
             waiting: Vec::new(alloc),
             alloc,
         }
@@ -142,7 +141,7 @@ impl Replica {
                 return Err(error);
             }
         };
-        match self.orderer.accept(envelope) {
+        match self.maker.accept(envelope) {
             Ok(made) => {
                 self.waiting.push(id).unwrap();
                 let batches = cut_each(self.alloc, &mut self.waiting, made, room);
@@ -168,7 +167,7 @@ impl Replica {
         ensures unchanged { OnErr result (self.new ≡ self.old) }
     {
         let room = Vec::with_capacity(self.alloc, self.waiting.len())?;
-        match self.orderer.tick() {
+        match self.maker.tick() {
             Ok(None) => Ok(LineReport::Ticked(None)),
             Ok(Some(made)) => {
                 let batch = cut(&mut self.waiting, made, room);
@@ -194,7 +193,7 @@ impl Replica {
     pub fn has_header(&self, number: u32, hash: &[u8; 32]) -> bool
         ensures { IsTrue result ↔ (hash_at self.now.chain number ≡ Some hash.now) }
     {
-        self.orderer.has_header(number, hash)
+        self.maker.has_header(number, hash)
     }
 }
 

@@ -3,6 +3,9 @@ use Rattle.std.proofs.Common.{◌≡◌, ℕ, zero, suc, ◌++◌, List, [], ◌
 use Rattle.std.proofs.lemmas.List.{append-nil, length-append}
 use Rattle.fab_types.specs.declared.envelope.Envelope.{Envelope}
 use Rattle.fab_types.specs.declared.block.Block.{Block}
+use Rattle.batch_cutter.specs.Division.{Mark}
+use Rattle.orderer.specs.Arranged.{arranges_by}
+use Rattle.orderer.specs.Ordering.{Ordering, Takes}
 use Rattle.orderer.specs.Places.{envelopes_at}
 use Rattle.orderer.specs.Blocks.{Adds, AddsEach, AreNumbered, AreLinked, next_block, next_header, with_batch}
 use Rattle.orderer.specs.declared.arrangement.AbortCause.{AbortCause}
@@ -29,6 +32,10 @@ pub each_linked : (arranges : List Envelope → List ℕ → List (ℕ × AbortC
 each_linked arranges old [] reports new adds are = subst (AreLinked []) (sym adds.1) are
 each_linked arranges old (batch ∷ batches) reports new adds are =
     each_linked arranges adds.2 batches adds.1 new adds.5 (adds_linked arranges old batch adds.0 adds.2 adds.4 are)
+
+pub takes_linked : (old new : Ordering) (mark : Mark Envelope) (reports : List BatchReport) → Takes old mark reports new → AreLinked [] old.chain →
+    AreLinked [] new.chain
+takes_linked old new mark reports takes are = each_linked (arranges_by old.reorder) old.chain takes.batches reports new.chain takes.added are
 
 -- linked blocks are numbered
 pub linked_numbered : (before blocks : List Block) → AreLinked before blocks → AreNumbered (suc (length before)) blocks

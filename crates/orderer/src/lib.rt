@@ -5,12 +5,14 @@
 mod arrangement;
 mod chain;
 mod laws;
+mod maker;
 mod making;
 mod orderer;
 mod report;
 
 pub use arrangement::AbortCause;
 pub use laws::ordering_laws;
-pub use making::{Made, Tip, make_block};
+pub use maker::BlockMaker;
+pub use making::Made;
 pub use orderer::Orderer;
 pub use report::{BatchReport, OrderCause, OrderRefusal};

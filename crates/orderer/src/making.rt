@@ -21,7 +21,7 @@ use wire::data_hash;
 /// Where a block goes: behind so many blocks, the last of whose headers has this hash (32 zero
 /// bytes where there are none).
 #[derive(Clone, Copy, Debug, Drop)]
-pub struct Tip {
+pub(crate) struct Tip {
     pub height: usize,
     pub link: [u8; 32],
 }
@@ -37,7 +37,7 @@ pub struct Made {
 ///
 /// A tip is of at most 65,535 blocks. The error is `NoNumber` where a block past that number would
 /// be needed, or of memory.
-pub fn make_block(
+pub(crate) fn make_block(
     alloc: Global,
     reorder: bool,
     tip: Tip,

@@ -1,19 +1,21 @@
 //! The orderer.
 
-ghost use Rattle.std.specs.Prelude.{◌≡◌, ◌≤◌, ◌<◌, [], IfOk, IfErr, OnOk, OnErr, Some, None, length};
+ghost use Rattle.std.specs.Prelude.{◌≡◌, ◌≤◌, ◌<◌, ◌+◌, ◌++◌, [], IfOk, IfErr, OnOk, OnErr, Some, None, length};
 ghost use Rattle.std.specs.List.{filter};
 ghost use Rattle.std.specs.Option.{option_to_list};
+ghost use Rattle.std.specs.Vec.{vec_capacity};
 ghost use Rattle.batch_cutter.specs.Division.{message, timeout};
 ghost use Rattle.fab_types.specs.Size.{envelope_size};
 ghost use Rattle.orderer.specs.Blocks.{from_number, AreLinked};
+ghost use Rattle.orderer.specs.Headers.{blocks_made, reports_made};
 ghost use Rattle.orderer.specs.Ordering.{Ordering, AreLimits, Takes, IsRefused};
 
-use crate::chain::{add_batch, add_cut};
-use crate::report::{BatchReport, OrderCause, OrderRefusal};
-use batch_cutter::Cutter;
+use crate::maker::BlockMaker;
+use crate::making::Made;
+use crate::report::{BatchReport, OrderRefusal};
 use fab_types::limits::LAST_BLOCK;
 use fab_types::{Block, Envelope};
-use std::alloc::Global;
+use std::alloc::{AllocError, Global};
 use std::marker::Model;
 
 /// Cuts envelopes into batches, and puts a block of what survives of each at the end of a chain.
@@ -23,28 +25,21 @@ use std::marker::Model;
 /// changes nothing.
 #[derive(Drop)]
 pub struct Orderer {
-    reorder: bool,
-    cutter: Cutter<Envelope>,
+    maker: BlockMaker,
     blocks: Vec<Block>,
     alloc: Global,
 }
 
 impl Model for Orderer {
-    ghost use Rattle.std.specs.Prelude.{◌≤◌, [], length};
+    ghost use Rattle.std.specs.Prelude.{◌≡◌, ◌≤◌, [], length};
     ghost use Rattle.orderer.specs.Blocks.{AreLinked};
-    ghost use Rattle.orderer.specs.Ordering.{Ordering, AreLimits};
+    ghost use Rattle.orderer.specs.Ordering.{Ordering};
 
     ghost Value = { Ordering };
 
-    ghost view = { λ o.
-        record {
-          reorder = o.reorder;
-          limits = o.cutter.limits;
-          pending = o.cutter.pending;
-          chain = o.blocks.items;
-        } };
+    ghost view = { λ o. o.maker };
 
-    ghost invariant = { λ o. AreLimits o.cutter.limits × (length o.blocks.items ≤ 65535) ×
+    ghost invariant = { λ o. (o.blocks.items ≡ o.maker.chain) × (length o.blocks.items ≤ 65535) ×
         AreLinked [] o.blocks.items };
 }
 
@@ -73,8 +68,7 @@ impl Orderer {
             } }
     {
         Orderer {
-            reorder,
-            cutter: Cutter::new(alloc, count, preferred, absolute),
+            maker: BlockMaker::new(alloc, count, preferred, absolute, reorder),
             blocks: Vec::new(alloc),
             alloc,
         }
@@ -96,21 +90,12 @@ impl Orderer {
         ensures handed_back { IfErr result (λ refusal. refusal.envelope ≡ Some given) }
         ensures unchanged { OnErr result (self.new ≡ self.old) }
     {
-        let cut = match self.cutter.offer(given) {
-            Ok(cut) => cut,
-            Err(offered) => {
-                return Err(OrderRefusal {
-                    envelope: Some(offered.message),
-                    cause: OrderCause::from(offered.cause),
-                });
-            }
+        let Ok(reports) = room(self.alloc, &mut self.blocks) else {
+            return Err(self.maker.refuse(given));
         };
-        match add_cut(self.alloc, self.reorder, &mut self.blocks, &cut) {
-            Ok(reports) => Ok(reports),
-            Err(cause) => Err(OrderRefusal {
-                envelope: Some(self.cutter.undo(cut)),
-                cause,
-            }),
+        match self.maker.accept(given) {
+            Ok(made) => Ok(keep_each(&mut self.blocks, made, reports)),
+            Err(refusal) => Err(refusal),
         }
     }
 
@@ -128,18 +113,10 @@ impl Orderer {
         ensures handed_back { IfErr result (λ refusal. refusal.envelope ≡ None) }
         ensures unchanged { OnErr result (self.new ≡ self.old) }
     {
-        let Some(batch) = self.cutter.timeout() else {
-            return Ok(None);
-        };
-        match add_batch(self.alloc, self.reorder, &mut self.blocks, &batch) {
-            Ok(report) => Ok(Some(report)),
-            Err(cause) => {
-                self.cutter.put_back(batch);
-                Err(OrderRefusal {
-                    envelope: None,
-                    cause,
-                })
-            }
+        self.blocks.reserve(1)?;
+        match self.maker.tick()? {
+            Some(made) => Ok(Some(keep(&mut self.blocks, made))),
+            None => Ok(None),
         }
     }
 
@@ -163,4 +140,47 @@ impl Orderer {
         }
         &blocks[start..]
     }
+}
+
+/// Room for the two blocks that an envelope may end, and for their reports.
+fn room(alloc: Global, blocks: &mut Vec<Block>) -> Result<Vec<BatchReport>, AllocError>
+    ensures same { blocks.new.items ≡ blocks.old.items }
+    ensures blocks { OnOk result (length blocks.new.items + 2 ≤ vec_capacity blocks.new) }
+    ensures reports { IfOk result
+        (λ reports. (reports.items ≡ []) × (2 ≤ vec_capacity reports)) }
+{
+    blocks.reserve(2)?;
+    Vec::with_capacity(alloc, 2)
+}
+
+/// Puts the block of a batch at the end of the chain, if there is one, and gives the report.
+fn keep(blocks: &mut Vec<Block>, made: Made) -> BatchReport
+    requires room { length blocks.old.items + 1 ≤ vec_capacity blocks.old }
+    ensures blocks { blocks.new.items ≡ blocks.old.items ++ option_to_list made.block }
+    ensures room { vec_capacity blocks.old ≤ vec_capacity blocks.new }
+    ensures report { result ≡ made.report }
+{
+    let Made { report, block } = made;
+    if let Some(block) = block {
+        blocks.push(block).unwrap();
+    }
+    report
+}
+
+/// Puts the blocks of batches at the end of the chain, and their reports in an empty list.
+fn keep_each(
+    blocks: &mut Vec<Block>,
+    made: Vec<Made>,
+    mut reports: Vec<BatchReport>,
+) -> Vec<BatchReport>
+    requires blocks { length blocks.old.items + length made.items ≤ vec_capacity blocks.old }
+    requires empty { reports.items ≡ [] }
+    requires reports { length made.items ≤ vec_capacity reports }
+    ensures blocks { blocks.new.items ≡ blocks.old.items ++ blocks_made made.items }
+    ensures reports { result.items ≡ reports_made made.items }
+{
+    'made: for each in made {
+        reports.push(keep(blocks, each)).unwrap();
+    }
+    reports
 }

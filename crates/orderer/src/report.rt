@@ -106,3 +106,16 @@ impl<T: Drop> From<AllocFailed<T>> for OrderCause {
         OrderCause::Memory
     }
 }
+
+impl From<AllocError> for OrderRefusal {
+    ghost use Rattle.std.specs.Prelude.{None};
+
+    ghost from_gives = { λ _ r. (r.envelope ≡ None) × (r.cause ≡ Memory) };
+
+    fn from(_error: AllocError) -> OrderRefusal {
+        OrderRefusal {
+            envelope: None,
+            cause: OrderCause::Memory,
+        }
+    }
+}

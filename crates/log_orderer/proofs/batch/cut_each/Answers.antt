@@ -7,7 +7,7 @@ use Rattle.std.proofs.lemmas.List.{map-append, map-id}
 use Rattle.fab_types.specs.declared.block.Block.{Block}
 use Rattle.orderer.specs.declared.making.Made.{Made}
 use Rattle.log_orderer.specs.Cutting.{AreFront, HaveRoom}
-use Rattle.log_orderer.specs.Headers.{reports_made}
+use Rattle.orderer.specs.Headers.{reports_made}
 use Rattle.log_orderer.specs.declared.batch.LogBatch.{LogBatch}
 use Rattle.log_orderer.proofs.Handing.{blocks_each, blocks_in}
 use Rattle.log_orderer.proofs.Telling.{cut_more, more_room}

@@ -2,7 +2,7 @@ use Rattle.std.proofs.Common.{◌≡◌, ◌≤◌, ◌+◌, [], length}
 use Rattle.std.specs.Vec.Iter.{into_iter_items}
 use Rattle.std.specs.Vec.{vec_capacity, vec_len}
 use Rattle.log_orderer.specs.Cutting.{AreCut, AreFront, HaveRoom}
-use Rattle.log_orderer.specs.Headers.{reports_made}
+use Rattle.orderer.specs.Headers.{reports_made}
 use Rattle.log_orderer.proofs.Handing.{blocks_each, blocks_in}
 use Rattle.log_orderer.proofs.batch.cut_each.Given as goal
 

@@ -5,14 +5,14 @@ use Rattle.batch_cutter.specs.Division.{message}
 use Rattle.orderer.specs.Ordering.{Takes}
 use Rattle.orderer.specs.declared.making.Made.{Made}
 use Rattle.orderer.specs.declared.report.BatchReport.{BatchReport}
-use Rattle.log_orderer.specs.Headers.{reports_made}
+use Rattle.orderer.specs.Headers.{reports_made}
 use Rattle.log_orderer.proofs.Handing.{hands_out}
 use Rattle.log_orderer.proofs.Taking.{few_of, front_of, named_of, parted_after, told_of, waits_on}
 use Rattle.log_orderer.proofs.replica.Replica.accept.Goals as goal
 
 pub cut_each-batches-requires : goal.cut_each-batches-requires
 cut_each-batches-requires c =
-    let old = c.self.inside.orderer in
+    let old = c.self.inside.maker in
     let new = c.accept.new.self in
     let e = c.args.envelope in
     let reports = reports_made c.in-Ok-accept.made.items in
@@ -44,7 +44,7 @@ cut_each-batches-requires c =
 
 pub invariant_of-self-in-Ok-accept : goal.invariant_of-self-in-Ok-accept
 invariant_of-self-in-Ok-accept c =
-    let old = c.self.inside.orderer in
+    let old = c.self.inside.maker in
     let new = c.accept.new.self in
     let e = c.args.envelope in
     let reports = reports_made c.in-Ok-accept.made.items in
@@ -59,7 +59,7 @@ invariant_of-self-in-Ok-accept c =
 
 pub returns-in-Ok-accept : goal.returns-in-Ok-accept
 returns-in-Ok-accept c =
-    let old = c.self.inside.orderer in
+    let old = c.self.inside.maker in
     let new = c.accept.new.self in
     let e = c.args.envelope in
     let reports = reports_made c.in-Ok-accept.made.items in

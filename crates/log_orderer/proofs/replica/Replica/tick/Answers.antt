@@ -7,7 +7,7 @@ use Rattle.log_orderer.proofs.replica.Replica.tick.Goals as goal
 
 pub invariant_of-self : goal.invariant_of-self
 invariant_of-self c =
-    let old = c.self.inside.orderer in
+    let old = c.self.inside.maker in
     let new = c.tick.new.self in
     let waiting = c.self.inside.waiting.items in
     let takes = rw c.in-Ok-None.field-0-is at c.in-Ok-None.ensures.taken in
@@ -16,7 +16,7 @@ invariant_of-self c =
 
 pub cut-batch-requires-clause-front : goal.cut-batch-requires-clause-front
 cut-batch-requires-clause-front c =
-    let old = c.self.inside.orderer in
+    let old = c.self.inside.maker in
     let new = c.tick.new.self in
     let waiting = c.self.inside.waiting.items in
     let reports = c.in-Ok-Some.made.report ∷ [] in
@@ -25,7 +25,7 @@ cut-batch-requires-clause-front c =
 
 pub cut-batch-requires-clause-room : goal.cut-batch-requires-clause-room
 cut-batch-requires-clause-room c =
-    let old = c.self.inside.orderer in
+    let old = c.self.inside.maker in
     let new = c.tick.new.self in
     let waiting = c.self.inside.waiting in
     let reports = c.in-Ok-Some.made.report ∷ [] in
@@ -35,7 +35,7 @@ cut-batch-requires-clause-room c =
 
 pub invariant_of-self-in-Ok-Some : goal.invariant_of-self-in-Ok-Some
 invariant_of-self-in-Ok-Some c =
-    let old = c.self.inside.orderer in
+    let old = c.self.inside.maker in
     let new = c.tick.new.self in
     let waiting = c.self.inside.waiting.items in
     let reports = c.in-Ok-Some.made.report ∷ [] in
@@ -48,7 +48,7 @@ invariant_of-self-in-Ok-Some c =
 
 pub returns-in-Ok-None-clause-ids : goal.returns-in-Ok-None-clause-ids
 returns-in-Ok-None-clause-ids c =
-    let old = c.self.inside.orderer in
+    let old = c.self.inside.maker in
     let new = c.tick.new.self in
     let waiting = c.self.inside.waiting.items in
     let takes = rw c.in-Ok-None.field-0-is at c.in-Ok-None.ensures.taken in
@@ -58,7 +58,7 @@ returns-in-Ok-None-clause-ids c =
 
 pub returns-in-Ok-Some-clause-ids : goal.returns-in-Ok-Some-clause-ids
 returns-in-Ok-Some-clause-ids c =
-    let old = c.self.inside.orderer in
+    let old = c.self.inside.maker in
     let new = c.tick.new.self in
     let waiting = c.self.inside.waiting.items in
     let reports = c.in-Ok-Some.made.report ∷ [] in
@@ -72,7 +72,7 @@ returns-in-Ok-Some-clause-ids c =
 
 pub returns-in-Ok-Some-clause-blocks : goal.returns-in-Ok-Some-clause-blocks
 returns-in-Ok-Some-clause-blocks c =
-    let old = c.self.inside.orderer in
+    let old = c.self.inside.maker in
     let new = c.tick.new.self in
     let made = c.in-Ok-Some.made ∷ [] in
     let longer = rw c.in-Ok-Some.field-0-is at c.in-Ok-Some.ensures.blocks in

@@ -1,68 +1,19 @@
-use Rattle.std.proofs.Common.{refl, sym, subst, arith}
+use Rattle.std.proofs.Common.{◌≡◌, ◌≤◌, ◌++◌, List, [], ap, length, subst, sym, ◌∙◌}
+use Rattle.fab_types.specs.declared.block.Block.{Block}
 use Rattle.batch_cutter.specs.Division.{message}
-use Rattle.batch_cutter.specs.Offers.{batches}
-use Rattle.orderer.specs.Ordering.{Ordering, AreLimits}
-use Rattle.orderer.specs.Arranged.{arranges_by}
-use Rattle.orderer.proofs.Cutting.{offered_fit}
-use Rattle.orderer.proofs.Linking.{each_linked}
-use Rattle.orderer.proofs.Refusing.{mark_refused}
-use Rattle.orderer.proofs.orderer.Orderer.accept.Goals.{in-One-1, in-Two-1, in-Nothing-1}
+use Rattle.orderer.specs.Blocks.{AreLinked}
+use Rattle.orderer.specs.Headers.{blocks_made, reports_made}
+use Rattle.orderer.proofs.Linking.{takes_linked}
 use Rattle.orderer.proofs.orderer.Orderer.accept.Goals as goal
 
-pub add_cut-requires-clause-batches : goal.add_cut-requires-clause-batches
-add_cut-requires-clause-batches c =
-    let offers = c.in-Ok.ensures.cut in
-    let cutter = c.self.inside.cutter in
-    offered_fit cutter.limits cutter.pending c.args.given (batches c.in-Ok.cut) c.offer.new.self.pending c.self.invariant.0 offers.waited c.in-Ok.ensures.size
-    offers.divides
-
-pub invariant_of-self-in-Ok-add_cut : goal.invariant_of-self-in-Ok-add_cut
-invariant_of-self-in-Ok-add_cut c = (
-  subst AreLimits (sym c.in-Ok.ensures.cut.limits) c.self.invariant.0,
-  c.in-Ok-add_cut.ensures.number,
-  each_linked (arranges_by c.self.inside.reorder) c.self.inside.blocks.items (batches c.in-Ok.cut) c.in-Ok-add_cut.reports.items c.add_cut.new.blocks.items
-      c.in-Ok-add_cut.ensures.added c.self.invariant.2,
-)
-
-pub invariant_of-self-in-Ok-add_cut-2 : goal.invariant_of-self-in-Ok-add_cut-2
-invariant_of-self-in-Ok-add_cut-2 c = (
-  subst AreLimits (sym c.in-Ok.ensures.cut.limits) c.self.invariant.0,
-  c.in-Ok-add_cut.ensures.number,
-  each_linked (arranges_by c.self.inside.reorder) c.self.inside.blocks.items (batches c.in-Ok.cut) c.in-Ok-add_cut.reports.items c.add_cut.new.blocks.items
-      c.in-Ok-add_cut.ensures.added c.self.invariant.2,
-)
-
-pub returns-in-Ok-add_cut-clause-taken : goal.returns-in-Ok-add_cut-clause-taken
-returns-in-Ok-add_cut-clause-taken c =
-    let offers = c.in-Ok.ensures.cut in
-    elim c.match-cut.branch [
-      | in-One-1 w ↦ rw (w.self-is, ← c.self.view_is) (record {
-        batches = batches c.in-Ok.cut;
-        cut = offers.divides;
-        added = c.in-Ok-add_cut.ensures.added;
-        limits = offers.limits;
-        reorder = refl;
-      })
-      | in-Two-1 w ↦ rw (w.self-is, ← c.self.view_is) (record {
-        batches = batches c.in-Ok.cut;
-        cut = offers.divides;
-        added = c.in-Ok-add_cut.ensures.added;
-        limits = offers.limits;
-        reorder = refl;
-      })
-      | in-Nothing-1 w ↦ rw (w.self-is, ← c.self.view_is) (record {
-        batches = batches c.in-Ok.cut;
-        cut = offers.divides;
-        added = c.in-Ok-add_cut.ensures.added;
-        limits = offers.limits;
-        reorder = refl;
-      })
-    ]
-
-pub returns-in-Err-add_cut-clause-refused : goal.returns-in-Err-add_cut-clause-refused
-returns-in-Err-add_cut-clause-refused c =
-    let inside = c.self.inside in
-    let old : Ordering = record { reorder = inside.reorder; limits = inside.cutter.limits; pending = inside.cutter.pending; chain = inside.blocks.items } in
-    rw (← c.self.view_is)
-    (mark_refused c.in-Err-add_cut.cause old (message c.args.given) (batches c.in-Ok.cut) c.offer.new.self.pending
-    (λ large. omega (arith, large, c.in-Ok.ensures.size)) c.in-Ok.ensures.cut.divides c.in-Err-add_cut.ensures.refused)
+pub invariant_of-self-in-Ok-accept : goal.invariant_of-self-in-Ok-accept
+invariant_of-self-in-Ok-accept c =
+    let old = c.self.inside.maker in
+    let new = c.accept.new.self in
+    let made = c.in-Ok-accept.made.items in
+    let before = c.room.ensures.same ∙ c.self.invariant.0 in
+    let is : c.keep_each.new.blocks.items ≡ new.chain =
+    c.keep_each.ensures.blocks ∙ ap (λ (bs : List Block). bs ++ blocks_made made) before ∙ sym c.in-Ok-accept.ensures.blocks in
+    let linked = takes_linked old new (message c.args.given) (reports_made made) c.in-Ok-accept.ensures.taken
+    (subst (AreLinked []) c.self.invariant.0 c.self.invariant.2) in
+    (is, subst (λ (bs : List Block). length bs ≤ 65535) (sym is) c.in-Ok-accept.ensures.numbers, subst (AreLinked []) (sym is) linked)

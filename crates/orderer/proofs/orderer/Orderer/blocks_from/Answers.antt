@@ -9,13 +9,13 @@ returns-then-start-blocks c =
     let start = c.saturating_sub-start.result in
     let blocks = c.self.inside.blocks.items in
     let past : length blocks ≤ start = search rules in
-    rw (← c.self.view_is) (none_from c.args.number start blocks (linked_numbered [] blocks c.self.invariant.2) c.saturating_sub-start.ensures past)
+    rw (← c.self.view_is, ← c.self.invariant.0) (none_from c.args.number start blocks (linked_numbered [] blocks c.self.invariant.2) c.saturating_sub-start.ensures past)
 
 pub returns : goal.returns
 returns c =
     let start = c.saturating_sub-start.result in
     let blocks = c.self.inside.blocks.items in
     let same : c.as_slice-blocks.result.now ≡ blocks = search rules in
-    rw (← c.self.view_is)
+    rw (← c.self.view_is, ← c.self.invariant.0)
     (subst (λ bs. take (length bs - start) (drop start bs) ≡ from_number c.args.number blocks) (sym same)
     (rest_from c.args.number start blocks (linked_numbered [] blocks c.self.invariant.2) c.saturating_sub-start.ensures))

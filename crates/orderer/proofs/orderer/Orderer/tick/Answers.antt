@@ -1,59 +1,21 @@
-use Rattle.std.proofs.Common.{[], ◌∷◌, ◌++◌, map, refl, sym, subst}
-use Rattle.batch_cutter.specs.Division.{message, timeout, IsDivision}
-use Rattle.batch_cutter.specs.Offers.{batch_of}
-use Rattle.fab_types.specs.Data.{IsBlockData}
-use Rattle.fab_types.specs.Size.{envelope_size}
-use Rattle.orderer.specs.Blocks.{Adds}
-use Rattle.orderer.specs.Ordering.{Ordering, AreLimits}
-use Rattle.orderer.specs.Arranged.{arranges_by}
-use Rattle.orderer.proofs.Cutting.{timed_fit}
-use Rattle.orderer.proofs.Linking.{adds_linked}
-use Rattle.orderer.proofs.Refusing.{mark_refused, first_refused}
+use Rattle.std.proofs.Common.{◌≡◌, ◌≤◌, ◌∷◌, ◌++◌, List, [], ap, append-nil, length, subst, sym, ◌∙◌}
+use Rattle.std.specs.Option.{option_to_list}
+use Rattle.fab_types.specs.declared.block.Block.{Block}
+use Rattle.batch_cutter.specs.Division.{timeout}
+use Rattle.orderer.specs.Blocks.{AreLinked}
+use Rattle.orderer.proofs.Linking.{takes_linked}
 use Rattle.orderer.proofs.orderer.Orderer.tick.Goals as goal
 
-pub add_batch-requires-clause-batch : goal.add_batch-requires-clause-batch
-add_batch-requires-clause-batch c =
-    let cutter = c.self.inside.cutter in
-    let pending = c.timeout.new.self.pending in
-    let cut = subst (λ r. IsDivision envelope_size cutter.limits (map message cutter.pending ++ timeout ∷ []) (batch_of r) pending) c.in-Some.is
-    c.timeout.ensures.divides in
-    subst IsBlockData (sym c.deref.ensures.value)
-    (timed_fit cutter.limits cutter.pending (c.in-Some.batch.items ∷ []) pending c.self.invariant.0 c.timeout.ensures.waited cut).0
-
-pub invariant_of-self-in-Ok-1 : goal.invariant_of-self-in-Ok-1
-invariant_of-self-in-Ok-1 c = (
-  subst AreLimits (sym c.timeout.ensures.limits) c.self.invariant.0,
-  c.in-Ok.ensures.number,
-  adds_linked (arranges_by c.self.inside.reorder) c.self.inside.blocks.items c.deref.result.now c.in-Ok.report c.add_batch.new.blocks.items
-      c.in-Ok.ensures.added
-      c.self.invariant.2,
-)
-
-pub returns-in-Ok-clause-taken : goal.returns-in-Ok-clause-taken
-returns-in-Ok-clause-taken c =
-    let cutter = c.self.inside.cutter in
-    let pending = c.timeout.new.self.pending in
-    let old = c.self.inside.blocks.items in
-    let new = c.add_batch.new.blocks.items in
-    let arranges = arranges_by c.self.inside.reorder in
-    let cut = subst (λ r. IsDivision envelope_size cutter.limits (map message cutter.pending ++ timeout ∷ []) (batch_of r) pending) c.in-Some.is
-    c.timeout.ensures.divides in
-    let adds = subst (λ es. Adds arranges old es c.in-Ok.report new) c.deref.ensures.value c.in-Ok.ensures.added in
-    rw (← c.self.view_is) (record {
-      batches = c.in-Some.batch.items ∷ [];
-      cut = cut;
-      added = (c.in-Ok.report, [], new, refl, adds, (refl, refl));
-      limits = c.timeout.ensures.limits;
-      reorder = refl;
-    })
-
-pub returns-in-Err-clause-refused : goal.returns-in-Err-clause-refused
-returns-in-Err-clause-refused c =
-    let inside = c.self.inside in
-    let pending = c.timeout.new.self.pending in
-    let old : Ordering = record { reorder = inside.reorder; limits = inside.cutter.limits; pending = inside.cutter.pending; chain = inside.blocks.items } in
-    let arranges = arranges_by inside.reorder in
-    let cut = subst (λ r. IsDivision envelope_size old.limits (map message old.pending ++ timeout ∷ []) (batch_of r) pending) c.in-Some.is
-    c.timeout.ensures.divides in
-    let why = first_refused arranges c.in-Err.cause old.chain c.deref.result.now c.in-Some.batch.items [] c.deref.ensures.value c.in-Err.ensures.refused in
-    rw (← c.self.view_is) (mark_refused c.in-Err.cause old timeout (c.in-Some.batch.items ∷ []) pending (λ none. none) cut why)
+pub invariant_of-self-in-Some : goal.invariant_of-self-in-Some
+invariant_of-self-in-Some c =
+    let old = c.self.inside.maker in
+    let new = c.tick.new.self in
+    let made = c.in-Some.made in
+    let more = option_to_list made.block in
+    let taken = rw c.in-Some.is at c.in_ok-made.ensures.taken in
+    let longer = rw c.in-Some.is at c.in_ok-made.ensures.blocks in
+    let before = c.reserve.ensures.items ∙ c.self.invariant.0 in
+    let is : c.keep.new.blocks.items ≡ new.chain =
+    c.keep.ensures.blocks ∙ ap (λ (bs : List Block). bs ++ more) before ∙ ap (λ (bs : List Block). old.chain ++ bs) (sym (append-nil more)) ∙ sym longer in
+    let linked = takes_linked old new timeout (made.report ∷ []) taken (subst (AreLinked []) c.self.invariant.0 c.self.invariant.2) in
+    (is, subst (λ (bs : List Block). length bs ≤ 65535) (sym is) c.in_ok-made.ensures.numbers, subst (AreLinked []) (sym is) linked)

@@ -1,7 +1,7 @@
 use Rattle.std.proofs.Common.{◌≡◌, ◌≤◌, ◌+◌, ◌++◌, length, take}
 use Rattle.std.specs.Vec.{vec_capacity}
-use Rattle.log_orderer.specs.Headers.{blocks_made, hashes_of}
-use Rattle.log_orderer.proofs.lean.keep.Given as goal
+use Rattle.orderer.specs.Headers.{blocks_made, hashes_of}
+use Rattle.orderer.proofs.maker.keep.Given as goal
 
 abbrev pub invariant-loop-each : goal.invariant-loop-each
 invariant-loop-each l = record {

@@ -23,13 +23,13 @@ use denote.Triple.Entry.{alive}
 use denote.Triple.Spec.{Meets, triple_of}
 use denote.Triple.Table.{entered}
 use denote.Triple.Walked.{says, Stays, walk_of, ends_at, walk_Meets}
-use Rattle.log_orderer.proofs.Walks.{none, none_made}
-use Rattle.log_orderer.specs.contracts.chain.Chain as Chain
-use Rattle.log_orderer.specs.Chain.{no_blocks}
-use Rattle.log_orderer.specs.contracts.chain.Chain.new as F
-use Rattle.log_orderer.specs.contracts.chain.Chain.new.Key.{name as #self}
-use Rattle.log_orderer.proofs.chain.Chain.new.Statement as stated
-use Rattle.log_orderer.proofs.chain.Chain.new.Code as code
+use Rattle.orderer.proofs.Walks.{none, none_made}
+use Rattle.orderer.specs.contracts.chain.Chain as Chain
+use Rattle.orderer.specs.Chain.{no_blocks}
+use Rattle.orderer.specs.contracts.chain.Chain.new as F
+use Rattle.orderer.specs.contracts.chain.Chain.new.Key.{name as #self}
+use Rattle.orderer.proofs.chain.Chain.new.Statement as stated
+use Rattle.orderer.proofs.chain.Chain.new.Code as code
 
 abbrev function : Fn
 function = code.function

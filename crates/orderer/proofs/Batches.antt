@@ -6,7 +6,7 @@ use Rattle.fab_types.specs.declared.envelope.Envelope.{Envelope}
 use Rattle.orderer.specs.Blocks.{Adds, AddsEach}
 use Rattle.orderer.specs.declared.making.Made.{Made}
 use Rattle.orderer.specs.declared.arrangement.AbortCause.{AbortCause}
-use Rattle.log_orderer.specs.Headers.{blocks_made, reports_made}
+use Rattle.orderer.specs.Headers.{blocks_made, reports_made}
 
 module _ (arranges : List Envelope → List ℕ → List (ℕ × AbortCause) → Type 0) (chain : List Block) where
   module _ (first : List Envelope) (one : Made) (all : List Made) where

@@ -1,4 +1,4 @@
-//! An orderer that keeps of its chain the hashes of the headers alone.
+//! Makes the blocks of a chain, and keeps the hashes of their headers alone.
 
 ghost use Rattle.std.specs.Prelude.{◌≡◌, ◌↔◌, ◌≤◌, ◌+◌, ◌++◌, [], IfErr, IfOk, IsTrue, List, None, OnErr, OnOk, Some, length};
 ghost use Rattle.std.specs.List.{AllByRecursion};
@@ -14,22 +14,25 @@ ghost use Rattle.orderer.specs.Arranged.{arranges_by};
 ghost use Rattle.orderer.specs.Blocks.{Adds, AddsEach};
 ghost use Rattle.orderer.specs.Making.{number_in, tip_of};
 ghost use Rattle.orderer.specs.Ordering.{AreLimits, IsRefused, Takes};
-ghost use Rattle.log_orderer.specs.Headers.{AreOwn, blocks_made, hash_at, hashes_of, reports_made};
+ghost use Rattle.orderer.specs.Headers.{AreOwn, blocks_made, hash_at, hashes_of, reports_made};
 
 use crate::chain::Chain;
+use crate::making::{Made, Tip, make_block};
+use crate::report::{OrderCause, OrderRefusal};
 use batch_cutter::{Cut, Cutter};
 use fab_types::Envelope;
 use fab_types::limits::LAST_BLOCK;
-use orderer::{Made, OrderCause, OrderRefusal, Tip, make_block};
 use std::alloc::Global;
 use std::marker::Model;
 use std::slice;
 use wire::header_hash;
 
-/// Cuts envelopes into batches, and hands out the block of what survives of each. It keeps 32
-/// bytes of it, the hash of its header. A call that is refused changes nothing.
+/// Cuts envelopes into batches, and hands out a block of what survives of each.
+///
+/// The blocks make a chain as those of [`crate::Orderer`] do. What is kept of each is the hash of
+/// its header, 32 bytes. A call that is refused changes nothing.
 #[derive(Drop)]
-pub(crate) struct LeanOrderer {
+pub struct BlockMaker {
     reorder: bool,
     cutter: Cutter<Envelope>,
     /// The hashes of the headers, from block 1 on.
@@ -38,10 +41,10 @@ pub(crate) struct LeanOrderer {
     alloc: Global,
 }
 
-impl Model for LeanOrderer {
+impl Model for BlockMaker {
     ghost use Rattle.std.specs.Prelude.{◌≡◌, ◌≤◌, length};
     ghost use Rattle.orderer.specs.Ordering.{Ordering, AreLimits};
-    ghost use Rattle.log_orderer.specs.Headers.{hashes_of};
+    ghost use Rattle.orderer.specs.Headers.{hashes_of};
 
     ghost Value = { Ordering };
 
@@ -57,9 +60,14 @@ impl Model for LeanOrderer {
         (o.hashes.items ≡ hashes_of o.chain.blocks) };
 }
 
-impl LeanOrderer {
-    /// An orderer without blocks, where nothing waits. The limits are those of `Orderer::new`.
-    pub(crate) fn new(
+impl BlockMaker {
+    /// One that has made no block, where nothing waits.
+    ///
+    /// A batch has at most `count` envelopes, 1 to 512. Envelopes of at most `preferred` bytes
+    /// together share a batch, and one above it is a batch alone; none above `absolute` bytes is
+    /// taken. Both are at most 524,288. With `reorder` early abort and reordering act on each
+    /// batch, else its block has the envelopes as they were cut.
+    pub fn new(
         alloc: Global,
         count: usize,
         preferred: usize,
@@ -76,7 +84,7 @@ impl LeanOrderer {
               chain = [];
             } }
     {
-        LeanOrderer {
+        BlockMaker {
             reorder,
             cutter: Cutter::new(alloc, count, preferred, absolute),
             hashes: Vec::new(alloc),
@@ -85,14 +93,20 @@ impl LeanOrderer {
         }
     }
 
-    /// Takes an envelope in, and hands out what the batches became that it ends. It is refused as
-    /// by `Orderer::accept`.
-    pub(crate) fn accept(&mut self, given: Envelope) -> Result<Vec<Made>, OrderRefusal>
+    /// Takes an envelope in, and hands out what the batches that it ends become, none to two, in
+    /// their order.
+    ///
+    /// A refusal hands the envelope back. Its cause is 421 where the envelope is above the absolute
+    /// size, whatever memory there is. Else it is 422 where a block past number 65,535 would be
+    /// needed, or 9 where a growth of memory was refused, which may come before it is known whether a
+    /// number is left.
+    pub fn accept(&mut self, given: Envelope) -> Result<Vec<Made>, OrderRefusal>
         ensures taken { IfOk result
             (λ made. Takes self.old (message given) (reports_made made.items) self.new) }
         ensures blocks { IfOk result
             (λ made. self.new.chain ≡ self.old.chain ++ blocks_made made.items) }
         ensures own { IfOk result (λ made. AreOwn made.items) }
+        ensures two { IfOk result (λ made. length made.items ≤ 2) }
         ensures size { OnOk result (envelope_size given ≤ self.old.limits.absolute) }
         ensures numbers { OnOk result (length self.new.chain ≤ LAST_BLOCK) }
         ensures refused { IfErr result
@@ -127,9 +141,29 @@ impl LeanOrderer {
         }
     }
 
-    /// Cuts the envelopes that wait, as a timeout does, and hands out what their batch became.
-    /// None where no envelope waits. It is refused as by `Orderer::tick`.
-    pub(crate) fn tick(&mut self) -> Result<Option<Made>, OrderRefusal>
+    /// Refuses an envelope for want of memory, or for its size, which goes first.
+    pub(crate) fn refuse(&mut self, given: Envelope) -> OrderRefusal
+        ensures refused { IsRefused result.cause self.old (message given) }
+        ensures handed_back { result.envelope ≡ Some given }
+        ensures unchanged { self.new ≡ self.old }
+    {
+        let (envelope, cause) = match self.cutter.offer(given) {
+            Ok(cut) => (self.cutter.undo(cut), OrderCause::Memory),
+            Err(offered) => (offered.message, OrderCause::from(offered.cause)),
+        };
+        OrderRefusal {
+            envelope: Some(envelope),
+            cause,
+        }
+    }
+
+    /// Cuts the envelopes that wait, as a timeout does, and hands out what their batch becomes.
+    /// None where no envelope waits.
+    ///
+    /// A refusal has no envelope. Its cause is 422 where a block past number 65,535 would be
+    /// needed, or 9 where a growth of memory was refused, which may come before it is known whether
+    /// a number is left.
+    pub fn tick(&mut self) -> Result<Option<Made>, OrderRefusal>
         ensures taken { IfOk result (λ made.
             Takes self.old timeout (reports_made (option_to_list made)) self.new) }
         ensures blocks { IfOk result (λ made.
@@ -165,7 +199,7 @@ impl LeanOrderer {
     }
 
     /// Whether the block of this number, from 1 on, has a header with this hash.
-    pub(crate) fn has_header(&self, number: u32, hash: &[u8; 32]) -> bool
+    pub fn has_header(&self, number: u32, hash: &[u8; 32]) -> bool
         ensures { IsTrue result ↔ (hash_at self.now.chain number ≡ Some hash.now) }
     {
         if number == 0 {
@@ -304,6 +338,7 @@ fn add_cut(
     ensures blocks { IfOk result
         (λ made. chain.new.blocks ≡ chain.old.blocks ++ blocks_made made.items) }
     ensures own { IfOk result (λ made. AreOwn made.items) }
+    ensures two { IfOk result (λ made. length made.items ≤ 2) }
     ensures hashes { hashes.new.items ≡ hashes_of chain.new.blocks }
     ensures number { OnOk result (length chain.new.blocks ≤ LAST_BLOCK) }
     ensures unchanged { OnErr result (chain.new ≡ chain.old) }

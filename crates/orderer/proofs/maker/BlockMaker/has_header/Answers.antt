@@ -1,9 +1,9 @@
 use Rattle.std.proofs.Common.{◌≡◌, ◌≤◌, ◌-◌, ℕ, List, None, Some, ap, arith, length, refl, slice_get, sym, ◌∙◌}
 use Rattle.std.proofs.lemmas.Option.{slice_get_past, slice_get_read}
 use Rattle.std.proofs.lemmas.Slice.Eq.{bytes_eq-Decides}
-use Rattle.log_orderer.specs.Headers.{hash_at, hashes_of}
-use Rattle.log_orderer.proofs.Heading.{hash_there}
-use Rattle.log_orderer.proofs.lean.LeanOrderer.has_header.Goals as goal
+use Rattle.orderer.specs.Headers.{hash_at, hashes_of}
+use Rattle.orderer.proofs.Heading.{hash_there}
+use Rattle.orderer.proofs.maker.BlockMaker.has_header.Goals as goal
 
 pub returns-in-Some : goal.returns-in-Some
 returns-in-Some c =

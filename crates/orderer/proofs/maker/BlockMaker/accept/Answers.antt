@@ -4,7 +4,7 @@ use Rattle.batch_cutter.specs.Offers.{batches}
 use Rattle.orderer.specs.Ordering.{Ordering, AreLimits}
 use Rattle.orderer.proofs.Cutting.{offered_fit}
 use Rattle.orderer.proofs.Refusing.{mark_refused}
-use Rattle.log_orderer.proofs.lean.LeanOrderer.accept.Goals as goal
+use Rattle.orderer.proofs.maker.BlockMaker.accept.Goals as goal
 
 pub add_cut-requires-clause-batches : goal.add_cut-requires-clause-batches
 add_cut-requires-clause-batches c =

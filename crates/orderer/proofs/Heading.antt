@@ -8,7 +8,7 @@ use Rattle.fab_types.specs.declared.block.Block.{Block}
 use Rattle.orderer.specs.Blocks.{link_from}
 use Rattle.orderer.specs.Making.{tip_of}
 use Rattle.orderer.specs.declared.making.Tip.{Tip}
-use Rattle.log_orderer.specs.Headers.{hash_at, hashes_of, header_hash}
+use Rattle.orderer.specs.Headers.{hash_at, hashes_of, header_hash}
 
 abbrev tip_at : ℕ → List ℕ → Tip
 tip_at height link = record { height = height; link = link }

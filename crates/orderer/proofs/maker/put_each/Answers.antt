@@ -8,8 +8,8 @@ use Rattle.orderer.specs.Blocks.{Adds}
 use Rattle.orderer.specs.Making.{tip_of}
 use Rattle.orderer.specs.declared.making.Made.{Made}
 use Rattle.orderer.proofs.Refusing.{first_refused, second_refused}
-use Rattle.log_orderer.proofs.Batches.{one_added, two_added}
-use Rattle.log_orderer.proofs.lean.put_each.Goals as goal
+use Rattle.orderer.proofs.Batches.{one_added, two_added}
+use Rattle.orderer.proofs.maker.put_each.Goals as goal
 
 pub returns-in_err-make_block-in-One-clause-refused : goal.returns-in_err-make_block-in-One-clause-refused
 returns-in_err-make_block-in-One-clause-refused c =

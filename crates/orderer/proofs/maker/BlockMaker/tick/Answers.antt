@@ -8,7 +8,7 @@ use Rattle.orderer.specs.Ordering.{Ordering, AreLimits}
 use Rattle.orderer.specs.Arranged.{arranges_by}
 use Rattle.orderer.proofs.Cutting.{timed_fit}
 use Rattle.orderer.proofs.Refusing.{mark_refused, first_refused}
-use Rattle.log_orderer.proofs.lean.LeanOrderer.tick.Goals as goal
+use Rattle.orderer.proofs.maker.BlockMaker.tick.Goals as goal
 
 pub add_batch-requires-clause-batch : goal.add_batch-requires-clause-batch
 add_batch-requires-clause-batch c =

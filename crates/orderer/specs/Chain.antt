@@ -1,8 +1,8 @@
--- The chain of which an orderer keeps the hashes of the headers alone.
+-- The chain of which the maker of its blocks keeps the hashes of the headers alone.
 use Rattle.std.specs.Prelude.{[], ◌++◌}
 use Rattle.std.specs.Option.{option_to_list}
 use Rattle.orderer.specs.declared.making.Made.{Made}
-use Rattle.log_orderer.specs.declared.chain.Chain.{Chain}
+use Rattle.orderer.specs.declared.chain.Chain.{Chain}
 
 abbrev pub no_blocks : Chain
 no_blocks = record { blocks = [] }

@@ -25,14 +25,14 @@ use denote.Triple.Entry.{alive}
 use denote.Triple.Spec.{Meets, triple_of}
 use denote.Triple.Table.{entered}
 use denote.Triple.Walked.{says, Stays, stay_dropped, walk_of, ends_at, walk_Meets, Goes-dropped}
-use Rattle.log_orderer.proofs.Walks.{none, none_made}
-use Rattle.log_orderer.specs.contracts.chain.Chain as Chain
+use Rattle.orderer.proofs.Walks.{none, none_made}
+use Rattle.orderer.specs.contracts.chain.Chain as Chain
 use Rattle.orderer.specs.contracts.making.Made as Made
-use Rattle.log_orderer.specs.Chain.{followed_by}
-use Rattle.log_orderer.specs.contracts.chain.Chain.and as F
-use Rattle.log_orderer.specs.contracts.chain.Chain.and.Key.{name as #self}
-use Rattle.log_orderer.proofs.chain.Chain.and.Statement as stated
-use Rattle.log_orderer.proofs.chain.Chain.and.Code as code
+use Rattle.orderer.specs.Chain.{followed_by}
+use Rattle.orderer.specs.contracts.chain.Chain.and as F
+use Rattle.orderer.specs.contracts.chain.Chain.and.Key.{name as #self}
+use Rattle.orderer.proofs.chain.Chain.and.Statement as stated
+use Rattle.orderer.proofs.chain.Chain.and.Code as code
 
 abbrev function : Fn
 function = code.function
