@@ -4,22 +4,18 @@ use Rattle.std.proofs.Math.Nat.{le_refl}
 use Rattle.std.proofs.lemmas.List.{take_all}
 use Rattle.batch_cutter.specs.Division.{Mark}
 use Rattle.fab_types.specs.declared.envelope.Envelope.{Envelope}
+use Rattle.chaincode_book.specs.Books.{Book}
 use Rattle.ledger_model.specs.Chain.{Chain}
-use Rattle.ledger_model.specs.Execution.{Exec}
 use Rattle.orderer.specs.Ordering.{Ordering, IsOrdered, Takes}
 use Rattle.orderer.specs.declared.report.BatchReport.{BatchReport}
-use Rattle.simulator.specs.Execution.{exec_of}
 use Rattle.ledger_setting.specs.Limits.{limits_of}
 use Rattle.ledger_setting.specs.declared.genesis.Genesis.{Genesis}
-use Rattle.ledger_setting.specs.declared.verdict.Audit.{Audit}
-use Rattle.fabric_core.specs.Audit.{AuditSays}
 use Rattle.fabric_core.specs.System.{Rules, World, AreSteps, chain_of, fresh_orderer, opening}
 use Rattle.fabric_core.specs.Inside.{State}
 use Rattle.fabric_core.specs.Headline.{IsRun}
 use Rattle.fabric_core.specs.declared.event.Event.{Event}
 use Rattle.fabric_core.specs.declared.event.Reply.{Reply}
 use Rattle.fabric_core.proofs.Runs.{run_all}
-use Rattle.cli_lines.specs.Lines.{audit_text, does_agree}
 use Rattle.cli_lines.specs.Places.{IsFileOf}
 use Rattle.cli_lines.specs.Told.{Told, Prints, Answers, IsBrokenOff}
 use Rattle.cli_lines.specs.declared.failure.Failure.{Failure}
@@ -31,6 +27,8 @@ use Rattle.cli_session.specs.States.{state_text}
 use Rattle.cli_session.specs.Stages.{Stage, first_chain}
 use Rattle.cli_session.specs.Running.{AreLines, DoesAll, MeetsBadLine, events_of, replies_of}
 use Rattle.cli_session.specs.Stored.{HoldsAsked, HoldsPlaced}
+use Rattle.cli_session.specs.Verdicts.{IsVerdict, is_good, verdict_text}
+use Rattle.cli_session.specs.declared.verdict.Verdict.{Verdict}
 use Rattle.cli_session.specs.Whole.{ComesTo, EndsAtBadLine, EndsPrinted, EndsWith, IsOpening, IsWholeRun, LinesComeTo, a_peer_lacks_seed, rules_by}
 use Rattle.cli_session.proofs.Steps.{Runs, same_rules}
 use Rattle.cli_session.proofs.Several.{lines_run}
@@ -62,7 +60,7 @@ steps_run g law began events replies w steps =
 
 pub whole_run : (g : Genesis) → StepLaw → IsOrdered [] (fresh_orderer (limits_of g) g.reorder) → (IsStored : Option Chain → Type 0) (good : Bool)
     (lines : List (List ℕ)) (start end : Stage) (told : List (Event × Reply)) (front rest : List ℕ) → IsOpening g start →
-    AreLines lines start told front end → EndsWith (exec_of g.book.value) (first_chain end.system) good rest → IsStored (first_chain end.system) →
+    AreLines lines start told front end → EndsWith g.book.value (first_chain end.system) good rest → IsStored (first_chain end.system) →
     IsWholeRun g IsStored lines good (front ++ rest)
 whole_run g law began IsStored good lines start end told front rest opens does ends stored =
     let runs : Runs (opened g) told end.system =
@@ -77,31 +75,31 @@ whole_run g law began IsStored good lines start end told front rest opens does e
       opens = opens;
       does = does;
       run = steps_run g law began (events_of told) (replies_of told) end.system.world runs.0;
-      ends = subst (λ (r : Rules). EndsWith (exec_of g.book.value) (chain_of r end.system.world 0) good rest) same ends;
+      ends = subst (λ (r : Rules). EndsWith g.book.value (chain_of r end.system.world 0) good rest) same ends;
       stored = subst (λ (r : Rules). IsStored (chain_of r end.system.world 0)) same stored;
       whole = refl;
     }
 
 -- where there is no peer
-pub ends_none : (exec : Exec) (o : Option Chain) (t : Told) → None ≡ o → (text : List ℕ) × EndsWith exec o true text × Prints t t text
-ends_none exec None t is = ([], (refl, refl), prints_none t)
-ends_none exec (Some chain) t is = absurd cc
+pub ends_none : (book : Book) (o : Option Chain) (t : Told) → None ≡ o → (text : List ℕ) × EndsWith book o true text × Prints t t text
+ends_none book None t is = ([], (refl, refl), prints_none t)
+ends_none book (Some chain) t is = absurd cc
 
 -- the state of a chain is printed, and then what its audit says
-pub ends_some : {E : Type 0} (exec : Exec) (o : Option Chain) (chain : Chain) (verdict : Audit) (r : Result Bool E) (t u v : Told) → Some chain ≡ o →
-    AuditSays exec chain verdict → Prints t u (state_text chain) → IfOk r (λ good. good ≡ does_agree verdict) → OnOk r (Prints u v (audit_text verdict)) →
-    IfOk r (λ good. (text : List ℕ) × EndsWith exec o good text × Prints t v text)
-ends_some exec o chain verdict (Err e) t u v is says state good audit = tt
-ends_some exec o chain verdict (Ok x) t u v is says state good audit = (
-  state_text chain ++ audit_text verdict,
-  subst (λ (p : Option Chain). EndsWith exec p x (state_text chain ++ audit_text verdict)) is (verdict, says, good, refl),
-  prints_then t u v (state_text chain) (audit_text verdict) state audit,
+pub ends_some : {E : Type 0} (book : Book) (o : Option Chain) (chain : Chain) (verdict : Verdict) (r : Result Bool E) (t u v : Told) → Some chain ≡ o →
+    IsVerdict book chain verdict → Prints t u (state_text chain) → IfOk r (λ good. good ≡ is_good verdict) → OnOk r (Prints u v (verdict_text verdict)) →
+    IfOk r (λ good. (text : List ℕ) × EndsWith book o good text × Prints t v text)
+ends_some book o chain verdict (Err e) t u v is says state good audit = tt
+ends_some book o chain verdict (Ok x) t u v is says state good audit = (
+  state_text chain ++ verdict_text verdict,
+  subst (λ (p : Option Chain). EndsWith book p x (state_text chain ++ verdict_text verdict)) is (verdict, says, good, refl),
+  prints_then t u v (state_text chain) (verdict_text verdict) state audit,
 )
 
 -- what a run does from its opening on is what its lines come to
 pub comes_to : (g : Genesis) → StepLaw → IsOrdered [] (fresh_orderer (limits_of g) g.reorder) → (held : Option (List ℕ))
     (IsStored : Option Chain → Type 0) (r : Result Bool Failure) (start end : Stage) (before after : Told) → IsOpening g start →
-    IfOk r (λ good. (mid : Told) × DoesAll held start end before mid × EndsPrinted (exec_of g.book.value) (first_chain end.system) good mid after) →
+    IfOk r (λ good. (mid : Told) × DoesAll held start end before mid × EndsPrinted g.book.value (first_chain end.system) good mid after) →
     IfErr r (λ f. IsBrokenOff f ⊎ MeetsBadLine held start before after f) → OnOk r (IsStored (first_chain end.system)) →
     Answers (LinesComeTo g held IsStored) before after r
 comes_to g law began held IsStored (Ok good) start end before after opens all stops stored =

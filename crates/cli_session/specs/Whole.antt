@@ -2,19 +2,16 @@
 use Rattle.std.specs.Prelude.{◌≡◌, ◌++◌, ◌⊎◌, ℕ, suc, Bool, true, false, List, [], ◌∷◌, length, Option, Some, None, IfSome, Result, Ok, Err}
 use Rattle.std.specs.List.{list_any}
 use Rattle.json_events.specs.Bound.{bound_as}
+use Rattle.chaincode_book.specs.Books.{Book}
 use Rattle.ledger_model.specs.Chain.{Chain}
-use Rattle.ledger_model.specs.Execution.{Exec}
 use Rattle.simulator.specs.Execution.{exec_of}
 use Rattle.ledger_setting.specs.Limits.{limits_of}
 use Rattle.ledger_setting.specs.declared.genesis.Genesis.{Genesis}
-use Rattle.ledger_setting.specs.declared.verdict.Audit.{Audit}
-use Rattle.fabric_core.specs.Audit.{AuditSays}
 use Rattle.fabric_core.specs.System.{Rules, chain_of, opening}
 use Rattle.fabric_core.specs.Inside.{rules_of}
 use Rattle.fabric_core.specs.Headline.{IsRun}
 use Rattle.fabric_core.specs.declared.event.Event.{Event}
 use Rattle.fabric_core.specs.declared.event.Reply.{Reply}
-use Rattle.cli_lines.specs.Lines.{audit_text, does_agree}
 use Rattle.cli_lines.specs.Sealing.{lacks_seed}
 use Rattle.cli_lines.specs.Told.{Told, Prints}
 use Rattle.cli_lines.specs.declared.failure.Failure.{Failure}
@@ -23,19 +20,21 @@ use Rattle.cli_session.specs.Reading.{HasFirst, lines_in}
 use Rattle.cli_session.specs.States.{state_text}
 use Rattle.cli_session.specs.Stages.{Stage, first_chain}
 use Rattle.cli_session.specs.Running.{AreLines, IsBadLine, events_of, replies_of}
+use Rattle.cli_session.specs.Verdicts.{IsVerdict, is_good, verdict_text}
+use Rattle.cli_session.specs.declared.verdict.Verdict.{Verdict}
 
--- behind the lines: the state after a chain, and what its audit says; nothing, where there is no peer
-abbrev pub EndsWith : Exec → Option Chain → Bool → List ℕ → Type 0
-EndsWith exec None good text = (good ≡ true) × (text ≡ [])
-EndsWith exec (Some chain) good text =
-    (verdict : Audit) × AuditSays exec chain verdict × (good ≡ does_agree verdict) × (text ≡ state_text chain ++ audit_text verdict)
+-- behind the lines: the state after a chain, and what is said of it; nothing, where there is no peer
+abbrev pub EndsWith : Book → Option Chain → Bool → List ℕ → Type 0
+EndsWith book None good text = (good ≡ true) × (text ≡ [])
+EndsWith book (Some chain) good text =
+    (verdict : Verdict) × IsVerdict book chain verdict × (good ≡ is_good verdict) × (text ≡ state_text chain ++ verdict_text verdict)
 
 -- with some answer
-abbrev pub IsEnd : Exec → Option Chain → List ℕ → Type 0
-IsEnd exec chain text = (good : Bool) × EndsWith exec chain good text
+abbrev pub IsEnd : Book → Option Chain → List ℕ → Type 0
+IsEnd book chain text = (good : Bool) × EndsWith book chain good text
 
-abbrev pub EndsPrinted : Exec → Option Chain → Bool → (before after : Told) → Type 0
-EndsPrinted exec chain good before after = (text : List ℕ) × EndsWith exec chain good text × Prints before after text
+abbrev pub EndsPrinted : Book → Option Chain → Bool → (before after : Told) → Type 0
+EndsPrinted book chain good before after = (text : List ℕ) × EndsWith book chain good text × Prints before after text
 
 -- what a genesis fixes for the steps
 abbrev pub rules_by : Genesis → Rules
@@ -63,7 +62,7 @@ pub record IsWholeRun (g : Genesis) (IsStored : Option Chain → Type 0) (lines 
   pub opens : IsOpening g start
   pub does : AreLines lines start told front end
   pub run : IsRun (rules_by g) g.peers.items g.seats (limits_of g) g.reorder (events_of told) (replies_of told) end.system.world false
-  pub ends : EndsWith (exec_of g.book.value) (chain_of (rules_by g) end.system.world 0) good rest
+  pub ends : EndsWith g.book.value (chain_of (rules_by g) end.system.world 0) good rest
   pub stored : IsStored (chain_of (rules_by g) end.system.world 0)
   pub whole : text ≡ front ++ rest
 
@@ -98,7 +97,7 @@ ComesTo g events IsStored answer text =
     ⊎ ((a_peer_lacks_seed g ≡ true) × (answer ≡ Err failure.NoSeed) × (text ≡ []))
 
 -- What is printed of some first lines that are done from a stage on, and, where they are all, of the end
-pub record BeginsFrom (exec : Exec) (events : Option (List ℕ)) (start : Stage) (text : List ℕ) : Type 0 where
+pub record BeginsFrom (book : Book) (events : Option (List ℕ)) (start : Stage) (text : List ℕ) : Type 0 where
   pub lines : List (List ℕ)
   pub end : Stage
   pub told : List (Event × Reply)
@@ -106,12 +105,12 @@ pub record BeginsFrom (exec : Exec) (events : Option (List ℕ)) (start : Stage)
   pub rest : List ℕ
   pub first : HasFirst events lines
   pub does : AreLines lines start told front end
-  pub behind : (rest ≡ []) ⊎ (IfSome events (λ bytes. lines ≡ lines_in bytes) × IsEnd exec (first_chain end.system) rest)
+  pub behind : (rest ≡ []) ⊎ (IfSome events (λ bytes. lines ≡ lines_in bytes) × IsEnd book (first_chain end.system) rest)
   pub whole : text ≡ front ++ rest
 
 -- the same from the opening on
 abbrev pub LinesBegin : Genesis → Option (List ℕ) → List ℕ → Type 0
-LinesBegin g events text = (start : Stage) × IsOpening g start × BeginsFrom (exec_of g.book.value) events start text
+LinesBegin g events text = (start : Stage) × IsOpening g start × BeginsFrom g.book.value events start text
 
 -- What `run` prints, where no seed is missing, of some first lines, and, where they are all, of the end
 abbrev pub RunBegins : Genesis → Option (List ℕ) → List ℕ → Type 0

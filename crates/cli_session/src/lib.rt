@@ -13,5 +13,6 @@ mod replacing;
 mod replies;
 mod session;
 mod storing;
+mod verdict;
 
 pub use session::{RunFiles, run};

@@ -2,7 +2,6 @@
 
 ghost use Rattle.std.specs.Prelude.{◌≡◌, ◌≢◌, ◌<◌, ◌⊎◌, false, None, IfErr, IfOk, IfSome, OnErr, OnOk, map, option_map, string_bytes};
 ghost use Rattle.json_events.specs.Bound.{bound_as, envelope_named};
-ghost use Rattle.simulator.specs.Execution.{exec_of};
 ghost use Rattle.fabric_core.specs.declared.event.Event.TheVariants.{Begin, Finish};
 ghost use Rattle.fabric_core.specs.declared.event.Reply.TheVariants.{Endorsed};
 ghost use Rattle.wire.specs.FaultNumbers.{number_of};
@@ -21,12 +20,13 @@ use crate::lines::{endorsed_line, print_begun, print_bound, print_reply, print_s
 use crate::placing::place_of;
 use crate::reading::Next;
 use crate::storing::write_store;
+use crate::verdict::{print_verdict, verdict_of};
 use cli_lines::{
-    Access, Failure, Files, Location, Printer, Target, explain_trouble, need_seeds, print_audit,
+    Access, Failure, Files, Location, Printer, Target, explain_missing, explain_trouble, need_seeds,
 };
 use endorsement_policy::Workers;
 use fab_types::{Endorsement, Payload, Proposal};
-use fabric_core::{Event, Reply, System, audit};
+use fabric_core::{Event, Reply, System};
 use json_events::{Action, BadLine, Bindings, read_event};
 use ledger_setting::Genesis;
 use orderer::ordering_laws;
@@ -65,7 +65,9 @@ pub struct RunFiles<'a> {
 
 /// Runs the lines of a file of events on the system that a genesis opens, prints what each comes
 /// to, the state of the first peer after them and the audit of its chain, and writes that chain to
-/// a store if there is one. Answers whether all transactions agree with their reruns.
+/// a store if there is one. Answers whether all transactions agree with their reruns. Where the
+/// chain upgrades to a module that is not at hand, there is no audit: that is printed (406), and the
+/// answer is no.
 ///
 /// The file is read as the run goes. A line that stands for nothing ends the run, and then no store
 /// is written. The run is refused before the file is opened where a peer's seed is not at hand
@@ -83,13 +85,13 @@ pub fn run<T: Threads + Sync, F: Files, W: Write>(
 ) -> Result<bool, Failure>
     ensures tells { Tells out.old out.new result }
     ensures differs { IfOk result (λ good. good ≡ false → out.old.printed < out.new.printed) }
-    // What the lines of the events come to is printed, then the first peer's state and its audit;
-    // and the store that was asked for has that peer's chain.
+    // What the lines of the events come to is printed, then the first peer's state and what is said
+    // of its chain; and the store that was asked for has that chain.
     ensures answers { Answers (ComesTo genesis.now (F.bytes files.old names.now.events.now)
         (HoldsAsked F.is_known (F.bytes files.new) (option_map (λ s. s.now) names.now.store)))
         out.old out.new result }
     // What a run that is broken off printed is a beginning of this, where no text failed: what some
-    // first lines come to, and, where they are all, the state and its audit.
+    // first lines come to, and, where they are all, the state and what is said of the chain.
     ensures begins { Begins (RunBegins genesis.now (F.bytes files.old names.now.events.now))
         out.old out.new result }
     // Where no store is asked for, no file is written, and else none but the store's.
@@ -235,10 +237,9 @@ impl<T: Threads + Sync> Session<'_, T> {
             (λ good. (mid : Told) ×
             DoesAll (B.remaining lines.old) (stage_at self.old.system self.old.bindings)
             (stage_at self.new.system self.new.bindings) out.old mid ×
-            EndsPrinted (exec_of genesis.now.book.value) (first_chain self.new.system) good mid
-            out.new) }
+            EndsPrinted genesis.now.book.value (first_chain self.new.system) good mid out.new) }
         ensures begins { Begins
-            (BeginsFrom (exec_of genesis.now.book.value) (B.remaining lines.old)
+            (BeginsFrom genesis.now.book.value (B.remaining lines.old)
             (stage_at self.old.system self.old.bindings)) out.old out.new result }
         ensures kept { store.entry ≡ None → F.bytes files.new ≡ F.bytes files.old }
         ensures others { IfSome store.entry
@@ -247,7 +248,7 @@ impl<T: Threads + Sync> Session<'_, T> {
             (IfSome store.entry
             (λ t. StaysPlaced F.is_known t.now (F.bytes files.old) (F.bytes files.new))) }
     {
-        self.run_lines(files, lines, out)?;
+        self.run_lines(files, genesis, lines, out)?;
         let is_good = self.print_end(genesis, out)?;
         if let (Some(target), Some(snapshot)) = (store, self.system.snapshot(0)) {
             write_store(self.alloc, files, target, snapshot)?;
@@ -255,8 +256,38 @@ impl<T: Threads + Sync> Session<'_, T> {
         Ok(is_good)
     }
 
-    /// Does what each line stands for, in order, and prints what it comes to.
+    /// Does what each line stands for, in order, and prints what it comes to. Then says which block of
+    /// the first peer's chain cannot be run again, if one cannot.
     fn run_lines<F: Files, B: BufRead, W: Write>(
+        &mut self,
+        files: &mut F,
+        genesis: &Genesis,
+        lines: &mut B,
+        out: &mut Printer<'_, W>,
+    ) -> Result<(), Failure>
+        ensures tells { Tells out.old out.new result }
+        ensures stops { IfErr result
+            (λ f. IsBrokenOff f
+            ⊎ MeetsBadLine (B.remaining lines.old) (stage_at self.old.system self.old.bindings) out.old
+            out.new f) }
+        ensures does { OnOk result
+            (DoesAll (B.remaining lines.old) (stage_at self.old.system self.old.bindings)
+            (stage_at self.new.system self.new.bindings) out.old out.new) }
+        ensures first { OnErr result
+            (DoesFirst (B.remaining lines.old) (stage_at self.old.system self.old.bindings)
+            out.old out.new) }
+        ensures kept { F.bytes files.new ≡ F.bytes files.old }
+    {
+        self.do_lines(files, lines, out)?;
+        if let Some(snapshot) = self.system.snapshot(0) {
+            let blocks = snapshot.blocks();
+            explain_missing(self.alloc, files, self.events, &genesis.book, blocks);
+        }
+        Ok(())
+    }
+
+    /// Does what each line stands for, in order, and prints what it comes to.
+    fn do_lines<F: Files, B: BufRead, W: Write>(
         &mut self,
         files: &mut F,
         lines: &mut B,
@@ -563,7 +594,7 @@ impl<T: Threads + Sync> Session<'_, T> {
         }
     }
 
-    /// Prints the state of the first peer and what the audit of its chain says, which is made before,
+    /// Prints the state of the first peer and what is said of its chain, which is looked at before,
     /// and answers whether all transactions agree with their reruns.
     fn print_end<W: Write>(
         &self,
@@ -574,18 +605,17 @@ impl<T: Threads + Sync> Session<'_, T> {
         ensures lost { IfErr result IsBrokenOff }
         ensures differs { IfOk result (λ good. good ≡ false → out.old.printed < out.new.printed) }
         ensures ends { IfOk result
-            (λ good. EndsPrinted (exec_of genesis.now.book.value) (first_chain self.now.system) good
-            out.old out.new) }
+            (λ good. EndsPrinted genesis.now.book.value (first_chain self.now.system) good out.old
+            out.new) }
         ensures begins { Begins
-            (IsEnd (exec_of genesis.now.book.value) (first_chain self.now.system)) out.old out.new
-            result }
+            (IsEnd genesis.now.book.value (first_chain self.now.system)) out.old out.new result }
     {
         let Some(snapshot) = self.system.snapshot(0) else {
             return Ok(true);
         };
-        let verdict = audit(self.alloc, genesis, snapshot)?;
+        let verdict = verdict_of(self.alloc, genesis, snapshot)?;
         print_state(self.alloc, snapshot, out)?;
-        print_audit(verdict, out)
+        print_verdict(verdict, out)
     }
 }
 

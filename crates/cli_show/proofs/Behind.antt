@@ -6,7 +6,7 @@ use Rattle.std.specs.List.{flat_map}
 use Rattle.std.specs.Io.KnownBytes.{Appends}
 use Rattle.serde_json.specs.Data.{Data}
 use Rattle.ledger_model.specs.Chain.{Bytes}
-use Rattle.json_chain.specs.Plain.{IsTextOf}
+use Rattle.json_chain.specs.JsonText.{IsJsonText}
 use Rattle.cli_lines.specs.Texts.{line}
 use Rattle.cli_show.specs.Lines.{AreTextsOf, HasLines}
 
@@ -23,7 +23,7 @@ appends_more (Some xs) (Some ys) (Some zs) s t h k = rw (k, h) (simp append_asso
 pub no_lines : (b : Option Bytes) → HasLines [] b b
 no_lines b = ([], tt, appends_none b)
 
-pub one_line : (d : Data) (text : Bytes) (a b : Option Bytes) → IsTextOf d text → Appends a b (line text) → HasLines (d ∷ []) a b
+pub one_line : (d : Data) (text : Bytes) (a b : Option Bytes) → IsJsonText d text → Appends a b (line text) → HasLines (d ∷ []) a b
 one_line d text a b is h =
     (text ∷ [], (is, tt), subst (λ (s : Bytes). Appends a b s) (sym (append-nil (line text))) h)
 
@@ -42,7 +42,7 @@ more_lines ds es a b c h k = (
 
 -- one line more
 pub line_behind : (before after : List Data) (d : Data) (text : Bytes) (a b c : Option Bytes) → after ≡ before ++ d ∷ [] → HasLines before a b →
-    IsTextOf d text → Appends b c (line text) → HasLines after a c
+    IsJsonText d text → Appends b c (line text) → HasLines after a c
 line_behind before after d text a b c longer h is k =
     subst (λ (ds : List Data). HasLines ds a c) (sym longer) (more_lines before (d ∷ []) a b c h (one_line d text b c is k))
 

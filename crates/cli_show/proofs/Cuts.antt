@@ -1,7 +1,6 @@
 -- Parts of a chain, and of the shared blocks that hold it.
 use Rattle.std.proofs.Common.{◌≡◌, ℕ, zero, suc, ◌+◌, ◌-◌, ◌<◌, ◌≤◌, List, [], ◌∷◌, ◌++◌, length, get_or, take, drop, refl, sym, ap, ◌∙◌, arith, min}
-use Rattle.std.proofs.Common.{Bool, true, false, Some, length-drop}
-use Rattle.std.specs.List.{find}
+use Rattle.std.proofs.Common.{length-drop}
 use Rattle.std.specs.declared.sync.Arc.{Arc}
 use Rattle.std.specs.declared.alloc.Global.{Global}
 use Rattle.world_state.specs.Shared.{blocks_in}
@@ -84,17 +83,3 @@ taken_length zero [] within = refl
 taken_length (suc n) [] within = absurd (omega arith)
 taken_length zero (x ∷ xs) within = refl
 taken_length (suc n) (x ∷ xs) within = ap suc (taken_length n xs (omega arith))
-
--- what stands from a place on begins with the block there
-pub block_at : {A : Type 0} (i : ℕ) (xs : List (Arc A Global)) (x : Arc A Global) → i < length xs → x ≡ get_or xs i x →
-    drop i (blocks_in xs) ≡ x.value ∷ drop (i + 1) (blocks_in xs)
-block_at i [] x within is = absurd (omega arith)
-block_at {A} zero (y ∷ xs) x within is = ap (λ (a : Arc A Global). a.value ∷ blocks_in xs) (sym is)
-block_at {A} (suc i) (y ∷ xs) x within is = let next : suc i + 1 ≡ suc (i + 1) = omega arith in rw next (block_at i xs x (omega arith) is)
-
--- a search passes over a block, or ends at it
-pub find_behind : {A : Type 0} (test : A → Bool) (x : A) (xs : List A) → test x ≡ false → find test (x ∷ xs) ≡ find test xs
-find_behind test x xs is = rw is refl
-
-pub find_here : {A : Type 0} (test : A → Bool) (x : A) (xs : List A) → test x ≡ true → find test (x ∷ xs) ≡ Some x
-find_here test x xs is = rw is refl

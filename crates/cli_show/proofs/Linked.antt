@@ -14,7 +14,8 @@ use Rattle.committer.specs.declared.refusal.CommitRefusal.{CommitRefusal}
 use Rattle.world_state.specs.Shared.{blocks_in}
 use Rattle.ledger_setting.specs.Judging.{next_by}
 use Rattle.store_replay.specs.Replay.{Replays}
-use Rattle.cli_show.proofs.Cuts.{block_at, taken_length}
+use Rattle.cli_lines.proofs.SharedBlocks.{block_at}
+use Rattle.cli_show.proofs.Cuts.{taken_length}
 
 fits_header : (blocks : List Block) (b : Block) → Fits blocks b → b.header ≡ next_header blocks b.envelopes
 fits_header blocks b f = λ i. record { number = f.number i; previous_hash = f.previous_hash i; data_hash = f.data_hash i }

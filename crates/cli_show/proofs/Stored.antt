@@ -8,7 +8,6 @@ use Rattle.ledger_model.specs.Chain.{Chain}
 use Rattle.ledger_model.proofs.Judged.{flags_kept}
 use Rattle.endorsement_policy.specs.Endorsed.{Listed}
 use Rattle.block_store.specs.Loading.{Gives, StoreGives}
-use Rattle.block_store.specs.Progress.{Progress, Reads}
 use Rattle.block_store.specs.Store.{Loads}
 use Rattle.block_store.specs.declared.end.End.{End}
 use Rattle.block_store.specs.declared.end.End.TheVariants.{Clean, Torn, Damaged, DeviceFailed}
@@ -42,10 +41,6 @@ blocks_stored bytes cs Torn h = blocks_given bytes cs Torn h
 blocks_stored bytes cs (Damaged n) h = blocks_given bytes cs (Damaged n) h
 blocks_stored bytes cs DeviceFailed h = blocks_given h.0 cs DeviceFailed h.3
 
-blocks_read : (n : ℕ) (bytes : List ℕ) (cs : List Committed) (last : Progress) → Reads n bytes cs last → AreBlocks cs
-blocks_read n bytes [] last h = tt
-blocks_read n bytes (c ∷ cs) last h = (h.1.block.block, blocks_read (suc n) h.0 cs last h.3)
-
 blocks_more : (cs : List Committed) (c : Committed) → AreBlocks cs → IsBlock c.block → AreBlocks (cs ++ c ∷ [])
 blocks_more [] c h k = (k, tt)
 blocks_more (d ∷ cs) c h k = (h.0, blocks_more cs c h.1 k)
@@ -53,7 +48,7 @@ blocks_more (d ∷ cs) c h k = (h.0, blocks_more cs c h.1 k)
 -- ---- block after block
 
 module _ (r : Listed) where
-  one_more : (chain : Chain) (b : Block) → IsChainOf r chain → IsBlock b → IsChainOf r (chain ++ next_by (table_of r) chain b ∷ [])
+  pub one_more : (chain : Chain) (b : Block) → IsChainOf r chain → IsBlock b → IsChainOf r (chain ++ next_by (table_of r) chain b ∷ [])
   one_more chain b of known = record {
     blocks = blocks_more chain (next_by (table_of r) chain b) of.blocks known;
     flags = flags_kept (table_of r) chain b of.flags;
@@ -77,5 +72,5 @@ module _ (r : Listed) where
       let of = h.2 in
       replays [] of.records p.snapshot p.differs p.refused of.replays (record { blocks = tt; flags = tt }) (blocks_stored h.0 of.records p.end of.gives)
 
-  pub of_records : (bytes : List ℕ) (chain : Chain) (last : Progress) → Reads 1 bytes chain last → AreLawful (table_of r) [] chain → IsChainOf r chain
-  of_records bytes chain last reads are = lawful [] chain (record { blocks = tt; flags = tt }) are (blocks_read 1 bytes chain last reads)
+  pub of_records : (bytes : List ℕ) (chain : Chain) (end : End) → Loads 1 bytes chain end → AreLawful (table_of r) [] chain → IsChainOf r chain
+  of_records bytes chain end loads are = lawful [] chain (record { blocks = tt; flags = tt }) are (blocks_loaded 1 bytes chain end loads)

@@ -15,13 +15,13 @@ use Rattle.store_replay.specs.declared.replaying.Replayed.{Replayed}
 use Rattle.json_chain.specs.Endings.{ending_json}
 use Rattle.json_chain.specs.declared.ending.Finding.{Finding}
 use Rattle.json_chain.specs.declared.ending.Finding.TheVariants.{FlagsDiffer, Unfit, NotAtHand, Audited}
-use Rattle.cli_lines.specs.Lines.{audit_text}
+use Rattle.cli_lines.specs.Lines.{audit_text, missing_text}
+use Rattle.cli_lines.specs.Missing.{first_missing}
 use Rattle.cli_lines.specs.Texts.{line, refused}
 use Rattle.cli_lines.specs.declared.failure.Failure.{Failure}
 use Rattle.cli_lines.specs.declared.failure.Failure.TheVariants.{Printed}
 use Rattle.cli_show.specs.Answers.{end_fault}
 use Rattle.cli_show.specs.Lines.{AreFirstLines, AreLines, HasLines, chain_json}
-use Rattle.cli_show.specs.Missing.{first_missing}
 
 -- the audit is made only of a chain with the table's flags whose store has no block that does not fit, and where each module that it
 -- upgrades to is at hand
@@ -58,7 +58,7 @@ ends_with false None = Err Printed
 abbrev pub finding_text : Finding → Bytes
 finding_text (FlagsDiffer block) = codes "flags differ " ++ (decimal block ++ codes "\n")
 finding_text (Unfit cause) = line (refused (refusal_number cause))
-finding_text (NotAtHand block) = codes "refused 406 block " ++ (decimal block ++ codes "\n")
+finding_text (NotAtHand block) = missing_text block
 finding_text (Audited audit) = audit_text audit
 
 abbrev pub found_text : ℕ → Finding → Bytes

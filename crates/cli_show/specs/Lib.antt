@@ -1,6 +1,5 @@
 pub mod Spans
 pub mod Lines
-pub mod Missing
 pub mod Answers
 pub mod Findings
 pub mod Simulations

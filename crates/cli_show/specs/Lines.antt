@@ -7,7 +7,7 @@ use Rattle.ledger_model.specs.Chain.{Bytes, Chain}
 use Rattle.ledger_setting.specs.declared.genesis.Genesis.{Genesis}
 pub use Rattle.json_chain.specs.Entries.{entries_json}
 use Rattle.json_chain.specs.Genesis.{genesis_json}
-use Rattle.json_chain.specs.Plain.{IsTextOf}
+use Rattle.json_chain.specs.JsonText.{IsJsonText}
 use Rattle.json_chain.specs.Standing.{blocks_json}
 pub use Rattle.json_chain.specs.Writes.{write_json, writes_json}
 use Rattle.cli_lines.specs.Texts.{line}
@@ -19,7 +19,7 @@ abbrev pub AreTextsOf : List Data → List Bytes → Type 0
 AreTextsOf [] [] = Unit {0}
 AreTextsOf [] (text ∷ texts) = ⊥
 AreTextsOf (d ∷ ds) [] = ⊥
-AreTextsOf (d ∷ ds) (text ∷ texts) = IsTextOf d text × AreTextsOf ds texts
+AreTextsOf (d ∷ ds) (text ∷ texts) = IsJsonText d text × AreTextsOf ds texts
 
 -- a text of lines, each of which is the text of the value at its place
 abbrev pub AreLines : List Data → Bytes → Type 0

@@ -8,7 +8,7 @@ use crate::explaining::explain_findings;
 use crate::findings::{ends_with, finding_of, is_good};
 use crate::replaying::replayed;
 use crate::showing::end_fault;
-use cli_lines::{Failure, Files, Printer, print_audit};
+use cli_lines::{Failure, Files, Printer, print_audit, print_missing};
 use endorsement_policy::Workers;
 use json_chain::Finding;
 use ledger_setting::Genesis;
@@ -73,7 +73,7 @@ fn print_finding<W: Write>(finding: Finding, out: &mut Printer<'_, W>) -> Result
     match finding {
         Finding::FlagsDiffer(block) => writeln!(out, "flags differ {block}"),
         Finding::Unfit(refusal) => writeln!(out, "{refusal}"),
-        Finding::NotAtHand(block) => writeln!(out, "refused 406 block {block}"),
+        Finding::NotAtHand(block) => print_missing(block, out),
         Finding::Audited(audit) => {
             print_audit(audit, out)?;
             Ok(())

@@ -5,7 +5,7 @@ ghost use Rattle.cli_lines.specs.Told.{IsBrokenOff, Tells};
 ghost use Rattle.world_state.specs.Shared.{blocks_in};
 ghost use Rattle.endorsement_policy.specs.Membership.{standing_by};
 ghost use Rattle.json_chain.specs.Blocks.{block_json};
-ghost use Rattle.json_chain.specs.Plain.{IsTextOf};
+ghost use Rattle.json_chain.specs.JsonText.{IsJsonText};
 ghost use Rattle.json_chain.specs.Standing.{blocks_json, membership_behind};
 ghost use Rattle.cli_show.specs.Lines.{HasLines, PrintsFirst, chain_json};
 ghost use Rattle.cli_show.specs.Spans.{before, within};
@@ -97,7 +97,7 @@ fn line_behind(
     committed: &CommittedBlock,
 ) -> Result<String, AllocError>
     ensures { IfOk result
-        (λ s. IsTextOf
+        (λ s. IsJsonText
         (block_json (standing_by rules.now (option_map (λ m. m.now) membership.entry)).orgs
         committed.now)
         (string_bytes s)) }

@@ -2,13 +2,12 @@
 
 ghost use Rattle.std.specs.Prelude.{◌≡◌};
 
-use crate::missing::first_missing;
 use crate::showing::{Asked, Shown, fault_of};
 use crate::span::Span;
 use block_store::{End, RecordReader};
 use cli_lines::{
-    Access, Failure, Files, Location, TAKE_AGAIN, block_words, explain, explain_trouble,
-    flags_words,
+    Access, Failure, Files, Location, TAKE_AGAIN, block_words, explain, explain_missing,
+    explain_trouble, flags_words,
 };
 use fab_types::limits::LAST_BLOCK;
 use ledger_setting::Genesis;
@@ -20,7 +19,7 @@ use wasm_profile::Profile;
 use wasm_reasons::module_reason;
 
 /// What becomes of a part of a record.
-const CUT_OFF: &str = "commit cuts it off";
+const CUT_OFF: &str = "ledger peer cuts it off";
 
 /// How many bytes of a store are read at a time.
 const PIECE: u64 = 65_536;
@@ -81,7 +80,15 @@ pub(crate) fn explain_findings<F: Files>(
     match (replayed.differs, replayed.refused) {
         (Some(block), _) => explain_flags(alloc, files, name, block, "flags differ"),
         (None, Some(_)) => explain_unfit(alloc, files, name, replayed),
-        (None, None) => explain_missing(alloc, files, genesis, name, replayed),
+        (None, None) => {
+            explain_missing(
+                alloc,
+                files,
+                name,
+                &genesis.book,
+                replayed.snapshot.blocks(),
+            );
+        }
     }
     explain_end(alloc, files, name, replayed.blocks, replayed.end);
 }
@@ -164,24 +171,6 @@ fn explain_unfit<F: Files>(alloc: Global, files: &mut F, name: &str, replayed: &
     if let Some(refusal) = replayed.refused {
         let block = replayed.snapshot.height().saturating_add(1);
         let words = block_words(alloc, block, refusal);
-        explain(alloc, files, &Location::file(name), words);
-    }
-}
-
-/// Says which block upgrades to a module that is not at hand, if one does.
-fn explain_missing<F: Files>(
-    alloc: Global,
-    files: &mut F,
-    genesis: &Genesis,
-    name: &str,
-    replayed: &Replayed,
-)
-    ensures kept { F.bytes files.new ≡ F.bytes files.old }
-{
-    if let Some(block) = first_missing(&genesis.book, replayed.snapshot.blocks()) {
-        let words = format!(in alloc;
-            "block {block} upgrades to a module that is not at hand; give it by --modules (406)"
-        );
         explain(alloc, files, &Location::file(name), words);
     }
 }

@@ -4,9 +4,8 @@ ghost use Rattle.std.specs.Prelude.{◌≡◌, ◌<◌, [], IfErr, IfOk, OnErr};
 ghost use Rattle.cli_lines.specs.Told.{IsBrokenOff, PrintsNothing, Tells};
 ghost use Rattle.cli_show.specs.Findings.{EndsBy, Finds, ends_with, is_good};
 
-use crate::missing::first_missing;
 use block_store::End;
-use cli_lines::{Failure, Printer, print_line};
+use cli_lines::{Failure, Printer, first_missing, print_line};
 use fabric_core::{Audit, audit};
 use json_chain::{Finding, ending_line};
 use ledger_setting::Genesis;

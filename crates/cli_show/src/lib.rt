@@ -17,7 +17,6 @@ mod findings;
 mod laws;
 mod marking;
 mod members;
-mod missing;
 mod replaying;
 mod showing;
 mod simulation;

@@ -15,8 +15,8 @@ use std::io::Write;
 /// The number of this program: another one where it does something else.
 const PROGRAM: u8 = 1;
 
-/// The number of the lines that its filters read and print.
-const LINES: u8 = 1;
+/// The number of the lines that `peer` reads and prints.
+const LINES: u8 = 2;
 
 /// The number of the ledger's rules: programs of one number make of the same lines the same chain.
 const RULES: u8 = 1;

@@ -39,12 +39,12 @@ use Rattle.json_chain.specs.Transactions.{with_proposal, with_rest}
 use Rattle.json_chain.specs.Blocks.{block_json}
 use Rattle.json_chain.specs.Genesis.{chaincode_json, module_json, named_json, org_json, policy_json, genesis_json}
 use Rattle.json_chain.specs.Entries.{placed_write_json}
-use Rattle.json_chain.specs.Plain.{IsTextOf}
+use Rattle.json_chain.specs.JsonText.{IsJsonText}
 
 -- the line of a value that is these data is their text
 pub text_of : {E : Type 0} (r : Result (String Global) E) (v d : Data) → v ≡ d → has_float d ≡ false →
     IfOk r (λ s. has_float v ≡ false → string_bytes s ≡ compact_text v) → IfOk r (λ s. read (string_bytes s) ≡ Some v) →
-    IfOk r (λ s. IsTextOf d (string_bytes s))
+    IfOk r (λ s. IsJsonText d (string_bytes s))
 text_of (Ok s) v d is plain exact back =
     record { exact = exact (ap has_float is ∙ plain) ∙ ap compact_text is; read = back ∙ ap Some is }
 text_of (Err e) v d is plain exact back = tt

@@ -1,5 +1,5 @@
 pub mod Texts
-pub mod Plain
+pub mod JsonText
 pub mod Members
 pub mod Sets
 pub mod Memberships

@@ -9,7 +9,7 @@ use Rattle.ledger_model.specs.State.{write_of}
 use Rattle.wire.specs.Ids.{id_of}
 use Rattle.serde_json.specs.Data.{Data}
 use Rattle.json_chain.specs.Entries.{placed_write_json}
-use Rattle.json_chain.specs.Plain.{IsTextOf}
+use Rattle.json_chain.specs.JsonText.{IsJsonText}
 
 abbrev pub placed_at : Envelope → Flag → (block place : ℕ) → Placed
 placed_at e flag block place = record { version = record { block = block; place = place }; envelope = e; flag = flag }
@@ -31,7 +31,7 @@ abbrev pub IsLineOf : Option Data → Option (String Global) → Type 0
 IsLineOf None None = Unit {0}
 IsLineOf None (Some s) = ⊥
 IsLineOf (Some d) None = ⊥
-IsLineOf (Some d) (Some s) = IsTextOf d (string_bytes s)
+IsLineOf (Some d) (Some s) = IsJsonText d (string_bytes s)
 
 -- what the transaction did to the key, if it did anything
 abbrev pub IsWriteLine : Envelope → Flag → List ℕ → (block place : ℕ) → Option (String Global) → Type 0

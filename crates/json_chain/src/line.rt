@@ -10,7 +10,7 @@ ghost use Rattle.json_chain.specs.Endings.{ending_json};
 ghost use Rattle.json_chain.specs.Entries.{entry_json};
 ghost use Rattle.json_chain.specs.Genesis.{genesis_json};
 ghost use Rattle.json_chain.specs.Memberships.{standing_behind};
-ghost use Rattle.json_chain.specs.Plain.{IsTextOf};
+ghost use Rattle.json_chain.specs.JsonText.{IsJsonText};
 ghost use Rattle.json_chain.specs.Writes.{IsWriteLine};
 
 use crate::block::block_of;
@@ -41,7 +41,7 @@ pub fn line_of(alloc: Global, value: &Value) -> Result<String, AllocError>
 
 /// What a ledger begins with, but for the shared keys. The only error is want of memory.
 pub fn genesis_line(alloc: Global, genesis: &Genesis) -> Result<String, AllocError>
-    ensures { IfOk result (λ s. IsTextOf (genesis_json genesis.now) (string_bytes s)) }
+    ensures { IfOk result (λ s. IsJsonText (genesis_json genesis.now) (string_bytes s)) }
 {
     line_of(alloc, &genesis_of(alloc, genesis)?)
 }
@@ -54,7 +54,7 @@ pub fn block_line(
     committed: &CommittedBlock,
 ) -> Result<String, AllocError>
     ensures { IfOk result
-        (λ s. IsTextOf (block_json organisations.now committed.now) (string_bytes s)) }
+        (λ s. IsJsonText (block_json organisations.now committed.now) (string_bytes s)) }
 {
     line_of(alloc, &block_of(alloc, organisations, committed)?)
 }
@@ -67,7 +67,7 @@ pub fn standing_line(
     snapshot: &Snapshot,
 ) -> Result<String, AllocError>
     ensures { IfOk result
-        (λ s. IsTextOf (standing_behind rules.now snapshot.now) (string_bytes s)) }
+        (λ s. IsJsonText (standing_behind rules.now snapshot.now) (string_bytes s)) }
 {
     line_of(alloc, &standing_of(alloc, rules, snapshot)?)
 }
@@ -80,7 +80,7 @@ pub fn ending_line(
     blocks: usize,
     end: End,
 ) -> Result<String, AllocError>
-    ensures { IfOk result (λ s. IsTextOf (ending_json finding blocks end) (string_bytes s)) }
+    ensures { IfOk result (λ s. IsJsonText (ending_json finding blocks end) (string_bytes s)) }
 {
     line_of(alloc, &ending_of(alloc, finding, blocks, end)?)
 }
@@ -94,7 +94,7 @@ pub fn entry_line(
     version: Version,
 ) -> Result<String, AllocError>
     ensures { IfOk result
-        (λ s. IsTextOf (entry_json key.now value.now version) (string_bytes s)) }
+        (λ s. IsJsonText (entry_json key.now value.now version) (string_bytes s)) }
 {
     line_of(alloc, &entry_of(alloc, key, value, version)?)
 }

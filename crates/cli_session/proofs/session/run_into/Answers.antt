@@ -1,7 +1,6 @@
 use Rattle.std.proofs.Common.{arith, refl}
 use Rattle.ledger_setting.specs.Limits.{limits_of}
 use Rattle.fabric_core.specs.System.{fresh_orderer}
-use Rattle.simulator.specs.Execution.{exec_of}
 use Rattle.cli_lines.proofs.Answering.{begins_by}
 use Rattle.cli_lines.proofs.Printing.{on_err}
 use Rattle.cli_session.specs.Stages.{Stage, stage_at}
@@ -31,7 +30,7 @@ returns-clause-begins g c =
     let genesis = c.args.genesis.now in
     let held = g.B.Read.remaining c.args.lines.now in
     let start : Stage = record { system = c.in_ok-system.system; names = c.new-bindings.result } in
-    begins_by (BeginsFrom (exec_of genesis.book.value) held start) (LinesBegin genesis held) c.args.out.now c.run_to_end.new.out c.run_to_end.result
+    begins_by (BeginsFrom genesis.book.value held start) (LinesBegin genesis held) c.args.out.now c.run_to_end.new.out c.run_to_end.result
     (λ text from. (start, record { system = c.in_ok-system.ensures; names = c.new-bindings.ensures }, from)) c.run_to_end.ensures.begins
 
 pub returns-in_err-system-clause-kept : goal.returns-in_err-system-clause-kept

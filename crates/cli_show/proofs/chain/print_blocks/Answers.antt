@@ -8,7 +8,7 @@ use Rattle.endorsement_policy.specs.Membership.{standing_by}
 use Rattle.world_state.specs.Shared.{blocks_in}
 use Rattle.serde_json.specs.Data.{Data}
 use Rattle.json_chain.specs.Blocks.{block_json}
-use Rattle.json_chain.specs.Plain.{IsTextOf}
+use Rattle.json_chain.specs.JsonText.{IsJsonText}
 use Rattle.json_chain.specs.Standing.{amended_by, blocks_json, membership_behind}
 use Rattle.cli_lines.proofs.Printing.{nothing_same, on_err}
 use Rattle.cli_lines.proofs.Silence.{and_more}
@@ -44,8 +44,8 @@ loop-committed-preserved g c =
     drop_more xs k x (omega (arith, c.loop-committed-test.true)) ∙ ap (λ (a : Arc Committed Global). a ∷ drop (k + 1) xs) (sym c.committed-item.is) in
     let split : drop k all ≡ json ∷ rest = inv.left ∙ ap (λ (ys : List (Arc Committed Global)). blocks_json r was (blocks_in ys)) here in
     let text = string_bytes c.in_ok-line.line in
-    let is : IsTextOf json text =
-    subst (λ (b : Committed). IsTextOf (block_json (standing_by r was).orgs b) text) c.deref.ensures c.in_ok-line.ensures in
+    let is : IsJsonText json text =
+    subst (λ (b : Committed). IsJsonText (block_json (standing_by r was).orgs b) text) c.deref.ensures c.in_ok-line.ensures in
     let next : option_map (λ s. s.now) c.amended_by-membership.result ≡ behind =
     c.amended_by-membership.ensures ∙ ap (λ (b : Committed). amended_by was b.block.envelopes b.flags) c.deref-in-loop-committed.ensures in
     record {

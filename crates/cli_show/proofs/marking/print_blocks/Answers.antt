@@ -10,7 +10,8 @@ use Rattle.world_state.specs.Shared.{blocks_in}
 use Rattle.log_orderer.specs.Marks.{block_marks}
 use Rattle.cli_lines.proofs.Silence.{and_more}
 use Rattle.cli_show.specs.Marks.{HasTexts}
-use Rattle.cli_show.proofs.Cuts.{block_at, one_block}
+use Rattle.cli_lines.proofs.SharedBlocks.{block_at}
+use Rattle.cli_show.proofs.Cuts.{one_block}
 use Rattle.cli_show.proofs.MarkLines.{block_behind, block_part}
 use Rattle.cli_show.proofs.marking.print_blocks.Goals as goal
 

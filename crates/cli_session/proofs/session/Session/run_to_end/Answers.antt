@@ -1,6 +1,5 @@
 use Rattle.std.proofs.Common.{◌∙◌, arith, inl, inr}
 use Rattle.std.proofs.lemmas.Result.{err_from_is_err_and}
-use Rattle.simulator.specs.Execution.{exec_of}
 use Rattle.cli_lines.proofs.Printing.{on_err}
 use Rattle.cli_lines.proofs.Silence.{tells_by, and_more}
 use Rattle.cli_session.specs.Stages.{stage_at}
@@ -27,7 +26,7 @@ returns-in_err-write_store g c =
           placed_by g.F.Files.is_known c.args.store c.in-Some-Some.target (g.F.Files.bytes c.args.files.now) (g.F.Files.bytes c.run_lines.new.files)
           (g.F.Files.bytes c.write_store.new.files) c.in-Some-Some.is-0 c.run_lines.ensures.kept c.write_store.ensures.others;
       begins =
-          λ broken. inr (all_begun (exec_of c.args.genesis.now.book.value) (g.B.Read.remaining c.args.lines.now)
+          λ broken. inr (all_begun c.args.genesis.now.book.value (g.B.Read.remaining c.args.lines.now)
           (stage_at c.args.self.now.system c.args.self.now.bindings) (stage_at c.run_lines.new.self.system c.run_lines.new.self.bindings)
           c.in_ok-is_good.is_good c.args.out.now c.run_lines.new.out c.print_end.new.out c.in_ok-run_lines.ensures.does c.in_ok-is_good.ensures.ends);
     })
@@ -70,12 +69,12 @@ returns-in_err-run_lines-clause-stops g c =
 
 pub returns-in_err-run_lines-clause-begins : goal.returns-in_err-run_lines-clause-begins
 returns-in_err-run_lines-clause-begins g c =
-    λ broken. inr (first_begun (exec_of c.args.genesis.now.book.value) (g.B.Read.remaining c.args.lines.now)
+    λ broken. inr (first_begun c.args.genesis.now.book.value (g.B.Read.remaining c.args.lines.now)
     (stage_at c.args.self.now.system c.args.self.now.bindings) c.args.out.now c.run_lines.new.out c.in_err-run_lines.ensures.first)
 
 pub returns-in_err-is_good-clause-begins : goal.returns-in_err-is_good-clause-begins
 returns-in_err-is_good-clause-begins g c =
-    λ broken. inr (end_begun (exec_of c.args.genesis.now.book.value) (g.B.Read.remaining c.args.lines.now)
+    λ broken. inr (end_begun c.args.genesis.now.book.value (g.B.Read.remaining c.args.lines.now)
     (stage_at c.args.self.now.system c.args.self.now.bindings) (stage_at c.run_lines.new.self.system c.run_lines.new.self.bindings)
     c.args.out.now c.run_lines.new.out c.print_end.new.out c.in_ok-run_lines.ensures.does
     (c.in_err-is_good.ensures.begins c.in_err-is_good.ensures.lost))

@@ -2,7 +2,7 @@ use Rattle.std.proofs.Common.{◌≡◌, ℕ, suc, List, length}
 use Rattle.cli_session.specs.Reading.{TakesLines}
 use Rattle.cli_session.specs.Running.{AreLines}
 use Rattle.cli_session.specs.Stages.{DoesPrint, stage_at}
-use Rattle.cli_session.proofs.session.Session.run_lines.Given as goal
+use Rattle.cli_session.proofs.session.Session.do_lines.Given as goal
 
 abbrev pub invariant-loop-number : goal.invariant-loop-number
 invariant-loop-number g l =
