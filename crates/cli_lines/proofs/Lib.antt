@@ -4,4 +4,5 @@ pub mod Changes
 pub mod Found
 pub mod KeyFiles
 pub mod Printing
+pub mod SharedBlocks
 pub mod Silence

@@ -75,6 +75,10 @@ abbrev pub audit_text : Audit → List ℕ
 audit_text (Agrees rerun) = codes "audit agrees\n"
 audit_text (Differs block tx) = codes "audit differs " ++ (decimal block ++ (codes "." ++ (decimal tx ++ codes "\n")))
 
+-- the block of this number upgrades to a module that is not at hand, so that its chain cannot be run again
+abbrev pub missing_text : ℕ → List ℕ
+missing_text block = codes "refused 406 block " ++ (decimal block ++ codes "\n")
+
 -- whether all transactions agree with their reruns
 abbrev pub does_agree : Audit → Bool
 does_agree (Agrees rerun) = true

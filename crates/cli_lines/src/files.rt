@@ -92,11 +92,13 @@ pub trait Files {
         ensures removed { is_known ≡ true → bytes self.new name.now ≡ None }
         ensures others { ChangesOnly is_known (name.now ∷ []) (bytes self.old) (bytes self.new) };
 
-    /// Opens a file for reading, from its first byte on, and for writing at its end, and makes it
-    /// where there is none. The program has it for itself alone. None where that cannot be done,
-    /// and where another one has the file so, by `lock` too.
+    /// Opens a file for reading, and for writing at its end, and makes it where there is none. The
+    /// program has it for itself alone. None where that cannot be done, and where another one has
+    /// the file so, by `lock` too.
     fn open_store(&mut self, name: &str) -> Option<Self::Store>
-        ensures read { IfSome result (λ s. Self.Store.remaining s ≡ bytes self.old name.now) }
+        ensures held { IfSome result (λ s. Self.Store.contents s ≡ bytes self.old name.now) }
+        ensures there { is_known ≡ true →
+            IfSome result (λ _. bytes self.new name.now ≡ bytes self.old name.now) }
         ensures input { input_bytes self.new ≡ input_bytes self.old }
         ensures others { ChangesOnly is_known (name.now ∷ []) (bytes self.old) (bytes self.new) };
 

@@ -110,7 +110,7 @@ fn first_lacking<'a>(genesis: &Genesis, orgs: &'a [OrgName]) -> Option<&'a OrgNa
 }
 
 /// Says whose seed is missing, and where it is looked for (808).
-pub fn explain_no_seed<F: Files>(alloc: Global, files: &mut F, org: &OrgName)
+fn explain_no_seed<F: Files>(alloc: Global, files: &mut F, org: &OrgName)
     ensures kept { F.bytes files.new ≡ F.bytes files.old }
 {
     if let Ok(org) = String::from_utf8_lossy(alloc, org.as_slice()) {

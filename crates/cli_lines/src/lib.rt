@@ -19,6 +19,7 @@ mod lines;
 mod meanings;
 mod memory_files;
 mod memory_store;
+mod missing;
 mod opening;
 mod printer;
 mod verdict;
@@ -30,13 +31,12 @@ pub use explaining::{
 };
 pub use failure::Failure;
 pub use files::{Access, FileFault, Files, Target, read_all};
-pub use keys::{explain_no_seed, keys_in, need_seeds, signers_in};
-pub use lines::{
-    hex_of, id_of, print_committed, print_line, print_payload, print_simulation, version_of,
-};
+pub use keys::{keys_in, need_seeds, signers_in};
+pub use lines::{hex_of, id_of, print_committed, print_line, print_payload, version_of};
 pub use meanings::{TAKE_AGAIN, block_words, flags_words, meaning, simulation_words};
 pub use memory_files::MemoryFiles;
 pub use memory_store::MemoryStore;
+pub use missing::{explain_missing, first_missing};
 pub use opening::{genesis_holding, genesis_in, modules_in};
 pub use printer::Printer;
-pub use verdict::print_audit;
+pub use verdict::{print_audit, print_missing};

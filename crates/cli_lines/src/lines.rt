@@ -3,7 +3,7 @@
 ghost use Rattle.std.specs.Prelude.{◌≡◌, ◌<◌, true, IfErr, IfOk, OnErr, OnOk, string_bytes};
 ghost use Rattle.std.specs.Io.KnownBytes.{Appends};
 ghost use Rattle.std.specs.List.{flat_map};
-ghost use Rattle.cli_lines.specs.Lines.{committed_text, head_text, hex_text, id_text, payload_text, range_text, read_text, simulation_line, version_text, write_text};
+ghost use Rattle.cli_lines.specs.Lines.{committed_text, head_text, hex_text, id_text, payload_text, range_text, read_text, version_text, write_text};
 ghost use Rattle.cli_lines.specs.Texts.{line};
 ghost use Rattle.cli_lines.specs.Told.{IsBrokenOff, Prints, PrintsNothing, PrintsPart, Tells};
 
@@ -11,7 +11,6 @@ use crate::committed::CommittedText;
 use crate::failure::Failure;
 use crate::printer::Printer;
 use fab_types::{Flag, Payload, RangeItem, ReadItem, Version, WriteItem};
-use simulator::SimRefusal;
 use std::alloc::{AllocError, Global};
 use std::io::Write;
 use wire::payload_id;
@@ -190,20 +189,6 @@ pub fn print_payload<W: Write>(
     print_reads(alloc, payload.reads().as_slice(), out)?;
     print_ranges(alloc, payload.ranges().as_slice(), out)?;
     print_writes(alloc, payload.writes().as_slice(), out)
-}
-
-/// Prints why a simulation was refused.
-pub fn print_simulation<W: Write>(
-    refusal: SimRefusal,
-    out: &mut Printer<'_, W>,
-) -> Result<(), Failure>
-    ensures tells { Tells out.old out.new result }
-    ensures lost { IfErr result IsBrokenOff }
-    ensures prints { OnOk result (Prints out.old out.new (simulation_line refusal)) }
-    ensures failed { OnErr result (out.new.failed ≡ true) }
-    ensures nothing { OnErr result (PrintsNothing out.old out.new) }
-{
-    writeln!(out, "{refusal}")
 }
 
 /// Prints the number of a block that was committed, and its flags.

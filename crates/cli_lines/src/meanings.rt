@@ -50,7 +50,7 @@ fn call_meaning(number: u16) -> &'static str {
             "no module of that digest and profile is at hand; install it, or give it by --modules",
         407 => "the definition's text is no policy over the organisations; mend it",
         408 => "the membership is not the next, or cannot be used; see state --members",
-        409 => "it is an amendment; begin endorse with --agree if it is agreed to",
+        409 => "it is an amendment; send it behind agreed if the organisation agrees to it",
         _ => "the queue is full; take, and submit it again",
     }
 }

@@ -136,9 +136,8 @@ impl Files for MemoryFiles {
 
     fn open_store(&mut self, name: &str) -> Option<MemoryStore> {
         let bytes = self.by_name.get(name)?;
-        let unread = copy_of(self.alloc, bytes.as_slice()).ok()?;
         let held = copy_of(self.alloc, bytes.as_slice()).ok()?;
-        Some(MemoryStore::new(unread, held))
+        Some(MemoryStore::new(held))
     }
 
     fn close_store(&mut self, store: MemoryStore, name: &str) {

@@ -1,31 +1,23 @@
 //! A store in memory, of which every byte is known.
 
 ghost use Rattle.std.specs.Prelude.{◌≡◌};
-ghost use Rattle.std.specs.Io.Cursor.{cursor_inner, cursor_position};
 
-use std::io::{self, Cursor, Read, Write};
+use std::io::{self, Read, Write};
 use store_devices::StoreFile;
 
 /// The file of a store in memory. Nothing is lost there that it holds, so all of it counts as being
 /// on a disk.
 #[derive(Drop)]
 pub struct MemoryStore {
-    /// What is read of it, from its first byte on.
-    unread: Cursor<Vec<u8>>,
     bytes: Vec<u8>,
 }
 
 impl MemoryStore {
-    /// A file that holds these bytes. They are given twice: to be read, and to be written behind.
-    pub(crate) fn new(unread: Vec<u8>, bytes: Vec<u8>) -> MemoryStore
-        ensures unread { cursor_inner result.unread ≡ unread }
-        ensures start { cursor_position result.unread ≡ 0 }
-        ensures held { result.bytes ≡ bytes }
+    /// A file that holds these bytes.
+    pub(crate) fn new(bytes: Vec<u8>) -> MemoryStore
+        ensures { result.bytes ≡ bytes }
     {
-        MemoryStore {
-            unread: Cursor::new(unread),
-            bytes,
-        }
+        MemoryStore { bytes }
     }
 
     /// What it holds.
@@ -33,17 +25,6 @@ impl MemoryStore {
         ensures { result ≡ self.bytes }
     {
         self.bytes
-    }
-}
-
-impl Read for MemoryStore {
-    ghost use Rattle.std.specs.Prelude.{Some};
-    ghost use Rattle.std.specs.Io.Cursor.{cursor_remaining};
-
-    ghost remaining = { λ store. cursor_remaining (λ bytes. Some bytes.items) store.unread };
-
-    fn read(&mut self, buffer: &mut [u8]) -> io::Result<usize> {
-        self.unread.read(buffer)
     }
 }
 
@@ -65,6 +46,13 @@ impl StoreFile for MemoryStore {
     ghost use Rattle.std.specs.Prelude.{Some};
 
     ghost on_disk = { λ store. Some store.bytes.items };
+
+    fn read_at(&self, buffer: &mut [u8], place: u64) -> io::Result<usize> {
+        match self.bytes.get(place as usize..) {
+            Some(mut left) => left.read(buffer),
+            None => Ok(0),
+        }
+    }
 
     fn cut_back(&mut self, count: usize) -> io::Result<()> {
         let Some(left) = self.bytes.len().checked_sub(count) else {

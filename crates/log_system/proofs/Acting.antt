@@ -19,7 +19,7 @@ use Rattle.simulator.specs.Answers.{payload_or_refusal}
 use Rattle.simulator.specs.Execution.{exec_of}
 use Rattle.simulator.specs.declared.refusal.SimRefusal.{SimRefusal}
 use Rattle.log_orderer.specs.Log.{ReadsEach}
-use Rattle.log_roles.specs.Committing.{Commits}
+use Rattle.log_committer.specs.Committing.{Commits}
 use Rattle.endorser.specs.Endorsing.{endorsed_on}
 use Rattle.fabric_core.specs.System.{Noted, PeerState, World, chain_of_first, begin, finish, finish_reply, commit, commit_next, AreSteps}
 use Rattle.fabric_core.specs.declared.event.Event.TheVariants.{Begin, Finish, Commit}

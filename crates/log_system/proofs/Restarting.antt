@@ -16,9 +16,9 @@ use Rattle.ledger_setting.specs.Rule.{table_of}
 use Rattle.committer.specs.Fits.{blocks_of}
 use Rattle.store_replay.specs.Lawful.{AreLawful}
 use Rattle.log_orderer.specs.Log.{ReadsEach}
-use Rattle.log_roles.specs.Committing.{Commits, Receives, header_hash, own_hash}
-use Rattle.log_roles.specs.declared.receiving.Received.{Received}
-use Rattle.log_roles.specs.declared.receiving.Received.TheVariants.{Committed as WasCommitted, Known}
+use Rattle.log_committer.specs.Committing.{Commits, Receives, header_hash, own_hash}
+use Rattle.log_committer.specs.declared.receiving.Received.{Received}
+use Rattle.log_committer.specs.declared.receiving.Received.TheVariants.{Committed as WasCommitted, Known}
 use Rattle.fabric_core.specs.Headline.{IsAmong}
 use Rattle.fabric_core.specs.System.{chain_of_first}
 use Rattle.log_system.specs.Machines.{Act, DoesEach, IsRead, Joins, Setting, unread}
@@ -26,7 +26,7 @@ use Rattle.log_system.specs.Restarts.{AreToldApart, ReceivesEach}
 use Rattle.log_system.proofs.Acting.{IsBehind, acted_each}
 use Rattle.log_system.proofs.Among.{later_among, none_among, same_some}
 use Rattle.log_system.proofs.Firsts.{blocks_onto, log_linked}
-use Rattle.log_system.proofs.Roles.{follower_acts}
+use Rattle.log_system.proofs.Roles.{stored_acts}
 use Rattle.log_system.proofs.Stepping.{at_seam}
 
 -- what holds of who receives blocks: a lawful chain has its own blocks committed, who commits on has all committed, and such a chain is lawful
@@ -145,7 +145,7 @@ module _ (s : Setting) (lines : List (List ℕ)) (answers : List (Option (List B
       let next = chain ++ c ∷ [] in
       let same : next ++ more ≡ chain ++ c ∷ more = append_assoc chain (c ∷ []) more in (
         next,
-        follower_acts s lines org (length chain) c chain (read_at chain c more all) (lawful.0, lawful.1, tt),
+        stored_acts s lines org (length chain) c chain (read_at chain c more all) (lawful.0, lawful.1, tt),
         subst (λ (end : Chain). DoesEach s lines org next (map Joins more) end) same
             (joined_each next more lawful.2 (ap (λ (d : Chain). blocks_of d) same ∙ all)),
       )

@@ -1,4 +1,4 @@
--- What a committer, a follower and an endorser of a log do are acts of a machine.
+-- What a committer and an endorser of a log do are acts of a machine.
 use Rattle.std.proofs.Common.{◌≡◌, ◌≢◌, ◌⊎◌, ◌+◌, inl, inr, ℕ, List, [], ◌∷◌, ◌++◌, length, length-take, Option, Result, Ok, Err, refl, sym, ap, subst}
 use Rattle.std.proofs.Common.{◌∙◌, arith}
 use Rattle.std.proofs.lemmas.List.{length-map}
@@ -24,9 +24,9 @@ use Rattle.simulator.specs.declared.refusal.SimRefusal.{SimRefusal}
 use Rattle.simulator.specs.declared.refusal.SimRefusal.TheVariants as refusal
 use Rattle.store_replay.specs.Lawful.{AreLawful}
 use Rattle.log_orderer.specs.Log.{ReadsEach}
-use Rattle.log_roles.specs.Committing.{Receives}
+use Rattle.log_committer.specs.Committing.{Receives}
 use Rattle.endorser.specs.Endorsing.{endorsed_on, sealed_by}
-use Rattle.log_roles.specs.declared.receiving.Received.TheVariants as received
+use Rattle.log_committer.specs.declared.receiving.Received.TheVariants as received
 use Rattle.log_system.proofs.Firsts.{log_linked}
 use Rattle.log_system.specs.Machines.{Does, Endorses, IsRead, Joins, Setting, endorsing_at, endorsing_with, unread}
 
@@ -86,9 +86,9 @@ committer_acts s lines org place block old new is commits =
     let c : Committed = record { block = block; flags = judge (rule (history old)) (history old) (length old + 1) 0 block.envelopes } in
     (c, refl, (at_height s lines place block old is commits.0.0, commits, commits.1))
 
-pub follower_acts : (s : Setting) (lines : List (List ℕ)) (org : Bytes) (place : ℕ) (stored : Committed) (chain : Chain) → IsRead s lines place stored.block →
+pub stored_acts : (s : Setting) (lines : List (List ℕ)) (org : Bytes) (place : ℕ) (stored : Committed) (chain : Chain) → IsRead s lines place stored.block →
     AreLawful (table_of s.listed) chain (stored ∷ []) → Does s lines org chain (Joins stored) (chain ++ stored ∷ [])
-follower_acts s lines org place stored chain is lawful =
+stored_acts s lines org place stored chain is lawful =
     let rule : BlockRule = table_of s.listed in
     let c : Committed = record {
       block = stored.block;

@@ -15,7 +15,7 @@ use Rattle.ledger_setting.specs.Rule.{table_of}
 use Rattle.chaincode_book.specs.Books.{Book}
 use Rattle.simulator.specs.declared.refusal.SimRefusal.{SimRefusal}
 use Rattle.log_orderer.specs.Log.{ReadsEach}
-use Rattle.log_roles.specs.Committing.{Commits}
+use Rattle.log_committer.specs.Committing.{Commits}
 use Rattle.endorser.specs.Endorsing.{Endorsing, endorsed_on}
 use Rattle.fabric_core.specs.System.{fresh_orderer}
 

@@ -3,8 +3,8 @@ use Rattle.std.specs.Prelude.{◌≡◌, List, [], ◌∷◌, Ok}
 use Rattle.fab_types.specs.declared.block.Block.{Block}
 use Rattle.ledger_model.specs.Chain.{Chain}
 use Rattle.ledger_model.specs.Judged.{BlockRule}
-use Rattle.log_roles.specs.Committing.{Receives, header_hash}
-use Rattle.log_roles.specs.declared.receiving.Received.{Received}
+use Rattle.log_committer.specs.Committing.{Receives, header_hash}
+use Rattle.log_committer.specs.declared.receiving.Received.{Received}
 use Rattle.fabric_core.specs.Headline.{IsAmong}
 
 -- these blocks came one after another, and none was refused: each was committed, or stood for the chain's block of its number

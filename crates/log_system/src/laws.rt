@@ -10,8 +10,10 @@ ghost use Rattle.batch_cutter.specs.Division.{Limits};
 ghost use Rattle.orderer.specs.Ordering.{AreLimits, Ordering};
 ghost use Rattle.orderer.specs.declared.report.BatchReport.{BatchReport};
 ghost use Rattle.log_orderer.specs.Log.{ReadsEach};
+ghost use Rattle.log_orderer.specs.Reported.{answer_of};
+ghost use Rattle.log_orderer.specs.declared.replica.LineReport.{LineReport};
 ghost use Rattle.ledger_model.specs.Chain.{Bytes, Chain, Committed};
-ghost use Rattle.ledger_model.specs.Judged.{judged_chain};
+ghost use Rattle.ledger_model.specs.Judged.{BlockRule, judged_chain};
 ghost use Rattle.ledger_model.specs.Serial.{IsPrefix};
 ghost use Rattle.ledger_model.specs.Views.{Plain};
 ghost use Rattle.committer.specs.Fits.{Fits, blocks_of};
@@ -22,21 +24,24 @@ ghost use Rattle.simulator.specs.Execution.{IsPartOf, exec_of};
 ghost use Rattle.simulator.specs.declared.refusal.SimRefusal.{SimRefusal};
 ghost use Rattle.simulator.specs.declared.refusal.SimRefusal.TheVariants as refusal;
 ghost use Rattle.store_replay.specs.Lawful.{AreLawful};
-ghost use Rattle.log_roles.specs.Committing.{Receives};
+ghost use Rattle.log_committer.specs.Committing.{Receives};
+ghost use Rattle.log_committer.specs.Peering.{HasEach, Held, ReadsLine, made_by};
+ghost use Rattle.log_committer.specs.declared.receiving.Received.{Received};
 ghost use Rattle.endorser.specs.Endorsing.{endorsed_on};
-ghost use Rattle.log_roles.specs.declared.receiving.Received.TheVariants as received;
+ghost use Rattle.log_committer.specs.declared.receiving.Received.TheVariants as received;
 ghost use Rattle.fabric_core.specs.System.{chain_of_first};
 ghost use Rattle.fabric_core.specs.Headline.{ConflictsAreOlder, IsAmong, IsHonest};
 ghost use Rattle.log_system.specs.Machines.{Act, AreMachines, Does, DoesEach, IsRead, Machine};
 ghost use Rattle.log_system.specs.Machines.{Endorses, Joins, Setting, endorsing_at, endorsing_with};
 ghost use Rattle.log_system.specs.Machines.{unread};
 ghost use Rattle.log_system.specs.OneSystem.{IsOneSystem, replies_of_machines};
+ghost use Rattle.log_system.specs.Peers.{Deed, DoesDeeds, IsMachine, begun, calls_of, lines_of};
 ghost use Rattle.log_system.specs.Restarts.{AreToldApart, ReceivesEach};
 
 use chaincode_book::Book;
 use endorsement_policy::{Rules, an_endorsed_envelope_carries_a_right_tag};
+use log_committer::peers_agree;
 use log_orderer::log_laws;
-use log_roles::peers_agree;
 use orderer::ordering_laws;
 use simulator::{parts_answer_alike, reads_alone};
 
@@ -56,10 +61,10 @@ pub fn apart()
 }
 
 /// What the roles of a log do are acts of such machines. Who has read a beginning of the lines has
-/// given the first of the log's answers. A block of the log that a committer takes, or that a
-/// follower follows, is the next one of its chain; and what an endorser answers, but for want of
-/// memory, is what its machine answers (`endorser`). One with the same genesis that has fewer
-/// modules at hand than the setting answers so too, or 406 for what is not at hand there (`part`).
+/// given the first of the log's answers. A block of the log that a committer takes is the next one
+/// of its chain; and what an endorser answers, but for want of memory, is what its machine answers
+/// (`endorser`). One with the same genesis that has fewer modules at hand than the setting answers
+/// so too, or 406 for what is not at hand there (`part`).
 pub fn roles_act()
     ensures replica { (setting : Setting) (front back : List (List ℕ))
         (answers some : List (Option (List BatchReport))) (log replica : Ordering) →
@@ -70,10 +75,6 @@ pub fn roles_act()
         (block : Block) (old new : Chain) → IsRead setting lines place block →
         Receives (table_of setting.listed) old block (Ok received.Committed) new →
         (c : Committed) × (c.block ≡ block) × Does setting lines org old (Joins c) new }
-    ensures follower { (setting : Setting) (lines : List (List ℕ)) (org : Bytes) (place : ℕ)
-        (stored : Committed) (chain : Chain) → IsRead setting lines place stored.block →
-        AreLawful (table_of setting.listed) chain (stored ∷ []) →
-        Does setting lines org chain (Joins stored) (chain ++ stored ∷ []) }
     ensures endorser { (setting : Setting) (lines : List (List ℕ)) (org : Bytes) (chain : Chain)
         (p : Proposal) (result : Result (Payload × Endorsement) SimRefusal) →
         result ≢ Err refusal.Memory →
@@ -185,6 +186,38 @@ pub fn a_restart_follows_the_log()
         length new ≤ length log.chain →
         (rest : Chain) × (before ++ rest ≡ new)
         × DoesEach setting lines org [] (acts ++ map Joins rest) new }
+{
+    log_laws();
+    peers_agree();
+}
+
+/// What a peer of a log does, whatever its store had. Its chain has each block that the lines made,
+/// by the hash of its header (`has`). What it has is one, by what it had and what it did (`one`), and
+/// so is what a line comes to (`line`).
+///
+/// A peer that began with a lawful stored chain, read the first lines of a log, answered calls
+/// between them on the chain that it had then, and has caught up with its store, is a machine beside
+/// that log: it answers the same calls in the same order, those too that it answered before it had
+/// caught up (`machine`). So the laws of machines hold of it. The premise is that no block of the
+/// store has the header hash of another block of the lines that it read.
+pub fn a_peer_is_a_machine()
+    ensures has { (setting : Setting) (org : Bytes) (stored : Chain) (deeds : List Deed)
+        (new : Held) → DoesDeeds setting org (begun setting stored) deeds new →
+        HasEach new.log.chain new.chain }
+    ensures one { (setting : Setting) (org : Bytes) (old new other : Held) (deeds : List Deed) →
+        DoesDeeds setting org old deeds new → DoesDeeds setting org old deeds other →
+        new ≡ other }
+    ensures line { (rule : BlockRule) (old new other : Held) (line : Bytes)
+        (report said : LineReport) (told tells : List Received) →
+        ReadsLine rule old line report told new → ReadsLine rule old line said tells other →
+        (answer_of report ≡ answer_of said) × (made_by report ≡ made_by said)
+        × (told ≡ tells) × (new ≡ other) }
+    ensures machine { (setting : Setting) (later : List (List ℕ)) (org : Bytes) (stored : Chain)
+        (deeds : List Deed) (new : Held) → AreLawful (table_of setting.listed) [] stored →
+        DoesDeeds setting org (begun setting stored) deeds new →
+        AreToldApart (blocks_of stored) new.log.chain →
+        length new.chain ≤ length new.log.chain →
+        IsMachine setting (lines_of deeds ++ later) org (calls_of deeds) new.chain }
 {
     log_laws();
     peers_agree();

@@ -9,7 +9,7 @@ use std::marker::Model;
 /// failed, and the bytes that it had moved when it was synced last. It takes no memory, and its
 /// functions do nothing at run time.
 #[derive(Drop)]
-pub(crate) struct History {
+pub struct History {
     ghost moved: { List ℕ },
     ghost failures: { ℕ },
     ghost synced: { List ℕ },

@@ -1,22 +1,25 @@
 //! A reader or a writer of std as a device of the block store.
 //!
-//! [`Counted`] keeps what its calls moved and how many of them failed in a history that exists in
+//! [`Counted`] keeps what its calls moved and how many of them failed in a [`History`] that exists in
 //! contracts alone: it takes no memory, and the count has no greatest. [`StoreFile`] is the file of a
-//! store.
+//! store, and [`StoreReader`] reads it from its first byte on.
 #![tactic(auto)]
 
 ghost use Rattle.std.specs.Prelude.{◌≡◌, suc, OnOk, OnErr};
 ghost use Rattle.std.specs.Io.KnownBytes.{Keeps};
 ghost use Rattle.store_devices.specs.History.{cut_back, fresh};
-ghost use Rattle.store_devices.specs.StoreFile.{CutsBack};
+ghost use Rattle.store_devices.specs.StoreFile.{CutsBack, MayCutBack};
 
 mod history;
 mod store_file;
+mod store_reader;
 
-use crate::history::{Call, History};
+use crate::history::Call;
 use block_store::{CountedRead, CountedWrite, DeviceError};
+pub use history::History;
 use std::io::{Read, Write};
 pub use store_file::StoreFile;
+pub use store_reader::StoreReader;
 
 /// A reader or a writer with the history of its calls. Each error is a failed call, an interrupted
 /// one too, and so is a write that takes no byte.
@@ -25,7 +28,7 @@ pub use store_file::StoreFile;
 /// promised by [`Counted::sync`] alone. A `BufWriter` takes bytes that it writes later, so its errors
 /// may come after an append that was done: put none in between.
 ///
-/// A file that is read to its end and written there has moved the bytes that it holds.
+/// A file that was read to its end, and is written there, has moved the bytes that it holds.
 #[derive(Drop)]
 pub struct Counted<D: Drop> {
     device: D,
@@ -39,9 +42,17 @@ impl<D: Drop> Counted<D> {
         ensures device { result.device ≡ device }
         ensures history { result.history ≡ fresh }
     {
+        Counted::with_history(device, History::new())
+    }
+
+    /// The device behind the calls of this history.
+    pub fn with_history(device: D, history: History) -> Counted<D>
+        ensures device { result.device ≡ device }
+        ensures history { result.history ≡ history }
+    {
         Counted {
             device,
-            history: History::new(),
+            history,
             is_at_end: false,
         }
     }
@@ -111,6 +122,8 @@ impl<D: StoreFile> Counted<D> {
             (CutsBack count (D.contents self.old.device) (D.contents self.new.device)) }
         ensures failed { OnErr result ((self.new.history.moved ≡ self.old.history.moved)
             × (self.new.history.failures ≡ suc self.old.history.failures)) }
+        ensures left { OnErr result
+            (MayCutBack count (D.contents self.old.device) (D.contents self.new.device)) }
         ensures counted { OnOk result
             (self.new.history.failures ≡ self.old.history.failures) }
         ensures synced { self.new.history.synced ≡ self.old.history.synced }

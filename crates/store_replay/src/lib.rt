@@ -4,8 +4,8 @@
 //! another, as a peer would: headers are tested, envelopes are checked by the rules of the genesis,
 //! and flags are computed anew. It trusts neither the flags in the store nor whoever wrote it.
 //! [`recommit`] does so with blocks that were loaded, and takes them only if all of them fit and
-//! have the flags of the table; [`recommit_behind`] with more records, as far as they do. Who
-//! checks the tags is told by [`TagChecks`], and who watches by [`Watch`].
+//! have the flags of the table. Who checks the tags is told by [`TagChecks`], and who watches by
+//! [`Watch`].
 #![tactic(auto)]
 
 mod pending;
@@ -16,7 +16,7 @@ mod replaying;
 mod tags;
 mod watch;
 
-pub use recommitting::{recommit, recommit_behind};
+pub use recommitting::recommit;
 pub use refusal::RecommitRefusal;
 pub use replaying::{Replayed, replay_store};
 pub use tags::TagChecks;

@@ -93,7 +93,7 @@ fn recommit_with(
 /// Refused at the first block that does not fit (601 to 604) or has other flags than the table's
 /// (711), and for want of memory (9), behind blocks that are lawful and at one that is the next by
 /// its number and the hash that it names. The blocks before that one stay.
-pub fn recommit_behind<T: Threads + Sync, V: Watch>(
+fn recommit_behind<T: Threads + Sync, V: Watch>(
     tags: &TagChecks<'_, T, V>,
     alloc: Global,
     rules: &Rules,

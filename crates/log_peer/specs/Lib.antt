@@ -1,0 +1,4 @@
+pub mod Refusals
+pub mod Storing
+pub mod Holding
+pub mod Peering

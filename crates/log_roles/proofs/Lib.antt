@@ -1,4 +1,0 @@
-mod Agreeing
-mod Answering
-mod Replaying
-mod Standing

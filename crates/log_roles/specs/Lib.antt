@@ -1,3 +1,0 @@
-pub mod Committing
-pub mod Following
-pub mod Numbers

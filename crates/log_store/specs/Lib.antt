@@ -1,4 +1,0 @@
-pub mod Reading
-pub mod Following
-pub mod Refusals
-pub mod Storing
