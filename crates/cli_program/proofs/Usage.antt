@@ -4,7 +4,7 @@ use Rattle.std.proofs.Common.{◌≡◌, ◌∙◌, ℕ, List, Bool, true, false
 use Rattle.cli_lines.specs.Told.{Told, Answers, BreaksOff}
 use Rattle.cli_lines.specs.declared.failure.Failure.{Failure}
 use Rattle.cli_lines.specs.declared.failure.Failure.TheVariants as failure
-use Rattle.cli_roles.specs.declared.log_genesis.LogGenesis.{LogGenesis}
+use Rattle.cli_peer.specs.declared.log_genesis.LogGenesis.{LogGenesis}
 use Rattle.cli_words.specs.declared.task.Task.{Task}
 use Rattle.cli_words.specs.declared.task.Task.TheVariants as task
 use Rattle.cli_words.specs.declared.task.Work.{Work}
@@ -12,9 +12,7 @@ use Rattle.cli_words.specs.declared.task.Work.TheVariants as work
 use Rattle.cli_words.specs.declared.task.WordsFault.{WordsFault}
 use Rattle.cli_words.specs.declared.task.WordsFault.TheVariants as words
 use Rattle.cli_program.specs.Ends.{ComesOf, PrintsLast, failure_status}
-use Rattle.cli_roles.specs.Querying.{Queries}
-use Rattle.cli_roles.specs.Committing.{Commits}
-use Rattle.cli_roles.specs.Endorsing.{Endorses, endorser}
+use Rattle.cli_peer.specs.Peering.{Peers}
 use Rattle.cli_show.specs.Answers.{States}
 use Rattle.cli_show.specs.Findings.{Audits, Shows}
 use Rattle.cli_show.specs.Marks.{Marks}
@@ -24,7 +22,7 @@ use Rattle.cli_show.specs.Tracing.{Traces}
 use Rattle.cli_show.specs.Version.{Versions}
 use Rattle.cli_program.specs.Keys.{Publishes}
 use Rattle.cli_program.specs.Seats.{RunsSeats}
-use Rattle.cli_program.specs.Tasks.{Comes, KnownFiles, OrdersBy, Runs, Works}
+use Rattle.cli_program.specs.Tasks.{Comes, KnownFiles, Runs, Works}
 
 abbrev Answer : Type 0
 Answer = Result (Unit {0}) Failure
@@ -39,21 +37,18 @@ answers_kept P t u r is (inr a) = a.2.whole
 
 works_kept : (log : LogGenesis) (w : Work) (k : KnownFiles) (t u : Told) (r : Answer) → r ≡ Err failure.Usage → Works log w k t u r → IsKept t u
 works_kept log (work.Simulate p store) k t u r is h = answers_kept (Simulates log.genesis p (option_map (λ name. k.before name.now) store)) t u r is h.0
-works_kept log (work.Run events store) k t u r is h = answers_kept (Runs log.genesis k events.now (option_map (λ name. name.now) store)) t u r is h.0
+works_kept log (work.Run events store) k t u r is h = answers_kept (Runs log.genesis k events.now (option_map (λ name. name.now) store)) t u r is h.0.0
 works_kept log (work.Threads chaincode rounds) k t u r is h = answers_kept (RunsSeats log.genesis chaincode rounds) t u r is h.0
 works_kept log (work.Audit store) k t u r is h = answers_kept (Audits log.genesis (k.before store.now)) t u r is h.0
 works_kept log (work.Show store from to) k t u r is h = answers_kept (Shows log.genesis from to (k.before store.now)) t u r is h.0
 works_kept log (work.State store at part) k t u r is h = answers_kept (States log.genesis h.0 at (k.before store.now)) t u r is h.2.0
 works_kept log (work.Trace call most) k t u r is h = answers_kept (Traces log.genesis call most) t u r is h.0
-works_kept log (work.Commit store) k t u r is h = answers_kept (Commits log.genesis.rules.value log.digest (k.before store.now) k.input) t u r is h.0
-works_kept log (work.Endorse org store agrees) k t u r is h = answers_kept (Endorses (endorser log org agrees) (k.before store.now) k.input) t u r is h.0
-works_kept log (work.Query store) k t u r is h = answers_kept (Queries log.genesis (k.before store.now) k.input) t u r is h.0
+works_kept log (work.Peer org store) k t u r is h = answers_kept (Peers (record { log = log; org = org }) (k.before store.now) k.input) t u r is h.0
 works_kept log (work.Marks store) k t u r is h = answers_kept (Marks log.genesis (k.before store.now)) t u r is h.0
 
 comes_kept : (task : Task) (k : KnownFiles) (t u : Told) (r : Answer) → r ≡ Err failure.Usage → Comes task k t u r → IsKept t u
 comes_kept (task.Check m profile) k t u r is h = answers_kept (Checks profile (k.before m.now)) t u r is h.0
 comes_kept (task.Digest m profile) k t u r is h = answers_kept (Digests profile (k.before m.now)) t u r is h.0
-comes_kept (task.Order genesis) k t u r is h = answers_kept (OrdersBy k genesis.now) t u r is h.0
 comes_kept (task.Public keys) k t u r is h = answers_kept (Publishes (k.before keys.now)) t u r is h.0
 comes_kept task.Version k t u r is h = answers_kept (Versions) t u r is h.0
 comes_kept (task.Work b w) k t u r is (inl opened) = works_kept opened.0 w k t u r is opened.2

@@ -1,5 +1,5 @@
 -- What the program's tasks come to.
-use Rattle.std.specs.Prelude.{◌≡◌, ◌⊎◌, ℕ, Bool, List, [], Option, None, Result, Err, option_map}
+use Rattle.std.specs.Prelude.{◌≡◌, ◌⊎◌, ℕ, Bool, List, Option, Result, Err, option_map}
 use Rattle.ledger_setting.specs.declared.genesis.Genesis.{Genesis}
 use Rattle.cli_lines.specs.Places.{FilesHeld}
 use Rattle.cli_lines.specs.Told.{Told, Answers, Begins, IsTextOf}
@@ -11,11 +11,9 @@ use Rattle.cli_words.specs.declared.task.Task.{Task}
 use Rattle.cli_words.specs.declared.task.Task.TheVariants as task
 use Rattle.cli_words.specs.declared.task.Work.{Work}
 use Rattle.cli_words.specs.declared.task.Work.TheVariants as work
-use Rattle.cli_roles.specs.declared.log_genesis.LogGenesis.{LogGenesis}
-use Rattle.cli_roles.specs.Orders.{Orders, OrdersBegin}
-use Rattle.cli_roles.specs.Committing.{Commits, CommitsBegin}
-use Rattle.cli_roles.specs.Endorsing.{Endorses, EndorsesBegin, endorser}
-use Rattle.cli_roles.specs.Querying.{Queries, QueriesBegin}
+use Rattle.cli_peer.specs.declared.log_genesis.LogGenesis.{LogGenesis}
+use Rattle.cli_peer.specs.Answering.{Peer}
+use Rattle.cli_peer.specs.Peering.{Peers, PeersBegin}
 use Rattle.cli_show.specs.Modules.{Checks, Digests}
 use Rattle.cli_show.specs.Simulations.{Simulates}
 use Rattle.cli_show.specs.declared.showing.Part.{Part}
@@ -28,7 +26,8 @@ use Rattle.cli_show.specs.Version.{Versions}
 use Rattle.cli_session.specs.Stored.{HoldsAsked}
 use Rattle.cli_session.specs.Whole.{ComesTo, RunBegins}
 use Rattle.cli_program.specs.Keys.{Publishes}
-use Rattle.cli_program.specs.Opening.{IsOpened, IsNotOpened, Opens, NotOpens}
+use Rattle.cli_program.specs.Leaving.{SparesStore}
+use Rattle.cli_program.specs.Opening.{Opens, NotOpens}
 use Rattle.cli_program.specs.Seats.{RunsSeats}
 use Rattle.cli_program.specs.Verdicts.{verdict_answer}
 
@@ -69,6 +68,7 @@ abbrev pub Works : LogGenesis → Work → KnownFiles → (before after : Told) 
 Works log (work.Simulate p store) k before after answer = DoesAll (Simulates log.genesis p (option_map (λ name. k.before name.now) store)) before after answer
 Works log (work.Run events store) k before after answer =
     Does (Runs log.genesis k events.now (option_map (λ name. name.now) store)) (RunBegins log.genesis (k.before events.now)) before after answer
+    × SparesStore k.writes (option_map (λ name. name.now) store) k.before k.after answer
 Works log (work.Threads chaincode rounds) k before after answer = DoesAll (RunsSeats log.genesis chaincode rounds) before after answer
 Works log (work.Audit store) k before after answer = DoesAll (Audits log.genesis (k.before store.now)) before after answer
 Works log (work.Show store from to) k before after answer =
@@ -77,14 +77,9 @@ Works log (work.State store at asked) k before after answer =
     (p : Part) × IsPart asked p
     × Does (States log.genesis p at (k.before store.now)) (StateBegins log.genesis p at (k.before store.now)) before after answer
 Works log (work.Trace call most) k before after answer = Does (Traces log.genesis call most) (TraceBegins log.genesis call most) before after answer
-Works log (work.Commit store) k before after answer =
-    Does (Commits log.genesis.rules.value log.digest (k.before store.now) k.input)
-    (CommitsBegin log.genesis.rules.value log.digest (k.before store.now) k.input) before after answer
-Works log (work.Endorse org store agrees) k before after answer =
-    Does (Endorses (endorser log org agrees) (k.before store.now) k.input) (EndorsesBegin (endorser log org agrees) (k.before store.now) k.input) before after
-    answer
-Works log (work.Query store) k before after answer =
-    Does (Queries log.genesis (k.before store.now) k.input) (QueriesBegin log.genesis (k.before store.now) k.input) before after answer
+Works log (work.Peer org store) k before after answer =
+    let p : Peer = record { log = log; org = org } in
+    Does (Peers p (k.before store.now) k.input) (PeersBegin p (k.before store.now) k.input) before after answer
 Works log (work.Marks store) k before after answer = DoesAll (Marks log.genesis (k.before store.now)) before after answer
 
 -- the files of a genesis are read, and then this is done; or one of them is refused, and nothing is printed
@@ -94,20 +89,10 @@ WithGenesis k b Does before after answer =
     ((log : LogGenesis) × Opens k.before b log × Does log before after answer)
     ⊎ ((f : Failure) × NotOpens k.before b f × (answer ≡ Err f) × (after ≡ before))
 
--- `order`, by the genesis in a file alone
-abbrev pub OrdersBy : KnownFiles → (genesis : List ℕ) → Result (Unit {0}) Failure → List ℕ → Type 0
-OrdersBy k genesis answer text =
-    ((log : LogGenesis) × IsOpened (k.before genesis) None None log × Orders log.genesis log.digest k.input answer text)
-    ⊎ ((f : Failure) × IsNotOpened (k.before genesis) None None f × (answer ≡ Err f) × (text ≡ []))
-
-abbrev pub OrdersByBegin : KnownFiles → (genesis : List ℕ) → List ℕ → Type 0
-OrdersByBegin k genesis text = (log : LogGenesis) × IsOpened (k.before genesis) None None log × OrdersBegin log.genesis log.digest k.input text
-
 -- a task is done
 abbrev pub Comes : Task → KnownFiles → (before after : Told) → Result (Unit {0}) Failure → Type 0
 Comes (task.Check m profile) k before after answer = DoesAll (Checks profile (k.before m.now)) before after answer
 Comes (task.Digest m profile) k before after answer = DoesAll (Digests profile (k.before m.now)) before after answer
-Comes (task.Order genesis) k before after answer = Does (OrdersBy k genesis.now) (OrdersByBegin k genesis.now) before after answer
 Comes (task.Public keys) k before after answer = DoesAll (Publishes (k.before keys.now)) before after answer
 Comes task.Version k before after answer = DoesAll Versions before after answer
 Comes (task.Work b w) k before after answer = WithGenesis k b (λ log. Works log w k) before after answer

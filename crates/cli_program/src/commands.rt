@@ -4,18 +4,18 @@ ghost use Rattle.std.specs.Prelude.{◌≡◌, ◌<◌, [], true, false, None, I
 ghost use Rattle.cli_lines.specs.Places.{ChangesOnly};
 ghost use Rattle.cli_lines.specs.Told.{Answers, Begins, IsMore, IsTold, Prints, Says, Tells, Told};
 ghost use Rattle.cli_program.specs.Ends.{CarriesOut, Ends, PrintsLast, command_in, failure_status};
-ghost use Rattle.cli_program.specs.Leaving.{KeepsFiles, Leaves, LeavesFiles};
+ghost use Rattle.cli_program.specs.Leaving.{KeepsFiles, Leaves, LeavesFiles, SparesStore};
 ghost use Rattle.cli_session.specs.Stored.{WhereNoStore, store_names};
 ghost use Rattle.cli_session.specs.Whole.{RunBegins};
 ghost use Rattle.cli_program.specs.Tasks.{Comes, IsPart, Runs, WithGenesis, Works, known_files};
 ghost use Rattle.cli_lines.specs.Told.{IsHandedOn};
 
-use crate::opening::{opened, order_log};
+use crate::opening::opened;
 use crate::public::public;
 use crate::threading::threads;
 use crate::verdict::answer_of;
 use cli_lines::{Failure, Files, Location, Printer, explain_failure};
-use cli_roles::{Endorsing, LogGenesis, commit, endorse, query};
+use cli_peer::{LogGenesis, Peering, peer};
 use cli_session::{RunFiles, run};
 use cli_show::{
     Asked, Part, Shown, Simulated, Span, audit, check, digest, marks, show, simulate, state, trace,
@@ -64,7 +64,7 @@ pub fn program<R: Threads + Wait + Sync + Send + Copy + 'static, F: Files, W: Wr
         → Ends (map string_bytes words.now)
         (known_files F.is_known (F.bytes files.old) (F.bytes files.new)
         (F.input_bytes files.old)) out.old out.new result }
-    // Only a run with a store and a commit write files, and none but the store's, where it is known
+    // Only a run with a store and a peer write files, and none but the store's, where it is known
     // what is written; and a run none, where that holds bytes with which no store begins.
     ensures files { KeepsFiles F.is_known (map string_bytes words.now) (F.bytes files.old)
         (F.bytes files.new) }
@@ -238,7 +238,6 @@ fn do_task<R: Threads + Wait + Sync + Send + Copy + 'static, F: Files, W: Write>
     match task {
         Task::Check { module, profile } => check(alloc, files, module, *profile, out),
         Task::Digest { module, profile } => digest(alloc, files, module, *profile, out),
-        Task::Order { genesis } => order_log(alloc, files, genesis, out),
         Task::Public { keys } => public(alloc, files, keys, out),
         Task::Version => version(alloc, out),
         Task::Work { begin, work } => with_genesis(machine, files, begin, work, out),
@@ -320,21 +319,18 @@ fn do_work<R: Threads + Wait + Sync + Send + Copy + 'static, F: Files, W: Write>
             state(&workers, alloc, files, genesis, &asked, out)
         }
         Work::Trace { call, most } => trace(alloc, genesis, call, *most, out),
-        Work::Commit { store } => commit(&workers, alloc, files, log, store, out),
-        Work::Endorse { org, store, agrees } => {
-            let asked = Endorsing {
-                org,
+        Work::Peer { org, store } => {
+            let asked = Peering {
+                org: org.as_ref(),
                 store,
-                agrees: *agrees,
             };
-            endorse(&workers, alloc, files, log, &asked, out)
+            peer(&workers, alloc, files, log, &asked, out)
         }
-        Work::Query { store } => query(&workers, alloc, files, genesis, store, out),
         Work::Marks { store } => marks(&workers, alloc, files, genesis, store, out),
     }
 }
 
-/// Runs a file of events. A difference that its audit finds is printed.
+/// Runs a file of events. What is wrong with the chain at its end is printed.
 fn run_events<T: Threads + Sync, F: Files, W: Write>(
     workers: &Workers<'_, T>,
     alloc: Global,
@@ -350,6 +346,8 @@ fn run_events<T: Threads + Sync, F: Files, W: Write>(
         (option_map (λ s. s.now) names.now.store)) out.old out.new result }
     ensures begins { Begins (RunBegins genesis.now (F.bytes files.old names.now.events.now))
         out.old out.new result }
+    ensures stays { SparesStore F.is_known (option_map (λ s. s.now) names.now.store)
+        (F.bytes files.old) (F.bytes files.new) result }
     ensures kept { names.now.store ≡ None → F.bytes files.new ≡ F.bytes files.old }
     ensures others { IfSome names.now.store
         (λ s. ChangesOnly F.is_known (store_names s.now) (F.bytes files.old) (F.bytes files.new)) }

@@ -5,7 +5,7 @@
 //! [`program`] takes the words of the command line, the files by [`Files`], and where lines are
 //! printed. [`Disk`] is the files of a machine, and [`Terminal`] tells how far a replay is.
 //! `threads` and `public` are here; the other commands do their work in `cli_session`, `cli_show`
-//! and `cli_roles`.
+//! and `cli_peer`.
 #![tactic(auto)]
 
 mod commands;

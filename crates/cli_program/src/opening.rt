@@ -1,26 +1,24 @@
-//! The genesis that a command works by, and the command `order`.
+//! The genesis that a command works by.
 
 ghost use Rattle.std.specs.Prelude.{◌≡◌, ◌≤◌, [], length, option_map, IfOk, IfErr, IsOkAnd, MatchResult, OnOk};
 ghost use Rattle.json_genesis.specs.Spelling.{Spells, SpellsHolding, SpellsModules};
 ghost use Rattle.cli_lines.specs.Opening.{AreNoModules, IsNoGenesis};
 ghost use Rattle.cli_lines.specs.Sealing.{HasSeeds, IsNoKeyFile};
-ghost use Rattle.cli_lines.specs.Told.{Answers, Begins, IsBrokenOff, IsSilent, Tells};
-ghost use Rattle.cli_program.specs.Tasks.{OrdersBy, OrdersByBegin, known_files};
+ghost use Rattle.cli_lines.specs.Told.{IsBrokenOff, IsSilent};
 ghost use Rattle.cli_program.specs.Opening.{NotOpens, Opens, Signs, SpellsNoneWith, SpellsWith};
 
 use chaincode_book::Held;
 use cli_lines::{
-    Failure, FileFault, Files, Location, Printer, explain, explain_read, genesis_holding,
-    genesis_in, modules_in, read_all, read_all_explained, signers_in,
+    Failure, FileFault, Files, Location, explain, explain_read, genesis_holding, genesis_in,
+    modules_in, read_all, read_all_explained, signers_in,
 };
-use cli_roles::{LogGenesis, order};
+use cli_peer::LogGenesis;
 use cli_words::Beginning;
 use json_reasons::{genesis_reason, modules_reason};
 use ledger_setting::Genesis;
 use org_keys::Signers;
 use sha2::{Digest, Sha256};
 use std::alloc::Global;
-use std::io::Write;
 use std::sync::Arc;
 
 /// What a system begins with, by the files of these names, and the genesis file's digest. Of several
@@ -198,30 +196,4 @@ fn with_signers(
         }
         Err(failure) => Err(failure),
     }
-}
-
-/// Prints the blocks of a log that comes line by line, by the limits of the genesis in the file of
-/// this name.
-pub(crate) fn order_log<F: Files, W: Write>(
-    alloc: Global,
-    files: &mut F,
-    name: &str,
-    out: &mut Printer<'_, W>,
-) -> Result<(), Failure>
-    ensures tells { Tells out.old out.new result }
-    ensures answers { Answers (OrdersBy
-        (known_files F.is_known (F.bytes files.old) (F.bytes files.new)
-        (F.input_bytes files.old)) name.now) out.old out.new result }
-    ensures begins { Begins (OrdersByBegin
-        (known_files F.is_known (F.bytes files.old) (F.bytes files.new)
-        (F.input_bytes files.old)) name.now) out.old out.new result }
-    ensures kept { F.bytes files.new ≡ F.bytes files.old }
-{
-    let begin = Beginning {
-        genesis: name,
-        modules: None,
-        keys: None,
-    };
-    let log = opened(alloc, files, &begin)?;
-    order(alloc, files, &log, out)
 }

@@ -1,5 +1,5 @@
 -- What the values of a task are, by the name of its command.
-use Rattle.std.proofs.Common.{◌≡◌, ◌≢◌, ◌∙◌, ℕ, List, [], ◌∷◌, Bool, true, false, None, codes, ap, refl, sym}
+use Rattle.std.proofs.Common.{◌≡◌, ◌≢◌, ◌∙◌, ℕ, List, [], ◌∷◌, Bool, true, false, Option, None, codes, ap, refl, sym}
 use Rattle.std.proofs.lemmas.Bool.{true≢false}
 use Rattle.std.proofs.lemmas.Slice.Eq.{bytes_eq-Decides}
 use Rattle.std.specs.Borrow.{Bor}
@@ -12,8 +12,8 @@ use Rattle.fab_types.specs.declared.proposal.Proposal.{Proposal}
 use Rattle.fab_types.specs.declared.proposal.Proposal.TheVariants as proposal
 use Rattle.wasm_profile.specs.declared.profile.Profile.{Profile}
 use Rattle.cli_words.specs.Commands.{command_name, work_name}
-use Rattle.cli_words.specs.Words.{Has, IsCallBy, IsChaincodeBy, IsOrgBy, IsPartBy, IsProfileBy, IsProposedBy, IsTaskAs, IsWorkAs, IsWorkTask}
-use Rattle.cli_words.specs.Words.{OrElse, SpellsBlock, SpellsCount}
+use Rattle.cli_words.specs.Words.{Has, IsCallBy, IsChaincodeBy, IsPartBy, IsProfileBy, IsProposedBy, IsTaskAs, IsWorkAs, IsWorkTask}
+use Rattle.cli_words.specs.Words.{OrElse, SpellsBlock, SpellsCount, SpellsOrg}
 use Rattle.cli_words.specs.declared.task.StatePart.{StatePart}
 use Rattle.cli_words.specs.declared.task.Task.{Task}
 use Rattle.cli_words.specs.declared.task.Task.TheVariants as task
@@ -28,8 +28,8 @@ differ a b apart is = true≢false (sym ((bytes_eq-Decides a b).1 is) ∙ apart)
 abbrev is_work_name : Text → Bool
 is_work_name name =
     list_any (bytes_eq name)
-    (codes "sim" ∷ codes "run" ∷ codes "threads" ∷ codes "audit" ∷ codes "show" ∷ codes "state" ∷ codes "trace" ∷ codes "commit" ∷ codes "endorse"
-    ∷ codes "query" ∷ codes "marks" ∷ [])
+    (codes "sim" ∷ codes "run" ∷ codes "threads" ∷ codes "audit" ∷ codes "show" ∷ codes "state" ∷ codes "trace" ∷ codes "peer" ∷ codes "marks"
+    ∷ [])
 
 named : (w : Work) → true ≡ is_work_name (work_name w)
 named (work.Simulate p store) = refl
@@ -39,9 +39,7 @@ named (work.Audit store) = refl
 named (work.Show store from to) = refl
 named (work.State store at part) = refl
 named (work.Trace call most) = refl
-named (work.Commit store) = refl
-named (work.Endorse org store agrees) = refl
-named (work.Query store) = refl
+named (work.Peer org store) = refl
 named (work.Marks store) = refl
 
 no_work : (w : Work) (name : Text) → is_work_name name ≡ false → work_name w ≡ name → ⊥
@@ -63,25 +61,19 @@ digest_parts rows (task.Digest m profile) h = ((m, h.1.0), (profile, h.1.1))
 digest_parts rows (task.Work b w) h = absurd (no_work w (codes "digest") refl h.0)
 digest_parts rows t h = absurd (differ (command_name t) (codes "digest") refl h.0)
 
-pub order_parts : (rows : List Row) (t : Task) → IsTaskAs (codes "order") rows t → HasWord rows (codes "GENESIS")
-order_parts rows (task.Order text) h = (text, h.1)
-order_parts rows (task.Work b w) h = absurd (no_work w (codes "order") refl h.0)
-order_parts rows t h = absurd (differ (command_name t) (codes "order") refl h.0)
-
 pub public_parts : (rows : List Row) (t : Task) → IsTaskAs (codes "public") rows t → HasWord rows (codes "KEYS")
 public_parts rows (task.Public text) h = (text, h.1)
 public_parts rows (task.Work b w) h = absurd (no_work w (codes "public") refl h.0)
 public_parts rows t h = absurd (differ (command_name t) (codes "public") refl h.0)
 
 -- a task of any other name has a genesis
-pub work_task : (rows : List Row) (name : Text) → name ≢ codes "check" → name ≢ codes "digest" → name ≢ codes "order" → name ≢ codes "public" →
+pub work_task : (rows : List Row) (name : Text) → name ≢ codes "check" → name ≢ codes "digest" → name ≢ codes "public" →
     name ≢ codes "version" → (t : Task) → IsTaskAs name rows t → IsWorkTask name rows t
-work_task rows name check digest order public version (task.Check m profile) h = absurd (check (sym h.0))
-work_task rows name check digest order public version (task.Digest m profile) h = absurd (digest (sym h.0))
-work_task rows name check digest order public version (task.Order genesis) h = absurd (order (sym h.0))
-work_task rows name check digest order public version (task.Public keys) h = absurd (public (sym h.0))
-work_task rows name check digest order public version task.Version h = absurd (version (sym h.0))
-work_task rows name check digest order public version (task.Work b w) h = (h.1.0, (h.0, h.1.1))
+work_task rows name check digest public version (task.Check m profile) h = absurd (check (sym h.0))
+work_task rows name check digest public version (task.Digest m profile) h = absurd (digest (sym h.0))
+work_task rows name check digest public version (task.Public keys) h = absurd (public (sym h.0))
+work_task rows name check digest public version task.Version h = absurd (version (sym h.0))
+work_task rows name check digest public version (task.Work b w) h = (h.1.0, (h.0, h.1.1))
 
 -- and such a task is of that name
 pub task_as : (rows : List Row) (name : Text) (t : Task) → IsWorkTask name rows t → IsTaskAs name rows t
@@ -132,17 +124,10 @@ pub trace_parts : (rows : List Row) (w : Work) → IsWorkAs (codes "trace") rows
 trace_parts rows (work.Trace call most) h = ((most, h.1.0), (call, h.1.1))
 trace_parts rows w h = absurd (differ (work_name w) (codes "trace") refl h.0)
 
-pub commit_parts : (rows : List Row) (w : Work) → IsWorkAs (codes "commit") rows w → HasWord rows (codes "STORE")
-commit_parts rows (work.Commit store) h = (store, h.1)
-commit_parts rows w h = absurd (differ (work_name w) (codes "commit") refl h.0)
-
-pub endorse_parts : (rows : List Row) (w : Work) → IsWorkAs (codes "endorse") rows w → ((org : Text) × IsOrgBy rows org) × HasWord rows (codes "STORE")
-endorse_parts rows (work.Endorse org store agrees) h = ((org, h.1.0), (store, h.1.1))
-endorse_parts rows w h = absurd (differ (work_name w) (codes "endorse") refl h.0)
-
-pub query_parts : (rows : List Row) (w : Work) → IsWorkAs (codes "query") rows w → HasWord rows (codes "STORE")
-query_parts rows (work.Query store) h = (store, h.1)
-query_parts rows w h = absurd (differ (work_name w) (codes "query") refl h.0)
+pub peer_parts : (rows : List Row) (w : Work) → IsWorkAs (codes "peer") rows w →
+    ((org : Option Text) × OrElse SpellsOrg None (first_of (codes "org") rows) org) × HasWord rows (codes "STORE")
+peer_parts rows (work.Peer org store) h = ((org, h.1.0), (store, h.1.1))
+peer_parts rows w h = absurd (differ (work_name w) (codes "peer") refl h.0)
 
 pub marks_parts : (rows : List Row) (w : Work) → IsWorkAs (codes "marks") rows w → HasWord rows (codes "STORE")
 marks_parts rows (work.Marks store) h = (store, h.1)
@@ -150,17 +135,14 @@ marks_parts rows w h = absurd (differ (work_name w) (codes "marks") refl h.0)
 
 -- no work has any other name
 pub other_work : (rows : List Row) (name : Text) → name ≢ codes "sim" → name ≢ codes "run" → name ≢ codes "threads" → name ≢ codes "audit" →
-    name ≢ codes "show" →
-    name ≢ codes "state" → name ≢ codes "trace" → name ≢ codes "commit" → name ≢ codes "endorse" → name ≢ codes "query" → name ≢ codes "marks" → (w : Work) →
+    name ≢ codes "show" → name ≢ codes "state" → name ≢ codes "trace" → name ≢ codes "peer" → name ≢ codes "marks" → (w : Work) →
     IsWorkAs name rows w → ⊥
-other_work rows name sim run threads audit show state trace commit endorse query marks (work.Simulate p store) h = sim (sym h.0)
-other_work rows name sim run threads audit show state trace commit endorse query marks (work.Run events store) h = run (sym h.0)
-other_work rows name sim run threads audit show state trace commit endorse query marks (work.Threads chaincode rounds) h = threads (sym h.0)
-other_work rows name sim run threads audit show state trace commit endorse query marks (work.Audit store) h = audit (sym h.0)
-other_work rows name sim run threads audit show state trace commit endorse query marks (work.Show store from to) h = show (sym h.0)
-other_work rows name sim run threads audit show state trace commit endorse query marks (work.State store at part) h = state (sym h.0)
-other_work rows name sim run threads audit show state trace commit endorse query marks (work.Trace call most) h = trace (sym h.0)
-other_work rows name sim run threads audit show state trace commit endorse query marks (work.Commit store) h = commit (sym h.0)
-other_work rows name sim run threads audit show state trace commit endorse query marks (work.Endorse org store agrees) h = endorse (sym h.0)
-other_work rows name sim run threads audit show state trace commit endorse query marks (work.Query store) h = query (sym h.0)
-other_work rows name sim run threads audit show state trace commit endorse query marks (work.Marks store) h = marks (sym h.0)
+other_work rows name sim run threads audit show state trace peer marks (work.Simulate p store) h = sim (sym h.0)
+other_work rows name sim run threads audit show state trace peer marks (work.Run events store) h = run (sym h.0)
+other_work rows name sim run threads audit show state trace peer marks (work.Threads chaincode rounds) h = threads (sym h.0)
+other_work rows name sim run threads audit show state trace peer marks (work.Audit store) h = audit (sym h.0)
+other_work rows name sim run threads audit show state trace peer marks (work.Show store from to) h = show (sym h.0)
+other_work rows name sim run threads audit show state trace peer marks (work.State store at part) h = state (sym h.0)
+other_work rows name sim run threads audit show state trace peer marks (work.Trace call most) h = trace (sym h.0)
+other_work rows name sim run threads audit show state trace peer marks (work.Peer org store) h = peer (sym h.0)
+other_work rows name sim run threads audit show state trace peer marks (work.Marks store) h = marks (sym h.0)

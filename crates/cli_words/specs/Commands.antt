@@ -13,15 +13,12 @@ work_name (work.Audit store) = codes "audit"
 work_name (work.Show store from to) = codes "show"
 work_name (work.State store at part) = codes "state"
 work_name (work.Trace call most) = codes "trace"
-work_name (work.Commit store) = codes "commit"
-work_name (work.Endorse org store agrees) = codes "endorse"
-work_name (work.Query store) = codes "query"
+work_name (work.Peer org store) = codes "peer"
 work_name (work.Marks store) = codes "marks"
 
 abbrev pub command_name : Task → List ℕ
 command_name (task.Check m profile) = codes "check"
 command_name (task.Digest m profile) = codes "digest"
-command_name (task.Order genesis) = codes "order"
 command_name (task.Public keys) = codes "public"
 command_name task.Version = codes "version"
 command_name (task.Work begin w) = work_name w

@@ -107,6 +107,10 @@ SpellsArgument digits bytes = IsValue bytes × (((digits ≡ codes "-") × (byte
 abbrev pub SpellsNonce : Text → List ℕ → Type 0
 SpellsNonce digits nonce = decode_sized digits 16 ≡ Ok nonce
 
+-- the name of an organisation
+abbrev pub SpellsOrg : Text → Option Text → Type 0
+SpellsOrg name org = IsOrgName name × (org ≡ Some name)
+
 -- the value of a text, if there is one, and else this other one
 abbrev pub OrElse : {A : Type 0} → (Text → A → Type 0) → A → Option Text → A → Type 0
 OrElse Spells other None a = a ≡ other
@@ -131,9 +135,6 @@ is_given rows name = option_map_or (λ text. bytes_eq text (codes "true")) (one_
 
 abbrev pub IsChaincodeBy : List Row → Text → Type 0
 IsChaincodeBy rows name = IsName name × Has rows (codes "CHAINCODE") name
-
-abbrev pub IsOrgBy : List Row → Text → Type 0
-IsOrgBy rows name = IsOrgName name × Has rows (codes "ORG") name
 
 abbrev pub IsProfileBy : List Row → Profile → Type 0
 IsProfileBy rows = OrElse SpellsProfile Core1 (first_of (codes "profile") rows)
@@ -171,16 +172,12 @@ IsWorkBy rows (work.Show store from to) =
 IsWorkBy rows (work.State store at part) =
     Has rows (codes "STORE") store.now × OrElse SpellsBlock LAST_BLOCK (first_of (codes "at") rows) at × IsPartBy rows part
 IsWorkBy rows (work.Trace call most) = OrElse SpellsCount 1000 (first_of (codes "steps") rows) most × IsCallBy rows None call
-IsWorkBy rows (work.Commit store) = Has rows (codes "STORE") store.now
-IsWorkBy rows (work.Endorse org store agrees) =
-    IsOrgBy rows org × Has rows (codes "STORE") store.now × (agrees ≡ is_given rows (codes "agree"))
-IsWorkBy rows (work.Query store) = Has rows (codes "STORE") store.now
+IsWorkBy rows (work.Peer org store) = OrElse SpellsOrg None (first_of (codes "org") rows) org × Has rows (codes "STORE") store.now
 IsWorkBy rows (work.Marks store) = Has rows (codes "STORE") store.now
 
 abbrev pub IsTaskBy : List Row → Task → Type 0
 IsTaskBy rows (task.Check m profile) = Has rows (codes "MODULE") m.now × IsProfileBy rows profile
 IsTaskBy rows (task.Digest m profile) = Has rows (codes "MODULE") m.now × IsProfileBy rows profile
-IsTaskBy rows (task.Order genesis) = Has rows (codes "GENESIS") genesis.now
 IsTaskBy rows (task.Public keys) = Has rows (codes "KEYS") keys.now
 IsTaskBy rows task.Version = Unit {0}
 IsTaskBy rows (task.Work b w) = IsBeginningBy rows b × IsWorkBy rows w

@@ -76,7 +76,7 @@ fn has_name(row: &Row, name: &str) -> bool
     row.0 == name
 }
 
-static COMMANDS: [Row; 16] = [
+static COMMANDS: [Row; 13] = [
     row! {
         name: "check",
         words: &["MODULE"],
@@ -152,44 +152,21 @@ shows the first N steps (1 to 1000, 1000 by default) of a call on the empty stat
 with the fuel that it leaves, and how the call ends",
     },
     row! {
-        name: "order",
-        words: &["GENESIS"],
-        options: &[],
-        does: "\
-cuts blocks from a log: its lines come in, each an index and a mark (an envelope in hex, or
-tick), and the blocks go out",
-    },
-    row! {
-        name: "commit",
+        name: "peer",
         words: &["GENESIS", "STORE"],
-        options: &[],
+        options: &[("org", "ORG"), ("keys", "FILE"), ("modules", "FILE")],
         does: "\
-commits blocks, which come in line by line as order prints them, to the file STORE",
-    },
-    row! {
-        name: "endorse",
-        words: &["GENESIS", "ORG", "STORE"],
-        options: &[("modules", "FILE"), ("keys", "FILE"), ("agree", "")],
-        does: "\
-endorses proposals, which come in line by line as JSON objects, for the organisation ORG
-on the state after the file STORE, which it reads as it grows; one of a public key signs
-by its seed in the key file; amendments are endorsed too where --agree is said",
-    },
-    row! {
-        name: "query",
-        words: &["GENESIS", "STORE"],
-        options: &[("modules", "FILE")],
-        does: "\
-answers questions, which come in line by line as JSON objects, about the chain of the file
-STORE and the state after it, and reads on as the file grows",
+reads a log line by line, commits its blocks to the file STORE, and answers between its
+lines: it endorses proposals for the organisation ORG by its seed in the key file, and
+answers questions about the chain and the state after it",
     },
     row! {
         name: "marks",
         words: &["GENESIS", "STORE"],
         options: &[],
         does: "\
-prints the marks by which order cuts the blocks of the file STORE from nothing: each
-envelope in hex, and tick behind each block",
+prints the marks by which the blocks of the file STORE are cut from nothing: each envelope
+in hex, and tick behind each block",
     },
     row! {
         name: "public",

@@ -2,7 +2,7 @@
 
 ghost use Rattle.std.specs.Prelude.{◌≡◌, None, codes, map, replicate, string_bytes, IfErr};
 ghost use Rattle.clap.specs.Walk.{first_of};
-ghost use Rattle.cli_words.specs.Words.{Has, IsCallBy, IsChaincodeBy, IsOrgBy, IsPartBy, IsProfileBy, IsTaskAs, IsTaskOf, IsWorkAs, IsWorkTask, MayHave, OrElse, Reads, SpellsArgument, SpellsBlock, SpellsCount, SpellsKey, SpellsNonce, SpellsProfile, is_given, rows_in, text_of};
+ghost use Rattle.cli_words.specs.Words.{Has, IsCallBy, IsChaincodeBy, IsPartBy, IsProfileBy, IsTaskAs, IsTaskOf, IsWorkAs, IsWorkTask, MayHave, OrElse, Reads, SpellsArgument, SpellsBlock, SpellsCount, SpellsKey, SpellsNonce, SpellsOrg, SpellsProfile, is_given, rows_in, text_of};
 
 use crate::commands::commands;
 use clap::ArgMatches;
@@ -29,10 +29,6 @@ pub enum Task<'a> {
         module: &'a str,
         profile: Profile,
     },
-    /// Cut the blocks of a log that comes line by line, by the limits of a genesis.
-    Order {
-        genesis: &'a str,
-    },
     /// Tell the public keys of a key file.
     Public {
         keys: &'a str,
@@ -50,9 +46,9 @@ pub enum Task<'a> {
 #[derive(Clone, Copy, Drop)]
 pub struct Beginning<'a> {
     pub genesis: &'a str,
-    /// More modules at hand. `State`, `Trace`, `Commit` and `Marks` have none.
+    /// More modules at hand. `State`, `Trace` and `Marks` have none.
     pub modules: Option<&'a str>,
-    /// Seeds at hand. Only `Run`, `Threads` and `Endorse` have them.
+    /// Seeds at hand. Only `Run`, `Threads` and `Peer` have them.
     pub keys: Option<&'a str>,
 }
 
@@ -95,21 +91,10 @@ pub enum Work<'a> {
         call: Call,
         most: u32,
     },
-    /// Commit blocks that come line by line to a store.
-    Commit {
-        store: &'a str,
-    },
-    /// Endorse proposals that come line by line for an organisation, on the state after a store
-    /// that grows.
-    Endorse {
-        org: OrgName,
-        store: &'a str,
-        /// Whether amendments too.
-        agrees: bool,
-    },
-    /// Answer questions that come line by line about the chain of a store that grows, and the state
-    /// after it.
-    Query {
+    /// Read a log that comes line by line, commit its blocks to a store, and answer between its
+    /// lines, for an organisation if there is one.
+    Peer {
+        org: Option<OrgName>,
         store: &'a str,
     },
     /// Show the marks by which a store's blocks are cut from nothing.
@@ -204,7 +189,6 @@ fn task_of<'a>(alloc: Global, name: &str, command: &ArgMatches<'a>) -> Result<Ta
     match name {
         "check" => check(command),
         "digest" => digest(command),
-        "order" => order(command),
         "public" => public(command),
         "version" => Ok(Task::Version),
         name => of_genesis(alloc, name, command),
@@ -225,13 +209,6 @@ fn digest<'a>(command: &ArgMatches<'a>) -> Result<Task<'a>, WordsFault>
     let module = text(command, "MODULE")?;
     let profile = profile_of(command)?;
     Ok(Task::Digest { module, profile })
-}
-
-fn order<'a>(command: &ArgMatches<'a>) -> Result<Task<'a>, WordsFault>
-    ensures { Reads (IsTaskAs (codes "order") (rows_in command.now)) result }
-{
-    let genesis = text(command, "GENESIS")?;
-    Ok(Task::Order { genesis })
 }
 
 fn public<'a>(command: &ArgMatches<'a>) -> Result<Task<'a>, WordsFault>
@@ -271,9 +248,7 @@ fn work_of<'a>(alloc: Global, name: &str, command: &ArgMatches<'a>) -> Result<Wo
         "show" => show(command),
         "state" => state(alloc, command),
         "trace" => trace(alloc, command),
-        "commit" => commit(command),
-        "endorse" => endorse(command),
-        "query" => query(command),
+        "peer" => peer(command),
         "marks" => marks(command),
         _ => Err(WordsFault::Usage),
     }
@@ -351,28 +326,11 @@ fn marks<'a>(command: &ArgMatches<'a>) -> Result<Work<'a>, WordsFault>
     })
 }
 
-fn commit<'a>(command: &ArgMatches<'a>) -> Result<Work<'a>, WordsFault>
-    ensures { Reads (IsWorkAs (codes "commit") (rows_in command.now)) result }
+fn peer<'a>(command: &ArgMatches<'a>) -> Result<Work<'a>, WordsFault>
+    ensures { Reads (IsWorkAs (codes "peer") (rows_in command.now)) result }
 {
-    Ok(Work::Commit {
-        store: text(command, "STORE")?,
-    })
-}
-
-fn endorse<'a>(command: &ArgMatches<'a>) -> Result<Work<'a>, WordsFault>
-    ensures { Reads (IsWorkAs (codes "endorse") (rows_in command.now)) result }
-{
-    Ok(Work::Endorse {
+    Ok(Work::Peer {
         org: organisation(command)?,
-        store: text(command, "STORE")?,
-        agrees: flag(command, "agree"),
-    })
-}
-
-fn query<'a>(command: &ArgMatches<'a>) -> Result<Work<'a>, WordsFault>
-    ensures { Reads (IsWorkAs (codes "query") (rows_in command.now)) result }
-{
-    Ok(Work::Query {
         store: text(command, "STORE")?,
     })
 }
@@ -488,12 +446,24 @@ fn chaincode(command: &ArgMatches<'_>) -> Result<Name, WordsFault>
     Name::from_slice(name.as_bytes()).ok_or(WordsFault::Usage)
 }
 
-/// The organisation that the words name.
-fn organisation(command: &ArgMatches<'_>) -> Result<OrgName, WordsFault>
-    ensures { Reads (IsOrgBy (rows_in command.now)) result }
+/// The organisation that an option names, if it is there.
+fn organisation(command: &ArgMatches<'_>) -> Result<Option<OrgName>, WordsFault>
+    ensures { Reads (OrElse SpellsOrg None (first_of (codes "org") (rows_in command.now))) result }
 {
-    let name = text(command, "ORG")?;
-    OrgName::from_slice(name.as_bytes()).ok_or(WordsFault::Usage)
+    match option(command, "org") {
+        Some(name) => spelled_organisation(name),
+        None => Ok(None),
+    }
+}
+
+/// The organisation of a name.
+fn spelled_organisation(name: &str) -> Result<Option<OrgName>, WordsFault>
+    ensures { Reads (SpellsOrg name.now) result }
+{
+    match OrgName::from_slice(name.as_bytes()) {
+        Some(org) => Ok(Some(org)),
+        None => Err(WordsFault::Usage),
+    }
 }
 
 /// The bytes that hex stands for; none for `-`.

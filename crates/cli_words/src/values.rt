@@ -8,7 +8,7 @@ use std::alloc::{AllocError, Global};
 pub(crate) fn rule_of(name: &str) -> &'static str {
     match name {
         "CHAINCODE" => "1 to 32 lower-case letters, digits, _ and -",
-        "ORG" => "1 to 32 letters, digits and _",
+        "org" => "1 to 32 letters, digits and _",
         "ARG" => "hex of up to 4096 bytes, or - for none",
         "ROUNDS" | "steps" => "1 to 1000",
         "profile" => "1 or 2",
@@ -23,7 +23,7 @@ pub(crate) fn rule_of(name: &str) -> &'static str {
 pub(crate) fn is_right(alloc: Global, name: &str, text: &str) -> Result<bool, AllocError> {
     match name {
         "CHAINCODE" => Ok(Name::from_slice(text.as_bytes()).is_some()),
-        "ORG" => Ok(OrgName::from_slice(text.as_bytes()).is_some()),
+        "org" => Ok(OrgName::from_slice(text.as_bytes()).is_some()),
         "ARG" => is_read(argument(alloc, text)),
         "ROUNDS" | "steps" => is_read(count(text)),
         "profile" => is_read(profile(text)),

@@ -3,7 +3,7 @@ use Rattle.std.specs.Prelude.{ℕ, ◌-◌, ◌++◌, List, Option, Some, None, 
 use Rattle.std.specs.Fmt.{decimal, signed_decimal}
 use Rattle.std.specs.Int.{w32, cast_signed}
 use Rattle.std.specs.List.{filter, find}
-use Rattle.serde_json.specs.Data.{Data, null, boolean, number, unsigned, string, array, object, member, no_members}
+use Rattle.serde_json.specs.Data.{Data, null, boolean, string, array, object, member, no_members}
 use Rattle.serde_json.specs.View.{items_of}
 use Rattle.fab_types.specs.Payloads.{Payload}
 use Rattle.fab_types.specs.declared.proposal.Proposal.{Proposal}
@@ -83,7 +83,3 @@ answer_json g (Satisfied chaincode orgs) chain =
     let standing = names_among (orgs_behind g.rules.value chain) orgs in
     or_null (λ p. boolean (is_satisfied p standing)) (policy_in g.rules.value (plain_after chain) chaincode)
 answer_json g (Call chaincode argument) chain = outcome_json (payload_or_refusal (exec_of g.book.value) (call_of chaincode argument) chain)
-
--- {"answer":..,"height":7}: the answer, and how many blocks the chain has
-abbrev pub answered_json : Data → (height : ℕ) → Data
-answered_json answer height = object (member (codes "answer") answer (member (codes "height") (number (unsigned height)) no_members))

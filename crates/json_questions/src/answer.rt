@@ -1,11 +1,11 @@
 //! The answer to a question.
 
-ghost use Rattle.std.specs.Prelude.{◌≡◌, ◌-◌, IfOk, length, slice_get, string_bytes};
+ghost use Rattle.std.specs.Prelude.{◌≡◌, ◌-◌, IfOk, slice_get, string_bytes};
 ghost use Rattle.serde_json.specs.View.{view};
 ghost use Rattle.json_chain.specs.Blocks.{block_json};
-ghost use Rattle.json_chain.specs.Plain.{IsTextOf};
+ghost use Rattle.json_chain.specs.JsonText.{IsJsonText};
 ghost use Rattle.json_chain.specs.Standing.{orgs_before};
-ghost use Rattle.json_questions.specs.Answers.{answer_json, answered_json, or_null};
+ghost use Rattle.json_questions.specs.Answers.{answer_json, or_null};
 
 use crate::calling::outcome_of;
 use crate::entries::{entries_of, entry_at};
@@ -16,37 +16,24 @@ use crate::transactions::transaction_of;
 use crate::writes::writes_of;
 use endorsement_policy::Rules;
 use fab_types::{BlockNumber, CommittedBlock};
-use json_chain::{Object, block_of, genesis_of, line_of, standing_of};
+use json_chain::{block_of, genesis_of, line_of, standing_of};
 use ledger_setting::Genesis;
 use serde_json::Value;
 use std::alloc::{AllocError, Global};
 use world_state::Snapshot;
 
-/// The line of the answer to a question by a genesis, after the chain of a snapshot, and how many
-/// blocks that has. The only error is want of memory.
-pub fn answer_line(
+/// The answer to a question by a genesis, after the chain of a snapshot, as one line of text. The
+/// only error is want of memory.
+pub fn answer_text(
     alloc: Global,
     genesis: &Genesis,
     snapshot: &Snapshot,
     question: &Question,
 ) -> Result<String, AllocError>
     ensures { IfOk result
-        (λ s. IsTextOf
-        (answered_json (answer_json genesis.now question.now snapshot.now) (length snapshot.now))
-        (string_bytes s)) }
+        (λ s. IsJsonText (answer_json genesis.now question.now snapshot.now) (string_bytes s)) }
 {
-    let answer = answer_of(alloc, genesis, snapshot, question)?;
-    line_of(alloc, &answered(alloc, answer, snapshot.height())?)
-}
-
-/// An answer with the height of the chain that it is of.
-fn answered(alloc: Global, answer: Value, height: usize) -> Result<Value, AllocError>
-    ensures { IfOk result (λ v. view v ≡ answered_json (view answer) height) }
-{
-    let mut object = Object::new(alloc);
-    object.put("answer", answer)?;
-    object.put("height", Value::from(height))?;
-    Ok(object.into_value())
+    line_of(alloc, &answer_of(alloc, genesis, snapshot, question)?)
 }
 
 /// The answer to a question.

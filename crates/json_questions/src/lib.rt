@@ -1,9 +1,9 @@
 //! Questions about a ledger, a line each, and their answers as JSON.
 //!
 //! [`read_question`] gives the [`Question`] that a line spells, over the data that `serde_json`
-//! reads in it; a line spells at most one ([`a_line_spells_one_question`]). [`answer_line`] is the
-//! line of the answer by a genesis and a chain (`specs/Answers.antt`): of a state it is that after
-//! the chain, and of a policy the one in that state.
+//! reads in it; a line spells at most one ([`a_line_spells_one_question`]). [`answer_text`] gives the
+//! answer by a genesis and a chain (`specs/Answers.antt`): a state is the one after the chain, and a
+//! policy the one in that state.
 #![tactic(auto)]
 
 mod answer;
@@ -21,7 +21,7 @@ mod transactions;
 mod values;
 mod writes;
 
-pub use answer::answer_line;
+pub use answer::answer_text;
 pub use asked_orgs::AskedOrgs;
 pub use laws::a_line_spells_one_question;
 pub use line::read_question;

@@ -33,12 +33,6 @@ returns-in-Version-clause-comes g c =
     subst (λ (t : Task). Comes t k c.args.out.now r.new.out r.result) (sym c.in-Version.is)
     (r.ensures.answers, begins_err _ c.args.out.now r.new.out r.result r.ensures.nothing)
 
-pub returns-in-Order-clause-comes : goal.returns-in-Order-clause-comes
-returns-in-Order-clause-comes g c =
-    let r = c.order_log in
-    let k = known_files g.F.Files.is_known (g.F.Files.bytes c.args.files.now) (g.F.Files.bytes r.new.files) (g.F.Files.input_bytes c.args.files.now) in
-    subst (λ (t : Task). Comes t k c.args.out.now r.new.out r.result) (sym c.in-Order.is) (r.ensures.answers, r.ensures.begins)
-
 pub returns-in-Public-clause-comes : goal.returns-in-Public-clause-comes
 returns-in-Public-clause-comes g c =
     let r = c.public in
@@ -54,11 +48,6 @@ pub returns-in-Digest-clause-files : goal.returns-in-Digest-clause-files
 returns-in-Digest-clause-files g c =
     let bytes = g.F.Files.bytes in
     leaves_files g.F.Files.is_known c.args.task.now (bytes c.args.files.now) (bytes c.digest.new.files) c.digest.ensures.kept
-
-pub returns-in-Order-clause-files : goal.returns-in-Order-clause-files
-returns-in-Order-clause-files g c =
-    let bytes = g.F.Files.bytes in
-    leaves_files g.F.Files.is_known c.args.task.now (bytes c.args.files.now) (bytes c.order_log.new.files) c.order_log.ensures.kept
 
 pub returns-in-Public-clause-files : goal.returns-in-Public-clause-files
 returns-in-Public-clause-files g c =
@@ -80,9 +69,6 @@ returns-in-Check-clause-tells g c = c.check.ensures.tells
 
 pub returns-in-Digest-clause-tells : goal.returns-in-Digest-clause-tells
 returns-in-Digest-clause-tells g c = c.digest.ensures.tells
-
-pub returns-in-Order-clause-tells : goal.returns-in-Order-clause-tells
-returns-in-Order-clause-tells g c = c.order_log.ensures.tells
 
 pub returns-in-Public-clause-tells : goal.returns-in-Public-clause-tells
 returns-in-Public-clause-tells g c = c.public.ensures.tells

@@ -1,5 +1,6 @@
-use Rattle.std.proofs.Common.{refl, sym, subst}
+use Rattle.std.proofs.Common.{ℕ, List, Option, refl, sym, subst}
 use Rattle.cli_words.specs.declared.task.Work.{Work}
+use Rattle.cli_words.specs.declared.task.Work.TheVariants as work
 use Rattle.cli_program.specs.Leaving.{Leaves}
 use Rattle.cli_program.specs.Tasks.{Works, known_files}
 use Rattle.cli_program.proofs.Leaving.{leaves_all, leaves_run}
@@ -20,13 +21,6 @@ returns-in-Threads-clause-works g c =
     let k = known_files g.F.Files.is_known (g.F.Files.bytes c.args.files.now) (g.F.Files.bytes r.new.files) input in
     subst (λ (w : Work). Works c.args.subject.log.now w k c.args.out.now r.new.out r.result) (sym c.in-Threads.is) (r.ensures.answers, r.ensures.begins)
 
-pub returns-in-Endorse-clause-works : goal.returns-in-Endorse-clause-works
-returns-in-Endorse-clause-works g c =
-    let r = c.endorse in
-    let input = g.F.Files.input_bytes c.args.files.now in
-    let k = known_files g.F.Files.is_known (g.F.Files.bytes c.args.files.now) (g.F.Files.bytes r.new.files) input in
-    subst (λ (w : Work). Works c.args.subject.log.now w k c.args.out.now r.new.out r.result) (sym c.in-Endorse.is) (r.ensures.answers, r.ensures.begins)
-
 pub returns-in-Run-clause-files : goal.returns-in-Run-clause-files
 returns-in-Run-clause-files g c =
     let r = c.run_events in
@@ -35,11 +29,6 @@ returns-in-Run-clause-files g c =
     let new = g.F.Files.bytes r.new.files in
     subst (λ (w : Work). Leaves known w old new) (sym c.in-Run.is)
     (leaves_run known c.in-Run.events c.in-Run.store old new r.ensures.kept r.ensures.others r.ensures.spares)
-
-pub returns-in-Commit-clause-files : goal.returns-in-Commit-clause-files
-returns-in-Commit-clause-files g c =
-    let r = c.commit in
-    subst (λ (w : Work). Leaves g.F.Files.is_known w (g.F.Files.bytes c.args.files.now) (g.F.Files.bytes r.new.files)) (sym c.in-Commit.is) r.ensures.others
 
 pub returns-in-Simulate-clause-works : goal.returns-in-Simulate-clause-works
 returns-in-Simulate-clause-works g c =
@@ -53,7 +42,8 @@ returns-in-Run-clause-works g c =
     let r = c.run_events in
     let input = g.F.Files.input_bytes c.args.files.now in
     let k = known_files g.F.Files.is_known (g.F.Files.bytes c.args.files.now) (g.F.Files.bytes r.new.files) input in
-    subst (λ (w : Work). Works c.args.subject.log.now w k c.args.out.now r.new.out r.result) (sym c.in-Run.is) (r.ensures.answers, r.ensures.begins)
+    subst (λ (w : Work). Works c.args.subject.log.now w k c.args.out.now r.new.out r.result) (sym c.in-Run.is)
+    ((r.ensures.answers, r.ensures.begins), r.ensures.stays)
 
 pub returns-in-Audit-clause-works : goal.returns-in-Audit-clause-works
 returns-in-Audit-clause-works g c =
@@ -69,19 +59,20 @@ returns-in-Show-clause-works g c =
     let k = known_files g.F.Files.is_known (g.F.Files.bytes c.args.files.now) (g.F.Files.bytes r.new.files) input in
     subst (λ (w : Work). Works c.args.subject.log.now w k c.args.out.now r.new.out r.result) (sym c.in-Show.is) (r.ensures.answers, r.ensures.begins)
 
-pub returns-in-Commit-clause-works : goal.returns-in-Commit-clause-works
-returns-in-Commit-clause-works g c =
-    let r = c.commit in
+pub returns-in-Peer-clause-works : goal.returns-in-Peer-clause-works
+returns-in-Peer-clause-works g c =
+    let r = c.peer in
     let input = g.F.Files.input_bytes c.args.files.now in
     let k = known_files g.F.Files.is_known (g.F.Files.bytes c.args.files.now) (g.F.Files.bytes r.new.files) input in
-    subst (λ (w : Work). Works c.args.subject.log.now w k c.args.out.now r.new.out r.result) (sym c.in-Commit.is) (r.ensures.answers, r.ensures.begins)
+    let log = c.args.subject.log.now in
+    subst (λ (w : Work). Works log w k c.args.out.now r.new.out r.result) (sym c.in-Peer.is)
+    (subst (λ (org : Option (List ℕ)). Works log (work.Peer org c.in-Peer.store) k c.args.out.now r.new.out r.result) c.as_ref.ensures.value
+    (r.ensures.answers, r.ensures.begins))
 
-pub returns-in-Query-clause-works : goal.returns-in-Query-clause-works
-returns-in-Query-clause-works g c =
-    let r = c.query in
-    let input = g.F.Files.input_bytes c.args.files.now in
-    let k = known_files g.F.Files.is_known (g.F.Files.bytes c.args.files.now) (g.F.Files.bytes r.new.files) input in
-    subst (λ (w : Work). Works c.args.subject.log.now w k c.args.out.now r.new.out r.result) (sym c.in-Query.is) (r.ensures.answers, r.ensures.begins)
+pub returns-in-Peer-clause-files : goal.returns-in-Peer-clause-files
+returns-in-Peer-clause-files g c =
+    let r = c.peer in
+    subst (λ (w : Work). Leaves g.F.Files.is_known w (g.F.Files.bytes c.args.files.now) (g.F.Files.bytes r.new.files)) (sym c.in-Peer.is) r.ensures.others
 
 pub returns-in-Marks-clause-works : goal.returns-in-Marks-clause-works
 returns-in-Marks-clause-works g c =
@@ -115,16 +106,6 @@ returns-in-State-clause-files g c =
     let bytes = g.F.Files.bytes in
     leaves_all g.F.Files.is_known c.args.work.now (bytes c.args.files.now) (bytes c.state.new.files) c.state.ensures.kept
 
-pub returns-in-Endorse-clause-files : goal.returns-in-Endorse-clause-files
-returns-in-Endorse-clause-files g c =
-    let bytes = g.F.Files.bytes in
-    leaves_all g.F.Files.is_known c.args.work.now (bytes c.args.files.now) (bytes c.endorse.new.files) c.endorse.ensures.kept
-
-pub returns-in-Query-clause-files : goal.returns-in-Query-clause-files
-returns-in-Query-clause-files g c =
-    let bytes = g.F.Files.bytes in
-    leaves_all g.F.Files.is_known c.args.work.now (bytes c.args.files.now) (bytes c.query.new.files) c.query.ensures.kept
-
 pub returns-in-Marks-clause-files : goal.returns-in-Marks-clause-files
 returns-in-Marks-clause-files g c =
     let bytes = g.F.Files.bytes in
@@ -155,14 +136,8 @@ returns-in-State-clause-tells g c = c.state.ensures.tells
 pub returns-in-Trace-clause-tells : goal.returns-in-Trace-clause-tells
 returns-in-Trace-clause-tells g c = c.trace.ensures.tells
 
-pub returns-in-Commit-clause-tells : goal.returns-in-Commit-clause-tells
-returns-in-Commit-clause-tells g c = c.commit.ensures.tells
-
-pub returns-in-Endorse-clause-tells : goal.returns-in-Endorse-clause-tells
-returns-in-Endorse-clause-tells g c = c.endorse.ensures.tells
-
-pub returns-in-Query-clause-tells : goal.returns-in-Query-clause-tells
-returns-in-Query-clause-tells g c = c.query.ensures.tells
+pub returns-in-Peer-clause-tells : goal.returns-in-Peer-clause-tells
+returns-in-Peer-clause-tells g c = c.peer.ensures.tells
 
 pub returns-in-Marks-clause-tells : goal.returns-in-Marks-clause-tells
 returns-in-Marks-clause-tells g c = c.marks.ensures.tells

@@ -5,6 +5,8 @@ use Rattle.cli_lines.specs.declared.failure.Failure.{Failure}
 use Rattle.cli_session.specs.Stored.{HoldsAsked}
 use Rattle.cli_session.specs.Whole.{ComesTo, RunBegins}
 use Rattle.cli_program.specs.Tasks.{Runs, known_files}
+use Rattle.cli_program.proofs.Leaving.{spares_by}
+use Rattle.cli_program.specs.Leaving.{SparesStore}
 use Rattle.cli_program.proofs.Verdicts.{verdict_begins, verdict_tells, verdict_told}
 use Rattle.cli_program.proofs.commands.run_events.Goals as goal
 
@@ -43,3 +45,12 @@ returns-clause-others g c = c.run.ensures.others
 
 pub returns-clause-spares : goal.returns-clause-spares
 returns-clause-spares g c = c.run.ensures.spares
+
+pub returns-clause-stays : goal.returns-clause-stays
+returns-clause-stays g c =
+    let r = c.run in
+    let known = g.F.Files.is_known in
+    let before = g.F.Files.bytes c.args.files.now in
+    let after = g.F.Files.bytes r.new.files in
+    subst (λ (a : Result (Unit {0}) Failure). SparesStore known (option_map (λ s. s.now) c.args.names.now.store) before after a) (sym c.answer_of.ensures)
+    (spares_by known c.args.names.now.store before after r.result r.ensures.stays)

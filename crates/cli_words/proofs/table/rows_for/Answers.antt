@@ -1,6 +1,6 @@
-use Rattle.std.proofs.Common.{◌∙◌, map, sym, ap, arith, refl}
+use Rattle.std.proofs.Common.{◌∙◌, map, sym, ap}
 use Rattle.std.specs.List.{find}
-use Rattle.cli_words.specs.Table.{TableRow, row_of_tuple, table}
+use Rattle.cli_words.specs.Table.{row_of_tuple, table}
 use Rattle.cli_words.specs.UsageText.{alone_or, has_name}
 use Rattle.cli_words.proofs.Rows.{found_at, none_past, passed_at}
 use Rattle.cli_words.proofs.table.rows_for.Goals as goal

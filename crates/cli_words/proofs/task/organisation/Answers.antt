@@ -1,12 +1,12 @@
-use Rattle.std.proofs.Common.{sym, ◌∙◌}
-use Rattle.std.proofs.lemmas.Option.{none-some}
-use Rattle.std.proofs.lemmas.Result.{err_from_is_err_and}
-use Rattle.cli_words.proofs.Reading.{none_is}
-use Rattle.cli_words.specs.Words.{IsOrgBy, rows_in}
+use Rattle.std.specs.Prelude.{None, codes}
+use Rattle.cli_words.proofs.Reading.{or_other, or_there}
+use Rattle.cli_words.specs.Words.{SpellsOrg, rows_in}
 use Rattle.cli_words.proofs.task.organisation.Goals as goal
 
-pub returns-in_err-name : goal.returns-in_err-name
-returns-in_err-name c =
-    let p = err_from_is_err_and c.from_residual.result c.from_residual.ensures.1 in
-    rw (p.1, p.2)
-    (none_is (IsOrgBy (rows_in c.args.command.now)) c.in_err-name.field-0.0 (λ is n h. none-some n (sym c.in_err-name.ensures.missing ∙ h.1)))
+pub returns-in-Some : goal.returns-in-Some
+returns-in-Some c =
+    or_there SpellsOrg None (rows_in c.args.command.now) (codes "org") c.option.result c.in-Some.name c.spelled_organisation.result c.option.ensures
+    c.in-Some.is c.spelled_organisation.ensures
+
+pub returns-in-None : goal.returns-in-None
+returns-in-None c = or_other SpellsOrg None (rows_in c.args.command.now) (codes "org") c.option.result c.option.ensures c.in-None.is

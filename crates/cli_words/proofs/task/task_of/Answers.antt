@@ -9,4 +9,4 @@ returns-in_default c =
     let rows = rows_in c.args.command.now in
     let other = c.in_default in
     reads_by (IsWorkTask name rows) (IsTaskAs name rows) c.of_genesis.result (task_as rows name)
-    (work_task rows name other.not-check other.not-digest other.not-order other.not-public other.not-version) c.of_genesis.ensures
+    (work_task rows name other.not-check other.not-digest other.not-public other.not-version) c.of_genesis.ensures

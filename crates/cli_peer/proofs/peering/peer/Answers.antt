@@ -1,0 +1,54 @@
+use Rattle.std.proofs.Common.{◌∙◌, ℕ, List, [], ◌∷◌, Option, inl, subst}
+use Rattle.std.proofs.lemmas.Result.{err_from_is_err_and}
+use Rattle.cli_lines.specs.Told.{Answers, Begins}
+use Rattle.cli_lines.proofs.Changes.{changes_kept}
+use Rattle.cli_lines.proofs.Printing.{nothing_same}
+use Rattle.cli_lines.proofs.Silence.{no_less, tells_by}
+use Rattle.cli_peer.specs.Peering.{Peers, PeersBegin}
+use Rattle.cli_peer.specs.Setting.{asked_by}
+use Rattle.cli_peer.proofs.peering.peer.Goals as goal
+
+pub returns-in_default-clause-others : goal.returns-in_default-clause-others
+returns-in_default-clause-others g c =
+    let bytes = g.F.Files.bytes in
+    changes_kept g.F.Files.is_known (c.args.asked.now.store.now ∷ []) (bytes c.args.files.now) (bytes c.open_store.new.self) (bytes c.explain_trouble.new.files)
+    c.explain_trouble.ensures.kept c.open_store.ensures.others
+
+pub returns-in_err-lines : goal.returns-in_err-lines
+returns-in_err-lines g c =
+    let p = err_from_is_err_and c.from_residual.result c.from_residual.ensures.1 in
+    let bytes = g.F.Files.bytes in
+    rw (p.1, p.2) (record {
+      tells = tells_by c.args.out.now c.args.out.now _ (no_less c.args.out.now) c.in_err-lines.ensures.silent;
+      answers = inl c.in_err-lines.ensures.lost;
+      begins = λ broken. inl (nothing_same c.args.out.now);
+      others = changes_kept g.F.Files.is_known (c.args.asked.now.store.now ∷ []) (bytes c.args.files.now) (bytes c.open_store.new.self) (bytes c.input.new.self)
+          c.input.ensures.kept c.open_store.ensures.others;
+    })
+
+pub returns-clause-answers : goal.returns-clause-answers
+returns-clause-answers g c =
+    let p = asked_by c.args.log.now c.args.asked.now in
+    let t = c.args.out.now in
+    let u = c.peer_to.new.out in
+    let r = c.peer_to.result in
+    let left = c.in_ok-lines.ensures.whole ∙ c.input.ensures.read ∙ c.in-Some.ensures.input in
+    subst (λ (held : Option (List ℕ)). Answers (Peers p held (g.F.Files.input_bytes c.args.files.now)) t u r) c.in-Some.ensures.held
+    (subst (λ (input : Option (List ℕ)). Answers (Peers p (g.F.Store.Write.contents c.in-Some.file) input) t u r) left c.peer_to.ensures.answers)
+
+pub returns-clause-begins : goal.returns-clause-begins
+returns-clause-begins g c =
+    let p = asked_by c.args.log.now c.args.asked.now in
+    let t = c.args.out.now in
+    let u = c.peer_to.new.out in
+    let r = c.peer_to.result in
+    let left = c.in_ok-lines.ensures.whole ∙ c.input.ensures.read ∙ c.in-Some.ensures.input in
+    subst (λ (held : Option (List ℕ)). Begins (PeersBegin p held (g.F.Files.input_bytes c.args.files.now)) t u r) c.in-Some.ensures.held
+    (subst (λ (input : Option (List ℕ)). Begins (PeersBegin p (g.F.Store.Write.contents c.in-Some.file) input) t u r) left
+    c.peer_to.ensures.begins)
+
+pub returns-clause-others : goal.returns-clause-others
+returns-clause-others g c =
+    let bytes = g.F.Files.bytes in
+    changes_kept g.F.Files.is_known (c.args.asked.now.store.now ∷ []) (bytes c.args.files.now) (bytes c.open_store.new.self) (bytes c.peer_to.new.files)
+    (c.peer_to.ensures.kept ∙ c.watch-watch.ensures.kept ∙ c.input.ensures.kept) c.open_store.ensures.others

@@ -1,0 +1,36 @@
+//! The command `peer` of the ledger's program: one process over lines, which an organisation runs
+//! on a machine of its own beside a replicated log.
+//!
+//! [`peer`] reads the lines of a log, commits the blocks that they make to its store, and answers
+//! between them what it is asked: it endorses proposals, answers questions, and says which blocks
+//! it has. It answers each line once, in its order, by the blocks of its store and what the lines
+//! of the log before it made of them, and by nothing else. What stands behind the last line's end
+//! is not read: it may be a part of a line.
+//!
+//! The state of it is [`LogPeer`](log_peer::LogPeer) of `log_peer`. Questions and answers are
+//! those of `json_questions`.
+#![tactic(auto)]
+
+mod aborted;
+mod answer;
+mod answering;
+mod explaining;
+mod filter;
+mod forks;
+mod input;
+mod joined;
+mod laws;
+mod line;
+mod log_genesis;
+mod logged;
+mod marks;
+mod numbers;
+mod opening;
+mod peering;
+mod place;
+mod seen;
+mod words;
+
+pub use laws::{seen_is_no_payload, what_is_endorsed_is_right};
+pub use log_genesis::LogGenesis;
+pub use peering::{Peering, peer};

@@ -1,0 +1,495 @@
+//! The command `peer`.
+
+ghost use Rattle.std.specs.Prelude.{◌≡◌, ◌↔◌, ◌∷◌, [], Ok, Err, IfErr, IfOk, IsTrue, OnErr, OnOk};
+ghost use Rattle.std.specs.Prelude.{codes, false};
+ghost use Rattle.std.specs.Str.{IsUtf8};
+ghost use Rattle.hex.specs.Hex.{encode_lower};
+ghost use Rattle.cli_lines.specs.Places.{ChangesOnly};
+ghost use Rattle.cli_lines.specs.Told.{Answers, Begins, IsBrokenOff, IsMore, Prints, PrintsNothing};
+ghost use Rattle.cli_lines.specs.Told.{Says, Tells};
+ghost use Rattle.ledger_setting.specs.Rule.{table_of};
+ghost use Rattle.log_peer.specs.Peering.{IsPeer, fresh, held_by, rules_of};
+ghost use Rattle.log_peer.specs.Storing.{IsOpenRefused, IsOpened};
+ghost use Rattle.store_replay.specs.Lawful.{AreLawful};
+ghost use Rattle.cli_peer.specs.Answering.{AnswersText};
+ghost use Rattle.cli_peer.specs.Filters.{ComesTo, DoesOrEnds, IsEndedBy, PrintsSo};
+ghost use Rattle.cli_peer.specs.Logged.{EndsEntry, IsLogged};
+ghost use Rattle.cli_peer.specs.Marks.{NamesAnotherIn};
+ghost use Rattle.cli_peer.specs.Opening.{ComesBehind};
+ghost use Rattle.cli_peer.specs.Peering.{DoesAsked, DoesLine, EndsLine, LinesBegin, Peers};
+ghost use Rattle.cli_peer.specs.Peering.{PeersBegin, PeersLines, bad_text};
+ghost use Rattle.cli_peer.specs.Running.{IsReader, reached};
+ghost use Rattle.cli_peer.specs.Setting.{asked_by, peer_of};
+
+use crate::answering::{Answering, place_in};
+use crate::explaining::{
+    explain_answer, explain_cut, explain_no_line, explain_store, explain_unread,
+};
+use crate::filter::{end, next_line};
+use crate::input::InputLines;
+use crate::line::{Asked, Entry, Line};
+use crate::log_genesis::LogGenesis;
+use crate::logged::Telling;
+use crate::marks::{is_of_mark, leaves_genesis_open, names_another_genesis};
+use crate::opening::print_opened;
+use crate::place::Place;
+use cli_lines::{Access, Failure, Files, Location, Printer, explain_number, explain_trouble};
+use endorsement_policy::Workers;
+use fab_types::OrgName;
+use ledger_setting::Genesis;
+use log_peer::{LogPeer, PeerReport, Unopened};
+use std::alloc::{AllocError, Global};
+use std::io::{Read, Write};
+use std::thread::Threads;
+use store_devices::StoreFile;
+use store_replay::{TagChecks, Watch};
+
+/// What is said of a log whose first line leaves open which genesis file counts.
+const LEFT_OPEN: &str =
+    "the log does not say which genesis file counts: let its first line be `genesis <SHA-256>`";
+
+/// What is said of an organisation that does not stand behind the store.
+const NO_MEMBER: &str =
+    "the organisation is no member behind the store: it endorses nothing until it is one";
+
+/// What is said of one whose seed is missing there.
+const NO_SEED: &str =
+    "no seed is at hand of the organisation's key behind the store: it endorses nothing without";
+
+/// What `peer` is asked for: to endorse for this organisation, if for any, over the store in the
+/// file of a name.
+#[derive(Clone, Copy)]
+pub struct Peering<'a> {
+    pub org: Option<&'a OrgName>,
+    pub store: &'a str,
+}
+
+/// Reads lines: those of a log, whose blocks it commits to a store, and between them proposals and
+/// questions, which it answers by the chain that the store has then.
+///
+/// First comes `cut` with a count of bytes, where the store ended with a part of a record, which is
+/// cut off then, and `height` with the count of its blocks. Behind each line of the log comes
+/// `read`, its index, and how many envelopes wait; before it what came of the line: `aborted` for
+/// each transaction that is left out of a batch; `tx` for each of a block that joined the chain,
+/// and `committed` with its number and its flags, once it is on the disk; `known` of a block that
+/// the chain has; `forked` where an organisation has another block; and `skipped` with the reason.
+/// A first line of the log that names another genesis ends it (807), and so does one that makes
+/// another block of a number than the store has (602).
+///
+/// Each other line is answered once, in its order, by `answer`, its tag, the height of the chain,
+/// and what is said: `endorsed` with the bytes of the payload and of the endorsement in hex, or why
+/// not; the answer to a question; `seen` with the hash of a block; or `bad`. A line that is none of
+/// these is `bad line` and its number. Tags are checked by workers at once: what is printed is the
+/// same for every number of them.
+pub fn peer<T: Threads + Sync, F: Files, W: Write>(
+    workers: &Workers<'_, T>,
+    alloc: Global,
+    files: &mut F,
+    log: &LogGenesis,
+    asked: &Peering<'_>,
+    out: &mut Printer<'_, W>,
+) -> Result<(), Failure>
+    ensures tells { Tells out.old out.new result }
+    ensures answers { Answers
+        (Peers (asked_by log.now asked.now) (F.bytes files.old asked.now.store.now)
+        (F.input_bytes files.old)) out.old out.new result }
+    ensures begins { Begins
+        (PeersBegin (asked_by log.now asked.now) (F.bytes files.old asked.now.store.now)
+        (F.input_bytes files.old)) out.old out.new result }
+    // No file is changed but the store, where it is known what is written.
+    ensures others { ChangesOnly F.is_known (asked.now.store.now ∷ []) (F.bytes files.old)
+        (F.bytes files.new) }
+{
+    let Some(file) = files.open_store(asked.store) else {
+        explain_trouble(alloc, files, asked.store, Access::Write);
+        return Err(Failure::File);
+    };
+    let mut lines = InputLines::new(alloc, files.input())?;
+    let watch = files.watch();
+    let setting = Setting {
+        workers,
+        answering: Answering {
+            alloc,
+            log,
+            org: asked.org,
+        },
+        store: asked.store,
+    };
+    peer_to(files, &setting, watch, file, &mut lines, out)
+}
+
+/// What a peer goes by.
+#[derive(Drop)]
+struct Setting<'a, T> {
+    workers: &'a Workers<'a, T>,
+    answering: Answering<'a>,
+    /// The name of the store.
+    store: &'a str,
+}
+
+/// A peer, and whether it has read a line of the log.
+#[derive(Drop)]
+struct Reader<D: Drop> {
+    peer: LogPeer<D>,
+    begun: bool,
+}
+
+/// Opens the store of a file, whose tags are checked by workers.
+fn open_peer<T: Threads + Sync, V: Watch + Drop, D: StoreFile>(
+    workers: &Workers<'_, T>,
+    watch: V,
+    alloc: Global,
+    genesis: &Genesis,
+    file: D,
+) -> Result<(LogPeer<D>, usize), Unopened<D>>
+    ensures stored { IfOk result (λ p. IsPeer p.0) }
+    ensures lawful { IfOk result
+        (λ p. AreLawful (table_of genesis.now.rules.value) [] (held_by p.0).chain) }
+    ensures rules { IfOk result (λ p. rules_of p.0 ≡ genesis.now.rules.value) }
+    ensures unread { IfOk result (λ p. (held_by p.0).log ≡ fresh genesis.now) }
+    ensures opened { IfOk result
+        (λ p. IsOpened (D.contents file) (held_by p.0).chain p.1) }
+    ensures refused { IfErr result
+        (λ u. IsOpenRefused (table_of genesis.now.rules.value) (D.contents file) u.refusal) }
+{
+    LogPeer::open(&TagChecks::new(workers, &watch), alloc, genesis, file)
+}
+
+/// Opens the store of a file, and does each line.
+fn peer_to<T: Threads + Sync, F: Files, V: Watch + Drop, D: StoreFile, R: Read + Drop, W: Write>(
+    files: &mut F,
+    setting: &Setting<'_, T>,
+    watch: V,
+    file: D,
+    lines: &mut InputLines<R>,
+    out: &mut Printer<'_, W>,
+) -> Result<(), Failure>
+    ensures tells { Tells out.old out.new result }
+    ensures answers { Answers
+        (Peers (peer_of setting.now.answering) (D.contents file) lines.old.left) out.old out.new
+        result }
+    ensures begins { Begins
+        (PeersBegin (peer_of setting.now.answering) (D.contents file) lines.old.left) out.old
+        out.new result }
+    ensures kept { F.bytes files.new ≡ F.bytes files.old }
+{
+    let alloc = setting.answering.alloc;
+    let genesis = &setting.answering.log.genesis;
+    match open_peer(setting.workers, watch, alloc, genesis, file) {
+        Ok((peer, cut)) => {
+            let mut reader = Reader { peer, begun: false };
+            peer_behind(files, setting, &mut reader, cut, lines, out)
+        }
+        Err(unopened) => {
+            explain_store(alloc, files, setting.store, &unopened.refusal);
+            Err(end(unopened.refusal, out))
+        }
+    }
+}
+
+/// Prints with how many blocks a store was opened, and does each line.
+fn peer_behind<T: Threads + Sync, F: Files, D: StoreFile, R: Read + Drop, W: Write>(
+    files: &mut F,
+    setting: &Setting<'_, T>,
+    reader: &mut Reader<D>,
+    cut: usize,
+    lines: &mut InputLines<R>,
+    out: &mut Printer<'_, W>,
+) -> Result<(), Failure>
+    requires reader { IsReader setting.now.answering.log.now reader.old }
+    ensures tells { Tells out.old out.new result }
+    ensures answers { Answers
+        (λ answer text. ComesBehind (held_by reader.old.peer).chain cut
+        (PeersLines (peer_of setting.now.answering) (reached reader.old) lines.old.left answer)
+        text)
+        out.old out.new result }
+    ensures begins { Begins
+        (ComesBehind (held_by reader.old.peer).chain cut
+        (LinesBegin (peer_of setting.now.answering) (reached reader.old) lines.old.left)) out.old
+        out.new result }
+    ensures kept { F.bytes files.new ≡ F.bytes files.old }
+{
+    let height = reader.peer.snapshot().height();
+    explain_cut(setting.answering.alloc, files, setting.store, height, cut);
+    print_opened(height, cut, out)?;
+    remark_place(files, setting, &reader.peer);
+    peer_lines(files, setting, reader, lines, out)
+}
+
+/// Says where the organisation of a peer can endorse nothing behind the store.
+fn remark_place<T, F: Files, D: StoreFile>(
+    files: &mut F,
+    setting: &Setting<'_, T>,
+    peer: &LogPeer<D>,
+)
+    ensures kept { F.bytes files.new ≡ F.bytes files.old }
+{
+    let Answering { alloc, log, org } = setting.answering;
+    let Some(org) = org else {
+        return;
+    };
+    match place_in(alloc, &log.genesis, peer.snapshot(), org) {
+        Ok(Place::Stranger) => files.remark(NO_MEMBER),
+        Ok(Place::Keyless) => files.remark(NO_SEED),
+        Ok(Place::Stands) | Err(_) => {}
+    }
+}
+
+/// Does each line.
+fn peer_lines<T: Threads + Sync, F: Files, D: StoreFile, R: Read + Drop, W: Write>(
+    files: &mut F,
+    setting: &Setting<'_, T>,
+    reader: &mut Reader<D>,
+    lines: &mut InputLines<R>,
+    out: &mut Printer<'_, W>,
+) -> Result<(), Failure>
+    requires reader { IsReader setting.now.answering.log.now reader.old }
+    ensures tells { Tells out.old out.new result }
+    ensures answers { Answers
+        (PeersLines (peer_of setting.now.answering) (reached reader.old) lines.old.left) out.old
+        out.new result }
+    ensures begins { Begins
+        (LinesBegin (peer_of setting.now.answering) (reached reader.old) lines.old.left) out.old
+        out.new result }
+    ensures kept { F.bytes files.new ≡ F.bytes files.old }
+{
+    for number in 1..u64::MAX {
+        let there = next_line(setting.answering.alloc, files, lines, out)?;
+        if !there {
+            return Ok(());
+        }
+        take_line(files, setting, reader, lines.line(), number, out)?;
+    }
+    // So many lines no input has.
+    Err(Failure::File)
+}
+
+/// Does the line of this number.
+fn take_line<T: Threads + Sync, F: Files, D: StoreFile, W: Write>(
+    files: &mut F,
+    setting: &Setting<'_, T>,
+    reader: &mut Reader<D>,
+    line: &[u8],
+    number: u64,
+    out: &mut Printer<'_, W>,
+) -> Result<(), Failure>
+    requires reader { IsReader setting.now.answering.log.now reader.old }
+    ensures reader { OnOk result (IsReader setting.now.answering.log.now reader.new) }
+    ensures tells { Tells out.old out.new result }
+    ensures does { Answers
+        (DoesOrEnds
+        (λ text. DoesLine (peer_of setting.now.answering) number (reached reader.old) line.now text
+        (reached reader.new))
+        (EndsLine (peer_of setting.now.answering) number (reached reader.old) line.now)) out.old
+        out.new result }
+    ensures begins { Begins
+        (ComesTo
+        (λ text. DoesLine (peer_of setting.now.answering) number (reached reader.old) line.now text
+        (reached reader.new))
+        (EndsLine (peer_of setting.now.answering) number (reached reader.old) line.now)) out.old
+        out.new result }
+    ensures kept { F.bytes files.new ≡ F.bytes files.old }
+{
+    let alloc = setting.answering.alloc;
+    let decoded = String::from_utf8_lossy(alloc, line)?;
+    match Line::of(&decoded) {
+        Some(Line::Log(entry)) => take_entry(files, setting, reader, number, &entry, out),
+        Some(Line::Ask(asked)) => {
+            answer_line(
+                files,
+                &setting.answering,
+                &reader.peer,
+                line,
+                number,
+                &asked,
+                out,
+            )
+        }
+        None => print_bad_line(alloc, files, number, out),
+    }
+}
+
+/// Answers the line of this number, which asks for something. One that is no text is a bad one.
+fn answer_line<F: Files, D: StoreFile, W: Write>(
+    files: &mut F,
+    answering: &Answering<'_>,
+    peer: &LogPeer<D>,
+    line: &[u8],
+    number: u64,
+    asked: &Asked<'_>,
+    out: &mut Printer<'_, W>,
+) -> Result<(), Failure>
+    ensures tells { Tells out.old out.new result }
+    ensures prints { OnOk result
+        (PrintsSo
+        (DoesAsked (peer_of answering.now) number (held_by peer.now).chain line.now
+        asked.now.request asked.now.tag.now asked.now.words.now) out.old out.new) }
+    ensures nothing { OnErr result (PrintsNothing out.old out.new) }
+    ensures lost { IfErr result IsBrokenOff }
+    ensures kept { F.bytes files.new ≡ F.bytes files.old }
+{
+    if is_text(line) {
+        print_answer(files, answering, peer, number, asked, out)
+    } else {
+        print_bad_line(answering.alloc, files, number, out)
+    }
+}
+
+/// Whether bytes are text.
+fn is_text(bytes: &[u8]) -> bool
+    ensures { IsTrue result ↔ IsUtf8 bytes.now }
+{
+    std::str::from_utf8(bytes).is_ok()
+}
+
+/// Prints that the line of this number is none of a peer's.
+fn print_bad_line<F: Files, W: Write>(
+    alloc: Global,
+    files: &mut F,
+    number: u64,
+    out: &mut Printer<'_, W>,
+) -> Result<(), Failure>
+    ensures tells { Tells out.old out.new result }
+    ensures prints { OnOk result (Prints out.old out.new (bad_text number)) }
+    ensures nothing { OnErr result (PrintsNothing out.old out.new) }
+    ensures lost { IfErr result IsBrokenOff }
+    ensures kept { F.bytes files.new ≡ F.bytes files.old }
+{
+    explain_no_line(alloc, files, number);
+    writeln!(out, "bad line {number}")
+}
+
+/// Answers what the line of this number asks for, and prints the answer.
+fn print_answer<F: Files, D: StoreFile, W: Write>(
+    files: &mut F,
+    answering: &Answering<'_>,
+    peer: &LogPeer<D>,
+    line: u64,
+    asked: &Asked<'_>,
+    out: &mut Printer<'_, W>,
+) -> Result<(), Failure>
+    ensures tells { Tells out.old out.new result }
+    ensures prints { OnOk result
+        (PrintsSo
+        (AnswersText (peer_of answering.now) (held_by peer.now).chain asked.now.request
+        asked.now.tag.now asked.now.words.now) out.old out.new) }
+    ensures nothing { OnErr result (PrintsNothing out.old out.new) }
+    ensures lost { IfErr result IsBrokenOff }
+    ensures kept { F.bytes files.new ≡ F.bytes files.old }
+{
+    let snapshot = peer.snapshot();
+    let Asked {
+        request,
+        tag,
+        words,
+    } = *asked;
+    let answer = answering.answer(snapshot, request, words)?;
+    explain_answer(answering.alloc, files, line, request, words, &answer);
+    writeln!(out, "answer {tag} {} {answer}", snapshot.height())
+}
+
+/// Reads the entry of the line of this number. The first may name a genesis, which has to be this log's.
+fn take_entry<T: Threads + Sync, F: Files, D: StoreFile, W: Write>(
+    files: &mut F,
+    setting: &Setting<'_, T>,
+    reader: &mut Reader<D>,
+    line: u64,
+    entry: &Entry<'_>,
+    out: &mut Printer<'_, W>,
+) -> Result<(), Failure>
+    requires reader { IsReader setting.now.answering.log.now reader.old }
+    ensures reader { OnOk result (IsReader setting.now.answering.log.now reader.new) }
+    ensures tells { Tells out.old out.new result }
+    ensures does { Answers
+        (DoesOrEnds
+        (λ text. IsLogged setting.now.answering.log.now (reached reader.old)
+        entry.now.index.now entry.now.text.now text (reached reader.new))
+        (EndsEntry setting.now.answering.log.now (reached reader.old) entry.now.text.now))
+        out.old out.new result }
+    ensures begins { Begins
+        (ComesTo
+        (λ text. IsLogged setting.now.answering.log.now (reached reader.old)
+        entry.now.index.now entry.now.text.now text (reached reader.new))
+        (EndsEntry setting.now.answering.log.now (reached reader.old) entry.now.text.now))
+        out.old out.new result }
+    ensures handed_on { OnOk result (out.new.waits ≡ false) }
+    ensures kept { F.bytes files.new ≡ F.bytes files.old }
+{
+    let Answering { alloc, log, .. } = setting.answering;
+    let other = begins_another(alloc, log, reader.begun, entry.text)?;
+    if other {
+        return Err(end_by_genesis(alloc, files, line, out));
+    }
+    match reader.peer.read(setting.workers, entry.text) {
+        Ok(report) => {
+            explain_open(files, reader.begun, &report, entry.text);
+            reader.begun = true;
+            let telling = Telling {
+                alloc,
+                log,
+                peer: &reader.peer,
+            };
+            telling.print_entry(files, line, entry, &report, out)?;
+            out.flush()
+        }
+        Err(refusal) => {
+            explain_unread(alloc, files, setting.store, line, &refusal);
+            Err(end(refusal, out))
+        }
+    }
+}
+
+/// Whether no line of the log was read yet, and this text names the file of a genesis by its digest,
+/// and another one than the log's.
+fn begins_another(
+    alloc: Global,
+    log: &LogGenesis,
+    begun: bool,
+    text: &str,
+) -> Result<bool, AllocError>
+    ensures { IfOk result
+        (λ other. IsTrue other
+        ↔ (begun ≡ false) × NamesAnotherIn (encode_lower log.now.digest) text.now) }
+{
+    if begun {
+        return Ok(false);
+    }
+    let digest = hex::encode(alloc, &log.digest)?;
+    Ok(names_another_genesis(text, &digest))
+}
+
+/// Says where the first line of a log leaves open which genesis file counts.
+fn explain_open<F: Files>(files: &mut F, begun: bool, report: &PeerReport, text: &str)
+    ensures kept { F.bytes files.new ≡ F.bytes files.old }
+{
+    if !begun && leaves_open(report, text) {
+        files.remark(LEFT_OPEN);
+    }
+}
+
+/// Whether a first line of a log leaves open which genesis file counts.
+fn leaves_open(report: &PeerReport, text: &str) -> bool {
+    match report {
+        PeerReport::Accepted { .. } | PeerReport::Ticked(_) => false,
+        PeerReport::Skipped(skip) => !is_of_mark(*skip) && leaves_genesis_open(text),
+    }
+}
+
+/// Prints that the first line of the log names another genesis, which ends it.
+fn end_by_genesis<F: Files, W: Write>(
+    alloc: Global,
+    files: &mut F,
+    line: u64,
+    out: &mut Printer<'_, W>,
+) -> Failure
+    ensures ends { IsEndedBy (codes "refused 807") out.old out.new result }
+    ensures more { IsMore out.old out.new }
+    ensures says { Says out.old out.new result }
+    ensures kept { F.bytes files.new ≡ F.bytes files.old }
+{
+    explain_number(alloc, files, &Location::input(line), 807);
+    match writeln!(out, "refused 807") {
+        Ok(()) => Failure::Printed,
+        Err(failure) => failure,
+    }
+}

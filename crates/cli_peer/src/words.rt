@@ -1,0 +1,13 @@
+//! The words of a line.
+
+ghost use Rattle.std.specs.Prelude.{◌≡◌, option_map};
+ghost use Rattle.cli_peer.specs.Words.{behind};
+
+/// What stands behind the first word of a text and a space, where the first word is this one. None
+/// where it is another one, or the text has no space.
+pub(crate) fn behind<'a>(text: &'a str, word: &str) -> Option<&'a str>
+    ensures { option_map (λ rest. rest.now) result ≡ behind word.now text.now }
+{
+    let (first, rest) = text.split_once(' ')?;
+    if first == word { Some(rest) } else { None }
+}

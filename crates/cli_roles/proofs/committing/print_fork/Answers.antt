@@ -1,6 +1,0 @@
-use Rattle.std.proofs.Common.{[], None, refl}
-use Rattle.cli_lines.proofs.Printing.{prints_none}
-use Rattle.cli_roles.proofs.committing.print_fork.Goals as goal
-
-pub returns-in-None-clause-prints : goal.returns-in-None-clause-prints
-returns-in-None-clause-prints g c = ([], (None, c.in-None.ensures, refl), prints_none c.args.out.now)

@@ -1,8 +1,0 @@
-use Rattle.std.proofs.Common.{[], ◌++◌, take}
-use Rattle.std.specs.List.{flat_map, zip}
-use Rattle.cli_lines.specs.Told.{Prints}
-use Rattle.cli_roles.specs.Orders.{left_out_text}
-use Rattle.cli_roles.proofs.ordering.print_aborted.Given as goal
-
-abbrev pub invariant-loop-place : goal.invariant-loop-place
-invariant-loop-place g l = Prints l.fn.out l.out ([] ++ flat_map left_out_text (take l.place (zip l.ids l.causes)))
