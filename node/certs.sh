@@ -7,8 +7,9 @@
 #                                          nodes, and DIR/etcd.pem, by which it and its operator ask etcd
 #     regtuma-certs member DIR ORG HOST..  its member of etcd: DIR/member.pem
 #     regtuma-certs client DIR ORG NAME    a client ORG/NAME: DIR/NAME.pem
-#     regtuma-certs trust DIR FOLDER..     whom a member of etcd trusts: the organisations whose authorities lie in these folders.
-#                                          DIR/members.pem is for other members, DIR/callers.pem for all who ask
+#     regtuma-certs trust DIR FOLDER..     whom a machine trusts: the organisation whose authorities lie in DIR, and those of these folders.
+#                                          DIR/proxy.ca.pem is for clients and nodes. In DIR/etcd members.pem is for members,
+#                                          callers.pem for those who ask etcd, and own.pem for its door and its operator
 #     regtuma-certs show CERT.PEM          whose certificate it is, by which authority, and until when
 #
 # Beside each certificate lies its key, which is its owner's alone (0600). DAYS says how long a certificate lasts: 825 by default,
@@ -37,9 +38,16 @@ check_organisation() {
 check_name() { # NAME: what becomes the name of a file
     case $1 in
         "" | .* | *[!A-Za-z0-9_.-]*) complain "a client has letters, digits, _, . and - in its name, and this is none: $1" ;;
-        ca | *.ca | node | member | members | callers | etcd | root)
+        ca | *.ca | node | member | members | callers | etcd | root | proxy)
             complain "$1 is no client's name: it means something else here, or to etcd" ;;
     esac
+}
+
+begin_work() { # DIR: a folder in it that is taken away at the end
+    work=$(mktemp -d "$1/.certs-XXXXXX")
+    trap 'rm -rf "$work"' EXIT
+    # A shell that a signal ends does not do that of itself.
+    trap 'exit 1' HUP INT TERM
 }
 
 make_key() { # FILE
@@ -61,10 +69,7 @@ hosts() { # HOST..: what a certificate is good for, as openssl words it
 
 sign() { # DIR AUTHORITY NAME SUBJECT DAYS, and extensions at the input
     test -r "$1/$2.key" || complain "$1 has no $2.key: begin with regtuma-certs ca"
-    work=$(mktemp -d "$1/.certs-XXXXXX")
-    trap 'rm -rf "$work"' EXIT
-    # A shell that a signal ends does not do that of itself.
-    trap 'exit 1' HUP INT TERM
+    begin_work "$1"
     { echo "basicConstraints=critical,CA:false"; echo "keyUsage=critical,digitalSignature"; cat; } > "$work/extensions"
     make_key "$work/key"
     openssl req -new -key "$work/key" -subj "$4" -out "$work/request"
@@ -92,11 +97,41 @@ make_authorities() { # DIR ORG: those that are not there yet
     test -n "$made" || complain "$1 has its authorities: their keys are not written over"
 }
 
-check_authority() { # CA.PEM: one of etcd, so that no client's certificate opens it
-    case $(openssl x509 -in "$1" -noout -subject -nameopt RFC2253 -ext basicConstraints 2> /dev/null) in
-        *,OU=etcd,O=*CA:TRUE*) ;;
-        *) complain "$1 is no authority of etcd, as regtuma-certs ca makes them" ;;
+read_authority() { # FILE PARTS: the certificate of one organisation's authority that makes no other one, with so many parts etcd
+    # What another program reads is $certificate, as openssl wrote it anew: a file may have more than the certificate.
+    test "$(grep -c -e -----BEGIN "$1" 2> /dev/null)" = 1 && certificate=$(openssl x509 -in "$1" 2> /dev/null) ||
+        complain "$1 has to hold the certificate of one authority, and nothing else"
+    said=$(echo "$certificate" | openssl x509 -noout -subject -nameopt sep_multiline,esc_2253,esc_ctrl -ext basicConstraints 2> /dev/null)
+    owner=$(echo "$said" | sed -n 's/^ *O=//p')
+    case $(echo "$said" | grep -c '^ *OU=etcd$'):$owner:$said in
+        "$2::"* | "$2:"*[!A-Za-z0-9_]*:subject=*) complain "$1 has to name one organisation" ;;
+        "$2:"*"CA:TRUE, pathlen:0"*) ;;
+        *) complain "$1 is no authority as regtuma-certs ca makes it" ;;
     esac
+    # Another kind may be passed over by one program, and taken by the next.
+    ! grep -e '-----BEGIN' "$1" | grep -v -q -x -e '-----BEGIN CERTIFICATE-----' || complain "$1 holds more than certificates"
+}
+
+gather() { # DIR FOLDER..: whom the machine of the first folder trusts
+    mkdir "$work/etcd"
+    known=" "
+    for folder in "$@"; do
+        read_authority "$folder/ca.pem" 0
+        first=$owner
+        echo "$certificate" >> "$work/proxy.ca.pem"
+        for name in member etcd; do
+            read_authority "$folder/$name.ca.pem" 1
+            test "$owner" = "$first" || complain "$folder has authorities of $first and $owner"
+            echo "$certificate" >> "$work/etcd/$name"
+            test "$folder" != "$1" || echo "$certificate" >> "$work/etcd/own.pem"
+        done
+        # A name is one however its letters are.
+        owner=$(echo "$owner" | tr A-Z a-z)
+        case $known in *" $owner "*) complain "$folder has authorities of $first, as another folder has" ;; esac
+        known="$known$owner "
+    done
+    mv "$work/etcd/member" "$work/etcd/members.pem"
+    mv "$work/etcd/etcd" "$work/etcd/callers.pem"
 }
 
 test $# -gt 0 || usage 2 >&2
@@ -122,21 +157,17 @@ case $what:$# in
     client:3)
         check_organisation "$2"
         check_name "$3"
+        test -e "$1/$3.pem" || test ! -e "$1/$3.key" || complain "$1/$3.key is another key: give the client another name"
         echo "extendedKeyUsage=clientAuth" | sign "$1" ca "$3" "/O=$2/CN=$3" "${DAYS:-90}" ;;
     trust:0 | trust:1) usage 2 >&2 ;;
     trust:*)
-        dir=$1
-        shift
-        for folder in "$@"; do
-            check_authority "$folder/member.ca.pem"
-            check_authority "$folder/etcd.ca.pem"
-        done
-        test -d "$dir" || complain "there is no folder $dir"
-        for folder in "$@"; do cat "$folder/member.ca.pem"; done > "$dir/members.pem.new"
-        for folder in "$@"; do cat "$folder/member.ca.pem" "$folder/etcd.ca.pem"; done > "$dir/callers.pem.new"
-        for name in members callers; do
-            chmod 644 "$dir/$name.pem.new"
-            mv "$dir/$name.pem.new" "$dir/$name.pem"
+        test -d "$1" || complain "there is no folder $1"
+        begin_work "$1"
+        gather "$@"
+        mkdir -p "$1/etcd"
+        for name in proxy.ca etcd/members etcd/callers etcd/own; do
+            chmod 644 "$work/$name.pem"
+            mv "$work/$name.pem" "$1/$name.pem"
         done ;;
     show:1)
         openssl x509 -in "$1" -noout -subject -issuer -enddate ;;

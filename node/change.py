@@ -5,7 +5,7 @@
                            [--keys FILE]..
     regtuma-change upgrade GENESIS STORE CHAINCODE DIGEST --policy TEXT [--profile N] [--fuel N]
 
-Both print a proposal, as `regtuma agree`, `regtuma change` and `ledger endorse` read it, and tell on the terminal what stands, of
+Both print a proposal, as `regtuma agree`, `regtuma change` and `ledger peer` read it, and tell on the terminal what stands, of
 members also what will.
 
 `members` is an amendment: it begins with what stands, or with the JSON in FILE, which is what `ledger state .. --members`

@@ -2,6 +2,7 @@
 import os
 import pathlib
 import re
+import shutil
 import stat
 import subprocess
 
@@ -88,7 +89,7 @@ def try_units(at: Installing) -> None:
         at.report.case(f"{unit.name}: its programs", all(pathlib.Path(it).exists() for it in programs), " ".join(programs))
     units = sorted(at.certs.glob("regtuma-*"))
     ran = at.run("systemd-analyze", "verify", *units)
-    at.case("systemd-analyze verify", len(units) == 5 and ran.status == 0 and not ran.err, ran)
+    at.case("systemd-analyze verify", len(units) == 6 and ran.status == 0 and not ran.err, ran)
     for unit in units:
         if unit.suffix == ".service":
             ran = at.run("systemd-analyze", "security", "--offline=true", "--no-pager", f"--threshold={MOST_EXPOSED}", unit)
@@ -136,16 +137,15 @@ def try_dist(at: Installing) -> None:
 def try_certs(at: Installing) -> None:
     """Each certificate is of its organisation's authority, its key its owner's alone; what is no name is refused."""
     certs = at.tree / "node" / "certs.sh"
-    (at.certs / "trusted").mkdir()
     for words in (["ca", "maker", "Maker"], ["node", "maker", "Maker", "10.0.0.1", "node.maker.example", "::1"],
                   ["member", "maker", "Maker", "10.0.0.1"], ["client", "maker", "Maker", "alice"], ["ca", "shop", "Shop"],
-                  ["trust", "trusted", "maker", "shop"], ["node", "maker", "Maker", "10.0.0.9"]):
+                  ["trust", "maker", "shop"], ["node", "maker", "Maker", "10.0.0.9"]):
         ran = at.run(certs, *words)
         at.case(f"regtuma-certs {' '.join(words)}", ran.status == 0 and not ran.out + ran.err, ran)
-    members, callers = ("".join((at.certs / it / f"{name}.ca.pem").read_text() for it in ("maker", "shop") for name in names)
-                        for names in (("member",), ("member", "etcd")))
-    trusted = {it.name: it.read_text() for it in (at.certs / "trusted").iterdir()}
-    at.report.case("whom etcd trusts", trusted == {"members.pem": members, "callers.pem": callers}, str(trusted.keys()))
+    trusted = {made: "".join((at.certs / f"{it}.pem").read_text() for it in parts)
+               for made, parts in [("proxy.ca", ("maker/ca", "shop/ca")), ("etcd/members", ("maker/member.ca", "shop/member.ca")),
+                                   ("etcd/callers", ("maker/etcd.ca", "shop/etcd.ca")), ("etcd/own", ("maker/member.ca", "maker/etcd.ca"))]}
+    at.report.case("whom a machine trusts", {it: (at.certs / "maker" / f"{it}.pem").read_text() for it in trusted} == trusted)
     for key in sorted(at.certs.glob("*/*.key")):
         at.report.case(f"{key.name} is its owner's", stat.S_IMODE(key.stat().st_mode) == 0o600)
     both = ["TLS Web Server Authentication", "TLS Web Client Authentication"]
@@ -161,15 +161,25 @@ def try_certs(at: Installing) -> None:
     for name in ("ca", "etcd.ca", "member.ca"):
         ran = at.run("openssl", "x509", "-in", f"maker/{name}.pem", "-noout", "-ext", "basicConstraints")
         at.case(f"{name}: an authority makes no other", "pathlen:0" in ran.out, ran)
-    # An authority of clients in the place of one of etcd's.
-    (at.certs / "mixed").mkdir()
+    # Authorities of clients in the place of those of etcd; one organisation twice; another one's behind its own; and two of two.
+    for folder in ("mixed", "twice", "more", "false"):
+        shutil.copytree(at.certs / "shop", at.certs / folder)
+    shop, maker = ((at.certs / it / "ca.pem").read_text() for it in ("shop", "maker"))
     for name in ("member", "etcd"):
-        (at.certs / "mixed" / f"{name}.ca.pem").write_bytes((at.certs / "maker/ca.pem").read_bytes())
+        (at.certs / "mixed" / f"{name}.ca.pem").write_text(shop)
+    for name in ("ca", "member.ca", "etcd.ca"):
+        shutil.copy(at.certs / "maker" / f"{name}.pem", at.certs / "twice")
+    (at.certs / "more" / "ca.pem").write_text(shop + maker.replace("CERTIFICATE", "TRUSTED CERTIFICATE"))
+    (at.certs / "false" / "ca.pem").write_text(maker)
+    # An organisation's seed, which `ledger keygen` makes beside.
+    (at.certs / "maker" / "seed.key").write_text("seed")
     kept = (at.certs / "maker" / "ca.key").read_bytes()
     for words in (["ca", "maker", "Maker"], ["node", "none", "Maker", "10.0.0.1"], ["node", "maker", "Maker", "a,b"],
                   ["node", "maker", "Maker/CN=x", "10.0.0.1"], ["client", "maker", "Maker", "../alice"], ["client", "maker", "Maker", "ca"],
                   ["client", "maker", "Maker", "member"], ["client", "maker", "Maker", "shop.ca"], ["client", "maker", "Maker", "root"],
-                  ["ca", "other", "A-1"], ["ca", "other", "Root"], ["trust", "none", "maker"], ["trust", "trusted", "maker", "mixed"]):
+                  ["client", "maker", "Maker", "proxy"], ["client", "maker", "Maker", "seed"], ["ca", "other", "A-1"],
+                  ["ca", "other", "Root"], ["trust", "none", "maker"], ["trust", "maker", "mixed"], ["trust", "maker", "twice"],
+                  ["trust", "maker", "more"], ["trust", "maker", "false"]):
         ran = at.run(certs, *words)
         at.case(f"refused: {' '.join(words)}", fails_in_words(ran) and ran.err.count("\n") == 1, ran)
     (at.certs / "shop" / "member.ca.key").unlink()

@@ -49,6 +49,8 @@ class Machine:
         """A text of the page as it is on this machine."""
         for one, other in (("Maker", self.org), ("maker", self.org.lower()), ("10.0.0.1", f"10.0.0.{self.number}")):
             text = text.replace(one, "\0").replace(other, one).replace("\0", other)
+        # Members of etcd that are all on this machine's loopback have different addresses there.
+        text = text.replace("127.0.0.1:2378", f"{self.net}.{self.number}:2378")
         return laid(text.replace("10.0.0.", f"{self.net}."), self.root)
 
     def type(self, report: Report, *blocks: Block, instead: dict[str, str] | None = None) -> None:
@@ -192,7 +194,7 @@ class Operating:
         self.maker.type(self.report, *self.block("systemctl stop regtuma-node\nmake install"))
         self.well()
         self.maker.run("regtuma-certs", "ca", "depot", "Depot")
-        self.maker.type(self.report, *self.block("regtuma-certs trust etcd . carrier shop depot"))
+        self.maker.type(self.report, *self.block("regtuma-certs trust . carrier shop depot"))
         (self.maker.etc / "depot.json").write_text(self.maker.run("ledger", "keygen", "depot.key", "Depot"))
         self.maker.type(self.report, *self.block("regtuma-change members"))
         shutil.copy(self.maker.etc / "change.json", self.carrier.etc)
@@ -215,12 +217,11 @@ class Operating:
         """The Shop leaves: the others take away what they are shown of it."""
         self.shop.stop("regtuma-proxy", "regtuma-node")
         self.maker.type(self.report, *self.block("regtuma-log node.toml leave"))
-        self.shop.stop("regtuma-etcd")
-        self.maker.env["ETCDCTL_ENDPOINTS"] = self.maker.env["ETCDCTL_ENDPOINTS"].rpartition(",")[0]
+        self.shop.stop("regtuma-door", "regtuma-etcd")
         for machine in (self.maker, self.carrier):
             settings = machine.etc / "node.toml"
             settings.write_text(re.sub(r', "Shop/node"|, "https://[^"]*.3:2379"|\nShop = .*', "", settings.read_text()))
-            machine.type(self.report, *self.block("regtuma-certs trust etcd . carrier\n"))
+            machine.type(self.report, *self.block("regtuma-certs trust . carrier\n"))
         self.etcd_is_there()
         self.machines.remove(self.shop)
         self.well()
@@ -230,7 +231,7 @@ class Operating:
     def end(self) -> None:
         """Ends what the units started, each of which has to end by itself."""
         for machine in self.machines:
-            units = ("regtuma-proxy", "regtuma-node", "regtuma-etcd")
+            units = ("regtuma-proxy", "regtuma-node", "regtuma-door", "regtuma-etcd")
             machine.stop(*units)
             left = [it for it in units if process_of(machine.root, f"{it}.service")]
             self.report.case(f"{machine.org}: units end", not left, f"{left} {machine.says('regtuma-node')}")

@@ -5,6 +5,7 @@ import json
 import os
 import pathlib
 import secrets
+import shutil
 import signal
 import ssl
 import subprocess
@@ -25,10 +26,13 @@ MAKER, CARRIER, SHOP = ORGS = ("Maker", "Carrier", "Shop")
 # An organisation that joins later, and the Maker's second node.
 DEPOT, SECOND = "Depot", "Maker2"
 PLACES = (*ORGS, DEPOT, SECOND)
-# Where nodes listen, their pages, and etcd for clients and for its own.
-PORT, PAGE, ETCD, PEERS = 7051, 8080, 2379, 2380
+# Where nodes listen, their pages, and etcd: its door, itself for its operator, and for its own.
+PORT, PAGE, ETCD, LOCAL, PEERS = 7051, 8080, 2379, 2378, 2380
 # The Python that has the node's packages.
 PYTHON = "/usr/bin/python3"
+# A chaincode that loops until its fuel is spent: few units are much for the unproved program.
+LOOP = "0061736d010000000105016000017f03020100070a0106696e766f6b6500000a0b01090003400c000b41000b"
+SLOW = {"name": "slow", "module": LOOP, "profile": 1, "fuel": 10_000, "policy": "OutOf(2, 'Maker', 'Carrier', 'Shop')"}
 # How long something may take to come about, in seconds, with the unproved program on a busy machine too.
 PATIENCE = 240.0
 
@@ -136,7 +140,8 @@ class World:
         for org in self.known:
             self.trust(org)
         genesis = json.loads((ROOT / "examples" / "assets" / "genesis.json").read_text())
-        text = json.dumps({**genesis, "count": self.block, "orgs": [self.entry(org) for org in ORGS]})
+        chaincodes = [*genesis["chaincodes"], SLOW]
+        text = json.dumps({**genesis, "count": self.block, "orgs": [self.entry(org) for org in ORGS], "chaincodes": chaincodes})
         for org in (*ORGS, DEPOT):
             file = self.room(org) / "genesis.json"
             file.touch(mode=0o600)
@@ -159,9 +164,8 @@ class World:
             self.certs("client", room, org, name)
 
     def trust(self, place: str) -> None:
-        """Lays down whom a place trusts at etcd, by who is known now."""
-        (self.room(place) / "trusted").mkdir(exist_ok=True)
-        self.certs("trust", self.room(place) / "trusted", *(self.room(it) for it in self.known))
+        """Lays down whom a place trusts, by who is known now."""
+        self.certs("trust", self.room(place), *(self.room(it) for it in self.known if it != org_of(place)))
 
     def configure(self, place: str) -> None:
         """Writes a place's node.toml, by what is known now."""
@@ -178,8 +182,8 @@ class World:
                        "template": str(ROOT / "examples" / "page" / "template.html")},
             "tls": {"certificate": "node.pem", "key": "node.key"},
             "authorities": {it: f"../{it.lower()}/ca.pem" for it in self.known},
-            "etcd": {"endpoints": endpoints, "authorities": "trusted/members.pem", "user": org.lower(), "password_file": "etcd.password",
-                     "certificate": "etcd.pem", "key": "etcd.key"},
+            "etcd": {"endpoints": endpoints, "authorities": "etcd/members.pem", "user": org.lower(), "password_file": "etcd.password",
+                     "local": f"https://{self.address[org]}:{LOCAL}", "certificate": "etcd.pem", "key": "etcd.key"},
             "nodes": {it: self.url(it) for it in others},
             "rights": {"read": [f"{org}/*"], "observe": [f"{org}/*"], "evaluate": [f"{org}/alice"], "submit": [f"{org}/alice"],
                        "endorse": [f"{it}/node" for it in others], "agree": [f"{org}/operator"]},
@@ -192,34 +196,40 @@ class World:
         (room / "node.toml").write_text("\n".join(tables))
 
     def configure_proxy(self, place: str) -> None:
-        """Lays down a place's own certificate and those by which callers come."""
+        """Lays down a place's own certificate, by which its proxy answers, and that of its member of etcd, by which the door does."""
         room = self.room(place)
         self.sockets(place).mkdir(mode=0o700, parents=True, exist_ok=True)
-        (room / "proxy.pem").touch(mode=0o600)
-        for name, parts in (("proxy.pem", [room / "node.pem", room / "node.key"]),
-                            ("proxy.ca.pem", [self.room(it) / "ca.pem" for it in self.known])):
-            (room / name).write_text("".join(it.read_text() for it in parts))
+        for made, name in ((room / "proxy.pem", "node"), (room / "etcd" / "door.pem", "member")):
+            made.touch(mode=0o600)
+            made.write_text("".join((room / f"{name}.{it}").read_text() for it in ("pem", "key")))
 
     # ---------------------------------------------------------------- etcd
 
     def start_etcd(self, org: str) -> None:
+        """Starts a member, and its door by whom it trusts now."""
+        if f"door-{org}" in self.processes:
+            self.kill(f"door-{org}")
         room, at = self.room(org), self.address[org]
         # As the unit has it: with --client-cert-auth a caller's common name would be a user.
         tls: list[object] = ["--peer-client-cert-auth"]
-        for kind, trusted in (("", "callers"), ("peer-", "members")):
+        for kind, trusted in (("", "own"), ("peer-", "members")):
             tls += [f"--{kind}cert-file", room / "member.pem", f"--{kind}key-file", room / "member.key",
-                    f"--{kind}trusted-ca-file", room / "trusted" / f"{trusted}.pem"]
-        client, peer = f"https://{self.etcd_at(org)}", f"https://{at}:{PEERS}"
+                    f"--{kind}trusted-ca-file", room / "etcd" / f"{trusted}.pem"]
+        client, peer = f"https://{at}:{LOCAL}", f"https://{at}:{PEERS}"
         cluster = ",".join(f"{it.lower()}=https://{self.address[it]}:{PEERS}" for it in self.voters)
-        self.start(f"etcd-{org}", "etcd", "--name", org.lower(), "--data-dir", room / "etcd", "--listen-client-urls", client,
-                   "--advertise-client-urls", client, "--listen-peer-urls", peer, "--initial-advertise-peer-urls", peer,
+        self.start(f"door-{org}", "/usr/sbin/haproxy", "-db", "-f", NODE / "door.cfg",
+                   env={"DOOR": self.etcd_at(org), "LOCAL": f"{at}:{LOCAL}", "SETTINGS": str(room / "etcd")})
+        self.start(f"etcd-{org}", "etcd", "--name", org.lower(), "--data-dir", room / "data", "--listen-client-urls", client,
+                   "--advertise-client-urls", f"https://{self.etcd_at(org)}", "--max-txn-ops", 1, "--listen-peer-urls", peer, "--initial-advertise-peer-urls", peer,
                    "--initial-cluster", cluster, *tls, "--auto-compaction-retention", "0", "--logger", "zap", "--log-level", "error")
 
-    def etcdctl(self, *words: str, user: str | None = None, check: bool = True, given: str = "",
-                certificate: str = f"{MAKER.lower()}/etcd") -> subprocess.CompletedProcess:
-        env = {**os.environ, "ETCDCTL_API": "3", "ETCDCTL_CACERT": str(self.room(MAKER) / "trusted" / "members.pem"),
+    def etcdctl(self, *words: str, user: str | None = None, check: bool = True, given: str = "", at: str = MAKER,
+                certificate: str = "") -> subprocess.CompletedProcess:
+        """What a member's operator types, past the door."""
+        certificate = certificate or f"{at.lower()}/etcd"
+        env = {**os.environ, "ETCDCTL_API": "3", "ETCDCTL_CACERT": str(self.room(MAKER) / "etcd" / "members.pem"),
                "ETCDCTL_CERT": str(self.folder / f"{certificate}.pem"), "ETCDCTL_KEY": str(self.folder / f"{certificate}.key"),
-               "ETCDCTL_ENDPOINTS": ",".join(f"https://{self.etcd_at(it)}" for it in self.voters)}
+               "ETCDCTL_ENDPOINTS": f"https://{self.address[at]}:{LOCAL}"}
         if user:
             env["ETCDCTL_USER"] = f"{user.lower()}:{self.passwords[user]}"
         ran = subprocess.run(["etcdctl", "--command-timeout=60s", *words], env=env, text=True, input=given, stdout=subprocess.PIPE,
@@ -238,7 +248,7 @@ class World:
         """Starts etcd on all machines, and gives each organisation a user, who reads the log and writes its own part."""
         for org in self.voters:
             self.start_etcd(org)
-        wait_until("etcd comes up", lambda: self.etcdctl("endpoint", "health", check=False).returncode == 0)
+        wait_until("etcd comes up", lambda: all(self.etcdctl("endpoint", "health", check=False, at=it).returncode == 0 for it in self.voters))
         self.etcdctl("user", "add", f"root:{self.passwords['root']}")
         self.etcdctl("user", "grant-role", "root", "root")
         for org in self.known:
@@ -255,19 +265,19 @@ class World:
         self.kill(f"etcd-{org}")
         self.start_etcd(org)
         healthy = ("endpoint", "health", "--command-timeout=5s")
-        wait_until(f"the member of {org} is back", lambda: self.etcdctl(*healthy, user="root", check=False).returncode == 0)
+        wait_until(f"the member of {org} is back", lambda: self.etcdctl(*healthy, user="root", check=False, at=org).returncode == 0)
 
     def leader(self) -> str:
         """Whose member of etcd leads."""
         said: list[dict] = []
 
         def is_led() -> bool:
-            ran = self.etcdctl("endpoint", "status", "-w", "json", user="root", check=False)
-            told = [json.loads(it) for it in ran.stdout.splitlines() if it.startswith("[")]
-            said[:] = [it for it in told[0] if it["Status"]["leader"] == it["Status"]["header"]["member_id"]] if told else []
+            ran = [self.etcdctl("endpoint", "status", "-w", "json", user="root", check=False, at=it) for it in self.voters]
+            told = [json.loads(line)[0]["Status"] for it in ran for line in it.stdout.splitlines() if line.startswith("[")]
+            said[:] = told if len(told) == len(self.voters) else []
             return bool(said)
         wait_until("etcd has a leader", is_led)
-        return next(org for org in self.voters if f"//{self.address[org]}:" in said[0]["Endpoint"])
+        return next(org for org, it in zip(self.voters, said) if it["leader"] == it["header"]["member_id"])
 
     # ---------------------------------------------------------------- nodes
 
@@ -365,6 +375,13 @@ class World:
         made = ssl.create_default_context(cafile=self.authority(org))
         made.load_cert_chain(self.room(org) / "alice.pem", self.room(org) / "alice.key")
         return made
+
+    def answered(self, org: str, key: pathlib.Path, line: str) -> str:
+        """What the peer of an organisation, by a key file, answers to a line, on a copy of the Maker's store."""
+        store = shutil.copy(self.store(MAKER), self.folder / "copy.store")
+        status, said = self.ledger("peer", self.room(org) / "genesis.json", store, "--org", org, "--keys", key, given=f"{line}\n")
+        expect("the end of a peer", status, 0)
+        return said.splitlines()[-1].split(" ", 3)[-1]
 
     def ledger(self, *words: object, given: str = "") -> tuple[int, str]:
         """The status of the program, and what it prints."""

@@ -16,6 +16,7 @@ from .config import Config
 from .endorsing import Endorsing
 from .filters import FilterEnded, TooLong
 from .gateway import Gateway
+from .load import caller_of
 from .metrics import TYPE, Metrics
 from .proposals import DIGEST, Refused, bound_of, check, checked, described, matches, number_of, objects, refuse, seconds_of
 from .waiting import within
@@ -117,7 +118,7 @@ class Api:
         except (OSError, ValueError) as error:
             raise Refused(503, {"why": f"there is no page: {error}"}) from None
 
-        setting, _ = await self.chain.query.text_of("setting")
+        setting, _ = await self.chain.peer.text_of("setting")
 
         async def texts() -> AsyncIterator[str]:
             yield begin + page.line(setting)
@@ -181,7 +182,7 @@ class Api:
 
     async def get_state(self, request: web.Request) -> web.Response:
         await self.wait_for_height(request)
-        answered, _ = await self.chain.query.ask_for("get", key=key_of(request))
+        answered, _ = await self.chain.peer.ask_for("get", key=key_of(request))
         return self.found(answered)
 
     async def get_history(self, request: web.Request) -> web.StreamResponse:
@@ -200,12 +201,12 @@ class Api:
         check(matches(DIGEST, id), "an id is hex of 32 bytes")
         id = id.lower()
         wait = seconds_of(request.query.get("wait", "0"), LONGEST_WAIT)
-        waiter = self.chain.wait_for(id)
+        waiter, caller = self.chain.wait_for(id), caller_of(request)
         try:
-            if known := await self.gateway.status(id):
+            if known := await self.gateway.status(caller, id):
                 return answer(known)
             if wait:
-                return answer(await self.gateway.outcome(await asyncio.wait_for(waiter, wait)))
+                return answer(await self.gateway.outcome(caller, await asyncio.wait_for(waiter, wait)))
         except asyncio.TimeoutError:
             pass
         finally:
@@ -214,12 +215,13 @@ class Api:
 
     # ---------------------------------------------------------------- calls
 
-    async def evaluate(self, request: web.Request) -> web.Response:
+    async def evaluate(self, request: web.Request) -> web.StreamResponse:
         body = await self.body_of(request)
         async with self.access.load.turn(request):
-            return answer(await self.gateway.evaluate(body))
+            said = await self.gateway.evaluate(body)
+        return await self.tell(request, said)
 
-    async def submit(self, request: web.Request) -> web.Response:
+    async def submit(self, request: web.Request) -> web.StreamResponse:
         """One call, or a list of them, each answered by what it would be answered alone."""
         body = await self.body_of(request)
         patience = seconds_of(request.query.get("wait", str(PATIENCE)), LONGEST_WAIT)
@@ -228,11 +230,12 @@ class Api:
             if "calls" in body:
                 check(set(body) == {"calls"}, "a request with calls has nothing else")
                 calls = objects(body["calls"], "calls", MOST_CALLS)
-                return answer({"answers": await self.gateway.submit_all(caller, calls, patience)})
-            said = await self.gateway.submit(caller, body, patience)
-        return answer(said, 202 if said.get("pending") else 200)
+                said: Object = {"answers": await self.gateway.submit_all(caller, calls, patience)}
+            else:
+                said = await self.gateway.submit(caller, body, patience)
+        return await self.tell(request, said, 202 if said.get("pending") else 200)
 
-    async def endorse(self, request: web.Request) -> web.Response:
+    async def endorse(self, request: web.Request) -> web.StreamResponse:
         """For other organisations' nodes: proposals are simulated on a state after so many blocks at least, and endorsed."""
         body = await self.body_of(request)
         height = body.get("height", 0)
@@ -241,13 +244,14 @@ class Api:
         proposals = [checked(it) for it in objects(body.get("proposals"), "proposals", MOST_CALLS)]
         asker: str = request["caller"]
         async with self.access.load.turn(request):
-            return answer({"answers": await self.endorsing.answers(asker, proposals, height)})
+            answers = await self.endorsing.answers(asker, proposals, height)
+        return await self.tell(request, {"answers": answers})
 
     async def agree(self, request: web.Request) -> web.Response:
         """The operator's word that the organisation endorses this very upgrade or amendment."""
         proposal = checked(await self.body_of(request))
         check("chaincode" not in proposal, "a call needs no agreement: one agrees to an upgrade or an amendment")
-        members, _ = await self.chain.query.ask_for("members")
+        members, _ = await self.chain.peer.ask_for("members")
         said = self.endorsing.agreed.add(id_of(proposal), described(proposal, members))
         self.chain.say(f"{request['caller']} agrees to {said['id']}: {dumps(proposal)}")
         return answer(said)
@@ -285,13 +289,25 @@ class Api:
     async def ask(self, request: web.Request, form: str, what: str, **question: object) -> web.StreamResponse:
         """What the program answers to a question, with its height, in this form."""
         async def text() -> AsyncIterator[str]:
-            yield form.format(*await self.chain.query.text_of(what, **question))
+            yield form.format(*await self.chain.peer.text_of(what, **question))
         return await self.send(request, text(), JSON)
 
-    async def send(self, request: web.Request, texts: AsyncIterator[str], kind: str, headers: dict[str, str] | None = None
-                   ) -> web.StreamResponse:
+    async def tell(self, request: web.Request, said: Object, status: int = 200) -> web.StreamResponse:
+        """An answer that may be long: as long as it is on its way, it is one of the bytes that are held for the organisation."""
+        text = dumps(said)
+        if len(text) <= PIECE:
+            return web.Response(text=text, status=status, content_type=JSON)
+        said.clear()
+        self.access.load.take(request, len(text))
+
+        async def texts() -> AsyncIterator[str]:
+            yield text
+        return await self.send(request, texts(), JSON, status=status)
+
+    async def send(self, request: web.Request, texts: AsyncIterator[str], kind: str, headers: dict[str, str] | None = None,
+                   status: int = 200) -> web.StreamResponse:
         """An answer of texts, each of which is read once the one before was taken."""
-        stream = web.StreamResponse(headers={**(headers or {}), "Content-Type": kind})
+        stream = web.StreamResponse(status=status, headers={**(headers or {}), "Content-Type": kind})
         while True:
             try:
                 async with self.access.load.turn(request):
@@ -334,9 +350,8 @@ class Api:
 async def write(stream: web.StreamResponse, text: str) -> None:
     """Writes a text, a piece once the one before is on its way; TimeoutError where the reader takes too long."""
     async def pieces() -> None:
-        data = text.encode()
-        for place in range(0, len(data), PIECE):
-            await stream.write(data[place:place + PIECE])
+        for place in range(0, len(text), PIECE):
+            await stream.write(text[place:place + PIECE].encode())
     await within(READ_SECONDS, pieces())
 
 

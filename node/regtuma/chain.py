@@ -1,6 +1,6 @@
-"""The organisation's part in the chain: its replica of the orderer, its committer, and the state that its store has.
+"""The organisation's part in the chain: what the log has for the ledger's peer, what becomes of it, and what is put into the log.
 
-    the log ─ lines ─▶ ledger order ─ blocks ─▶ ledger commit ─▶ store ─▶ ledger query, ledger endorse
+    the log ─ lines ─▶ ledger peer ─▶ store
 """
 import asyncio
 import collections
@@ -11,10 +11,11 @@ import time
 from collections.abc import Callable, Coroutine
 from typing import Any
 
-from . import numbers, ticks
+from . import ticks
 from .config import Config
 from .entries import ENTRY_CHARACTERS, ENTRY_LINES, Entry, Lines, Log, LogError
-from .filters import Filter, FilterEnded, Query
+from .filters import FilterEnded
+from .peer import Peer
 from .tags import Key, Keys
 from .times import Times
 from .waiting import within
@@ -51,20 +52,21 @@ class Asking:
 class Chain:
     def __init__(self, config: Config, log: Log, say: Callable[[str], None]):
         self.config, self.log, self.say = config, log, say
-        program, genesis, store = (getattr(config.ledger, it) for it in ("program", "genesis", "store"))
-        self.order = Filter("ledger order", [program, "order", genesis])
-        self.commit = Filter("ledger commit", [program, "commit", genesis, store])
-        modules = ["--modules", config.ledger.modules] if config.ledger.modules else []
-        self.query = Query("ledger query", [program, "query", genesis, store, *modules])
+        ledger = config.ledger
+        options = [word for it in ("keys", "modules") if (file := getattr(ledger, it)) for word in (f"--{it}", file)]
+        command = [ledger.program, "peer", ledger.genesis, ledger.store, "--org", config.organisation, *options]
+        self.peer = Peer(command, self.hear)
+        # How many blocks the store has, and the transactions of the next one that the peer has told of.
         self.height, self.grown = 0, asyncio.Condition()
-        self.keys = Keys(genesis)
+        self.told: list[list[str]] = []
+        self.keys = Keys(ledger.genesis)
         # Who has another block, as long as nobody has looked into it: nothing is endorsed or put meanwhile.
         self.forked: str | None = None
         # When the log was seen last to take entries.
         self.led = time.monotonic()
         # This organisation's part of the log, and what of the log counts.
         self.part, self.lines = config.organisation.encode(), Lines()
-        # Where the log is; how many of its lines the replica of the orderer was given, and how many it has read.
+        # Where the log is; how many of its lines the peer was given, and how many it has read.
         self.revision = self.given = self.read = 0
         self.awaited, self.asking = Awaited(), Asking()
         # Numbers of committed blocks whose hashes are to be told.
@@ -74,7 +76,7 @@ class Chain:
         # What became of those that this node has put and that are in no block, for those who ask later.
         self.refused: collections.OrderedDict[str, Object] = collections.OrderedDict()
         # Ids of those that this node has put into the log, and that are in no block yet; those of the envelopes of its entries, by
-        # their names, until these are read; and those of lines that the orderer has not read.
+        # their names, until these are read; and those of lines that the peer has not read.
         self.in_log: set[str] = set()
         self.own: dict[bytes, list[str]] = {}
         self.unread: dict[str, str] = {}
@@ -85,25 +87,23 @@ class Chain:
         self.newest: collections.OrderedDict[int, asyncio.Task[str]] = collections.OrderedDict()
 
     async def start(self) -> None:
-        """Begins the filters, and waits until the store is read."""
-        await self.commit.start()
-        while not (line := await self.commit.line()).startswith("height"):
-            self.say(f"ledger commit: {line}")
+        """Begins the peer, and waits until the store is read."""
+        await self.peer.start()
+        while not (line := await self.peer.line()).startswith("height"):
             if line.startswith("refused"):
-                raise FilterEnded(f"ledger commit says: {numbers.explained(line)}")
+                raise FilterEnded(f"{self.peer.name} says: {line}")
+            self.say(f"{self.peer.name}: {line}")
         self.height = int(line.split()[1])
         self.say(line)
         self.lines = Lines.by(self.config.ledger.genesis)
         self.times = Times(self.config.ledger.store + ".times")
-        await asyncio.gather(self.order.start(), self.query.start())
 
     def works(self) -> list[Coroutine[Any, Any, None]]:
         """What runs as long as the node does. None of them returns."""
-        return [self.feed(), self.pass_blocks(), self.follow_commits(), self.keep_time(), self.put_envelopes(), self.probe(),
-                self.query.follow()]
+        return [self.feed(), self.peer.follow(), self.keep_time(), self.put_envelopes(), self.probe()]
 
     async def close(self) -> None:
-        await asyncio.gather(*(it.close() for it in (self.order, self.commit, self.query)))
+        await self.peer.close()
 
     @property
     def most_blocks(self) -> int:
@@ -122,16 +122,16 @@ class Chain:
 
     async def standing(self) -> dict[str, Key]:
         """The members and their keys, as the store has them now."""
-        return await self.keys.at(self.query, self.height)
+        return await self.keys.at(self.peer, self.height)
 
-    # ---------------------------------------------------------------- the log, blocks and commits
+    # ---------------------------------------------------------------- the log, and what becomes of it
 
     async def feed(self) -> None:
-        """Hands the lines of the log that count to the replica of the orderer."""
+        """Hands the lines of the log that count to the peer."""
         async for entries in self.log.watch():
             made = [line for it in entries for line in self.counted(it)]
             self.given += len(made)
-            await self.order.write(*made)
+            await self.peer.log(made)
             self.revision = entries[-1].revision
 
     def counted(self, entry: Entry) -> list[bytes]:
@@ -144,48 +144,35 @@ class Chain:
                 self.resolve(id, {"id": id, "why": NO_SHARE})
         return list(made.values())
 
-    async def pass_blocks(self) -> None:
-        """Hands the replica's blocks to the committer, and keeps in mind what waits."""
-        while True:
-            line = await self.order.line()
-            match line.split(" ", 2):
-                case ["block", number, _]:
-                    await self.commit.write(line.encode() + b"\n")
-                    self.awaited = Awaited(int(number) + 1)
-                case ["seen", *_]:
-                    # It is signed, which the committer judges.
-                    await self.commit.write(line.encode() + b"\n")
-                case ["read", index, waiting]:
-                    is_own = waiting != "0" and self.part in self.lines.behind
-                    self.awaited = Awaited(self.awaited.number, int(waiting), self.awaited.since or time.monotonic() if is_own else None)
-                    self.read += 1
-                    self.unread.pop(index, None)
-                case ["skipped", index, number]:
-                    # What nodes tell each other is no mark, and is skipped so by all.
-                    self.counts[f"skipped {number}"] += int(number) != NO_MARK
-                    if id := self.unread.get(index):
-                        self.resolve(id, {"id": id, "refused": int(number), "why": f"the orderer skips its envelope (refused {number})"})
-                case ["aborted", id, number]:
-                    self.counts[f"aborted {number}"] += 1
-                    self.resolve(id, {"id": id, "refused": int(number)})
-                case ["forked", organisation, number]:
-                    self.hear_fork(organisation, number)
-                case _:
-                    self.say(f"ledger order: {numbers.explained(line)}")
-
-    async def follow_commits(self) -> None:
-        while True:
-            match (line := await self.commit.line()).split():
-                case ["known", _]:
-                    pass
-                case ["committed", number, "flags", *flags]:
-                    for it in flags:
-                        self.counts[f"flag {it}"] += 1
-                    await self.committed(int(number))
-                case ["forked", organisation, number]:
-                    self.hear_fork(organisation, number)
-                case _:
-                    self.say(f"ledger commit: {numbers.explained(line)}")
+    async def hear(self, words: list[str]) -> None:
+        """Hears what becomes of the log's lines."""
+        match words:
+            case ["tx", *tx]:
+                self.told.append(tx)
+            case ["committed", number, "flags", *flags]:
+                self.awaited = Awaited(int(number) + 1)
+                for it in flags:
+                    self.counts[f"flag {it}"] += 1
+                await self.committed(int(number))
+            case ["known", number]:
+                self.awaited = Awaited(int(number) + 1)
+            case ["read", index, waiting]:
+                is_own = waiting != "0" and self.part in self.lines.behind
+                self.awaited = Awaited(self.awaited.number, int(waiting), self.awaited.since or time.monotonic() if is_own else None)
+                self.read += 1
+                self.unread.pop(index, None)
+            case ["skipped", index, number]:
+                # What nodes tell each other is no mark, and is skipped so by all.
+                self.counts[f"skipped {number}"] += int(number) != NO_MARK
+                if id := self.unread.get(index):
+                    self.resolve(id, {"id": id, "refused": int(number), "why": f"the orderer skips its envelope (refused {number})"})
+            case ["aborted", id, number]:
+                self.counts[f"aborted {number}"] += 1
+                self.resolve(id, {"id": id, "refused": int(number)})
+            case ["forked", organisation, number]:
+                self.hear_fork(organisation, number)
+            case _:
+                self.say(f"{self.peer.name}: {' '.join(words)}")
 
     def hear_fork(self, organisation: str, number: str) -> None:
         """Somebody has another block: as long as nobody has looked into these very words, the node reads on, and puts nothing."""
@@ -202,9 +189,10 @@ class Chain:
             self.grown.notify_all()
         if number % self.config.ledger.seen == 0:
             self.unsaid.put_nowait(number)
-        if self.waiters or self.in_log:
-            for place, tx in enumerate(json.loads(await self.block(number))["txs"]):
-                self.resolve(tx["id"], {**tx, "block": number, "place": place})
+        told, self.told = self.told, []
+        for place, id, flag, result in told:
+            if id in self.waiters or id in self.in_log:
+                self.resolve(id, outcome_of(place, id, flag, result))
         if ticks.is_full(number + 1):
             for id in [*self.waiters, *self.in_log]:
                 self.resolve(id, {"id": id, "refused": FULL})
@@ -269,7 +257,7 @@ class Chain:
         return await asyncio.shield(self.newest[number])
 
     async def _read_block(self, number: int) -> str:
-        text, _ = await self.query.text_of("block", number=number)
+        text, _ = await self.peer.text_of("block", number=number)
         return f'{{"at":{json.dumps(self.times.of(number))},{text[1:]}'
 
     def wait_for(self, id: str) -> asyncio.Future[Object]:
@@ -339,3 +327,9 @@ class Chain:
         if not self.unput:
             self.put_wanted.clear()
         return batch
+
+
+def outcome_of(place: str, id: str, flag: str, result: str) -> Object:
+    """What the peer tells of a transaction of a block."""
+    block, _, within_block = place.partition(".")
+    return {"id": id, "block": int(block), "place": int(within_block), "flag": int(flag), "result": result.strip("-")}

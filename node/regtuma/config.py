@@ -21,7 +21,7 @@ MADE = (("ledger", "store"), ("log", "file"))
 LONGEST_SOCKET = 107
 # What there is none of where [log] is.
 OF_CERTIFICATES = ("tls", "authorities", "etcd", "rights")
-CERTIFICATE = re.compile("-----BEGIN CERTIFICATE-----.+?-----END CERTIFICATE-----", re.DOTALL)
+BEGIN, CERTIFICATE = "-----BEGIN", re.compile("-----BEGIN CERTIFICATE-----.+?-----END CERTIFICATE-----", re.DOTALL)
 # A seed, or a password as OPERATIONS.md makes it; and what a genesis file with a shared key has.
 SECRET, SHARED_KEY = re.compile("[0-9A-Fa-f]{32,}"), re.compile(rb'"key"\s*:')
 # The name in the certificates of nodes.
@@ -45,8 +45,6 @@ class Ledger:
     # The file with the organisation's seeds, where it has a public key, and that of modules for open definitions.
     keys: str = ""
     modules: str = ""
-    # Filters that simulate calls side by side.
-    endorsers: int = 1
     # A command that says of each proposal, its own clients' too, whether this organisation endorses it (endorsing.py).
     approver: list[str] = dataclasses.field(default_factory=list)
     # The template of the live page, examples/page/template.html of the repository.
@@ -69,6 +67,8 @@ class Etcd(Files):
     authorities: str
     user: str = ""
     password_file: str = ""
+    # Where this machine's own member is for its operator, past the door.
+    local: str = "https://127.0.0.1:2378"
 
 
 @dataclasses.dataclass
@@ -337,13 +337,19 @@ def certificates_in(file: str) -> set[str]:
     return set(CERTIFICATE.findall(pathlib.Path(file).read_text(encoding="ascii")))
 
 
+def has_more(file: str) -> bool:
+    """Whether a file has what is passed over here, and the proxy may take for an authority, as a `TRUSTED CERTIFICATE`."""
+    text = pathlib.Path(file).read_text(encoding="ascii")
+    return text.count(BEGIN) != len(CERTIFICATE.findall(text))
+
+
 def owners(reader: Reader, table: str, name: str, file: str) -> list[str | None]:
     """The organisations whose authorities a file has."""
     try:
         found = owners_of(file)
     except (OSError, ValueError):
         found = []
-    if not found or len(found) != len(certificates_in(file)):
+    if not found or len(found) != len(certificates_in(file)) or has_more(file):
         raise reader.mistake(table, name, f"names {file}, which has to hold certificates of authorities alone")
     return found
 

@@ -101,7 +101,7 @@ class Shares:
 
 
 class Lines:
-    """Makes of entries lines `<revision>.<line> <mark>`, as `ledger order` reads them, of the marks that count: alike wherever and
+    """Makes of entries lines `<revision>.<line> <mark>`, as the ledger's peer reads them, of the marks that count: alike wherever and
     whenever the log is read from its beginning.
 
     An organisation says what it has seen of each block once, in its own part, in its entry `ORG/seen-N`. An envelope counts in any
@@ -156,8 +156,8 @@ class Lines:
         return found[1] if found else None
 
     def _counts(self, part: bytes, name: bytes, place: int, mark: bytes) -> bool:
-        """Whether a line counts at a place of the entry of a name. One that can be no mark is left out here: `ledger order` would skip
-        it."""
+        """Whether a line counts at a place of the entry of a name. One that can be no mark is left out here: the ledger's peer would
+        skip it."""
         if ENVELOPE.fullmatch(mark):
             return self._takes(part, len(mark) // 2)
         if mark == b"tick":

@@ -1,11 +1,11 @@
-"""The proved program's filters as children: lines in, lines out."""
+"""Filters as children: lines in, lines out. They are the proved program's `peer` (peer.py) and the approver (endorsing.py)."""
 import asyncio
 import collections
-import json
-from typing import Any
 
-# The longest line, a block in hex, or a block's JSON, and how much is read at a time.
+# The longest line, as a block's JSON, and how much is read at a time.
 LONGEST, PIECE = 1 << 24, 1 << 18
+# So many lines wait for an answer at most: what is written behind them waits for no more than these, whoever asks.
+MOST_ASKED = 64
 # How long a filter may take for what it was given, once its input has ended, in seconds.
 LAST_SECONDS = 5
 
@@ -88,82 +88,90 @@ class Filter:
 
 
 class Asked(Filter):
-    """A filter that answers each line by one line, and ends by a line of its own where something is wrong."""
+    """A filter that answers each line by one line, in their order."""
 
     def __init__(self, name: str, command: list[str]):
         super().__init__(name, command)
-        self.waiting: collections.deque[asyncio.Future[str]] = collections.deque()
-        self.unwritten: list[str] = []
-        # Why it answers no more, until it is begun again.
+        # The lines that wait for an answer, each with who asked; and by how many of their kind may wait at a time those that are not
+        # written yet, and how many are.
+        self.asked: collections.deque[tuple[str, asyncio.Future[str], int]] = collections.deque()
+        self.unwritten: dict[int, collections.deque[tuple[str, asyncio.Future[str]]]] = {}
+        self.written: collections.Counter[int] = collections.Counter()
+        self.is_to_write = False
+        # Why it answers no more.
         self.ended: FilterEnded | None = None
 
-    async def start(self) -> None:
-        await super().start()
-        self.ended = None
+    @property
+    def unanswered(self) -> int:
+        """How many lines were asked, and have no answer."""
+        return len(self.asked) + sum(map(len, self.unwritten.values()))
+
+    def ask(self, line: str, most: int = MOST_ASKED) -> asyncio.Future[str]:
+        """What it answers to a line, of whose kind so many wait for an answer at a time."""
+        asker: asyncio.Future[str] = asyncio.get_running_loop().create_future()
+        if self.ended:
+            asker.set_exception(self.ended)
+            return asker
+        self.unwritten.setdefault(most, collections.deque()).append((line, asker))
+        self._write_soon()
+        return asker
+
+    def _write_soon(self) -> None:
+        if not self.is_to_write:
+            self.is_to_write = True
+            asyncio.get_running_loop().call_soon(self._write)
+
+    def _write(self) -> None:
+        """Writes as many lines as may wait for an answer, but none whose asker has gone."""
+        self.is_to_write, lines = False, list[str]()
+        for most in sorted(self.unwritten):
+            unwritten = self.unwritten[most]
+            while unwritten and len(self.asked) < MOST_ASKED and self.written[most] < most:
+                line, asker = unwritten.popleft()
+                if not asker.done():
+                    lines.append(f"{line}\n")
+                    self.asked.append((line, asker, most))
+                    self.written[most] += 1
+        if lines:
+            self.stdin.write("".join(lines).encode())
 
     async def follow(self) -> None:
-        """Hands answers to those who asked, as long as the filter runs."""
+        """Hands on what the filter says, as long as it runs."""
         try:
             while True:
                 await self._hand_on()
         except FilterEnded as ended:
             self.ended = ended
-            while self.waiting:
-                self._answer(ended)
+            askers = [it[1] for it in self.asked] + [it[1] for unwritten in self.unwritten.values() for it in unwritten]
+            for asker in askers:
+                settle(asker, ended)
+            self.asked.clear()
+            self.unwritten.clear()
             raise
 
     async def _hand_on(self) -> None:
-        """Hands the next answer to who asked first."""
+        """Hands on the next line."""
         try:
             said: str | TooLong = await self.line()
         except TooLong as too_long:
             said = too_long
-        if not self.waiting or isinstance(said, str) and self.is_last(said):
+        await self.hear(said)
+
+    async def hear(self, said: str | TooLong) -> None:
+        """Hears a line, which answers who asked first."""
+        self.answer(said)
+
+    def answer(self, said: str | TooLong) -> None:
+        """Answers who asked first. The next line may be written then."""
+        if not self.asked:
             raise FilterEnded(f"{self.name} says: {said}")
-        self._answer(said)
-
-    def _answer(self, said: str | Exception) -> None:
-        asker = self.waiting.popleft()
-        if not asker.done():
-            asker.set_result(said) if isinstance(said, str) else asker.set_exception(said)
-
-    def ask(self, line: str) -> asyncio.Future[str]:
-        """What it answers to a line. What is asked in one turn of the loop is written together."""
-        loop = asyncio.get_running_loop()
-        asker: asyncio.Future[str] = loop.create_future()
-        if self.ended:
-            asker.set_exception(self.ended)
-            return asker
-        if not self.unwritten:
-            loop.call_soon(self._write)
-        self.unwritten.append(line)
-        self.waiting.append(asker)
-        return asker
-
-    def _write(self) -> None:
-        lines, self.unwritten = self.unwritten, []
-        self.stdin.write("".join(f"{it}\n" for it in lines).encode())
-
-    def is_last(self, line: str) -> bool:
-        """Whether it ends by this line, which answers nothing: by a refusal that is not of what was asked (401 to 409)."""
-        match line.split():
-            case ["refused", number, *_]:
-                return not number.startswith("4")
-        return False
+        _, asker, most = self.asked.popleft()
+        self.written[most] -= 1
+        settle(asker, said)
+        self._write_soon()
 
 
-class Query(Asked):
-    """`ledger query`. Its answers are `{"answer":..,"height":..}`, without spaces."""
-
-    async def text_of(self, what: str, **question: object) -> tuple[str, int]:
-        """The JSON of an answer, and the height at which it was given."""
-        line = await self.ask(json.dumps({"ask": what, **question}))
-        if not line.startswith('{"answer":'):
-            raise ValueError(f"no question that the program answers: {line}")
-        answer, _, height = line[len('{"answer":'):-1].rpartition(',"height":')
-        return answer, int(height)
-
-    async def ask_for(self, what: str, **question: object) -> tuple[Any, int]:
-        """The answer, and the height at which it was given."""
-        answer, height = await self.text_of(what, **question)
-        return json.loads(answer), height
+def settle(asker: asyncio.Future[str], said: str | Exception) -> None:
+    """Tells who asked, if anybody waits still."""
+    if not asker.done():
+        asker.set_result(said) if isinstance(said, str) else asker.set_exception(said)

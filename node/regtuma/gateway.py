@@ -2,6 +2,7 @@
 import asyncio
 import collections
 import time
+import weakref
 from collections.abc import Awaitable
 
 from . import numbers
@@ -16,14 +17,15 @@ from .wire import Object, envelope, id_of, proposal_bytes
 
 TOO_LARGE = 421
 TRIES = 12
-# How often some have to refuse what others endorse at one height, or to be at fault, until that counts: a key may have changed. It
-# takes more where payloads differ, since an endorser may be ahead of what it says.
-SURE, SURE_OF_PAYLOADS = 3, 6
+# How often somebody may be at fault on blocks that this node does not know, before it is passed over: a key may have changed there.
+DOUBTS = 3
 OTHER_CALL, OTHER_KEY, OTHER_PAYLOAD = ("its payload is that of another call", "its endorsement is not by the key by which it stands",
                                         "its payload is not what this node's own execution gives")
 TOO_HIGH = "it does not agree, and says that it has blocks which this node does not get"
 # How many calls are endorsed and put at a time, and how many of one caller: more are refused, and asked for again later.
 MOST_UNDER_WAY, MOST_OF_CALLER = 4000, 1000
+# How many transactions are looked for in the chain for one caller at a time, since each may take long.
+LOOKED_FOR = 4
 # For how long it is remembered which organisations satisfy a policy, in seconds.
 MEMORY = 1.0
 
@@ -37,6 +39,7 @@ class Gateway:
         # Those under way, by their ids: who asks again for one waits for the same.
         self.under_way: dict[str, asyncio.Task[None]] = {}
         self.callers: collections.Counter[str] = collections.Counter()
+        self.turns: weakref.WeakValueDictionary[str, asyncio.Semaphore] = weakref.WeakValueDictionary()
         # How many bytes an envelope may have, once it is known.
         self.absolute: int | None = None
         self.links = {it: Link(it, config, chain.say) for it in config.nodes}
@@ -48,7 +51,7 @@ class Gateway:
     async def evaluate(self, body: Object) -> Object:
         """What a call comes to on this node's state."""
         call = call_of(body)
-        answer, height = await self.chain.query.ask_for("call", chaincode=call["chaincode"], arg=call["arg"].strip("-"))
+        answer, height = await self.chain.peer.ask_for("call", chaincode=call["chaincode"], arg=call["arg"].strip("-"))
         if "refused" in answer:
             raise Refused(422, numbers.in_words(f"refused {answer['refused']}"))
         return {**answer, "height": height}
@@ -74,7 +77,7 @@ class Gateway:
         id = id_of(proposal)
         waiter = self.chain.wait_for(id)
         try:
-            if "nonce" in body and (known := await self.in_chain(id)):
+            if "nonce" in body and (known := await self.known(caller, id)):
                 return known
             if id not in self.under_way and id not in self.chain.in_log:
                 self.check_open()
@@ -85,12 +88,12 @@ class Gateway:
                 if task := self.under_way.get(id):
                     await asyncio.shield(task)
                 tx = await waiter
-            return await self.outcome(tx)
+            return await self.outcome(caller, tx)
         except asyncio.TimeoutError:
             return {"id": id, "pending": True, "why": f"it is in no block yet; ask /transactions/{id} for it"}
-        except Refused:
+        except Refused as refused:
             # Another node may have put the same call meanwhile: then it is refused on the very state that it made.
-            if known := await self.in_chain(id):
+            if refused.status == 422 and (known := await self.in_chain(caller, id)):
                 return known
             raise
         finally:
@@ -120,21 +123,38 @@ class Gateway:
         if not task.cancelled():
             task.exception()
 
-    async def in_chain(self, id: str) -> Object | None:
+    async def transaction(self, caller: str, id: str) -> Object | None:
+        """A transaction of the chain, once it is the caller's turn."""
+        async with self.turns.setdefault(caller, asyncio.Semaphore(LOOKED_FOR)):
+            found: tuple[Object | None, int] = await self.chain.peer.ask_for("transaction", id=id)
+            return found[0]
+
+    async def known(self, caller: str, id: str) -> Object | None:
+        """What became of a call, if it is in a block. It is one of those that the caller has under way until that is known."""
+        self.count(caller)
+        try:
+            return await self.in_chain(caller, id)
+        finally:
+            self.callers[caller] -= 1
+
+    async def in_chain(self, caller: str, id: str) -> Object | None:
         """What became of a transaction, if it is in a block."""
-        tx, _ = await self.chain.query.ask_for("transaction", id=id)
-        return tx and await self.outcome(tx)
+        tx = await self.transaction(caller, id)
+        return tx and await self.outcome(caller, tx)
 
-    async def status(self, id: str) -> Object | None:
+    async def status(self, caller: str, id: str) -> Object | None:
         """The same, or why one that was put here came into no block, as far as that is remembered."""
-        known, refused = await self.in_chain(id), self.chain.refused.get(id)
-        return known or refused and await self.outcome(refused)
+        known, refused = await self.in_chain(caller, id), self.chain.refused.get(id)
+        return known or refused and await self.outcome(caller, refused)
 
-    async def outcome(self, tx: Object) -> Object:
+    async def outcome(self, caller: str, tx: Object) -> Object:
+        """What a caller is told of a transaction, of which the chain may know the flag alone."""
         if "block" not in tx:
             return {**(numbers.in_words(f"refused {tx['refused']}") if "refused" in tx else {}), **tx}
         words = {it: tx[it] for it in ("id", "block", "place", "flag", "result")}
-        return {**words, "valid": tx["flag"] == 0, "why": await numbers.why(self.chain.query, tx)}
+        if tx["flag"] in numbers.EXPLAINED and "reads" not in tx:
+            tx = await self.transaction(caller, tx["id"]) or tx
+        return {**words, "valid": tx["flag"] == 0, "why": await numbers.why(self.chain.peer, tx)}
 
     async def endorse_and_put(self, id: str, caller: str, proposal: Object, named: list[str] | None) -> None:
         made = await self.endorsed(caller, proposal, named)
@@ -144,7 +164,7 @@ class Gateway:
     async def check_size(self, made: str) -> None:
         """Whether the orderer takes an envelope of this size."""
         if self.absolute is None:
-            setting, _ = await self.chain.query.ask_for("setting")
+            setting, _ = await self.chain.peer.ask_for("setting")
             self.absolute = setting["absolute"]
         if len(made) > 2 * self.absolute:
             raise Refused(422, numbers.in_words(f"refused {TOO_LARGE}"))
@@ -165,11 +185,12 @@ class Gateway:
                     break
                 continue
             own = said.get(self.config.organisation)
-            faults = await self.faults(proposal, answers, own)
+            faults, high = await self.faults(proposal, answers, own), self.too_high(answers, height, own)
             if made := made_of(answers, faults):
                 return made
-            faults = {**self.too_high(answers, height, own), **faults}
-            for organisation in asking.judge(answers, faults):
+            doubts = {*high, *(it for it in faults if not self.chain.keys.stood(answers[it]["height"]))}
+            faults = {**high, **faults}
+            for organisation in asking.judge(answers, faults, doubts):
                 self.leave_out(organisation, faults[organisation], asking)
                 del answers[organisation]
             height, why = self.next_height(answers, height, own), "the organisations do not simulate on one state"
@@ -224,7 +245,7 @@ class Gateway:
                 self.links[organisation].pass_over(f"it says that it has {had} blocks, and there can be {most}")
             elif had < asked:
                 self.links[organisation].pass_over(f"it has {had} blocks, and not yet {asked}")
-        return max((it for it in heights.values() if it <= most), default=self.chain.height)
+        return max(self.chain.keys.since, max((it for it in heights.values() if it <= most), default=self.chain.height))
 
     async def organisations(self, proposal: Object, asking: "Asking") -> list[str]:
         """Who is asked: the fewest that satisfy the chaincode's policy, this one first, then those that answer soonest."""
@@ -253,7 +274,7 @@ class Gateway:
         return up
 
     async def satisfies(self, chaincode: str, organisations: list[str]) -> bool:
-        answer: bool | None = (await self.chain.query.ask_for("satisfied", chaincode=chaincode, orgs=organisations))[0]
+        answer: bool | None = (await self.chain.peer.ask_for("satisfied", chaincode=chaincode, orgs=organisations))[0]
         if answer is None:
             raise Refused(422, numbers.in_words("refused 401"))
         return answer
@@ -278,12 +299,12 @@ class Asking:
 
     def __init__(self, own: str, named: list[str] | None):
         self.own, self.named = own, named
-        # Why some are not asked again, and how often each has answered what cannot be used.
+        # Why some are not asked again, and how often each may have been at fault.
         self.refusals: dict[str, Refused] = {}
-        self.strikes: collections.Counter[str] = collections.Counter()
+        self.doubts: collections.Counter[str] = collections.Counter()
 
-    def judge(self, answers: dict[str, Object], faults: dict[str, str]) -> set[str]:
-        """What to make of answers that do not agree. Who has been at fault for too often, and is to be passed over."""
+    def judge(self, answers: dict[str, Object], faults: dict[str, str], doubts: set[str]) -> set[str]:
+        """What to make of answers that do not agree. Who is to be passed over: those at fault, but where that is in doubt still."""
         for organisation, said in answers.items():
             if "denied" in said:
                 self.refuse(organisation, {"why": f"{organisation} does not endorse it: {said['denied']}"})
@@ -293,11 +314,11 @@ class Asking:
         if len({it["height"] for it in answers.values()}) > 1:
             # Who is behind may refuse what others endorse.
             refused = []
-        self.strikes.update([*refused, *faults])
-        for organisation in (it for it in refused if self.strikes[it] >= SURE):
+        for organisation in refused:
             words = numbers.in_words(answers[organisation]["refused"])
             self.refuse(organisation, {**words, "why": f"{organisation} does not endorse it: {words['why']}"})
-        return {it for it in faults if self.strikes[it] >= (SURE_OF_PAYLOADS if faults[it] == OTHER_PAYLOAD else SURE)}
+        self.doubts.update(doubts)
+        return {it for it in faults if it not in doubts or self.doubts[it] >= DOUBTS}
 
     def refuse(self, organisation: str, said: Object, status: int = 422) -> None:
         """Another one is asked in the place of this one, where that may be: nobody has named it, and it is not this node's own."""
@@ -316,7 +337,7 @@ def made_of(answers: dict[str, Object], faults: dict[str, str]) -> str | None:
 
 
 class Own(Batches):
-    """This organisation's own endorsers, as one caller asks them."""
+    """This organisation's own endorsements, as one caller asks for them."""
 
     def __init__(self, endorsing: Endorsing, caller: str):
         super().__init__(requests=1_000_000)
@@ -326,5 +347,5 @@ class Own(Batches):
         try:
             return await self.endorsing.answers(self.caller, proposals, height)
         except FilterEnded:
-            # The approver has ended, of which the node tells where it ends for it.
+            # The peer or the approver has ended, of which the node tells where it ends for it.
             return None

@@ -9,16 +9,21 @@ import aiohttp
 from .config import Config
 from .fields import CALLER_HEADER
 from .proposals import is_hex, matches
-from .waiting import value_of, whole
+from .waiting import TooMuch, value_of, whole
 from .wire import Object
 
-ENDORSE_SECONDS, DOWN_SECONDS, CHANGE_SECONDS = 3.0, 5.0, 60.0
+ENDORSE_SECONDS, DOWN_SECONDS = 3.0, 5.0
 # How many requests are under way to another node, how many proposals go into one, and in how many seconds they should be done.
 REQUESTS, MOST_PROPOSALS, ENOUGH = 2, 250, 1.0
 # How much slower than of late a node may be until it counts as dead.
 SLACK = 4
-# The longest answer that is read, in bytes, and how many commas it has for each proposal at most: an answer has two, but for its words.
-LONGEST, MOST_COMMAS = 64 << 20, 1000
+# The longest answer that is read, in bytes, and the longest to one proposal: an envelope has 524,288 bytes at most, which are in hex. How
+# many commas it has for each proposal at most: an answer has two, but for its words.
+LONGEST, LONGEST_ONE, MOST_COMMAS = 16 << 20, (1 << 20) + (1 << 16), 1000
+# Up to which length an answer may have words in any letters, which take four bytes each in memory; and how many of a denial count.
+WORDS, MOST_WORDS = 1 << 20, 300
+# The status of a node that holds as much for the asking organisation as it does at a time.
+TOO_MANY = 429
 REFUSAL = re.compile(r"refused \d{1,3}( .*)?")
 # A proposal, the height on which it is simulated at least, and who waits for the answer.
 Waiting = tuple[Object, int, asyncio.Future[Object | None]]
@@ -89,22 +94,19 @@ class Link(Batches):
         connector = aiohttp.TCPConnector(ssl=config.node_tls(organisation), limit_per_host=8)
         # Where there are no certificates, a node says who it is.
         headers = {CALLER_HEADER: f"{config.organisation}/node"} if config.is_local else {}
-        self.http = aiohttp.ClientSession(connector=connector, headers=headers)
-        # How long it took for a call of late, in seconds, and until when it is passed over.
-        self.each, self.down = 0.01, 0.0
+        self.http = aiohttp.ClientSession(connector=connector, headers=headers, cookie_jar=aiohttp.DummyCookieJar())
+        # How long it took for a call of late, in seconds, and until when it is passed over; how many answers were not too long together.
+        self.each, self.down, self.few = 0.01, 0.0, MOST_PROPOSALS
 
     async def close(self) -> None:
         await self.http.close()
 
     def most(self) -> int:
-        """A node that is slow gets fewer at a time."""
-        return max(1, min(MOST_PROPOSALS, int(ENOUGH / self.each)))
+        """A node that is slow, or has much to say, gets fewer at a time."""
+        return max(1, min(self.few, int(ENOUGH / self.each)))
 
     async def answers(self, proposals: list[Object], height: int) -> list[Object] | None:
         began, patience = time.monotonic(), ENDORSE_SECONDS + SLACK * self.each * len(proposals)
-        if any("chaincode" not in it for it in proposals):
-            # An endorser is begun for a change, which takes its time.
-            return await self.post(proposals, height, CHANGE_SECONDS)
         answers = await self.post(proposals, height, patience)
         each = (time.monotonic() - began) / len(proposals)
         if answers:
@@ -119,19 +121,38 @@ class Link(Batches):
             body, timeout = {"proposals": proposals, "height": height}, aiohttp.ClientTimeout(total=patience)
             # It may be anybody's program: it sends this node nowhere else.
             async with self.http.post(self.url + "/endorse", json=body, timeout=timeout, allow_redirects=False) as answer:
-                said = value_of(await whole(answer.content, LONGEST), MOST_COMMAS * len(proposals))
-                return answers_of(answer.status, said, len(proposals))
+                data = await whole(answer.content, min(LONGEST, LONGEST_ONE * len(proposals)))
+                if answer.status == TOO_MANY:
+                    raise TooMuch("it has too much to answer")
+                found = answers_of(answer.status, said_by(data, len(proposals)), len(proposals))
+                self.few = min(MOST_PROPOSALS, self.few + len(proposals))
+                return found
         except asyncio.TimeoutError:
             why = f"no answer in {patience:.1f} s"
         except (ValueError, RecursionError, OSError, aiohttp.ClientError) as error:
+            if isinstance(error, TooMuch) and len(proposals) > 1:
+                # They are asked anew, fewer at a time.
+                self.few = len(proposals) // 2
+                return None
             why = (str(error) or repr(error))[:200]
         self.pass_over(why)
         return None
 
     def pass_over(self, why: str) -> None:
-        """The node is not asked for a while."""
+        """The node is not asked for a while. Those who wait for their turn have no answer at once, so that they ask another one's."""
         self.say(f"no endorsement of {self.organisation}: {why}")
         self.down = time.monotonic() + DOWN_SECONDS
+        waiting, self.waiting = self.waiting, []
+        for _, _, done in waiting:
+            if not done.done():
+                done.set_result(None)
+
+
+def said_by(data: bytes, count: int) -> object:
+    """The JSON value of an answer to so many proposals."""
+    if len(data) > WORDS and (b"\\" in data or not data.isascii()):
+        raise ValueError("its answer has too many words")
+    return value_of(data, MOST_COMMAS * count)
 
 
 def answers_of(status: int, said: object, count: int) -> list[Object]:
@@ -153,4 +174,4 @@ def is_answer(said: object) -> bool:
         return is_hex(said["payload"]) and is_hex(said.get("endorsement"))
     if "refused" in said:
         return matches(REFUSAL, said["refused"])
-    return isinstance(said.get("denied"), str)
+    return isinstance(said.get("denied"), str) and len(said["denied"]) <= MOST_WORDS

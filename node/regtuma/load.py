@@ -23,7 +23,7 @@ class Load:
         self.turns: weakref.WeakValueDictionary[str, asyncio.Semaphore] = weakref.WeakValueDictionary()
 
     def take(self, request: web.Request, size: int) -> None:
-        """So many bytes more of a request's body are held, until it is answered."""
+        """So many bytes more of a request's body or its answer are held, until it is answered."""
         organisation = organisation_of(request)
         if self.bodies[organisation] + size > BODIES:
             raise Refused(429, {"why": f"requests of {organisation} have {BODIES >> 20} MiB under way here: ask again"})

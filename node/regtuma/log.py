@@ -11,7 +11,7 @@
 which is a beginning of the longest, the longest is taken. Its blocks come out of the new log as the same bytes: by `ledger marks`,
 a mark for each envelope, and a tick behind each block. Where it was stopped, begin again with a new, empty etcd.
 
-A module is no mark: every `ledger order` skips it.
+A module is no mark: every node skips it.
 """
 import asyncio
 import hashlib

@@ -37,6 +37,7 @@ class Metrics(Collector):
             "oldest_seconds": ("How long the first of them has waited", time.monotonic() - awaited.since if awaited.since else 0),
             "log_unled_seconds": ("Since the log was seen to take entries", time.monotonic() - chain.led),
             "behind": ("Lines of the log not yet read", chain.given - chain.read),
+            "asked": ("What was asked of the ledger's peer, and is not answered", chain.peer.unanswered),
             "log_revision": ("Where the log was read to", chain.revision),
             "forked": ("Whether somebody says that a block is another one", int(chain.forked is not None)),
             "streams": ("Readers of /events", self.streams),

@@ -2,8 +2,8 @@
 
     regtuma-node node.toml
 
-It runs the ledger's filters as its children, follows the log, and answers HTTP (api.py). It ends where something is
-wrong, says what, and is to be begun again by whatever keeps services running; it can be killed at any time.
+It runs the ledger's peer as its child, follows the log, and answers HTTP (api.py). It ends where something is wrong, says what,
+and is to be begun again by whatever keeps services running; it can be killed at any time.
 """
 import asyncio
 import json
@@ -18,6 +18,7 @@ from aiohttp import web
 from aiohttp.http_exceptions import HttpProcessingError
 
 from . import config as configuration
+from . import numbers
 from .access import check_authorities
 from .api import Api
 from .chain import Chain
@@ -29,8 +30,8 @@ from .gateway import Gateway
 from .ticks import DAY
 from .wire import Object
 
-# The number of the lines that filters read and print, as `ledger version` tells it, which this node speaks.
-LINES = 1
+# The number of the lines that the peer reads and prints, as `ledger version` tells it, which this node speaks.
+LINES = 2
 # How long connections may take to end, in seconds.
 SHUTDOWN = 2
 # How many connections of the proxy may wait to be taken: one more is refused at once, where a socket is a file.
@@ -114,7 +115,7 @@ class Node:
             it.result()
 
     async def begin(self) -> Object:
-        """Begins the filters, which read the store. What `ledger version` says."""
+        """Begins the peer, which reads the store. What `ledger version` says."""
         program = await version_of(self.config.ledger.program)
         if promise := self.config.ticks.promise():
             say(f"warning: {promise}")
@@ -163,7 +164,7 @@ async def serve(config: Config) -> int:
         await node.run()
         return 0
     except (FilterEnded, LogError, OSError) as error:
-        say(f"ended: {error}")
+        say(f"ended: {numbers.explained(str(error))}")
         return 1
     finally:
         await node.close()

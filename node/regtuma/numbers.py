@@ -1,11 +1,13 @@
 """What numbers and flags stand for, in words for those who called. docs/FORMATS.md says where each stands, with what to do."""
 import re
 
-from .filters import Query
+from .peer import Peer
 from .wire import Object
 
 FLAGS = {0: "VALID", 1: "ENDORSEMENT_POLICY_FAILURE", 2: "MVCC_READ_CONFLICT", 3: "PHANTOM_READ_CONFLICT", 4: "DUPLICATE_TXID"}
 POLICY, CONFLICT, PHANTOM, DUPLICATE = 1, 2, 3, 4
+# Those of which more is told, by what the transaction has.
+EXPLAINED = (POLICY, CONFLICT)
 NUMBERS = {
     9: "there was no memory",
     303: "the proposal has not the form that a proposal has",
@@ -34,9 +36,9 @@ NUMBERS = {
     803: "a number, name or key of the genesis or the modules file is out of its range",
     804: "a module of the genesis or the modules file is not valid",
     805: "a policy of the genesis file is refused",
-    806: "the genesis file has a name twice, or neither it nor the chain has the organisation",
+    806: "the genesis file has a name twice, or no member has the organisation's name",
     807: "the log is of another genesis file",
-    808: "the key file has not the seed of the organisation's key",
+    808: "the key file has not the seed of the key by which the organisation stands",
     809: "the key file is none",
 }
 REFUSED = re.compile(r"\brefused (\d+)\b.*")
@@ -65,7 +67,7 @@ def spelt(key: str) -> str:
     return bytes.fromhex(key).decode("utf-8", "backslashreplace")
 
 
-async def why(query: Query, tx: Object) -> str:
+async def why(peer: Peer, tx: Object) -> str:
     """Why a transaction of a block has its flag."""
     flag = tx["flag"]
     if flag == POLICY:
@@ -75,7 +77,7 @@ async def why(query: Query, tx: Object) -> str:
         return f"the endorsements that are right do not satisfy the policy: {', '.join(sorted(right)) or 'none'}{told}"
     if flag == CONFLICT:
         for read in tx["reads"]:
-            entry, _ = await query.ask_for("get", key=read["key"])
+            entry, _ = await peer.ask_for("get", key=read["key"])
             now = entry and entry["version"]
             if now != read["version"]:
                 return f"it read {spelt(read['key'])} {at(read['version'])}, which is {at(now)} now; call again"

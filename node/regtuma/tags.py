@@ -1,5 +1,6 @@
 """Whose tags are right: the node looks at each endorsement before it puts it, by the key by which its organisation stands. Whether
 it counts is for the ledger's program to say."""
+import asyncio
 import dataclasses
 import hashlib
 import hmac
@@ -9,7 +10,7 @@ import pathlib
 from cryptography.exceptions import InvalidSignature
 from cryptography.hazmat.primitives.asymmetric.ed25519 import Ed25519PublicKey
 
-from .filters import Query
+from .peer import Peer
 
 # What an endorsement by a signature begins with, which is no name's length.
 SIGNED = b"\0"
@@ -42,17 +43,25 @@ class Keys:
     def __init__(self, genesis: str):
         self.genesis = genesis
         self.first: dict[str, Key] = {}
-        # The membership that stood behind so many blocks.
-        self.height, self.serial = -1, 0
+        # The membership that stood behind so many blocks, and from where on it is known to have stood.
+        self.height = self.since = -1
+        self.serial, self.asking = 0, asyncio.Lock()
         self.standing: dict[str, Key] = {}
 
-    async def at(self, query: Query, height: int) -> dict[str, Key]:
-        """The keys that stand now, where the store has so many blocks."""
-        if self.height < height:
-            said, self.height = await query.ask_for("members")
-            self.serial = said["serial"]
-            self.standing = {it["name"]: self._of(it["name"], it.get("public")) for it in said["members"]}
+    async def at(self, peer: Peer, height: int) -> dict[str, Key]:
+        """The keys that stand now, where the store has so many blocks. Behind each block they are asked for once."""
+        async with self.asking:
+            if self.height < height:
+                said, height = await peer.ask_for("members")
+                if self.since < 0 or said["serial"] != self.serial:
+                    self.since = height
+                self.height, self.serial = height, said["serial"]
+                self.standing = {it["name"]: self._of(it["name"], it.get("public")) for it in said["members"]}
         return self.standing
+
+    def stood(self, height: int) -> bool:
+        """Whether these keys stood behind so many blocks, as far as is known."""
+        return self.since <= height <= self.height
 
     def _of(self, organisation: str, public: str | None) -> Key:
         """A member's own key, or the one that the genesis file gives it."""

@@ -3,6 +3,7 @@ import functools
 import json
 import logging
 import pathlib
+import shutil
 import subprocess
 import sys
 import tempfile
@@ -15,6 +16,8 @@ import program
 from keys import keygen
 from regtuma import config
 
+# The genesis file of a register of pallets.
+EXAMPLE = json.loads((ROOT / "examples" / "assets" / "genesis.json").read_text())
 # A test may block its loop for a while, and has connections refused.
 logging.getLogger("asyncio").setLevel(logging.CRITICAL)
 CONFIGURATION = """\
@@ -122,20 +125,29 @@ def ledger(*words: object, lines: str = "") -> str:
     return ran.stdout
 
 
-def ledger_of(folder: pathlib.Path, **limits: int) -> pathlib.Path:
+def ledger_of(folder: pathlib.Path, **settings: object) -> pathlib.Path:
     """The genesis file of a register of pallets, in which the Maker has a shared key, and the Carrier and the Shop sign, by key files of
     their names. An empty store is beside it."""
     signing = [json.loads(keygen(str(folder / it), it, program=str(program.find()))) for it in ("Carrier", "Shop")]
-    genesis, example = folder / "genesis.json", json.loads((ROOT / "examples" / "assets" / "genesis.json").read_text())
+    genesis = folder / "genesis.json"
     genesis.touch(mode=0o600)
-    genesis.write_text(json.dumps({**example, **limits, "orgs": [{"name": "Maker", "key": "0f" * 32}, *signing]}))
+    genesis.write_text(json.dumps({**EXAMPLE, **settings, "orgs": [{"name": "Maker", "key": "0f" * 32}, *signing]}))
     (folder / "store").touch()
     return genesis
 
 
+def answered(folder: pathlib.Path, organisation: str, line: str) -> tuple[str, int]:
+    """What the peer of an organisation of that ledger answers to a line, on a copy of the store, and at which height."""
+    options = [] if organisation == "Maker" else ["--keys", folder / organisation]
+    with tempfile.TemporaryDirectory() as room:
+        store = shutil.copy(folder / "store", room)
+        said = ledger("peer", folder / "genesis.json", store, "--org", organisation, *options, lines=line + "\n")
+    *_, height, words = said.splitlines()[-1].split(" ", 3)
+    return words, int(height)
+
+
 def endorsed(folder: pathlib.Path, organisation: str, proposal: dict) -> dict:
     """What an organisation of that ledger endorses, as its node answers it."""
-    options = [] if organisation == "Maker" else ["--keys", folder / organisation]
-    options += [] if "chaincode" in proposal else ["--agree"]
-    said = ledger("endorse", folder / "genesis.json", organisation, folder / "store", *options, lines=json.dumps(proposal) + "\n").split()
-    return {"payload": said[1], "endorsement": said[2], "height": 0}
+    words, height = answered(folder, organisation, f"{'call' if 'chaincode' in proposal else 'agreed'} 1 {json.dumps(proposal)}")
+    _, payload, endorsement = words.split()
+    return {"payload": payload, "endorsement": endorsement, "height": height}

@@ -25,11 +25,13 @@ EMPTY: dict[str, Any] = {"setting": {"ledger": 1}, "members": {"serial": 0}, "ge
                          "transaction": None, "call": {"result": "00"}}
 
 
-class Query:
-    """Answers each question by what a test says, or by nothing."""
+class Query(Says):
+    """A peer that answers each question by what a test says, or by nothing."""
 
-    def __init__(self, **answers):
-        self.answers, self.asked = {**EMPTY, **answers}, []
+    def __init__(self, *lines: str, **answers):
+        super().__init__(*lines, height=4)
+        self.answers: dict[str, Any] = {**EMPTY, **answers}
+        self.asked: list[tuple[str, dict]] = []
 
     async def ask_for(self, what, **question):
         self.asked.append((what, question))
@@ -50,13 +52,12 @@ class Case(unittest.IsolatedAsyncioTestCase):
         self.config.ledger.template = str(support.ROOT / "examples/page/template.html")
         self.said: list[str] = []
         self.chain = Chain(self.config, FakeLog(), self.said.append)
-        self.chain.times, self.chain.query, self.chain.height = Times(), Query(), 4
+        self.chain.times, self.chain.peer, self.chain.height = Times(), Query(), 4
         endorsing = Endorsing(self.config, self.chain)
-        endorsing.endorsers = [Says()]
         with mock.patch.object(config.Config, "node_tls", return_value=None):
             gateway = Gateway(self.config, self.chain, endorsing)
         self.addAsyncCleanup(gateway.close)
-        self.api = api.Api(self.config, self.chain, endorsing, gateway, {"lines": 1})
+        self.api = api.Api(self.config, self.chain, endorsing, gateway, {"lines": 2})
         self.api.access.caller = lambda request: request.headers.get("Caller")
         self.client = await self.serve(self.api.app())
 
@@ -117,8 +118,8 @@ class Routes(Case):
         self.assertEqual(status, 413)
 
     async def test_a_filter_that_ends_is_told(self):
-        self.chain.query.text_of = mock.AsyncMock(side_effect=FilterEnded("ledger query ended with status 1"))
-        self.assertEqual(await self.get("/members"), (503, {"why": "ledger query ended with status 1"}))
+        self.chain.peer.text_of = mock.AsyncMock(side_effect=FilterEnded("ledger peer ended with status 1"))
+        self.assertEqual(await self.get("/members"), (503, {"why": "ledger peer ended with status 1"}))
 
 
 class Reads(Case):
@@ -136,14 +137,14 @@ class Reads(Case):
         self.assertEqual(await self.get("/blocks?from=9"), (200, ""))
 
     async def test_of_the_state(self):
-        self.chain.query.answers["get"] = {"key": "61", "value": "00", "version": "1.0"}
+        self.chain.peer.answers["get"] = {"key": "61", "value": "00", "version": "1.0"}
         self.assertEqual((await self.get("/state/asset%2Fa%FF"))[0], 200)
-        self.assertEqual(self.chain.query.asked[-1], ("get", {"key": b"asset/a\xff".hex()}))
+        self.assertEqual(self.chain.peer.asked[-1], ("get", {"key": b"asset/a\xff".hex()}))
         self.assertEqual((await self.get("/state/asset/a"))[0], 200)
-        self.assertEqual(self.chain.query.asked[-1], ("get", {"key": b"asset/a".hex()}))
+        self.assertEqual(self.chain.peer.asked[-1], ("get", {"key": b"asset/a".hex()}))
         self.assertEqual(await self.get("/state/" + "a" * 65), (400, {"why": "a key has 1 to 64 bytes"}))
         self.assertEqual(await self.get("/state?start=a&end=0xff&limit=9"), (200, {"entries": [], "height": 4}))
-        self.assertEqual(self.chain.query.asked[-1], ("range", {"start": "61", "end": "ff", "limit": 9}))
+        self.assertEqual(self.chain.peer.asked[-1], ("range", {"start": "61", "end": "ff", "limit": 9}))
         for it in ("start=0xz", "limit=0", "limit=1001", "height=x"):
             self.assertEqual((await self.get(f"/state?{it}"))[0], 400)
         self.assertEqual(await self.get("/history/a"), (200, []))
@@ -183,7 +184,7 @@ class Reads(Case):
             self.assertNotIn(b"id: 5", await stream.content.read())
 
     async def test_the_page(self):
-        self.chain.query.answers["setting"] = {"ledger": "</script><b>"}
+        self.chain.peer.answers["setting"] = {"ledger": "</script><b>"}
         status, text = await self.get("/")
         self.assertEqual((status, "new EventSource(" in text, "</script><b>" in text, "\\u003c/script>" in text), (200, True, False, True))
         for template, told in [(support.ROOT / "VERSION", "the template of the page is none"), (support.ROOT / "none", "No such file")]:
@@ -203,7 +204,7 @@ class Reads(Case):
 class Health(Case):
     async def test_it_does_its_work(self):
         status, said = await self.get("/healthz")
-        self.assertEqual((status, said["ok"], said["wrong"], said["height"], said["program"]), (200, True, [], 4, {"lines": 1}))
+        self.assertEqual((status, said["ok"], said["wrong"], said["height"], said["program"]), (200, True, [], 4, {"lines": 2}))
 
     async def test_what_is_wrong(self):
         for told, changes in [("forked: Shop says", {"forked": "Shop says that it has another block 4"}),
@@ -244,7 +245,7 @@ class Health(Case):
 class Calls(Case):
     async def test_evaluate(self):
         self.assertEqual(await self.post("/evaluate", {"chaincode": "assets", "args": ["x"]}), (200, {"result": "00", "height": 4}))
-        self.chain.query.answers["call"] = {"refused": "404 status 2"}
+        self.chain.peer.answers["call"] = {"refused": "404 status 2"}
         self.assertEqual(await self.post("/evaluate", {"chaincode": "assets"}),
                          (422, {"refused": 404, "why": "the chaincode refused the call (status 2)"}))
 
@@ -269,7 +270,7 @@ class Calls(Case):
             self.assertEqual([it[0] for it in await asyncio.gather(*asked, *others)], [200] * len(asked + others))
 
     async def test_endorse(self):
-        self.api.endorsing.endorsers = [Says("endorsed aa 01")]
+        self.chain.peer.lines = ["endorsed aa 01"]
         said = await self.post("/endorse", {"proposals": [CALL], "height": 4}, caller="Carrier/node")
         self.assertEqual(said, (200, {"answers": [{"payload": "aa", "endorsement": "01", "height": 4}]}))
         for body in ({}, {"proposals": []}, {"proposals": [1]}, {"proposals": [CALL], "height": "4"}, {"proposals": [{**CALL, "x": 1}]},
@@ -296,9 +297,32 @@ class Calls(Case):
             await asyncio.sleep(0)
             self.assertEqual((await self.post("/transactions?wait=0.01", calls[2]))[0], 202)
 
+    async def test_one_caller_has_so_many_known_calls_looked_for(self):
+        """Each may look through the whole chain: those of others do not wait behind all of its own."""
+        asked, ready, call = list[str](), asyncio.Event(), {"chaincode": "assets", "args": ["x"], "nonce": "07" * 16}
+
+        async def ask_for(what, **question):
+            asked.append(what)
+            await ready.wait()
+            return {"id": question["id"], "block": 1, "place": 0, "flag": 0, "result": ""}, 4
+        with mock.patch.object(self.chain.peer, "ask_for", ask_for), mock.patch.object(gateway, "MOST_OF_CALLER", 300):
+            many = [asyncio.ensure_future(self.post("/transactions", {"calls": [call] * 250})) for _ in range(3)]
+            while len(asked) < gateway.LOOKED_FOR:
+                await asyncio.sleep(0.01)
+            await asyncio.sleep(0.2)
+            self.assertEqual(asked, ["transaction"] * gateway.LOOKED_FOR)
+            other = asyncio.ensure_future(self.post("/transactions", call, caller="Shop/node"))
+            while len(asked) <= gateway.LOOKED_FOR:
+                await asyncio.sleep(0.01)
+            ready.set()
+            self.assertEqual((await other)[1]["valid"], True)
+            answers = [it for said in await asyncio.gather(*many) for it in said[1]["answers"]]
+        told = [it.get("valid") or it["why"] for it in answers]
+        self.assertEqual({it: told.count(it) for it in told}, {True: 300, "300 calls of Maker/alice are under way here: ask again": 450})
+
     async def test_agree(self):
         change = {"members": [{"name": "Maker"}], "policy": "'Maker'", "serial": 1, "nonce": "07" * 16}
-        self.api.chain.query.answers["members"] = {"members": [{"name": "Maker"}]}
+        self.api.chain.peer.answers["members"] = {"members": [{"name": "Maker"}]}
         status, said = await self.post("/agreed", change)
         self.assertEqual((status, await self.get("/agreed")), (200, (200, {"agreed": [said]})))
         self.assertIn("the members are Maker; the policy for changes is 'Maker'", said["words"])
@@ -311,7 +335,7 @@ class Calls(Case):
     async def test_who_asks_is_known_behind_the_end_of_its_connection(self):
         """The certificate is asked for once, when the right is: a connection that has ended has none."""
         change = {"members": [{"name": "Maker"}], "policy": "'Maker'", "serial": 1, "nonce": "07" * 16}
-        self.api.chain.query.answers["members"] = {"members": []}
+        self.api.chain.peer.answers["members"] = {"members": []}
         self.api.access.caller = mock.Mock(side_effect=["Maker/alice", None])
         status, said = await self.post("/agreed", change)
         self.assertEqual((status, self.said[0].startswith(f"Maker/alice agrees to {said.get('id')}: ")), (200, True), self.said)

@@ -1,18 +1,18 @@
-"""The chain's decisions, with filters and a log that say what a test wants."""
+"""The chain's decisions, with a peer, an approver and a log that say what a test wants."""
 import asyncio
-import gc
 import json
 import time
 import unittest
+from collections.abc import Callable
 from unittest import mock
 
 import support
 from regtuma import chain as chains
-from regtuma import config, endorsing, filters, gateway
+from regtuma import config, endorsing, gateway
 from regtuma.chain import Asking, Awaited, Chain
-from regtuma.endorsing import Agreed, Approver, Endorsing
+from regtuma.endorsing import Agreed, Endorsing
 from regtuma.entries import Entry, LogError
-from regtuma.filters import Asked, Filter, FilterEnded
+from regtuma.filters import FilterEnded
 from regtuma.gateway import Gateway
 from regtuma.links import Link
 from regtuma.proposals import Refused
@@ -25,23 +25,23 @@ ENDORSED = {"payload": "aa", "endorsement": "01", "height": 3}
 
 
 class Says:
-    """A filter that says these lines, and keeps what it is given."""
+    """A filter that answers by these lines, a peer at one height, and keeps what it is asked."""
 
-    def __init__(self, *lines: str):
-        self.lines = list(lines)
-        self.given: list[bytes | str] = []
+    name, unanswered = "the peer", 0
 
-    async def line(self) -> str:
-        if not self.lines:
-            raise FilterEnded("it has ended")
-        return self.lines.pop(0)
-
-    async def write(self, *lines: bytes) -> None:
-        self.given += lines
+    def __init__(self, *lines: str, height: int = 0):
+        self.lines, self.height = list(lines), height
+        self.given: list[tuple[str, ...]] = []
 
     async def ask(self, line: str) -> str:
-        self.given.append(line)
-        return await self.line()
+        said, _ = await self.answer_to(line)
+        return said
+
+    async def answer_to(self, *asked: str) -> tuple[str, int]:
+        self.given.append(asked)
+        if not self.lines:
+            raise FilterEnded("it has ended")
+        return self.lines.pop(0), self.height
 
 
 class FakeLog:
@@ -58,14 +58,14 @@ class FakeLog:
         return True
 
 
-class Answers:
-    """A query that knows transactions by their ids, and which organisations satisfy a policy."""
+class Answers(Says):
+    """A peer that knows transactions by their ids, and which organisations satisfy a policy."""
 
     def __init__(self, known=None, satisfying=()):
-        self.known, self.satisfying, self.asked = known or {}, [set(it) for it in satisfying], 0
+        super().__init__()
+        self.known, self.satisfying = known or {}, [set(it) for it in satisfying]
 
     async def ask_for(self, what, **question):
-        self.asked += 1
         if what == "transaction":
             return self.known.get(question["id"]), 1
         if what == "setting":
@@ -91,7 +91,7 @@ class Case(unittest.IsolatedAsyncioTestCase):
         self.said = []
         self.config = folder.config()
         self.chain = Chain(self.config, FakeLog(), self.said.append)
-        self.chain.times, self.chain.query = Times(), Answers(satisfying=[("Maker", "Carrier"), ("Carrier", "Shop")])
+        self.chain.times, self.chain.peer = Times(), Answers(satisfying=[("Maker", "Carrier"), ("Carrier", "Shop")])
         self.endorsing = Endorsing(self.config, self.chain)
         with mock.patch.object(config.Config, "node_tls", return_value=None):
             self.gateway = Gateway(self.config, self.chain, self.endorsing)
@@ -102,10 +102,9 @@ class Case(unittest.IsolatedAsyncioTestCase):
         return await self.endorsing.answers("Shop/node", list(proposals) or [CALL])
 
     async def passed(self, *lines: str) -> None:
-        """The orderer says these lines."""
-        self.chain.order, self.chain.commit = Says(*lines), Says()
-        with self.assertRaises(FilterEnded):
-            await self.chain.pass_blocks()
+        """The peer says these lines."""
+        for line in lines:
+            await self.chain.hear(line.split(" "))
 
 
 class Ticks(Case):
@@ -166,20 +165,26 @@ class Ticks(Case):
 
 
 class Lines(Case):
-    async def test_blocks_and_signed_hashes_go_to_the_committer(self):
-        await self.passed("block 1 00", "seen Shop 1 ff 00", "skipped 5.0 300", "skipped 6.0 301", "read 6.0 2")
-        self.assertEqual(self.chain.commit.given, [b"block 1 00\n", b"seen Shop 1 ff 00\n"])
-        self.assertEqual((self.chain.awaited.number, self.chain.awaited.waiting, self.chain.read), (2, 2, 1))
-        self.assertEqual(self.chain.counts["skipped 301"], 1)
+    async def test_what_becomes_of_them(self):
+        await self.passed("known 1", "tx 2.0 ab 0 -", "tx 2.1 cd 4 -", "committed 2 flags 0 4", "skipped 5.0 300", "skipped 6.0 301", "read 6.0 2")
+        self.assertEqual((self.chain.height, self.chain.awaited.number, self.chain.awaited.waiting, self.chain.read), (2, 3, 2, 1))
+        self.assertEqual(self.chain.counts, {"flag 0": 1, "flag 4": 1, "skipped 300": 0, "skipped 301": 1})
+        await self.passed("hello there")
+        self.assertEqual(self.said, ["the peer: hello there"])
+
+    async def test_who_waits_for_a_transaction_is_told_once_its_block_is_on_the_disk(self):
+        waiters = [self.chain.wait_for(it) for it in ("ab", "cd", "ef")]
+        self.chain.in_log = {"ab"}
+        await self.passed("tx 7.0 ab 0 6d", "tx 7.1 cd 4 -")
+        self.assertEqual([it.done() for it in waiters], [False] * 3)
+        await self.passed("committed 7 flags 0 4")
+        told = [{"id": "ab", "block": 7, "place": 0, "flag": 0, "result": "6d"}, {"id": "cd", "block": 7, "place": 1, "flag": 4, "result": ""}]
+        self.assertEqual(([it.result() for it in waiters[:2]], waiters[2].done(), self.chain.in_log), (told, False, set()))
 
     async def test_an_aborted_transaction_is_told(self):
         waiter = self.chain.wait_for("ab")
         await self.passed("aborted ab 441")
-        self.assertEqual((await self.gateway.outcome(waiter.result()))["refused"], 441)
-
-    async def test_a_refusal_is_told_in_words(self):
-        await self.passed("refused 807")
-        self.assertEqual(self.said, ["ledger order: refused 807: the log is of another genesis file"])
+        self.assertEqual((await self.gateway.outcome("Maker/alice", waiter.result()))["refused"], 441)
 
     async def test_a_call_whose_line_is_skipped_is_told_why(self):
         waiter, envelope = self.chain.wait_for("ab"), "aa"
@@ -190,7 +195,7 @@ class Lines(Case):
         self.assertEqual(self.chain.counted(Entry(7, name.encode(), envelope.encode())), [b"7.0 aa\n"])
         await self.passed("skipped 7.0 301", "read 7.0 0")
         told = {"id": "ab", "refused": 301, "why": "the orderer skips its envelope (refused 301)"}
-        self.assertEqual([await self.gateway.outcome(waiter.result()), await self.gateway.status("ab")], [told, told])
+        self.assertEqual([await self.gateway.outcome("Maker/alice", waiter.result()), await self.gateway.status("Maker/alice", "ab")], [told, told])
         self.assertEqual((self.chain.in_log, self.chain.own, self.chain.unread), (set(), {}, {}))
 
     async def test_a_call_that_finds_no_share_left_is_told(self):
@@ -201,7 +206,7 @@ class Lines(Case):
         self.chain.lines.shares.paid[b"Maker"] = 3 * LAST_BLOCK * self.chain.lines.shares.block
         name, = self.chain.log.entries
         self.assertEqual(self.chain.counted(Entry(7, name.encode(), b"aa")), [])
-        self.assertEqual(await self.gateway.outcome(waiter.result()), {"id": "ab", "why": chains.NO_SHARE})
+        self.assertEqual(await self.gateway.outcome("Maker/alice", waiter.result()), {"id": "ab", "why": chains.NO_SHARE})
         with self.assertRaises(Refused) as raised:
             self.gateway.check_open()
         self.assertEqual((raised.exception.status, raised.exception.said), (422, {"why": chains.NO_SHARE}))
@@ -261,10 +266,10 @@ class End(Case):
 
     async def test_who_waits_behind_the_last_block_is_told(self):
         inside, outside = self.chain.wait_for("ab"), self.chain.wait_for("cd")
-        await self.chain.committed(LAST_BLOCK - 1)
+        await self.passed(f"tx {LAST_BLOCK - 1}.0 ab 0 -", f"committed {LAST_BLOCK - 1} flags 0")
         self.assertEqual((inside.done(), outside.done()), (True, False))
         inside = self.chain.wait_for("ab")
-        await self.chain.committed(LAST_BLOCK)
+        await self.passed(f"tx {LAST_BLOCK}.0 ab 0 -", f"committed {LAST_BLOCK} flags 0")
         self.assertEqual((inside.result()["block"], outside.result()), (LAST_BLOCK, {"id": "cd", "refused": 422}))
 
     async def test_reads_are_answered(self):
@@ -327,100 +332,92 @@ class Endorsements(Case):
         with mock.patch.object(endorsing.time, "time", return_value=time.time() + 7 * 86400 + 1):
             self.assertEqual(agreed.listed(), [])
 
-    async def test_a_change_has_an_endorser_of_its_own(self):
+    async def test_a_change_is_asked_for_as_agreed(self):
         change = {"members": [{"name": "Maker"}], "policy": "'Maker'", "serial": 1, "nonce": "07" * 16}
         self.endorsing.agreed.add(id_of(change), "the members are Maker")
-        for script, answer in [("echo endorsed aa 01", {"payload": "aa", "endorsement": "01"}),
-                               ("echo refused 406", {"refused": "refused 406"}),
-                               ("echo refused 806; exit 1", {"refused": "refused 806"}),
-                               ("echo; echo", {"denied": "ledger endorse ended with status 0"}),
-                               ("exit 1", {"denied": "ledger endorse ended with status 1"})]:
-            with self.subTest(script=script):
-                self.endorsing.command = ["sh", "-c", script]
-                self.assertEqual(await self.endorsed(change), [{**answer, "height": 0}])
+        for said, answer in [("endorsed aa 01", {"payload": "aa", "endorsement": "01"}), ("refused 406", {"refused": "refused 406"}),
+                             ("refused 806", {"refused": "refused 806"}), ("bad", {"refused": "refused 303"})]:
+            self.chain.peer = Says(said, height=4)
+            self.assertEqual(await self.endorsed(change), [{**answer, "height": 4}])
+            self.assertEqual(self.chain.peer.given, [("agreed", json.dumps(change))])
+        self.endorsing.agreed.withdraw(id_of(change))
+        self.assertEqual(await self.endorsed(change), [{"denied": f"its operator has not agreed to {id_of(change)}", "height": 0}])
+        self.assertEqual(len(self.chain.peer.given), 1)
 
     async def test_an_approver_is_asked(self):
-        self.endorsing.approver, self.endorsing.endorsers = Says("yes", "not today"), [Says("endorsed aa 01")]
+        self.endorsing.approver, self.chain.peer = Says("yes", "not today"), Says("endorsed aa 01")
         said = await self.endorsed(CALL, {**CALL, "nonce": "08" * 16})
         self.assertEqual(said, [{"payload": "aa", "endorsement": "01", "height": 0}, {"denied": "not today", "height": 0}])
-        self.assertEqual(json.loads(self.endorsing.approver.given[0]), {"asker": "Shop/node", **CALL})
+        self.assertEqual(json.loads(self.endorsing.approver.given[0][0]), {"asker": "Shop/node", **CALL})
+        self.assertEqual(self.chain.peer.given, [("call", json.dumps(CALL))])
 
-    async def test_a_place_is_looked_at_by_what_the_endorser_says(self):
+    async def test_a_place_is_looked_at_by_what_the_peer_says(self):
         signed, bare = "seen Maker 3 00 ff", "seen Maker 3 00"
         for key, seen, told in [(None, bare, endorsing.NO_MEMBER), (Key(public=b"k"), bare, endorsing.OLD_SEED), (Key(public=b"k"), signed, None),
-                                (Key(shared=b"k"), bare, None)]:
+                                (Key(shared=b"k"), bare, None), (Key(public=b"k"), "bad", None)]:
             self.endorsing.look_at_place(key, seen)
             self.assertEqual(self.endorsing.out_of_place, told)
         self.assertEqual(self.said, [f"nothing is endorsed: {it}" for it in (endorsing.NO_MEMBER, endorsing.OLD_SEED)])
 
+    async def looked(self, standing: mock.AsyncMock, answers: dict[str, Callable[[], str]], *heights: int) -> None:
+        """Keeps the place while the chain grows to these heights, one after another. The peer answers `seen` so."""
+        async def answer_to(_kind: str, text: str) -> tuple[str, int]:
+            return answers[text](), int(text)
+        self.chain.peer = mock.Mock(answer_to=mock.AsyncMock(side_effect=answer_to))
+        self.chain.keys = mock.Mock(serial=0, at=standing)
+        work = asyncio.ensure_future(self.endorsing.keep_place())
+        for calls, height in enumerate(heights, 1):
+            if height:
+                await self.chain.committed(height)
+            while standing.await_count < calls:
+                await asyncio.sleep(0.01)
+            for _ in range(5):
+                await asyncio.sleep(0)
+        work.cancel()
+
     async def test_a_place_is_looked_at_whenever_the_members_have_changed(self):
-        self.chain.keys, said = mock.Mock(serial=0, at=mock.AsyncMock(return_value={"Maker": Key(public=b"k")})), []
-
-        async def ask(line: str) -> str:
-            said.append(line)
-            return "seen Maker 1 00 ff" if len(said) == 1 else "seen Maker 3 00"
-        self.endorsing.endorsers = [mock.Mock(ask=ask)]
-        work = asyncio.ensure_future(self.endorsing.keep_place())
-        for height, serial, asked in ((1, 0, 1), (2, 0, 1), (3, 1, 2)):
-            self.chain.keys.serial = serial
-            await self.chain.committed(height)
-            while self.chain.keys.at.await_count < height or len(said) < asked:
-                await asyncio.sleep(0.01)
-        await asyncio.sleep(0)
-        work.cancel()
-        self.assertEqual((said, self.endorsing.out_of_place), (["seen 1", "seen 3"], endorsing.OLD_SEED))
-
-    async def test_members_that_change_while_the_endorser_is_asked_are_looked_at(self):
-        self.chain.keys = keys = mock.Mock(serial=0, at=mock.AsyncMock(return_value={}))
-
-        async def ask(line: str) -> str:
-            if line == "seen 1":
-                keys.serial, keys.at.return_value = 1, {"Maker": Key(shared=b"k")}
-            return "seen Maker 1 00"
-        self.endorsing.endorsers = [mock.Mock(ask=ask)]
-        work = asyncio.ensure_future(self.endorsing.keep_place())
-        for height in (1, 2):
-            await self.chain.committed(height)
-            while keys.at.await_count < height:
-                await asyncio.sleep(0.01)
-        await asyncio.sleep(0.01)
-        work.cancel()
+        def change() -> str:
+            self.chain.keys.serial = 1
+            return "seen Maker 2 00 ff"
+        said = {"0": lambda: "bad", "1": lambda: "seen Maker 1 00 ff", "2": change, "3": lambda: "seen Maker 3 00"}
+        standing = mock.AsyncMock(return_value={"Maker": Key(public=b"k")})
+        await self.looked(standing, said, 0, 1)
         self.assertIsNone(self.endorsing.out_of_place)
+        self.endorsing.looked = -1
+        await self.looked(standing, said, 2, 3, 4)
+        self.assertEqual([it.args for it in self.chain.peer.answer_to.call_args_list], [("seen", "2"), ("seen", "3")])
+        self.assertEqual(self.endorsing.out_of_place, endorsing.OLD_SEED)
+
+    async def test_members_that_change_while_the_peer_is_asked_are_looked_at(self):
+        standing = mock.AsyncMock(return_value={})
+
+        def change() -> str:
+            self.chain.keys.serial, standing.return_value = 1, {"Maker": Key(shared=b"k")}
+            return "seen Maker 1 00"
+        await self.looked(standing, {"0": lambda: "bad", "1": change, "2": lambda: "seen Maker 2 00"}, 0, 1, 2)
+        self.assertEqual((self.endorsing.out_of_place, self.said), (None, [f"nothing is endorsed: {endorsing.NO_MEMBER}"]))
 
     async def test_who_has_no_place_is_told_once(self):
-        endorser = self.endorsing.endorsers[0]
-        endorser.command = ["sh", "-c", "echo refused 806; exit 1"]
-        await endorser.start()
-        with mock.patch.object(endorsing, "PAUSE", 0.0):
-            work = asyncio.ensure_future(self.endorsing.follow(endorser))
-            for number in range(1, 4):
-                if number == 3:
-                    endorser.command = ["cat"]
-                while not endorser.ended:
-                    await asyncio.sleep(0.01)
-                self.assertIsNotNone(self.endorsing.out_of_place)
-                before = endorser.process
-                await self.chain.committed(number)
-                while endorser.process is before:
-                    await asyncio.sleep(0.01)
-            while self.endorsing.out_of_place:
-                await asyncio.sleep(0.01)
-        work.cancel()
-        await asyncio.gather(work, return_exceptions=True)
-        await endorser.close()
+        """The peer says so of each call by the state that it has then, and of the next one too."""
+        self.chain.peer = Says("refused 806", "refused 806", "endorsed aa 01", height=3)
+        said = await self.endorsed(CALL, CALL, CALL)
+        self.assertEqual(said, [{"refused": "refused 806", "height": 3}] * 2 + [{"payload": "aa", "endorsement": "01", "height": 3}])
         self.assertEqual(self.said, ["nothing is endorsed: the organisation is no member: not yet, or no more"])
 
-    async def test_what_an_endorser_answers(self):
-        self.endorsing.endorsers = [Says("endorsed aa 01", "refused 404 status 2", "bad line 3")]
-        self.assertEqual(await self.endorsed(CALL, CALL, CALL, CALL), [
-            {"payload": "aa", "endorsement": "01", "height": 0}, {"refused": "refused 404 status 2", "height": 0},
-            {"refused": "refused 303", "height": 0}, {"denied": "it has ended", "height": 0}])
+    async def test_what_the_peer_answers(self):
+        """At the height that it says, whatever the chain has by then."""
+        self.chain.peer, self.chain.height = Says("endorsed aa 01", "refused 404 status 2", "bad", height=3), 4
+        self.assertEqual(await self.endorsed(CALL, CALL, CALL), [
+            {"payload": "aa", "endorsement": "01", "height": 3}, {"refused": "refused 404 status 2", "height": 3},
+            {"refused": "refused 303", "height": 3}])
+        with self.assertRaisesRegex(FilterEnded, "it has ended"):
+            await self.endorsed(CALL)
 
-    async def test_an_endorser_has_so_many_calls_of_one_asker_at_a_time(self):
+    async def test_the_peer_has_so_many_calls_of_one_asker_at_a_time(self):
         """However many one asks for, those of others come soon."""
-        asked: list[asyncio.Future[str]] = []
+        asked: list[asyncio.Future[tuple[str, int]]] = []
 
-        def ask(_line: str) -> asyncio.Future[str]:
+        def answer_to(_kind: str, _text: str) -> asyncio.Future[tuple[str, int]]:
             asked.append(asyncio.get_running_loop().create_future())
             return asked[-1]
 
@@ -428,13 +425,13 @@ class Endorsements(Case):
             for _ in range(5):
                 await asyncio.sleep(0)
             return len(asked)
-        self.endorsing.endorsers = [mock.Mock(ask=ask)]
+        self.chain.peer = mock.Mock(answer_to=answer_to)
         many = [asyncio.ensure_future(self.endorsing.answers("Carrier/node", [CALL] * 500)) for _ in range(4)]
         self.assertEqual(await rest(), endorsing.OF_ASKER)
         one = asyncio.ensure_future(self.endorsing.answers("Shop/node", [CALL]))
         self.assertEqual(await rest(), endorsing.OF_ASKER + 1)
         for it in asked[:]:
-            it.set_result("endorsed aa 01")
+            it.set_result(("endorsed aa 01", 0))
         self.assertEqual((await one)[0]["payload"], "aa")
         self.assertEqual(await rest(), 2 * endorsing.OF_ASKER + 1)
         for it in many:
@@ -446,9 +443,32 @@ class Endorsements(Case):
         self.assertEqual(await rest(), had + endorsing.OF_ASKER)
         again.cancel()
 
+    async def test_the_approver_has_so_many_calls_of_one_asker_at_a_time(self):
+        """However slow it is, it comes to those of others soon."""
+        asked: list[tuple[str, asyncio.Future[str]]] = []
+
+        def ask(line: str) -> asyncio.Future[str]:
+            asked.append((json.loads(line)["asker"], asyncio.get_running_loop().create_future()))
+            return asked[-1][1]
+        self.endorsing.approver, self.chain.peer = mock.Mock(ask=ask), Says(*["endorsed aa 01"] * 501)
+        many = asyncio.ensure_future(self.endorsing.answers("Carrier/node", [CALL] * 500))
+        one = asyncio.ensure_future(self.endorsing.answers("Shop/node", [CALL]))
+        while len(asked) <= endorsing.OF_ASKER:
+            await asyncio.sleep(0)
+        self.assertEqual([it for it, _ in asked], ["Carrier/node"] * endorsing.OF_ASKER + ["Shop/node"])
+        asked[-1][1].set_result("yes")
+        self.assertEqual((await one)[0]["payload"], "aa")
+        for _, it in asked[:-1]:
+            it.set_result("")
+        while len(asked) <= 2 * endorsing.OF_ASKER:
+            await asyncio.sleep(0)
+        many.cancel()
+
     async def test_who_is_no_member_endorses_nothing(self):
-        self.endorsing.out_of_place = "it is no member"
-        self.assertEqual(await self.endorsed(), [{"denied": "it is no member", "height": 0}])
+        """Whatever the node has heard of its place: the peer says so by its own state."""
+        self.chain.peer = Says("refused 806", "refused 808", height=5)
+        self.assertEqual(await self.endorsed(CALL, CALL), [{"refused": "refused 806", "height": 5}, {"refused": "refused 808", "height": 5}])
+        self.assertEqual(self.endorsing.out_of_place, endorsing.OLD_SEED)
 
 
 class Calls(Case):
@@ -457,6 +477,8 @@ class Calls(Case):
     async def asyncSetUp(self):
         await super().asyncSetUp()
         self.gateway.faults = mock.AsyncMock(return_value={})
+        # The members have been known since the chain began.
+        self.chain.keys.since, self.chain.keys.height = 0, 3
 
     def answer(self, **answers):
         self.asked, self.chain.height = [], 3
@@ -504,7 +526,7 @@ class Calls(Case):
 
     def shop(self) -> None:
         """The Shop has a node as well, and may endorse in the Carrier's place."""
-        self.chain.query.satisfying = [{"Maker", "Carrier"}, {"Maker", "Shop"}]
+        self.chain.peer.satisfying = [{"Maker", "Carrier"}, {"Maker", "Shop"}]
         with mock.patch.object(config.Config, "node_tls", return_value=None):
             self.config.nodes["Shop"] = "https://127.0.0.3:7051"
             self.gateway.links["Shop"] = Link("Shop", self.config, self.said.append)
@@ -520,7 +542,7 @@ class Calls(Case):
                 self.answer(Maker=[ENDORSED] * 12, Carrier=[lie] * 12, Shop=[shop] * 12)
                 self.assertEqual(await self.gateway.endorsed("Maker/alice", CALL, None), "aa020102")
                 self.assertEqual(([it for it, _ in self.asked].count("Carrier"), self.asked[-1]), (4, ("Shop", 3)))
-        self.chain.query.satisfying = [{"Maker", "Carrier", "Shop"}]
+        self.chain.peer.satisfying = [{"Maker", "Carrier", "Shop"}]
         self.gateway.chosen, self.gateway.links["Carrier"].down = {}, 0
         self.answer(Maker=[ENDORSED] * 12, Carrier=[lie] * 12, Shop=[shop] * 12)
         self.assertEqual(await self.refusal(), (503, told))
@@ -544,16 +566,16 @@ class Calls(Case):
 
     async def test_who_refuses_what_others_endorse(self):
         no_module = {"refused": "refused 406", "height": 3}
-        self.answer(Maker=[ENDORSED] * 12, Carrier=[no_module] * 12)
+        self.answer(Maker=[ENDORSED], Carrier=[no_module])
         self.assertEqual(await self.refusal(), (422, "Carrier does not endorse it: the module of the definition is not installed, or not at hand"))
-        self.assertEqual(len(self.asked), 6)
-        self.answer(Maker=[ENDORSED] * 3, Carrier=[{**no_module, "height": 2}, no_module, ENDORSED])
+        self.assertEqual(len(self.asked), 2)
+        self.answer(Maker=[ENDORSED] * 2, Carrier=[{**no_module, "height": 2}, ENDORSED])
         self.assertEqual(await self.gateway.endorsed("Maker/alice", CALL, None), "aa020101")
 
     async def test_another_one_is_asked_in_the_place_of_who_refuses(self):
         self.shop()
         refused = {"refused": "refused 406", "height": 3}
-        for carrier in ([{"denied": "not today", "height": 3}], [refused] * 3):
+        for carrier in ([{"denied": "not today", "height": 3}], [refused]):
             self.gateway.chosen, turns = {}, len(carrier) + 1
             self.answer(Maker=[ENDORSED] * turns, Carrier=carrier, Shop=[{**ENDORSED, "endorsement": "02"}])
             self.assertEqual(await self.gateway.endorsed("Maker/alice", CALL, None), "aa020102")
@@ -562,24 +584,27 @@ class Calls(Case):
         self.answer(Maker=[{"denied": "not today", "height": 3}], Carrier=[ENDORSED])
         self.assertEqual(await self.refusal(), (422, "Maker does not endorse it: not today"))
 
-    async def test_who_is_at_fault_is_passed_over_once_it_is_sure(self):
-        self.answer(Maker=[ENDORSED] * 3, Carrier=[ENDORSED] * 3)
-        self.gateway.faults.return_value = {"Carrier": "it lies"}
-        self.assertEqual(await self.refusal(), (503, "no endorsement of Carrier: it lies"))
-        self.assertEqual((self.said, self.gateway.links["Carrier"].down > 0), (["no endorsement of Carrier: it lies"], True))
-        # As behind a change of key: the next one is right.
-        self.gateway.links["Carrier"].down = 0
-        self.answer(Maker=[ENDORSED] * 2, Carrier=[ENDORSED] * 2)
-        self.gateway.faults.side_effect = [{"Carrier": "it lies"}, {}]
-        self.assertEqual(await self.gateway.endorsed("Maker/alice", CALL, ["Maker", "Carrier"]), "aa020101")
+    async def test_who_is_at_fault_is_passed_over_at_once(self):
+        for fault in (gateway.OTHER_KEY, gateway.OTHER_PAYLOAD):
+            self.gateway.links["Carrier"].down = 0
+            self.answer(Maker=[ENDORSED], Carrier=[ENDORSED])
+            self.gateway.faults.return_value = {"Carrier": fault}
+            self.assertEqual(await self.refusal(), (503, f"no endorsement of Carrier: {fault}"))
+            self.assertEqual((self.said[-1], self.gateway.links["Carrier"].down > 0), (f"no endorsement of Carrier: {fault}", True))
 
-    async def test_it_takes_longer_to_be_sure_that_payloads_differ(self):
-        self.answer(Maker=[ENDORSED] * 6, Carrier=[ENDORSED] * 6)
-        self.gateway.faults.side_effect = [{"Carrier": gateway.OTHER_PAYLOAD}] * 5 + [{}]
-        self.assertEqual(await self.gateway.endorsed("Maker/alice", CALL, None), "aa020101")
-        self.answer(Maker=[ENDORSED] * 6, Carrier=[ENDORSED] * 6)
-        self.gateway.faults.side_effect = [{"Carrier": gateway.OTHER_PAYLOAD}] * 6
-        self.assertEqual(await self.refusal(), (503, f"no endorsement of Carrier: {gateway.OTHER_PAYLOAD}"))
+    async def test_who_is_at_fault_on_blocks_that_this_node_does_not_know_is_passed_over_once_it_is_sure(self):
+        """As behind a change of key: the next one is right."""
+        self.chain.keys.since = 3
+        for height in (2, 4):
+            doubted = {**ENDORSED, "height": height}
+            with self.subTest(height=height):
+                self.answer(Maker=[ENDORSED] * 2, Carrier=[doubted, ENDORSED])
+                self.gateway.faults.side_effect = [{"Carrier": "it lies"}, {}]
+                self.assertEqual(await self.gateway.endorsed("Maker/alice", CALL, ["Maker", "Carrier"]), "aa020101")
+                self.answer(Maker=[ENDORSED] * 3, Carrier=[doubted] * 3)
+                self.gateway.faults.side_effect = [{"Carrier": "it lies"}] * 3
+                self.assertEqual(await self.refusal(["Maker", "Carrier"]), (503, "no endorsement of Carrier: it lies"))
+                self.assertEqual([height for _, height in self.asked], [0, 0] + [max(3, height)] * 4)
 
     async def test_this_node_is_asked_too_where_others_are_named(self):
         self.answer(Maker=[ENDORSED], Carrier=[ENDORSED])
@@ -618,7 +643,7 @@ class Calls(Case):
 
     async def test_one_that_is_in_the_chain_is_not_put(self):
         tx = {"id": id_of(CALL), "block": 1, "place": 0, "flag": 0, "result": "00"}
-        self.chain.query.known = {id_of(CALL): tx}
+        self.chain.peer.known = {id_of(CALL): tx}
         self.chain.height = LAST_BLOCK
         self.assertEqual((await self.gateway.submit("Maker/alice", CALL, 5.0))["result"], "00")
 
@@ -626,7 +651,7 @@ class Calls(Case):
         tx = {"id": id_of(CALL), "block": 1, "place": 0, "flag": 0, "result": "00"}
 
         async def ask(*_):
-            self.chain.query.known = {id_of(CALL): tx}
+            self.chain.peer.known = {id_of(CALL): tx}
             return {"refused": "refused 404", "height": 3}
         self.gateway.ask = ask
         self.assertEqual((await self.gateway.submit("Maker/alice", CALL, 5.0))["valid"], True)
@@ -671,94 +696,6 @@ class Calls(Case):
         self.answer(Maker=[{"refused": "refused 404", "height": 3}], Carrier=[{"refused": "refused 404", "height": 3}])
         said = await self.gateway.submit_all("Maker/alice", [CALL, {"chaincode": 5}], 60.0)
         self.assertEqual((said[0]["refused"], said[1]["why"].split()[0]), (404, "chaincode"))
-
-
-class Filters(unittest.IsolatedAsyncioTestCase):
-    async def test_answers_come_in_their_order(self):
-        asked = Asked("cat", ["cat"])
-        await asked.start()
-        work = asyncio.ensure_future(asked.follow())
-        self.assertEqual(await asyncio.gather(*(asked.ask(str(it)) for it in range(9))), [str(it) for it in range(9)])
-        self.assertEqual(await asked.ask("refused 404 status 2"), "refused 404 status 2")
-        with self.assertRaisesRegex(FilterEnded, "^cat says: refused 703$"):
-            await asked.ask("refused 703")
-        with self.assertRaises(FilterEnded):
-            await work
-        with self.assertRaisesRegex(FilterEnded, "^cat says: refused 703$"):
-            await asked.ask("1")
-        await asked.close()
-
-    async def test_any_line_of_an_approver_is_an_answer(self):
-        approver = Approver("cat", ["sh", "-c", "read it; printf '\\377\\n'; cat"])
-        await approver.start()
-        work = asyncio.ensure_future(approver.follow())
-        self.assertEqual(await approver.ask("{}"), "\ufffd")
-        self.assertEqual(await approver.ask("refused by the board"), "refused by the board")
-        work.cancel()
-        await asyncio.gather(work, return_exceptions=True)
-        await approver.close()
-
-    async def test_an_approver_that_is_asked_and_says_nothing_has_ended(self):
-        approver = Approver("the approver", ["sh", "-c", "cat > /dev/null"])
-        await approver.start()
-        with mock.patch.object(endorsing, "APPROVAL_SECONDS", 0.1):
-            work = asyncio.ensure_future(approver.follow())
-            await asyncio.sleep(0.3)
-            self.assertFalse(work.done())
-            with self.assertRaisesRegex(FilterEnded, "^the approver has given no answer for 0.1 s$"):
-                await approver.ask("{}")
-            with self.assertRaises(FilterEnded):
-                await work
-        await approver.close()
-
-    async def test_one_that_is_begun_again_answers_those_who_ask_then(self):
-        asked = Asked("cat", ["cat"])
-        await asked.start()
-        work = asyncio.ensure_future(asked.follow())
-        for line in ("refused 806", "1"):
-            with self.assertRaises(FilterEnded):
-                await asked.ask(line)
-        await asyncio.gather(work, return_exceptions=True)
-        await asked.close()
-        await asked.start()
-        work = asyncio.ensure_future(asked.follow())
-        self.assertEqual(await asked.ask("2"), "2")
-        work.cancel()
-        await asyncio.gather(work, return_exceptions=True)
-        await asked.close()
-
-    async def test_a_line_that_is_too_long_is_no_end(self):
-        with mock.patch.object(filters, "LONGEST", 1 << 20):
-            asked = Asked("cat", ["cat"])
-            await asked.start()
-            work = asyncio.ensure_future(asked.follow())
-            found = await asyncio.gather(*(asked.ask("a" * it) for it in (9, 5 << 20, 1 << 19, 3 << 20, 7)), return_exceptions=True)
-            self.assertEqual([len(it) if isinstance(it, str) else str(it) for it in found],
-                             [9, "cat has an answer of more than 1 MiB: ask for less", 1 << 19, "cat has an answer of more than 1 MiB: ask for less", 7])
-            work.cancel()
-            await asyncio.gather(work, return_exceptions=True)
-            await asked.close()
-
-    async def test_an_input_that_breaks_is_told_once(self):
-        told: list[str] = []
-        asyncio.get_running_loop().set_exception_handler(lambda _, it: told.append(it["message"]))
-        ended = Filter("it", ["sh", "-c", "read line; exit 1"])
-        await ended.start()
-        await ended.write(b"x\n", bytes(1 << 20))
-        with self.assertRaisesRegex(FilterEnded, "^it ended with status 1$"):
-            await ended.line()
-        await asyncio.sleep(0.1)
-        del ended
-        gc.collect()
-        self.assertEqual(told, [])
-
-    async def test_one_that_ends_is_told(self):
-        asked = Asked("false", ["false"])
-        await asked.start()
-        with self.assertRaisesRegex(FilterEnded, "^false ended with status 1$"):
-            await asked.follow()
-        with self.assertRaisesRegex(FilterEnded, "^x: /nowhere/x cannot be run: No such file or directory$"):
-            await Filter("x", ["/nowhere/x"]).start()
 
 
 if __name__ == "__main__":

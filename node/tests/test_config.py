@@ -1,5 +1,6 @@
 """Each mistake of a configuration is told in one sentence, with its place."""
 import pathlib
+import subprocess
 import unittest
 from unittest import mock
 
@@ -21,8 +22,9 @@ MISTAKES = [
     ('genesis = "genesis.json"', 'genesis = "other.json"', "line 7: [ledger] genesis names "),
     ('store = "chain.store"', 'store = "nowhere/chain.store"', "line 8: [ledger] store names "),
     ('keys = "maker.key"', 'key = "maker.key"', "line 9: [ledger] key is no name that is known here: possible are program, genesis, store, keys"),
-    ('keys = "maker.key"', 'endorsers = 0', "line 9: [ledger] endorsers has to be a whole number from 1 to 16, and is 0"),
-    ('keys = "maker.key"', 'endorsers = true', "[ledger] endorsers has to be a whole number"),
+    ('keys = "maker.key"', 'seen = 0', "line 9: [ledger] seen has to be a whole number from 1 to 65535, and is 0"),
+    ('keys = "maker.key"', 'seen = true', "[ledger] seen has to be a whole number"),
+    ('keys = "maker.key"', 'endorsers = 1', "line 9: [ledger] endorsers is no name that is known here: possible are program, genesis, "),
     ('keys = "maker.key"', 'seen = 1.5', "[ledger] seen has to be a whole number from 1 to 65535, and is 1.5"),
     ('keys = "maker.key"', 'approver = "yes"', "[ledger] approver has to be a command, as a list of words"),
     ('keys = "maker.key"', 'past_forks = true', "[ledger] past_forks has to be a list of what was looked into"),
@@ -94,6 +96,19 @@ class Mistakes(unittest.TestCase):
                 # No secret is told that stands in the place of a file's name.
                 self.assertNotIn("5e5e", said)
                 self.assertIn("node.toml", said)
+
+    def test_an_authority_of_another_kind_is_told(self):
+        """The proxy would take it for an authority of whom it names, and nothing else here would see it."""
+        trusted = subprocess.run(["openssl", "x509", "-trustout"], input=support.authority("Maker", " too"), stdout=subprocess.PIPE, text=True).stdout
+        self.assertIn("-----BEGIN TRUSTED CERTIFICATE-----", trusted)
+        for name, told in (("carrier.ca.pem", "[authorities] Carrier names "), ("members.pem", "[etcd] authorities names ")):
+            file, whole = self.folder.path / name, (self.folder.path / name).read_text()
+            file.write_text(whole + trusted)
+            with self.assertRaises(config.Mistake) as raised:
+                self.folder.config()
+            self.assertIn(told, str(raised.exception))
+            self.assertIn("which has to hold certificates of authorities alone", str(raised.exception))
+            file.write_text(whole)
 
     def test_each_mistake_on_one_machine_is_one_sentence(self):
         for old, new, told in LOCAL_MISTAKES:

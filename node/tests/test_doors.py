@@ -29,7 +29,7 @@ from regtuma.endorsing import Endorsing
 from regtuma.gateway import Gateway
 from test_access import AUTHORITY, Certificates
 from test_api import Query
-from test_chain import FakeLog, Says, Times
+from test_chain import FakeLog, Times
 
 CONFIGURATION = support.ROOT / "node/haproxy.cfg"
 # Behind it all, a node takes no more than this, in MiB.
@@ -47,6 +47,9 @@ WAITS = f"/transactions/{'ab' * 32}?wait=600"
 
 
 class LongBlocks(Query):
+    async def ask_for(self, what, **question):
+        return ({"result": 12 * LONG}, BLOCKS) if what == "call" else await super().ask_for(what, **question)
+
     async def text_of(self, what, **question):
         if what == "block":
             return json.dumps({"block": question["number"], "txs": [], "long": f"{LONG}{question['number']}"}), BLOCKS
@@ -60,12 +63,11 @@ async def serve(folder):
     settings.ledger.template = str(support.ROOT / "examples/page/template.html")
     it = mock.Mock(config=settings, runners=[])
     chain = Chain(settings, FakeLog(), lambda said: print(said, flush=True))
-    chain.times, chain.query, chain.height = Times(), LongBlocks(), BLOCKS
+    chain.times, chain.peer, chain.height = Times(), LongBlocks(), BLOCKS
     endorsing = Endorsing(settings, chain)
-    endorsing.endorsers = [Says()]
     with mock.patch.object(config.Config, "node_tls", return_value=None):
         gateway = Gateway(settings, chain, endorsing)
-    made = api.Api(settings, chain, endorsing, gateway, {"lines": 1})
+    made = api.Api(settings, chain, endorsing, gateway, {"lines": 2})
     await node.Node.listen(it, made.app(), settings.listen)
     await node.Node.listen(it, made.page_app(), settings.page)
     await made.access.end_gone()
@@ -312,6 +314,18 @@ class Doors(unittest.TestCase):
             with contextlib.suppress(OSError):
                 answers.append(it.recv(100)[:12])
         self.assertIn(b"HTTP/1.1 429", answers)
+
+    def test_who_does_not_read_a_long_answer(self):
+        call = self.post(b'{"chaincode":"assets","arg":""}', JSON)
+        held = [self.connect("alice") for _ in range(40)]
+        for it in held:
+            it.sendall(call)
+        # It takes the node a moment to spell all these.
+        self.come(lambda: self.counted(429, "/evaluate") > 0 and self.get("/height", "carrier")[0] == 200)
+        self.assertLess(self.memory(), MOST_MEMORY)
+        for it in held:
+            it.close()
+        self.come(lambda: self.answered(self.connect("alice"), call)[0] == 200)
 
     def test_a_body_of_many_values(self):
         said = self.answered(self.connect("alice"), self.post(b'{"calls":[' + b"[]," * 1_700_000 + b"[]]}", JSON))

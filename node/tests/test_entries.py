@@ -152,7 +152,7 @@ class Attacks(unittest.TestCase):
 
 
 class Blocks(unittest.TestCase):
-    """The orderer never makes more blocks than were paid for, whatever it is given."""
+    """A peer never makes more blocks than were paid for, whatever it is given."""
 
     def blocks(self, count: int, preferred: int, seed: int) -> tuple[int, float]:
         chance, lines, room = random.Random(seed), Lines(count, preferred), self.enterContext(tempfile.TemporaryDirectory())
@@ -164,10 +164,10 @@ class Blocks(unittest.TestCase):
             size = chance.choice((0, 1, 30, preferred // 2, max(0, preferred - 28), preferred))
             envelope = f"0161{size:04x}" + "00" * size + "00" * 25
             text, name = (envelope, f"Maker/{number}") if chance.random() < 0.8 else ("tick", f"Shop/tick-{lines.ticks + 1}-{number:x}")
-            given += b"".join(lines.of(Entry(number, name.encode(), text.encode())).values())
-        said = support.ledger("order", genesis, lines=given.decode())
+            given += b"".join(b"log " + it for it in lines.of(Entry(number, name.encode(), text.encode())).values())
+        said = support.ledger("peer", genesis, pathlib.Path(room) / "chain.store", lines=given.decode())
         self.assertNotIn("skipped", said)
-        return said.count("block "), lines.shares.total / lines.shares.block
+        return said.count("committed "), lines.shares.total / lines.shares.block
 
     def test_by_the_program(self):
         for count, preferred, seed in ((512, 600, 1), (3, 200, 3), (1, 400, 4), (7, 1, 5)):

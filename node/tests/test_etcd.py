@@ -33,6 +33,13 @@ def entries(events: list[dict]) -> list:
     return [entry_of(it) for it in events if is_first(it)]
 
 
+async def first(told):
+    """The first that somebody tells."""
+    async for it in told:
+        yield it
+        return
+
+
 def told(*events: dict) -> dict:
     return {"result": {"header": {}, "events": list(events)}}
 
@@ -77,7 +84,14 @@ class Node:
                     break
             return stream
         status, said = answer
-        return web.Response(status=status, text=said if isinstance(said, str) else json.dumps(said), content_type="application/json")
+        made = web.Response(status=status, text=said if isinstance(said, str) else json.dumps(said), content_type="application/json")
+        for number in range(100 * isinstance(answer, Cookies)):
+            made.set_cookie(f"cookie{number}", "x")
+        return made
+
+
+class Cookies(tuple):
+    """An answer with a hundred cookies."""
 
 
 class Elsewhere(Node):
@@ -93,10 +107,8 @@ class Elsewhere(Node):
 
 class Case(unittest.IsolatedAsyncioTestCase):
     async def asyncSetUp(self):
-        # A busy machine is no failure of etcd.
-        changed = mock.patch.object(etcd, "NODE_SECONDS", 20.0)
-        changed.start()
-        self.addCleanup(changed.stop)
+        # A busy machine is no failure of etcd; and what is asked one by one is answered in this order.
+        self.enterContext(mock.patch.multiple(etcd, NODE_SECONDS=20.0, ENTRIES=1))
 
     async def log(self, *nodes: Node, user: str = "") -> Log:
         for node in nodes:
@@ -249,16 +261,15 @@ class Failures(Case):
         kvs = [{"key": base64_of(f"log/Maker/{name}"), "create_revision": revision} for name, revision in (("a", "9"), ("b", "4"), ("c", "11"))]
         keys = [{"header": {"revision": "10"}, "kvs": kvs[:2], "more": True}, {"header": {"revision": "11"}, "kvs": kvs[2:]}]
         # One of the two was made anew meanwhile: that tells the watch behind.
-        left = [{"kvs": [event(revision, text, key=f"log/Maker/{name}")["kv"]]} for revision, text, name in ((4, "00", "b"), (12, "01", "a"))]
-        node = Node(gone, (200, keys[0]), (200, keys[1]), (200, {"responses": [{"response_range": it} for it in left]}),
-                    [told(event(11, "02"))])
+        left = [(200, {"kvs": [event(revision, text, key=f"log/Maker/{name}")["kv"]]}) for revision, text, name in ((4, "00", "b"), (12, "01", "a"))]
+        node = Node(gone, (200, keys[0]), (200, keys[1]), *left, [told(event(11, "02"))])
         with contextlib.redirect_stdout(io.StringIO()) as said:
             self.assertEqual(await self.watched(await self.log(node), 2), [b"4.0 00\n", b"11.0 02\n"])
         self.assertRegex(said.getvalue(), "^warning: .* up to revision 7: .* left; 7 of its revisions left none, so somebody has deleted")
         asked = [body for _, body, _ in node.asked]
         self.assertEqual(base64.b64decode(asked[2]["key"]), b"log/Maker/b\0")
-        self.assertEqual([it["request_range"]["key"] for it in asked[3]["success"]], [base64_of("log/Maker/b"), base64_of("log/Maker/a")])
-        self.assertEqual(asked[4]["create_request"]["start_revision"], "11")
+        self.assertEqual(asked[3:5], [{"key": base64_of("log/Maker/b")}, {"key": base64_of("log/Maker/a")}])
+        self.assertEqual(asked[5]["create_request"]["start_revision"], "11")
 
     async def test_names_as_long_as_an_entry_count_for_nothing_and_hold_nobody_up(self):
         """They are left out of a watch, and of what is left: fewer are asked for at a time, and none of their entries."""
@@ -268,14 +279,14 @@ class Failures(Case):
         short = {"key": base64_of("log/Shop/b"), "create_revision": "6"}
         pages = [{"header": {"revision": "6"}, "kvs": [names], "more": True}, {"header": {"revision": "6"}, "kvs": [short]}]
         node = Node([told(long, event(6, "01"))], gone, (200, {"kvs": "x" * 2000}), "nothing", *((200, it) for it in pages),
-                    (200, {"responses": [{"response_range": {"kvs": [event(6, "02", key="log/Shop/b")["kv"]]}}]}))
+                    (200, {"kvs": [event(6, "02", key="log/Shop/b")["kv"]]}))
         log = await self.log(node)
         self.assertEqual(await self.watched(log, 1), [b"6.0 01\n"])
         with mock.patch.multiple(etcd, LONGEST=1000, NODE_SECONDS=5.0), contextlib.redirect_stdout(io.StringIO()):
             self.assertEqual(await self.watched(log, 1), [b"6.0 02\n"])
         asked = [body for _, body, _ in node.asked]
         self.assertEqual([it["limit"] for it in asked[2:6]], [1000, 125, 15, 30])
-        self.assertEqual([it["request_range"]["key"] for it in asked[6]["success"]], [short["key"]])
+        self.assertEqual(asked[6], {"key": short["key"]})
 
     async def test_entries_of_one_revision_have_one_order(self):
         """That of their names, whether a watch tells them in pieces or their keys are left."""
@@ -284,26 +295,26 @@ class Failures(Case):
         in_order = [b"4.0 02\n", b"5.0 01\n", b"5.1 00\n"]
         self.assertEqual(await self.watched(await self.log(Node([cut, told(second)])), 3), in_order)
         keys = [{"key": it["kv"]["key"], "create_revision": it["kv"]["mod_revision"]} for it in (event(4, ""), second, first)]
-        left = [{"response_range": {"kvs": [it["kv"]]}} for it in (event(4, "02"), second, first)]
-        node = Node([{"result": {"compact_revision": "7"}}], (200, {"header": {"revision": "5"}, "kvs": keys}), (200, {"responses": left}))
+        left = [(200, {"kvs": [it["kv"]]}) for it in (event(4, "02"), second, first)]
+        node = Node([{"result": {"compact_revision": "7"}}], (200, {"header": {"revision": "5"}, "kvs": keys}), *left)
         with contextlib.redirect_stdout(io.StringIO()):
             self.assertEqual(await self.watched(await self.log(node), 3), in_order)
-        self.assertEqual([it["request_range"]["key"] for it in node.asked[2][1]["success"]], [it["key"] for it in keys])
+        self.assertEqual([it[1]["key"] for it in node.asked[2:5]], [it["key"] for it in keys])
 
     async def test_what_is_left_in_no_form_is_told(self):
         gone: list = [{"result": {"compact_revision": "7"}}]
         for answers in ([{}], [{"header": {"revision": "9"}, "kvs": [7]}],
                         [{"header": {"revision": "9"}, "kvs": [{"key": base64_of("log/"), "create_revision": "4"}], "more": True}] * 2,
-                        [{"header": {"revision": "9"}, "kvs": [{"key": base64_of("log/a"), "create_revision": "4"}]}, {"responses": [7]}]):
+                        [{"header": {"revision": "9"}, "kvs": [{"key": base64_of("log/a"), "create_revision": "4"}]}, {"kvs": [7]}]):
             with self.subTest(answers=answers), self.assertRaisesRegex(LogError, "tells what is no key or entry: "):
                 await self.watched(await self.log(Node(gone, *((200, it) for it in answers))), 1)
 
     async def test_history_that_was_thrown_away_behind_what_was_read(self):
         node = Node([told(event(5, "a"))], [{"result": {"canceled": True, "compact_revision": "7"}}],
                     (200, {"header": {"revision": "8"}, "kvs": [{"key": base64_of("log/x"), "create_revision": it} for it in ("5", "6")]}),
-                    (200, {"responses": [{"response_range": {"kvs": [event(6, "b")["kv"]]}}]}))
+                    (200, {"kvs": [event(6, "b")["kv"]]}))
         self.assertEqual(await self.watched(await self.log(node), 2), [b"5.0 a\n", b"6.0 b\n"])
-        self.assertEqual(len(node.asked[3][1]["success"]), 1)
+        self.assertEqual(node.asked[3][1], {"key": base64_of("log/x")})
 
 
 class Liars(Case):
@@ -331,7 +342,7 @@ class Liars(Case):
 
     async def test_a_revision_without_end(self):
         cut = json.dumps({"result": {"fragment": True, "events": [event(5, "a" * 1000)]}}).encode() + b"\n"
-        with mock.patch.object(etcd, "LONGEST_LINE", 2000):
+        with mock.patch.object(etcd, "LONGEST_REVISION", 2000):
             self.assertEqual(await self.watched(await self.log(Node([cut] * 9), Node([told(event(5, "b"))])), 1), [b"5.0 b\n"])
 
     async def test_many_values(self):
@@ -359,31 +370,42 @@ class Liars(Case):
         self.assertFalse(await (await self.log(Node((200, {}), (200, {"errors": {"a": []}})))).is_led())
 
 
-class Space(unittest.IsolatedAsyncioTestCase):
-    """A real node of etcd with a small quota."""
+@unittest.skipUnless(shutil.which("etcd"), "etcd is not installed")
+class Real(unittest.IsolatedAsyncioTestCase):
+    """A real node of etcd."""
 
-    @unittest.skipUnless(shutil.which("etcd"), "etcd is not installed")
-    async def test_at_its_quota_it_takes_nothing_and_says_so(self):
+    async def begin(self, *words: str) -> Log:
         with socket.socket() as one, socket.socket() as other:
             for it in (one, other):
                 it.bind(("127.0.0.1", 0))
             url, peer = (f"http://127.0.0.1:{it.getsockname()[1]}" for it in (one, other))
-        with tempfile.TemporaryDirectory() as room:
-            words = ["--data-dir", f"{room}/data", "--listen-client-urls", url, "--advertise-client-urls", url, "--listen-peer-urls", peer,
-                     "--initial-advertise-peer-urls", peer, "--initial-cluster", f"default={peer}", "--quota-backend-bytes", "300000",
-                     "--unsafe-no-fsync", "--logger", "zap", "--log-level", "fatal"]
-            process = await asyncio.create_subprocess_exec("etcd", *words, stderr=asyncio.subprocess.DEVNULL)
-            try:
-                await self.fill(Log([url], "", "", None))
-            finally:
-                process.kill()
-                await process.wait()
-
-    async def fill(self, log: Log) -> None:
+        room = self.enterContext(tempfile.TemporaryDirectory())
+        words = ("--data-dir", f"{room}/data", "--listen-client-urls", url, "--advertise-client-urls", url, "--listen-peer-urls", peer,
+                 "--initial-advertise-peer-urls", peer, "--initial-cluster", f"default={peer}", "--unsafe-no-fsync", "--logger", "zap",
+                 "--log-level", "fatal", *words)
+        process = await asyncio.create_subprocess_exec("etcd", *words, stderr=asyncio.subprocess.DEVNULL)
+        self.addAsyncCleanup(process.wait)
+        self.addCleanup(process.kill)
+        log = Log([url], "", "", None)
         self.addAsyncCleanup(log.close)
         async with asyncio.timeout(60):
             while not await log.is_led():
                 await asyncio.sleep(0.05)
+        return log
+
+    async def test_one_revision_that_deletes_many_long_names(self):
+        """Nothing of it counts, and it holds nobody up."""
+        log = await self.begin()
+        self.enterContext(mock.patch.object(etcd, "NODE_SECONDS", 20.0))
+        for number in range(14):
+            await log._ask("/v3/kv/put", {"key": base64_of(f"log/Shop/{number}/{'x' * 1_300_000}")}, 60)
+        await log._ask("/v3/kv/deleterange", {"key": base64_of("log/Shop/"), "range_end": base64_of("log/Shop0")}, 60)
+        await log.append("Maker/a", ["00"])
+        async with asyncio.timeout(60):
+            self.assertEqual([[it.name for it in entries] async for entries in first(log.watch())], [[b"Maker/a"]])
+
+    async def test_at_its_quota_it_takes_nothing_and_says_so(self):
+        log = await self.begin("--quota-backend-bytes", "300000")
         with self.assertRaisesRegex(LogError, "^etcd refuses: etcdserver: mvcc: database space exceeded$"):
             for number in range(100):
                 await log.append(f"Maker/{number}", ["x" * 60_000])

@@ -3,6 +3,7 @@ import asyncio
 import contextlib
 import hashlib
 import io
+import json
 import unittest
 from unittest import mock
 
@@ -13,7 +14,7 @@ from regtuma.etcd import base64_of
 from regtuma.leaving import leave_etcd
 from regtuma.links import Link
 from test_chain import CALL, ENDORSED
-from test_etcd import DONE, NOT_DONE, Elsewhere, Node
+from test_etcd import DONE, NOT_DONE, Cookies, Elsewhere, Node
 
 
 CHANGE = {"members": [{"name": "Maker"}], "policy": "'Maker'", "serial": 1, "nonce": "07" * 16}
@@ -72,11 +73,44 @@ class Links(unittest.IsolatedAsyncioTestCase):
                 self.assertGreater(link.down, 0)
                 self.assertIn(f"no endorsement of Carrier: {told}", self.said[0])
 
+    async def test_who_waits_for_a_node_that_falls_silent_asks_another_one_at_once(self):
+        link = await self.link(*["nothing"] * 20)
+        with mock.patch.object(links, "ENDORSE_SECONDS", 0.5), mock.patch.object(Link, "most", return_value=10):
+            self.assertEqual(await asyncio.gather(*(link.ask(CALL, 0) for _ in range(200))), [None] * 200)
+        self.assertLessEqual(len(self.node.asked), links.REQUESTS)
+
     async def test_an_answer_that_is_too_long_is_none(self):
         link = await self.link(answers(5))
         with mock.patch.object(links, "LONGEST", 9):
             self.assertIsNone(await link.ask(CALL, 0))
         self.assertEqual(self.said, ["no endorsement of Carrier: its answer has more than 0 MiB"])
+
+    async def test_one_long_word_takes_little_memory(self):
+        """However many bytes its letters have: a lie of 60 MB is not read, and one of any letters is short."""
+        for word, told in (("a" * links.LONGEST_ONE, "its answer has more than 1 MiB"), ("\U0001f600" + "a" * links.WORDS, "its answer has too many words"),
+                           ("a" * 301, "it does not answer each proposal")):
+            for escapes in (True, False):
+                link = await self.link((200, json.dumps({"answers": [{"denied": word, "height": 0}]}, ensure_ascii=escapes)))
+                self.assertIsNone(await link.ask(CALL, 0))
+                self.assertEqual(self.said, [f"no endorsement of Carrier: {told}"])
+
+    async def test_who_has_much_to_say_is_asked_for_less(self):
+        link = await self.link(answers(8), answers(4), answers(4), answers(4))
+        with mock.patch.object(links, "LONGEST", len(json.dumps(answers(4)[1]))):
+            self.assertEqual(await asyncio.gather(*(link.ask(CALL, 0) for _ in range(8))), [None] * 8)
+            self.assertEqual(await asyncio.gather(*(link.ask(CALL, 0) for _ in range(4))), [ANSWER] * 4)
+        self.assertEqual((self.proposals(), self.said, link.few), ([8, 4], [], 8))
+        link = await self.link((429, {"why": "ask again"}), answers(1))
+        self.assertEqual(await asyncio.gather(link.ask(CALL, 0), link.ask(CALL, 0)), [None] * 2)
+        self.assertEqual((await link.ask(CALL, 0), self.said), (ANSWER, []))
+
+    async def test_no_cookies_are_kept(self):
+        link = await self.link(Cookies(answers(1)), Cookies(answers(1)), answers(1))
+        # Of names alone they are kept.
+        link.url = link.url.replace("127.0.0.1", "localhost")
+        for _ in range(3):
+            self.assertEqual(await link.ask(CALL, 0), ANSWER)
+        self.assertEqual(len(link.http.cookie_jar), 0)
 
     async def test_an_answer_of_many_values_is_none(self):
         link = await self.link((200, '{"answers":[' + "[]," * 2000 + "[]]}"), answers(2))
@@ -90,13 +124,13 @@ class Links(unittest.IsolatedAsyncioTestCase):
         self.assertIsNone(await link.ask(CALL, 0))
         self.assertEqual(self.node.asked, [])
 
-    async def test_a_change_has_its_time(self):
+    async def test_a_change_has_the_time_of_a_call(self):
         link = await self.link()
         with mock.patch.object(Link, "post", return_value=[ANSWER]) as post:
-            for proposal, patience in ((CALL, links.ENDORSE_SECONDS + 0.04), (CHANGE, links.CHANGE_SECONDS)):
+            for proposal in (CALL, CHANGE):
                 link.each = 0.01
                 await link.ask(proposal, 3)
-                self.assertEqual(post.call_args.args, ([proposal], 3, patience))
+                self.assertEqual(post.call_args.args, ([proposal], 3, links.ENDORSE_SECONDS + 0.04))
 
     async def test_nobody_hangs_where_something_fails(self):
         link = await self.link()

@@ -62,7 +62,7 @@ class Looking(threading.Thread):
 class Live(Case):
     async def test_blocks_come_to_the_page(self):
         lines = await asyncio.to_thread(shown)
-        self.chain.query = Shown(lines)
+        self.chain.peer = Shown(lines)
         runner = web.AppRunner(self.api.page_app())
         self.addAsyncCleanup(runner.cleanup)
         await runner.setup()

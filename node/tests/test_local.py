@@ -16,7 +16,7 @@ from regtuma.chain import Chain
 from regtuma.endorsing import Endorsing
 from regtuma.gateway import Gateway
 from test_api import Query
-from test_chain import CALL, ENDORSED, FakeLog, Says, Times
+from test_chain import CALL, ENDORSED, FakeLog, Times
 
 # The user `nobody` of Debian.
 NOBODY = 65534
@@ -42,12 +42,11 @@ class Case(unittest.IsolatedAsyncioTestCase):
         self.addCleanup(folder.close)
         self.config = folder.config(text=support.LOCAL)
         chain = Chain(self.config, FakeLog(), lambda _: None)
-        chain.times, chain.query, chain.height = Times(), Query(), 4
+        chain.times, chain.peer, chain.height = Times(), Query(), 4
         endorsing = Endorsing(self.config, chain)
-        endorsing.endorsers = [Says(ENDORSED)]
         gateway = Gateway(self.config, chain, endorsing)
         self.addAsyncCleanup(gateway.close)
-        self.api = api.Api(self.config, chain, endorsing, gateway, {"lines": 1})
+        self.api = api.Api(self.config, chain, endorsing, gateway, {"lines": 2})
         self.client = await self.enterAsyncContext(TestClient(TestServer(self.api.app())))
         self.url = str(self.client.make_url("")).rstrip("/")
 

@@ -1,5 +1,6 @@
-"""A node's part in a network, by the program's own filters over a log in a file: what others put there, endorse, and take away."""
+"""A node's part in a network, by the program's own peer over a log in a file: what others put there, endorse, and take away."""
 import asyncio
+import itertools
 import json
 import unittest
 from collections.abc import Callable
@@ -15,7 +16,6 @@ from regtuma.chain import Chain
 from regtuma.endorsing import Endorsing
 from regtuma.filed import FileLog
 from regtuma.gateway import Gateway
-from regtuma.numbers import NUMBERS
 from regtuma.proposals import Refused
 from regtuma.wire import envelope, id_of
 from test_entries import ENVELOPE
@@ -23,6 +23,9 @@ from test_entries import ENVELOPE
 # How long something may take to come about, in seconds, with the unproved program on a busy machine too.
 PATIENCE = 240.0
 POLICY = "OutOf(2, 'Carrier', 'Maker', 'Shop')"
+# A chaincode that loops until its fuel is spent.
+LOOP = "0061736d010000000105016000017f03020100070a0106696e766f6b6500000a0b01090003400c000b41000b"
+SLOW = {"name": "slow", "module": LOOP, "profile": 1, "fuel": 2_000, "policy": POLICY}
 
 
 def call(number: int) -> dict:
@@ -39,7 +42,8 @@ class Case(unittest.IsolatedAsyncioTestCase):
         self.folder = support.Folder()
         self.addCleanup(self.folder.close)
         self.at, self.said = self.folder.path, []
-        self.genesis, self.log = support.ledger_of(self.at, count=10), self.at / "log"
+        self.log = self.at / "log"
+        support.ledger_of(self.at, count=10, chaincodes=[*support.EXAMPLE["chaincodes"], SLOW])
         # A busy machine is no fault of another node.
         self.enterContext(mock.patch.object(gateway.Link, "most", lambda _: 1))
         self.enterContext(mock.patch("regtuma.links.ENDORSE_SECONDS", PATIENCE))
@@ -109,6 +113,36 @@ class Attacks(Case):
             self.assertEqual((chain.height, chain.lines.shares.left(b"Shop"), chain.share), (27 + 2, 0, 5))
 
 
+    async def test_a_line_of_the_log_that_says_call_is_no_call(self):
+        chain, made = (await self.begin()).chain, self.enveloped(call(0), "Maker", "Carrier")
+        lines = [f"call 1 {json.dumps(call(1))}", f"9.9 call 1 {json.dumps(call(1))}", 'ask 1 {"ask":"members"}', "log 9.9 tick", "seen 1 1",
+                 f"agreed 1 {json.dumps(call(1))}", "answer 1 7 null", f"seen Shop 1 {'00' * 32} call 1"]
+        await chain.log.append("Shop/seen-1", lines)
+        self.assertEqual(await self.flag(chain, call(0), made), 0)
+        # Nor is it where the node hands it on.
+        read = chain.read
+        await chain.peer.log([f"9.{place} {line}\n".encode() for place, line in enumerate(lines)])
+        asked = [chain.peer.ask_for("members") for _ in lines]
+        self.assertEqual({height for _, height in await asyncio.gather(*asked)}, {1})
+        self.assertEqual((chain.read - read, chain.height, self.said[1:]), (len(lines), 1, []))
+
+    async def test_a_slow_chaincode_does_not_keep_the_log_waiting(self):
+        """However many somebody has simulated all the time: their turns come one at a time, and the log's between."""
+        gateway, refused = await self.begin(), set[str]()
+
+        async def spend() -> None:
+            for number in itertools.count(1):
+                slow = [{"chaincode": "slow", "arg": "-", "nonce": f"{32 * number + it:032x}"} for it in range(32)]
+                refused.update(it["refused"] for it in await gateway.endorsing.answers("Shop/node", slow))
+        work = asyncio.ensure_future(spend())
+        self.addAsyncCleanup(self.end, [work])
+        for it in range(3):
+            await self.come(lambda: gateway.chain.peer.asked)
+            self.assertEqual(await self.flag(gateway.chain, call(it), self.enveloped(call(it), "Maker", "Carrier")), 0)
+        await self.come(lambda: refused)
+        self.assertEqual((refused, work.done()), ({"refused 403"}, False))
+
+
 class Endorsers(Case):
     """The Carrier's node answers by what `answer` makes of what the Carrier endorses; the Shop's is honest."""
 
@@ -122,9 +156,8 @@ class Endorsers(Case):
         """The URL of an organisation's node."""
         async def endorse(request: web.Request) -> web.Response:
             proposal, = (await request.json())["proposals"]
-            height, self.asked = self.chain.height, self.asked + (organisation == "Carrier")
+            self.asked += organisation == "Carrier"
             said = await asyncio.to_thread(support.endorsed, self.at, organisation, proposal)
-            said["height"] = height
             return web.json_response({"answers": [self.answer(said) if organisation == "Carrier" else said]})
         app = web.Application()
         app.router.add_post("/endorse", endorse)
@@ -161,15 +194,19 @@ class Endorsers(Case):
         with mock.patch.object(self.gateway, "faults", mock.AsyncMock(return_value={})):
             said = await self.submit(0, "Maker", "Carrier")
         self.assertEqual((said["refused"], said["why"]), (301, "the orderer skips its envelope (refused 301)"))
-        self.assertEqual(await self.gateway.status(id_of(call(0))), said)
+        self.assertEqual(await self.gateway.status("Maker/alice", id_of(call(0))), said)
 
     async def test_behind_a_change_of_key_it_is_asked_again(self):
-        old = await asyncio.to_thread(support.endorsed, self.at, "Carrier", call(0))
+        old, other = [await asyncio.to_thread(support.endorsed, self.at, "Carrier", call(it)) for it in range(2)]
         self.assertEqual(list(await self.chain.standing()), ["Maker", "Carrier", "Shop"])
         await self.replace_key(self.chain)
         (self.at / "more").replace(self.at / "Carrier")
-        self.answer = lambda said: {**old, "height": said["height"]} if self.asked < 3 else said
-        self.assertEqual(((await self.submit(0, "Maker", "Carrier"))["flag"], self.asked), (0, 3))
+        self.answer = lambda said: old if self.asked < 2 else said
+        self.assertEqual(((await self.submit(0, "Maker", "Carrier"))["flag"], self.asked), (0, 2))
+        # One by the old key that says to know the new one lies.
+        self.answer = lambda said: {**other, "height": said["height"]}
+        with self.assertRaisesRegex(Refused, f"^no endorsement of Carrier: {gateway.OTHER_KEY}$"):
+            await self.submit(1, "Maker", "Carrier")
 
 
 class Places(Case):
@@ -179,7 +216,7 @@ class Places(Case):
         await self.come(lambda: node.endorsing.out_of_place)
         self.assertEqual(self.said[-1], f"nothing is endorsed: {endorsing.OLD_SEED}")
         said, = await node.endorsing.answers("Maker/node", [call(0)])
-        self.assertEqual(said["denied"], endorsing.OLD_SEED)
+        self.assertEqual(said, {"refused": "refused 808", "height": 1})
 
 
 class Deletions(Case):
@@ -190,10 +227,10 @@ class Deletions(Case):
         chain = (await self.begin()).chain
         for it in range(3):
             self.assertEqual(await self.flag(chain, call(it), self.enveloped(call(it), "Maker", "Carrier")), 0)
-        said = support.ledger("endorse", self.genesis, "Carrier", self.at / "store", "--keys", self.at / "Carrier", lines="seen 2\n")
-        self.assertRegex(said, "^seen Carrier 2 [0-9a-f]{64} [0-9a-f]{128}\n$")
+        said, _ = support.answered(self.at, "Carrier", "seen 1 2")
+        self.assertRegex(said, "^seen Carrier 2 [0-9a-f]{64} [0-9a-f]{128}$")
         given = chain.given
-        await chain.log.append("Carrier/seen-2", [said.strip()])
+        await chain.log.append("Carrier/seen-2", [said])
         await self.come(lambda: chain.given > given and chain.read == chain.given)
         self.assertIsNone(chain.forked)
         await self.end(self.works)
@@ -209,8 +246,7 @@ class Deletions(Case):
     async def test_a_node_with_a_store_ends(self):
         await self.begin()
         done, _ = await asyncio.wait(self.works, timeout=PATIENCE, return_when=asyncio.FIRST_EXCEPTION)
-        self.assertEqual([str(it.exception()) for it in done], ["ledger commit ended with status 1"])
-        self.assertEqual(self.said[-1], f"ledger commit: refused 602 block 2: {NUMBERS[602]}")
+        self.assertEqual([str(it.exception()) for it in done], ["ledger peer says: refused 602 block 2"])
 
     async def test_a_node_without_a_store_is_told_by_what_was_seen(self):
         chain = (await self.begin(store="other")).chain

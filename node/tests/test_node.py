@@ -60,20 +60,37 @@ class Starts(unittest.TestCase):
             self.assertEqual(self.told(file)[1], "")
 
     def test_a_program_of_other_lines_is_refused(self):
-        for script, told in [("echo '{\"lines\":2}'", "speaks lines of number 2, and this node those of number 1"),
+        for script, told in [("echo '{\"lines\":1}'", "speaks lines of number 1, and this node those of number 2"),
                              ("echo no", "is no program of the ledger"), ("exit 1", "is no program of the ledger"),
                              ("echo 1", "is no program of the ledger"), ("echo '[]'", "is no program of the ledger")]:
             with self.subTest(script=script), self.assertRaisesRegex(FilterEnded, told):
                 asyncio.run(node.version_of(self.program(script)))
         with self.assertRaisesRegex(FilterEnded, "^/nowhere/ledger cannot be run: No such file or directory$"):
             asyncio.run(node.version_of("/nowhere/ledger"))
-        self.assertEqual(asyncio.run(node.version_of(self.program("echo '{\"lines\":1,\"rules\":7}'"))), {"lines": 1, "rules": 7})
+        self.assertEqual(asyncio.run(node.version_of(self.program("echo '{\"lines\":2,\"rules\":7}'"))), {"lines": 2, "rules": 7})
 
     def test_the_program_speaks_these_lines(self):
-        self.assertIn('"lines":1,', support.ledger("version"))
+        self.assertIn(f'"lines":{node.LINES},', support.ledger("version"))
+
+    def ended(self, peer: str) -> str:
+        """How a node ends over a peer that does this."""
+        (self.folder.path / "genesis.json").write_text('{"count":1,"preferred":1}')
+        program = self.program(f"case $1 in version) echo '{{\"lines\":2}}'; exit;; esac; {peer}")
+        settings, out = self.folder.config(('"ledger"', f'"{program}"'), ('"127.0.0.1:7051"', '"127.0.0.1:1"'), text=support.LOCAL), io.StringIO()
+        with contextlib.redirect_stdout(out), mock.patch.object(node.Node, "listen"):
+            self.assertEqual(asyncio.run(asyncio.wait_for(node.serve(settings), 60)), 1)
+        return out.getvalue().splitlines()[-1]
+
+    def test_it_ends_with_its_peer_and_says_why(self):
+        for peer, told in [("echo refused 702 block 3; exit 1", "ledger peer says: refused 702 block 3: the store is damaged"),
+                           ("echo height 3; echo refused 807; exit 1", "ledger peer says: refused 807: the log is of another genesis file"),
+                           ("echo height 3; kill -9 $$", "ledger peer ended with status -9"), ("exit 5", "ledger peer ended with status 5"),
+                           ("echo height 3; read line; echo answer 9 9 null; cat", "ledger peer says: answer 9 9 null")]:
+            with self.subTest(peer=peer):
+                self.assertEqual(self.ended(peer), f"ended: {told}")
 
     def test_it_ends_while_it_reads_the_store(self):
-        program = self.program("[ $1 = version ] && echo '{\"lines\":1}' || exec cat")
+        program = self.program("[ $1 = version ] && echo '{\"lines\":2}' || exec cat")
         settings = self.folder.config(('"ledger"', f'"{program}"'))
 
         async def serve() -> int:
@@ -112,7 +129,7 @@ class Starts(unittest.TestCase):
         return made
 
     def test_a_node_tells_systemd_that_it_is_there_and_goes_on(self):
-        systemd, program = self.systemd(), self.program("case $1 in version) echo '{\"lines\":1}'; exit;; commit) echo height 0;; esac; exec cat")
+        systemd, program = self.systemd(), self.program("case $1 in version) echo '{\"lines\":2}'; exit;; esac; echo height 0; exec cat > /dev/null")
         systemd.setblocking(False)
         (self.folder.path / "genesis.json").write_text('{"count":1,"preferred":1}')
         with socket.create_server(("127.0.0.1", 0)) as free:

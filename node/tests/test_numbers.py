@@ -34,11 +34,11 @@ class Numbers(unittest.TestCase):
     def test_a_refusal_in_words(self):
         self.assertEqual(numbers.in_words("refused 404 status 2"), {"refused": 404, "why": "the chaincode refused the call (status 2)"})
         self.assertEqual(numbers.in_words("refused 499"), {"refused": 499, "why": "refused 499"})
-        self.assertEqual(numbers.explained("ledger commit says: refused 702 block 3"), "ledger commit says: refused 702 block 3: the store is damaged")
+        self.assertEqual(numbers.explained("ledger peer says: refused 702 block 3"), "ledger peer says: refused 702 block 3: the store is damaged")
         self.assertEqual(numbers.explained("height 4"), "height 4")
 
 
-class Query:
+class Peer:
     """Answers each key by one version."""
 
     async def ask_for(self, what, key):
@@ -49,7 +49,7 @@ class Why(unittest.TestCase):
     def why(self, flag, reads=()):
         tx = {"flag": flag, "reads": [{"key": key, "version": version} for key, version in reads],
               "endorsements": [{"org": "Shop", "right": True}, {"org": "Maker", "right": False}]}
-        return asyncio.run(numbers.why(Query(), tx))
+        return asyncio.run(numbers.why(Peer(), tx))
 
     def test_flags_in_words(self):
         self.assertEqual(self.why(0), "VALID")

@@ -1,4 +1,5 @@
 """Whose tags are right, by endorsements that the ledger's program makes; and that the gateway puts none which is not."""
+import asyncio
 import pathlib
 import tempfile
 import unittest
@@ -25,12 +26,12 @@ class Endorsed(unittest.IsolatedAsyncioTestCase):
 
     def setUp(self):
         self.members = {"serial": 0, "members": [{"name": it} for it in ORGANISATIONS]}
-        self.query = mock.Mock(ask_for=mock.AsyncMock(side_effect=lambda _: (self.members, 0)))
+        self.peer = mock.Mock(ask_for=mock.AsyncMock(side_effect=lambda _: (self.members, 0)))
         self.keys = Keys(str(self.genesis))
 
     async def faults(self, answers: dict, own: dict | None = None) -> dict[str, str]:
         gateway = mock.Mock()
-        gateway.chain.standing = lambda: self.keys.at(self.query, 0)
+        gateway.chain.standing = lambda: self.keys.at(self.peer, 0)
         return await Gateway.faults(gateway, CALL, answers, own)
 
     async def test_what_the_program_endorses_is_right(self):
@@ -52,12 +53,26 @@ class Endorsed(unittest.IsolatedAsyncioTestCase):
             self.assertEqual(await self.faults({"Shop": self.answers["Shop"]}, another), {})
 
     async def test_the_key_that_stands_counts(self):
-        shop = await self.keys.at(self.query, 0)
+        shop = await self.keys.at(self.peer, 0)
         self.members = {"serial": 1, "members": [{"name": "Carrier", "public": shop["Shop"].public.hex()}, {"name": "Shop"}]}
-        self.assertEqual(await self.keys.at(self.query, 0), shop)
-        self.query.ask_for.side_effect = lambda _: (self.members, 1)
-        stand = await self.keys.at(self.query, 1)
+        self.assertEqual(await self.keys.at(self.peer, 0), shop)
+        self.peer.ask_for.side_effect = lambda _: (self.members, 1)
+        stand = await self.keys.at(self.peer, 1)
         self.assertEqual((list(stand), stand["Carrier"], stand["Shop"], self.keys.serial), (["Carrier", "Shop"], shop["Shop"], shop["Shop"], 1))
+
+    async def test_they_are_asked_for_once_behind_each_block(self):
+        self.peer.ask_for.side_effect = None
+        for height, asked in ((3, 1), (3, 1), (5, 2)):
+            self.peer.ask_for.return_value = (self.members, height)
+            found = await asyncio.gather(*(self.keys.at(self.peer, height) for _ in range(500)))
+            self.assertEqual((self.peer.ask_for.await_count, [list(it) for it in found]), (asked, [list(ORGANISATIONS)] * 500))
+
+    async def test_it_is_known_behind_which_blocks_keys_stood(self):
+        self.assertFalse(self.keys.stood(0))
+        for serial, height, known in ((0, 3, [3]), (0, 5, [3, 4, 5]), (1, 7, [7]), (1, 8, [7, 8])):
+            self.members["serial"], self.peer.ask_for.side_effect = serial, lambda _, height=height: (self.members, height)
+            await self.keys.at(self.peer, height)
+            self.assertEqual([it for it in range(10) if self.keys.stood(it)], known)
 
     def test_a_key_that_is_none_is_not_right(self):
         for key in (Key(), Key(public=b"\xff" * 32), Key(public=b"short")):

@@ -1,0 +1,62 @@
+"""`ledger peer` as a child, which does all that is proved: lines of the log and what is asked go in, in one stream, and what becomes of
+them comes out in their order.
+
+A line of the log begins with `log`, so that nothing in the log is taken for something that is asked.
+"""
+import json
+from collections.abc import Awaitable, Callable
+from typing import Any
+
+from .filters import MOST_ASKED, Asked, FilterEnded, TooLong
+
+# So many lines of the log are handed on together: what is asked meanwhile comes between.
+AT_ONCE = 64
+# Questions that look through the whole chain, or verify all of a block, and how many of them wait for an answer at a time: what comes
+# behind them waits too.
+LONG, MOST_LONG = ("block", "history", "transaction"), 4
+
+
+class Peer(Asked):
+    def __init__(self, command: list[str], hear_log: Callable[[list[str]], Awaitable[None]]):
+        super().__init__("ledger peer", command)
+        # Who hears what becomes of the log's lines, a word at a time.
+        self.hear_log = hear_log
+        self.turn = 0
+
+    async def log(self, lines: list[bytes]) -> None:
+        """Hands on lines of the log, each an index and a text, and waits where the program is behind."""
+        for place in range(0, len(lines), AT_ONCE):
+            await self.write(*(b"log " + it for it in lines[place:place + AT_ONCE]))
+
+    async def answer_to(self, kind: str, text: str, most: int = MOST_ASKED) -> tuple[str, int]:
+        """What is answered to a line of this kind, and the height at which it was."""
+        self.turn += 1
+        *_, height, words = (await self.ask(f"{kind} {self.turn} {text}", most)).split(" ", 3)
+        return words, int(height)
+
+    async def hear(self, said: str | TooLong) -> None:
+        """Hears a line, which answers who asked first, or tells of the log."""
+        if isinstance(said, TooLong):
+            return self.answer(said)
+        match said.split(" ", 3):
+            case ["answer", tag, height, _] if self.asked and tag == self.asked[0][0].split(" ", 2)[1] and height.isdigit():
+                self.answer(said)
+            case ["answer" | "refused", *_] | ["bad", "line", *_]:
+                raise FilterEnded(f"{self.name} says: {said}")
+            case _:
+                await self.hear_log(said.split(" "))
+
+    # ---------------------------------------------------------------- questions
+
+    async def text_of(self, what: str, **question: object) -> tuple[str, int]:
+        """The JSON of an answer, and the height at which it was given."""
+        most = MOST_LONG if what in LONG else MOST_ASKED
+        said, height = await self.answer_to("ask", json.dumps({"ask": what, **question}), most)
+        if said == "bad":
+            raise ValueError(f"no question that the program answers: {what}")
+        return said, height
+
+    async def ask_for(self, what: str, **question: object) -> tuple[Any, int]:
+        """The answer, and the height at which it was given."""
+        answer, height = await self.text_of(what, **question)
+        return json.loads(answer), height
