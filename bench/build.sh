@@ -1,5 +1,6 @@
 #!/bin/sh
-# Builds the kernels that bench/run times, each of 9 to 10 million instructions, and keys.wasm, which its chains call. Needs
+# Builds the kernels that bench/run times, each of 9 to 10 million instructions, keys.wasm, which its chains call, and
+# host_calls.wasm, which bench/slowest calls. Needs
 # Debian's packages clang, lld and wabt. usage: bench/build.sh
 set -eu
 usage() { sed -n '2,/^set/{/^#/s/^# \{0,1\}//p}' "$0"; }
@@ -26,3 +27,4 @@ build sha256 "$chaincode/sha256.c" -DLENGTH=63488 \
     -DDIGEST=0xdb1abc01,0x530ceaa0,0x3c9ee282,0x24a99755,0x3fe7f610,0xeb1e2173,0x5a39a96a,0xb0b8aa40
 build hash_map hash_map.c
 build keys keys.c
+build host_calls host_calls.c

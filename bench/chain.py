@@ -50,10 +50,11 @@ def transfers(blocks: int, calls: int) -> Iterator[Block]:
 
 
 def proposals(count: int) -> Iterator[str]:
-    """Lines for `endorse`: calls that make assets."""
+    """Lines of a peer: calls that make assets."""
     for at in range(count):
         argument = f"create asset{at} owner".encode().hex()
-        yield json.dumps({"arg": argument, "chaincode": "assets", "nonce": f"{at:032x}"}, separators=(",", ":")) + "\n"
+        proposal = json.dumps({"arg": argument, "chaincode": "assets", "nonce": f"{at:032x}"}, separators=(",", ":"))
+        yield f"call {at} {proposal}\n"
 
 
 def drawn(keys: int) -> Iterator[int]:
@@ -86,19 +87,17 @@ def filling(keys: int, calls: int) -> Iterator[Block]:
 
 @dataclasses.dataclass
 class Chain:
-    """The files of a chain: its genesis, its store, a log of its marks, and its blocks as `order` prints them. Then the flags of
-    its transactions."""
+    """The files of a chain: its genesis, its store, and the lines of a log that makes it. Then the flags of its transactions."""
     genesis: pathlib.Path
     store: pathlib.Path
     log: pathlib.Path
-    blocks: pathlib.Path
     flags: list[str] = dataclasses.field(default_factory=list)
 
 
 def make(program: pathlib.Path, room: pathlib.Path, setting: dict, blocks: Iterable[Block]) -> Chain:
     """The chain of such calls of the only chaincode of a genesis, each endorsed by as many organisations as it has peers."""
     room.mkdir()
-    chain = Chain(room / "genesis.json", room / "chain.store", room / "log", room / "blocks")
+    chain = Chain(room / "genesis.json", room / "chain.store", room / "log")
     asked, seeds = room / "events.jsonl", write_seeds(room / "all.key")
     chain.genesis.write_text(json.dumps(setting))
     with asked.open("w") as lines:
@@ -108,9 +107,7 @@ def make(program: pathlib.Path, room: pathlib.Path, setting: dict, blocks: Itera
     committed = [it.split()[3:] for it in done if it.startswith("committed ")][::len(setting["peers"])]
     chain.flags += [flag for flags in committed for flag in flags]
     marks = said([program, "marks", chain.genesis, chain.store])
-    chain.log.write_text("".join(f"1.{at} {mark}\n" for at, mark in enumerate(marks)))
-    ordered = said([program, "order", chain.genesis], chain.log)
-    chain.blocks.write_text("".join(f"{it}\n" for it in ordered if it.startswith("block ")))
+    chain.log.write_text("".join(f"log 1.{at} {mark}\n" for at, mark in enumerate(marks)))
     return chain
 
 

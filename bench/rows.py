@@ -121,19 +121,17 @@ class Bench:
         """The least seconds that a program says it took."""
         return min(int(said([program, word], lines)[0].split()[3]) for _ in range(self.rounds)) / 1e6
 
-    def filters(self, made: chain.Chain, count: int) -> None:
-        """A command with nothing to do; then endorse, order and commit, each alone over so many lines."""
+    def peers(self, made: chain.Chain, count: int) -> None:
+        """A command with nothing to do; then a peer that is asked so many calls, and peers that read the chain's log."""
         asked, empty, store = (self.room / name for name in ("proposals", "empty.store", "new.store"))
         asked.write_text("".join(chain.proposals(count)))
         empty.touch()
         self.row("start, commands", 1, self.ledger("audit", made.genesis, empty), self.seconds("sha256sum", empty))
-        took = self.ledger("endorse", made.genesis, "A", empty, lines=asked)
-        self.row("endorse, proposals", count, took, self.seconds("sha256sum", asked))
-        took = self.ledger("order", made.genesis, lines=made.log)
-        self.row("order, envelopes", count, took, self.seconds("sha256sum", made.log))
+        took = self.ledger("peer", made.genesis, store, "--org", "A", lines=asked, made=store)
+        self.row("call, proposals", count, took, self.seconds("sha256sum", asked))
         for cores in CORES:
-            took = self.ledger("commit", made.genesis, store, lines=made.blocks, cores=cores, made=store)
-            self.row(f"commit by {cores}, transactions", count, took, self.seconds("sha256sum", made.blocks))
+            took = self.ledger("peer", made.genesis, store, lines=made.log, cores=cores, made=store)
+            self.row(f"log by {cores}, transactions", count, took, self.seconds("sha256sum", made.log))
 
     def replays(self, made: chain.Chain, count: int, baseline: pathlib.Path) -> None:
         """A store, read and judged again; then each transaction rerun too."""
@@ -155,7 +153,7 @@ class Bench:
         module, baseline = measure.compiled(self.room)
         blocks, calls, replayed = self.amounts.blocks, self.amounts.calls, self.amounts.replayed
         made = chain.register(self.programs[0], self.room / "whole", module, blocks, calls)
-        self.filters(made, blocks * calls)
+        self.peers(made, blocks * calls)
         self.replays(made, blocks * calls, baseline)
         tenth = self.replay(chain.register(self.programs[0], self.room / "tenth", module, replayed // 10, 2))
         took = self.replay(chain.register(self.programs[0], self.room / "replayed", module, replayed, 2))
@@ -166,12 +164,13 @@ class Bench:
             self.row(f"signed by {cores}, transactions", count, self.replay(made, cores), 2 * count * verified)
 
     def reordering(self) -> None:
-        """What reordering costs an orderer, and how many more transactions end VALID by it."""
+        """What reordering costs a peer, and how many more transactions end VALID by it."""
         count, valid = self.amounts.batches * self.amounts.batch, []
         for keys in self.amounts.keys:
             as_cut, ordered = (self.batches(keys, reorder) for reorder in (False, True))
-            plain = self.ledger("order", as_cut.genesis, lines=as_cut.log)
-            took = self.ledger("order", ordered.genesis, lines=as_cut.log)
+            store = self.room / "reordered.store"
+            plain = self.ledger("peer", as_cut.genesis, store, lines=as_cut.log, made=store)
+            took = self.ledger("peer", ordered.genesis, store, lines=as_cut.log, made=store)
             self.row(f"reorder over {keys} keys, txs", count, took, plain[0].clock)
             valid.append([keys, as_cut.flags.count("0"), ordered.flags.count("0")])
         print(f"\n{'transactions that end VALID':<30} {'of':>9} {'as cut':>9} {'reordered':>9}")

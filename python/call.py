@@ -1,7 +1,7 @@
 """`ledger call`: one call, endorsed for those whose keys are at hand, put into a block, and committed to a store.
 
-Each line that decides is one of the program's filters: `query` says who stands and whom the policy wants, `endorse` simulates and
-signs, `order` makes the block, and `commit`, which has the store for itself from the beginning, judges it and writes. Where
+A peer of the program, `ledger peer`, has the store for itself from the beginning: it says who stands and whom the policy wants,
+cuts the block, judges it and writes. Each organisation's peer, which simulates and signs, works on a copy of the store. Where
 `ledger dev` runs on the store, its node makes the call.
 """
 import concurrent.futures
@@ -12,15 +12,15 @@ import pathlib
 import re
 import secrets
 import sys
-from collections.abc import Iterable, Iterator
+from collections.abc import Iterable
 from typing import Any
 
 from commands import Call, Given, Misuse, argument, modules
 from debug import NOTHING, RUN, check_name, refusal, simulated
-from filters import Ended, Filter, Query, Refused, answered
 from folder import KEYS, network_at
 from membership import Ledger, membership_of, owners
 from outcome import WHY, effects, verdict
+from peer import Beside, Ended, Peer, Refused, answered
 from program import ROOT, find, progress, say
 
 OF_ANOTHER = "ask the node (regtuma submit), or copy the file"
@@ -73,7 +73,7 @@ def main(found: Given) -> int:
         if is_dry:
             return dry_run(asked, program)
         with network_at(asked.store) as url, progress(lambda seconds: f"calling, {seconds:.0f} s"):
-            made = by_node(asked, program, url) if url else by_filters(asked, program)
+            made = by_node(asked, program, url) if url else by_peer(asked, program)
         return told(made, asked.is_hex)
     except Refused as refused:
         print(refused.line)
@@ -86,7 +86,7 @@ def main(found: Given) -> int:
 def why(asked: Asked, refused: Refused) -> str:
     """The sentence for a refusal."""
     if "another process has it" in refused.why:
-        return f"{asked.store}: another process has it: a node, a commit or a run; {OF_ANOTHER} (703)"
+        return f"{asked.store}: another process has it: a node, a peer or a run; {OF_ANOTHER} (703)"
     return refused.why or refused.line
 
 
@@ -98,8 +98,8 @@ def dry_run(asked: Asked, program: str) -> int:
     if not pathlib.Path(asked.store).exists():
         say(f"there is no {asked.store}: this is on the empty state")
         asked = dataclasses.replace(asked, store=NOTHING)
-    with Query(program, "query", asked.genesis, asked.store, *asked.modules) as query:
-        said = simulated(query, asked, program)
+    with Beside(program, asked.genesis, asked.store, *asked.modules) as peer:
+        said = simulated(peer, asked, program)
     if "refused" in said:
         raise refusal(asked, program, f"refused {said['refused']}")
     tell(effects(said, asked.is_hex))
@@ -107,19 +107,18 @@ def dry_run(asked: Asked, program: str) -> int:
     return 0
 
 
-def by_filters(asked: Asked, program: str) -> Made:
-    """Makes the call by the program's filters, which have the store."""
+def by_peer(asked: Asked, program: str) -> Made:
+    """Makes the call by a peer, which has the store."""
     is_new = not pathlib.Path(asked.store).exists()
-    with Filter(program, "commit", asked.genesis, asked.store) as commit:
-        height = begun(commit, asked.store)
+    with Peer(program, asked.genesis, asked.store, *asked.modules) as peer:
+        if peer.cut:
+            say(f"{asked.store}: {peer.cut} bytes of a part of a record were cut off")
         if is_new:
             say(f"{asked.store} is a new store")
-        with Query(program, "query", asked.genesis, asked.store, *asked.modules) as query:
-            if asked.has_nonce and (earlier := earlier_one(query, asked.proposal, height)):
-                return earlier
-            flag = committed(commit.ask(next_block(query, asked, program)), height + 1)
-            tx = query.answer("block", number=height + 1)["txs"][0]
-    return Made(height + 1, {**tx, "flag": flag})
+        if asked.has_nonce and (earlier := earlier_one(peer, asked.proposal)):
+            return earlier
+        number, flag = peer.height + 1, next_flag(peer, asked, program)
+        return Made(number, {**peer.answer("block", number=number)["txs"][0], "flag": flag})
 
 
 def by_node(asked: Asked, program: str, url: str) -> Made:
@@ -144,8 +143,8 @@ def refused_by_node(asked: Asked, program: str, said: dict[str, Any]) -> Refused
     """A node's refusal, as a call has it where no network runs, which goes so far that it is refused."""
     number = str(said.get("refused", ""))
     try:
-        with Query(program, "query", asked.genesis, asked.store, *asked.modules) as query:
-            next_block(query, asked, program)
+        with Beside(program, asked.genesis, asked.store, *asked.modules) as peer:
+            envelope(asked, program, endorsers(peer, asked, program))
     except Refused as refused:
         if number in ("", refused.number):
             return refused
@@ -170,47 +169,40 @@ def tell(lines: Iterable[str]) -> None:
     sys.stdout.flush()
 
 
-# ---------------------------------------------------------------- by which filter
+# ---------------------------------------------------------------- what the peers say
 
 
-def begun(commit: Filter, store: str) -> int:
-    """How many blocks the store has, which is the call's alone from now on."""
-    while not (line := commit.line()).startswith("height "):
-        say(f"{store}: {line.split()[1]} bytes of a part of a record were cut off")
-    return int(line.split()[1])
-
-
-def earlier_one(query: Query, proposal: dict[str, str], height: int) -> Made | None:
+def earlier_one(peer: Peer, proposal: dict[str, str]) -> Made | None:
     """The transaction that this very proposal is already, if there is one."""
     wanted = {**proposal, "arg": proposal["arg"].strip("-")}
-    for number in range(1, height + 1):
-        for tx in query.answer("block", number=number)["txs"]:
+    for number in range(1, peer.height + 1):
+        for tx in peer.answer("block", number=number)["txs"]:
             if all(tx.get(name) == value for name, value in wanted.items()):
                 return Made(number, tx, is_earlier=True)
     return None
 
 
-def endorsers(query: Query, asked: Asked, program: str) -> list[str]:
+def endorsers(peer: Peer, asked: Asked, program: str) -> list[str]:
     """Who is to endorse: those named, or the fewest of those whose keys are at hand that satisfy the policy."""
-    check_name(query, asked, program)
-    if query.answer("satisfied", chaincode=asked.chaincode, orgs=[]) is None:
+    check_name(peer, asked, program)
+    if peer.answer("satisfied", chaincode=asked.chaincode, orgs=[]) is None:
         # There is no definition that can be used: a simulation says why.
-        raise refusal(asked, program, f"refused {simulated(query, asked, program).get('refused', '401')}")
+        raise refusal(asked, program, f"refused {simulated(peer, asked, program).get('refused', '401')}")
     if asked.orgs:
         return list(asked.orgs)
     ledger = Ledger(program, asked.genesis, asked.store)
-    publics = {it.split()[1] for it in answered(program, "public", asked.keys)[0]} if asked.keys else set()
-    orgs = owners(ledger, membership_of(query.answer("members"), "members"), publics)
-    if not query.answer("satisfied", chaincode=asked.chaincode, orgs=orgs):
+    publics = {it.split()[1] for it in answered(program, "public", asked.keys)} if asked.keys else set()
+    orgs = owners(ledger, membership_of(peer.answer("members"), "members"), publics)
+    if not peer.answer("satisfied", chaincode=asked.chaincode, orgs=orgs):
         raise lacking(asked, ledger, orgs)
-    return fewest(query, asked.chaincode, orgs)
+    return fewest(peer, asked.chaincode, orgs)
 
 
-def fewest(query: Query, chaincode: str, orgs: list[str]) -> list[str]:
+def fewest(peer: Peer, chaincode: str, orgs: list[str]) -> list[str]:
     """Of these, so few that without any of them they would not satisfy the policy. The last are left out first."""
     for org in reversed(orgs[:]):
         rest = [it for it in orgs if it != org]
-        if rest and query.answer("satisfied", chaincode=chaincode, orgs=rest):
+        if rest and peer.answer("satisfied", chaincode=chaincode, orgs=rest):
             orgs = rest
     return orgs
 
@@ -226,45 +218,38 @@ def lacking(asked: Asked, ledger: Ledger, orgs: list[str]) -> Refused:
 
 def envelope(asked: Asked, program: str, orgs: list[str]) -> str:
     """The payload with the endorsements of these organisations, in hex."""
-    def endorsed(org: str) -> list[str]:
-        keys = ("--keys", asked.keys) if asked.keys else ()
-        with Filter(program, "endorse", asked.genesis, org, asked.store, *keys, *asked.modules) as endorse:
-            return endorse.ask(json.dumps(asked.proposal)).split()
-
     try:
         with concurrent.futures.ThreadPoolExecutor() as pool:
-            said = list(pool.map(endorsed, orgs))
+            said = list(pool.map(lambda org: endorsed(asked, program, org), orgs))
     except Refused as refused:
-        if refused.number == "808" and asked.keys:
-            raise Refused(refused.line, f"{asked.keys} lacks the seed of {refused.why.partition(':')[0]} (808)") from None
         raise refusal(asked, program, refused.line) if refused.number in ("401", *RUN) else refused from None
-    payloads = {payload for _, payload, _ in said}
+    payloads = {payload for payload, _ in said}
     if len(payloads) > 1:
         raise Ended("the organisations do not simulate alike")
-    return f"{payloads.pop()}{len(said):02x}{''.join(it for _, _, it in said)}"
+    return f"{payloads.pop()}{len(said):02x}{''.join(endorsement for _, endorsement in said)}"
 
 
-def next_block(query: Query, asked: Asked, program: str) -> str:
-    """The line of the next block, with the call alone, as `order` makes it behind all envelopes before."""
-    made = envelope(asked, program, endorsers(query, asked, program))
-    marks = [*answered(program, "marks", asked.genesis, asked.store)[0], made, "tick"]
-    lines, sentence = answered(program, "order", asked.genesis, given="".join(f"{at} {it}\n" for at, it in enumerate(marks)))
-    own = list(behind(lines, f"read {len(marks) - 3} "))
-    for line in own:
-        if line.startswith(("skipped ", "aborted ")):
-            raise Refused(f"refused {line.split()[2]}", sentence)
-    return next(it for it in own if it.startswith("block "))
+def endorsed(asked: Asked, program: str, org: str) -> tuple[str, str]:
+    """The payload, and an organisation's endorsement."""
+    keys = ("--keys", asked.keys) if asked.keys else ()
+    try:
+        with Beside(program, asked.genesis, asked.store, "--org", org, *keys, *asked.modules) as peer:
+            return peer.endorsed(asked.proposal)
+    except Refused as refused:
+        if refused.number == "806":
+            raise Refused(refused.line, f"{org}: no member of that name stands behind the store (806)") from None
+        if refused.number == "808":
+            lacks = f"{asked.keys} lacks the seed of {org}" if asked.keys else f"{org}: no seed is at hand; name its key file by --keys"
+            raise Refused(refused.line, f"{lacks} (808)") from None
+        raise
 
 
-def behind(lines: list[str], beginning: str) -> Iterator[str]:
-    """The lines behind the one that begins so; all, where none does."""
-    places = [at for at, it in enumerate(lines) if it.startswith(beginning)]
-    yield from lines[places[-1] + 1 if places else 0:]
-
-
-def committed(line: str, number: int) -> int:
-    """The flag of the one transaction of a block that is committed."""
-    word, block, _, flag = line.split()
-    if (word, block) != ("committed", str(number)):
-        raise Ended(f"ledger commit says: {line}")
+def next_flag(peer: Peer, asked: Asked, program: str) -> int:
+    """Has the call put into the next block alone, behind all envelopes of the blocks before. The flag that it gets."""
+    made = envelope(asked, program, endorsers(peer, asked, program))
+    log = [*answered(program, "marks", asked.genesis, asked.store), made, "tick"]
+    lines = [line for text in log for line in peer.read(text)]
+    word, number, _, flag = lines[-1].split()
+    if (word, number) != ("committed", str(peer.height + 1)):
+        raise Ended(f"ledger peer says: {lines[-1]}")
     return int(flag)

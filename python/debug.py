@@ -17,10 +17,10 @@ from typing import Any, NamedTuple
 from commands import Call, Given, Misuse, argument, modules
 from debug_lines import bytes_of, call_lines, moment_lines, stack_lines
 from fabric_host import Entry, Fabric
-from filters import Ended, Query, Refused, answered
 from membership import Ledger
 from network import CHAINCODES, OPEN, quoted
 from outcome import shown
+from peer import Beside, Ended, Peer, Refused, answered
 from program import find, progress, say
 from wasm_machine import Machine, Spent
 from wasm_module import Module
@@ -30,16 +30,10 @@ from wasm_operators import TRAPS, WORD, Trap
 LAST, MOST_LAST = "6", 100_000
 # A store that is empty.
 NOTHING = "/dev/null"
-# How often a run begins again where the store grew meanwhile.
-TRIES = 5
 # What a call is refused by once it is run, and how much fuel is run for the sentence beside that: it takes a second.
 RUN, MOST_FUEL = ("402", "403", "404"), 300_000
 # The statuses.
 DONE, REFUSED, DIFFERS = 0, 1, 3
-
-
-class Grown(Exception):
-    """The store has more blocks than at the first answer."""
 
 
 @dataclasses.dataclass(frozen=True)
@@ -62,16 +56,8 @@ def asked_in(found: Given) -> Asked:
 # ---------------------------------------------------------------- what the program says
 
 
-class State(Query):
-    """The state of a store. All answers are of one height."""
-    height: int | None = None
-
-    def said(self, what: str, **question: object) -> dict[str, Any]:
-        said = super().said(what, **question)
-        self.height = said["height"] if self.height is None else self.height
-        if said["height"] != self.height:
-            raise Grown
-        return said
+class State(Beside):
+    """The state of a store."""
 
     def get(self, key: bytes) -> Entry | None:
         said = self.answer("get", key=key.hex())
@@ -87,19 +73,19 @@ def entry_of(said: dict[str, str]) -> Entry:
 
 def state_of(program: str, call: Call) -> State:
     """The state on which a call is made."""
-    return State(program, "query", call.genesis, call.store, *call.modules)
+    return State(program, call.genesis, call.store, *call.modules)
 
 
-def simulated(query: Query, call: Call, program: str) -> dict[str, Any]:
+def simulated(peer: Peer, call: Call, program: str) -> dict[str, Any]:
     """What the program says that a call comes to."""
-    check_name(query, call, program)
-    said: dict[str, Any] = query.answer("call", chaincode=call.chaincode, arg=call.arg)
+    check_name(peer, call, program)
+    said: dict[str, Any] = peer.answer("call", chaincode=call.chaincode, arg=call.arg)
     return said
 
 
-def check_name(query: Query, call: Call, program: str) -> None:
+def check_name(peer: Peer, call: Call, program: str) -> None:
     """A name that no chaincode can have is one that none has. Files are judged before."""
-    if not CHAINCODES.name.fullmatch(call.chaincode) and query.answer("setting"):
+    if not CHAINCODES.name.fullmatch(call.chaincode) and peer.answer("setting"):
         raise refusal(call, program, "refused 401")
 
 
@@ -124,7 +110,7 @@ def rerun(call: Call, program: str, line: str) -> "Run | None":
         with state_of(program, call) as state:
             run = Run(call, state, most=MOST_FUEL)
             run.run()
-    except (Grown, Ended, Refused):
+    except (Ended, Refused):
         return None
     is_so = f"refused {run.refusal}" == line and (run.refusal != "403" or run.given <= MOST_FUEL)
     return run if is_so else None
@@ -252,17 +238,12 @@ def main(found: Given) -> int:
     asked, program = asked_in(found), str(find())
     if isinstance(sys.stdout, io.TextIOWrapper):
         sys.stdout.reconfigure(encoding="utf-8")
-    for _ in range(TRIES):
-        try:
-            with state_of(program, asked) as state:
-                return debug(asked, program, state)
-        except Grown:
-            continue
-        except Refused as refused:
-            print(refused.line)
-            say(f"debug: {refused.why or refused.line}")
-        except Ended as ended:
-            say(f"debug: {ended}")
-        return REFUSED
-    say(f"debug: {asked.store} grows while the call runs: copy it, and debug on the copy")
+    try:
+        with state_of(program, asked) as state:
+            return debug(asked, program, state)
+    except Refused as refused:
+        print(refused.line)
+        say(f"debug: {refused.why or refused.line}")
+    except Ended as ended:
+        say(f"debug: {ended}")
     return REFUSED

@@ -116,10 +116,10 @@ def settle(network: Network) -> None:
         # Whoever took the chain away wants another one.
         network.log.unlink(missing_ok=True)
         network.chain.with_name(f"{STORE}.times").unlink(missing_ok=True)
-    blocks = blocks_of(network)
+    lines = lines_of_log(network)
     stores = network.organisations if network.log.exists() else network.organisations[:1]
     with concurrent.futures.ThreadPoolExecutor() as pool:
-        refusals = list(pool.map(lambda it: committed(network, network.store(it), blocks), stores))
+        refusals = list(pool.map(lambda it: committed(network, network.store(it), lines), stores))
     if refusals[0]:
         raise NoNetwork(refusals[0])
     for organisation in network.organisations[1:]:
@@ -127,43 +127,41 @@ def settle(network: Network) -> None:
     network.log.unlink(missing_ok=True)
 
 
-def blocks_of(network: Network) -> bytes:
-    """The blocks that the log makes, if there is one."""
+def lines_of_log(network: Network) -> bytes:
+    """The lines of the log that count, if there is one, as a peer reads them."""
     if not network.log.exists():
         return b""
     try:
         counted = Lines.by(str(network.folder / GENESIS))
-        lines = b"".join(line for it in entries_of(str(network.log)) for line in counted.of(it).values())
+        return b"".join(b"log " + line for it in entries_of(str(network.log)) for line in counted.of(it).values())
     except LogError as error:
         raise NoNetwork(f"{error}; {without(network)}") from None
-    ran = subprocess.run([network.program, "order", str(network.folder / GENESIS)], input=lines, capture_output=True)
-    made = ran.stdout.splitlines(keepends=True)
-    if made and made[-1].startswith(b"refused"):
-        raise NoNetwork(f"{sentence(ran, network.log)}; {without(network)}")
-    return b"".join(it for it in made if it.startswith(b"block "))
 
 
 def without(network: Network) -> str:
     return f"where {network.log} is taken away, what {network.chain} has stays"
 
 
-def committed(network: Network, store: pathlib.Path, blocks: bytes) -> str:
-    """Commits to a store those of the blocks that it has not. Why it was refused, or nothing."""
-    command = [network.program, "commit", str(network.folder / GENESIS), str(store)]
-    ran = subprocess.run(command, input=blocks, capture_output=True)
+def committed(network: Network, store: pathlib.Path, log: bytes) -> str:
+    """Commits to a store those blocks of the log that it has not. Why it was refused, or nothing."""
+    command = [network.program, "peer", str(network.folder / GENESIS), str(store)]
+    ran = subprocess.run(command, input=log, capture_output=True)
     lines = ran.stdout.decode(errors="replace").splitlines()
     for line in lines:
         if line.startswith("cut "):
             say(f"{store}: {line.split()[1]} bytes of a part of a record were cut off")
-    return sentence(ran, store) if ran.returncode or lines and lines[-1].startswith("refused") else ""
+    if not ran.returncode:
+        return ""
+    why = sentence(ran, store)
+    return f"{why.replace('standard input', str(network.log))}; {without(network)}" if why.startswith("standard input") else why
 
 
 def sentence(ran: subprocess.CompletedProcess[bytes], file: pathlib.Path) -> str:
-    """Why a filter refused what it was given of a file: its last words, or its last line."""
+    """Why a peer ended over a store: its last words, or its last line."""
     said, lines = (it.decode(errors="replace").splitlines() for it in (ran.stderr, ran.stdout))
     words = [it.removeprefix("ledger: ") for it in said if it.startswith("ledger: ")]
     if words:
-        return words[-1].replace("standard input", str(file))
+        return words[-1]
     return f"{file}: {numbers.explained(lines[-1]) if lines else f'`ledger` ended with status {ran.returncode}'}"
 
 
@@ -276,7 +274,7 @@ def ended(network: Network, organisation: str) -> NoNetwork:
 
 
 def end(nodes: dict[str, subprocess.Popen[bytes]]) -> None:
-    """Ends nodes, and the filters of one that does not end by itself."""
+    """Ends nodes, and the children of one that does not end by itself."""
     for node in nodes.values():
         node.terminate()
     until = time.monotonic() + LAST_SECONDS

@@ -13,7 +13,7 @@ FOLDERS = ("Where a command takes GENESIS, the folder of a network may stand for
            "--keys are then the folder's, unless they are given.")
 STATUSES = "0 where the task was done; 1 where it was refused; 2 where the words name no task."
 # Commands that read lines, that read one file several times, or that write one.
-NONE_OF_THE_INPUT = {"order", "commit", "endorse", "query", "call", "debug", "keygen"}
+NONE_OF_THE_INPUT = {"peer", "call", "debug", "keygen"}
 
 
 def asked(words: list[str], known: Mapping[str, Command], version: str) -> str | None:

@@ -317,9 +317,9 @@ def ask(program: str, *words: object, text: str = "") -> Said:
 
 
 def refusal(program: str, genesis: Object) -> str:
-    """The number by which the program refuses a genesis file, if it does. It orders an empty log, so that shared keys are
-    written to no disk."""
-    said = ask(program, "order", "/dev/stdin", text=text_of(genesis))
+    """The number by which the program refuses a genesis file, if it does. It reads an empty store, and no file of its own, so that
+    shared keys are written to no disk."""
+    said = ask(program, "marks", "/dev/stdin", "/dev/null", text=text_of(genesis))
     return said.number if said.status else ""
 
 

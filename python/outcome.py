@@ -31,7 +31,7 @@ def results(data: bytes) -> list[bytes]:
 
 
 def effects(done: Mapping[str, Any], is_hex: bool) -> Iterator[str]:
-    """The result of what `query` answers, where there is one, and the writes."""
+    """The result of what a call did, where there is one, and the writes."""
     if is_hex:
         for it in [done["result"]] if done["result"] else []:
             yield f"result {it}"

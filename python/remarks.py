@@ -37,7 +37,7 @@ ENCODINGS = [(b"\xef\xbb\xbf", "begins with a byte order mark: save it without")
 # `page` is done by `show`, and `modules` tells of each module where it is refused.
 TOLD_LATER = {"page", "modules"}
 # Commands that call a chaincode, and those that sign for organisations; and what a key file has.
-CALLING, SIGNING, SEEDS = {"sim", "trace", "threads"}, {"run", "threads", "endorse"}, re.compile("([0-9A-Fa-f]{64}\n)+")
+CALLING, SIGNING, SEEDS = {"sim", "trace", "threads"}, {"run", "threads", "peer"}, re.compile("([0-9A-Fa-f]{64}\n)+")
 # So much of a file is read to see of which kind it is, of a module, and of a genesis file.
 FIRST, WHOLE, MOST = 4096, 1 << 20, 1 << 26
 MEMORY = 5
@@ -158,21 +158,22 @@ def of_keys(command: Command, found: Given) -> Iterator[str]:
     if file is not None and command.name in SIGNING:
         # Whoever takes files that are of another kind says so.
         with contextlib.suppress(ValueError, LookupError, TypeError, AttributeError, RecursionError, Mistake):
-            lacking, had = in_key_file(command.name, found.words, file)
+            lacking, had = in_key_file(command.name, found, file)
             if lacking:
                 yield f"{file} lacks {seeds_of(lacking)}, and has {seeds_of(had)}"
 
 
-def in_key_file(name: str, words: list[str], file: str) -> tuple[list[str], list[str]]:
+def in_key_file(name: str, found: Given, file: str) -> tuple[list[str], list[str]]:
     """The organisations that are to sign by a key file which has no seed of theirs, and those whose seeds it has."""
-    genesis, seeds = json.loads(first_of(words[0], MOST)), first_of(file, FIRST).decode("ascii")
+    genesis, seeds = json.loads(first_of(found.words[0], MOST)), first_of(file, FIRST).decode("ascii")
     if not SEEDS.fullmatch(seeds):
         return [], []
     publics = {secret_to_public(bytes.fromhex(it)).hex() for it in seeds.split()}
-    signers = words[1:2] if name == "endorse" else genesis["peers"][:1 if name == "threads" else None]
+    org = found.option("--org")
+    signers = ([org] if org else []) if name == "peer" else genesis["peers"][:1 if name == "threads" else None]
     keys = [(it["name"], it.get("public")) for it in genesis["orgs"]]
-    if name == "endorse" and not is_able(words[1], keys, publics) and os.path.isfile(words[2]):
-        keys += [it for it in Ledger(str(find()), words[0], words[2]).stands().members.items() if it[1]]
+    if name == "peer" and org and not is_able(org, keys, publics) and os.path.isfile(found.words[1]):
+        keys += [it for it in Ledger(str(find()), *found.words[:2]).stands().members.items() if it[1]]
     lacking = [it for it in signers if it in dict(keys) and not is_able(it, keys, publics)]
     return lacking, list(dict.fromkeys(name for name, key in keys if key and key.lower() in publics))
 

@@ -55,8 +55,8 @@ REMARKS = [
     ("sim cases/upgrades.json nx - --store cases/new.store", 'there is no chaincode "nx"; did you mean "nw"?'),
     ("run cases/signed.json cases/signed.jsonl --keys cases/other.keys", "other.keys lacks the seed of B, and has none of this ledger's"),
     ("threads cases/signed.json kv 1 --keys cases/other.keys", "other.keys lacks the seed of B, and has none of this ledger's"),
-    ("endorse cases/signed.json B cases/signed.store --keys cases/other.keys", "other.keys lacks the seed of B, and has none of"),
-    ("endorse cases/members.json C cases/members-joined.store --keys cases/sixteen.keys", "lacks the seed of C, and has the seed of B"),
+    ("peer cases/signed.json cases/signed.store --org B --keys cases/other.keys", "other.keys lacks the seed of B, and has none of"),
+    ("peer cases/members.json cases/members-joined.store --org C --keys cases/sixteen.keys", "lacks the seed of C, and has the seed of B"),
     ("state net --at 2", "net/chain.store: there is no block 2; the last is 1"),
     ("show net --from 3", "net/chain.store: there is no block 3; the last is 1"),
     ("show net --from 4 --to 2", "net/chain.store: there is no block from 4 to 2"), ("page net --from 3", "there is no block 3; the last is 1"),
@@ -64,8 +64,8 @@ REMARKS = [
 # Words of which there is nothing to be said.
 SILENT = ["audit net", "state net --at 1", "show net --from 1 --to 1", "sim net kv -", "check put_a.wasm", "marks net", "public net/all.key",
           "trace net kv -", "show net --from 1", "sim cases/upgrades.json nw - --store cases/new.store",
-          "threads cases/signed.json kv 1 --keys cases/signed.keys", "endorse cases/signed.json A cases/signed.store --keys cases/other.keys",
-          "endorse cases/members.json C cases/members-joined.store --keys cases/other.keys"]
+          "threads cases/signed.json kv 1 --keys cases/signed.keys", "peer cases/signed.json cases/signed.store --org A --keys cases/other.keys",
+          "peer cases/members.json cases/members-joined.store --org C --keys cases/other.keys"]
 # Words behind those that make the network, and what is printed.
 TEXTS = [
     ("sim g.json kv a b --text", "tx [0-9a-f]{64}\nresult -\nread 0x006b76 absent\nwrite a put 1\n"),

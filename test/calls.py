@@ -29,7 +29,7 @@ REFUSED = [
     ("put.json damaged.store kv", "refused 702 block 1", "record 1 is damaged"),
     ("put.json put.json kv", "refused 702 block 1", "put.json looks like a genesis file, and STORE has to be a store"),
     ("put.json put.wasm kv", "refused 702 block 1", "put.wasm looks like a module, and STORE has to be a store"),
-    ("put.json asked.txt kv", "refused 702 block 1", "asked.txt looks like a text, and STORE has to be a store"),
+    ("put.json notes.txt kv", "refused 702 block 1", "notes.txt looks like a text, and STORE has to be a store"),
     ("put.json unlinked.store kv", "refused 602 block 2", "it is another ledger's"),
     ("put.json wrong.store kv", "refused 603 block 2", "(603)"),
     ("put.json older.store kv", "refused 711 block 1", "(711)"),
@@ -49,7 +49,7 @@ REFUSED = [
     ("put.json whole.store kw --dry-run", "refused 401", 'did you mean "kv"? (401)'),
     ("open.json open.store kv --dry-run", "refused 406", "is at hand"),
     ("put.json damaged.store kv --dry-run", "refused 702 block 1", "record 1 is damaged"),
-    ("put.json whole.store kv --orgs Nobody", "refused 806", "Nobody: no organisation of that name"),
+    ("put.json whole.store kv --orgs Nobody", "refused 806", "Nobody: no member of that name stands behind the store (806)"),
 ]
 # Words that name no call, and what is told.
 WRONG: list[tuple[list[str], str]] = [
@@ -61,19 +61,21 @@ WRONG: list[tuple[list[str], str]] = [
     (["g", "s", "c", "--hex=1"], "--hex has no value"), (["g", "s", "c", "--keys", "k", "--keys", "k"], "--keys stands twice"),
     (["g", "s", "c", "x" * 4097], "up to 4,096 bytes, and this one has 4,097"), (["g", "s", "c", "\udcff"], "no UTF-8"),
 ]
-# A program that ends who began it, where it is asked for this: as the command begins, or behind its block is on the disk.
+# A program that ends who began it, where it is asked for this: as a command begins, of which `endorse` is a peer of an organisation,
+# or behind the call's block is on the disk.
 KILLER = """#!/usr/bin/python3
 import os, signal, subprocess, sys
 real, step = {real!r}, os.environ.get("STEP")
+begun = "endorse" if "--org" in sys.argv else sys.argv[1]
 def end():
     # Where the call has ended already, the test has its place.
     parent = os.getppid()
     with open(f"/proc/{{parent}}/cmdline", "rb") as it:
         if b"ledger\\0call\\0" in it.read():
             os.kill(parent, signal.SIGKILL)
-if sys.argv[1] == step:
+if begun == step:
     end()
-if sys.argv[1] != "commit" or step != "written":
+if begun != "peer" or step != "written":
     os.execv(real, [real, *sys.argv[1:]])
 with subprocess.Popen([real, *sys.argv[1:]], stdout=subprocess.PIPE, text=True) as child:
     for line in child.stdout:
@@ -82,7 +84,7 @@ with subprocess.Popen([real, *sys.argv[1:]], stdout=subprocess.PIPE, text=True) 
         else:
             print(line, end="", flush=True)
 """
-STEPS = ["commit", "query", "public", "endorse", "marks", "order", "written"]
+STEPS = ["peer", "public", "endorse", "marks", "written"]
 
 
 class Calls:
@@ -209,10 +211,6 @@ def try_ends(at: Calls) -> None:
     at.case("a module of an open definition", ran.out.startswith("write a put 1\nVALID in block 4, tx "), ran)
 
 
-    for chaincode, number, told in [("says", "404 status 4", "sim: the chaincode returned the status 4, and said: not yet; 69 of 10000 fuel used"),
-                                    ("trap", "402 trap 1", "unreachable; 1 of 10000 fuel used"), ("loop", "403", "10000 of 10000 fuel used")]:
-        ran = at.ledger("sim", "net", chaincode, "-")
-        at.case(f"sim of {chaincode}", (ran.status, ran.out) == (1, f"refused {number}\n") and ran.err.count(told + shows) == 1, ran)
 def try_nonces(at: Calls) -> None:
     """A call of a nonce that was used has its first outcome, and is in no new block."""
     words = ["net", "assets", "create", "pallet-9", "Shop", "--nonce", NONCE]
@@ -260,11 +258,11 @@ def try_full(at: Calls, last: int = LAST_BLOCK) -> None:
 
 def try_at_once(at: Calls) -> None:
     """The store is one call's alone. A dry run reads beside it."""
-    holder = subprocess.Popen([at.tree / (program() or UNPROVED), "commit", "net/genesis.json", "net/chain.store"], cwd=at.room, text=True,
+    holder = subprocess.Popen([at.tree / (program() or UNPROVED), "peer", "net/genesis.json", "net/chain.store"], cwd=at.room, text=True,
                               stdin=subprocess.PIPE, stdout=subprocess.PIPE, stderr=subprocess.DEVNULL)
     assert holder.stdin and holder.stdout
     holder.stdout.readline()
-    at.is_refused("the store is another one's", "refused 703", "another process has it: a node, a commit or a run; ask the node",
+    at.is_refused("the store is another one's", "refused 703", "another process has it: a node, a peer or a run; ask the node",
                   "net/genesis.json", "net/chain.store", "assets", "list")
     ran = at.call("net", "assets", "read", "pallet-7", "--dry-run")
     at.case("a dry run beside another process", ran.status == 0 and ran.out == "result Maker\n", ran)

@@ -78,9 +78,9 @@ class Changes:
         self.report.case(what, is_made and all(it in ran.err for it in told), f"{ran.out}{ran.err}\nand it has to tell {told}")
         (self.room / "amend.json").write_text(ran.out)
         keys = self.tree / "examples/assets/example_keys/maker.key"
-        endorse = f"ledger endorse {self.genesis} Maker empty.store --keys {keys} --agree < amend.json"
-        answer = self.run("bash", "-c", endorse)
-        self.report.case(f"{what}: it is endorsed", answer.out.startswith("endorsed 80"), answer.out[:200] + answer.err)
+        agreed = f"sed 's/^/agreed 1 /' amend.json | ledger peer {self.genesis} empty.store --org Maker --keys {keys}"
+        answer = self.run("bash", "-c", agreed)
+        self.report.case(f"{what}: it is endorsed", answer.out.startswith("height 0\nanswer 1 0 endorsed 80"), answer.out[:200] + answer.err)
 
 
 def try_changes(report: Report, tree: pathlib.Path, room: pathlib.Path, env: dict[str, str]) -> None:

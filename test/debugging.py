@@ -54,23 +54,22 @@ MISTAKES = [
 ]
 # Runs a script that tells a terminal after a second how far it is.
 IMPATIENT = "import runpy, sys, program; program.PATIENCE = 1; del sys.argv[0]; runpy.run_path(sys.argv[0], run_name='__main__')"
-# A program that asks the real one, and changes what `query` answers: its heights, or the answer to a call; or ends.
+# A program that asks the real one, and changes what a peer answers to the call; or ends.
 PROGRAM = """\
 #!{python}
 import json, pathlib, subprocess, sys
-how, count = pathlib.Path({how!r}).read_text(), pathlib.Path({count!r})
+how = pathlib.Path({how!r}).read_text()
 child = subprocess.Popen([{program!r}, *sys.argv[1:]], stdin=subprocess.PIPE, stdout=subprocess.PIPE, text=True)
+print(child.stdout.readline(), end="", flush=True)
 for line in sys.stdin:
     print(line, end="", file=child.stdin, flush=True)
-    said, made = json.loads(child.stdout.readline()), int(count.read_text())
-    count.write_text(str(made + 1))
+    said = child.stdout.readline()
     if how == "ends":
         break
-    if how == "grows" or how == "grows once" and made < 2:
-        said["height"] = made
-    if how == "differs" and "writes" in (said["answer"] or {{}}):
-        said["answer"]["result"] = "00"
-    print(json.dumps(said), flush=True)
+    if how == "differs" and '"writes"' in said:
+        before, words = said.rsplit(" ", 1)
+        said = before + " " + json.dumps({{**json.loads(words), "result": "00"}}, separators=(",", ":")) + "\\n"
+    print(said, end="", flush=True)
 """
 
 
@@ -95,7 +94,7 @@ class Debugging:
 
     def asking(self, genesis: str, *words: str) -> debug.State:
         """Questions about the chain of a store, or of none."""
-        return debug.State(str(self.tree / str(program())), "query", str(self.at / genesis), *map(str, words or (debug.NOTHING,)))
+        return debug.State(str(self.tree / str(program())), str(self.at / genesis), *map(str, words or (debug.NOTHING,)))
 
     def agree(self, state: debug.State, asked: debug.Asked) -> debug.Run:
         """Runs a call, of which the program has to say the same."""
@@ -118,10 +117,10 @@ def try_chaincodes(at: Debugging) -> None:
     for begin in range(0, len(files), MOST_CHAINCODES):
         some = {f"c{number}": file for number, file in enumerate(files[begin:begin + MOST_CHAINCODES])}
         genesis = at.genesis(f"chaincodes{begin}.json", {name: file.read_bytes() for name, file in some.items()})
-        with at.asking(genesis) as query:
+        with at.asking(genesis) as state:
             for name, file in some.items():
                 for argument in ARGUMENTS if file.stem in REGISTERS else ("",):
-                    run = at.agree(query, at.asked(genesis, name, argument))
+                    run = at.agree(state, at.asked(genesis, name, argument))
                 # The last one is without an argument.
                 if run.used() < MOST_TRACED and run.refusal != "403":
                     try_fuel(at, genesis, name, run)
@@ -148,9 +147,9 @@ def try_ends(at: Debugging) -> None:
         refusals[name] = refusal
     for fuel in (9_999, 26):
         genesis = at.genesis(f"ends{fuel}.json", modules, fuel)
-        with at.asking(genesis) as query:
+        with at.asking(genesis) as state:
             for name, refusal in refusals.items():
-                run = at.agree(query, at.asked(genesis, name))
+                run = at.agree(state, at.asked(genesis, name))
                 at.report.case(f"{name} with {fuel}", fuel == 26 or name == "spent" or run.refusal == refusal, run.refusal)
                 is_placed = ("at 0x" in "\n".join(run.lines(False))) == (run.refusal[:3] in ("402", "403"))
                 at.report.case(f"{name} with {fuel}: its place", is_placed, "\n".join(run.lines(False)))
@@ -161,17 +160,17 @@ def try_stores(at: Debugging) -> None:
     example, cases = at.tree / "examples/assets", at.tree / "test/cases/data"
     keys, genesis = example / "example_keys/all.key", str(example / "genesis.json")
     at.ledger("run", genesis, example / "events.jsonl", "--keys", keys, "--store", "assets.store")
-    with at.asking(genesis, str(at.at / "assets.store")) as query:
+    with at.asking(genesis, str(at.at / "assets.store")) as state:
         for argument in (*ARGUMENTS, "read pallet-7", "transfer pallet-7 Shop", "inspect pallet-9 2027-01-01"):
-            at.agree(query, at.asked(genesis, "assets", argument))
+            at.agree(state, at.asked(genesis, "assets", argument))
     for argument, get in (("read pallet-7", '("asset/pallet-7") = 7 "Carrier"'),
                           (f"--hex {b'read pallet-7'.hex()}", f"(0x{b'asset/pallet-7'.hex()}) = 7 0x{b'Carrier'.hex()}")):
         ran = at.ledger("debug", genesis, "assets", *argument.split(), "--store", "assets.store")
         at.report.case(f"debug {argument}", ran.status == 0 and f"\n  get_state{get}\n" in ran.out, ran.out + ran.err)
     for file in [*cases.glob("open*"), *cases.glob("modules*")]:
         (at.at / file.name).write_bytes(file.read_bytes())
-    with at.asking("open.json", str(at.at / "open.store"), "--modules", str(at.at / "modules.json")) as query:
-        run = at.agree(query, at.asked("open.json", "kv", modules=("--modules", str(at.at / "modules.json"))))
+    with at.asking("open.json", str(at.at / "open.store"), "--modules", str(at.at / "modules.json")) as state:
+        run = at.agree(state, at.asked("open.json", "kv", modules=("--modules", str(at.at / "modules.json"))))
         at.report.case("it takes the newest definition", run.given == 141, str(run.given))
     for typed, line, told in (("open.json kv --store open.store", "refused 406\n", "is at hand"),
                               ("open.json kw", "refused 401\n", 'no chaincode "kw"; did you mean "kv"?'),
@@ -190,9 +189,9 @@ def try_names(at: Debugging) -> None:
                "other": divided + names(b"pay").replace(b"name", b"game")}
     shown = {"bare": "invoke", "named": "pay::share", "odd": r"'\x1b[31m'", "cut": "invoke", "other": "invoke"}
     genesis = at.genesis("names.json", modules)
-    with at.asking(genesis) as query:
+    with at.asking(genesis) as state:
         for name, function in shown.items():
-            lines = list(at.agree(query, at.asked(genesis, name)).lines(False))
+            lines = list(at.agree(state, at.asked(genesis, name)).lines(False))
             at.report.case(f"names of {name}", lines == TOLD.format(function).splitlines(), "\n".join(lines))
     for words, wanted in ((("named", "--", "--last", "-x"), TOLD.format("pay::share")),
                           (("bare", "--last", "1"), re.sub(".*const.*\n", "", TOLD.format("invoke")))):
@@ -215,15 +214,13 @@ def try_words(at: Debugging) -> None:
 
 
 def try_faults(at: Debugging) -> None:
-    """A program that answers otherwise, and stores that grow meanwhile."""
-    how, count, fake = at.at / "how", at.at / "count", at.tree / "ledger_cli"
+    """A program that answers otherwise, and one that ends."""
+    how, fake = at.at / "how", at.tree / "ledger_cli"
     real = at.tree / str(program())
     for name, status, line, told in (("differs", 3, "returned status 0; ", "this is wrong"),
-                                     ("grows", 1, "", "grows while the call runs"),
-                                     ("grows once", 0, "returned status 0; ", ""), ("ends", 1, "", "ledger query ended with status 0")):
+                                     ("ends", 1, "", "ledger peer ended with status 0")):
         how.write_text(name)
-        count.write_text("0")
-        fake.write_text(PROGRAM.format(python=sys.executable, how=str(how), count=str(count), program=str(real)))
+        fake.write_text(PROGRAM.format(python=sys.executable, how=str(how), program=str(real)))
         fake.chmod(0o755)
         ran = at.ledger("debug", at.tree / "examples/assets/genesis.json", "assets", "create", "p", "Maker")
         is_told = ran.status == status and told in ran.err and line in ran.out and "Traceback" not in ran.err

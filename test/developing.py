@@ -154,7 +154,7 @@ def kill(at: Developing) -> str:
     running = at.begin()
     at.told("the chain goes on", at.submit("transfer", "pallet-7", "Carrier"), "VALID, block 9, ")
     before = at.chain()
-    at.signal(signal.SIGSTOP, "commit", "Maker")
+    at.signal(signal.SIGSTOP, "peer", "Maker")
     ran = at.submit("transfer", "pallet-7", "Shop", "--orgs", "Carrier,Shop", node=at.url("Carrier"))
     at.told("another node tells of a block", ran, "VALID, block 10, ")
     running.kill()
@@ -178,9 +178,9 @@ def close_terminal(at: Developing, id: str) -> None:
 def lose_a_node(at: Developing) -> None:
     """A node that ends by itself ends all, and its name is told."""
     running = at.begin()
-    at.signal(signal.SIGKILL, "commit", "Shop")
+    at.signal(signal.SIGKILL, "peer", "Shop")
     out, err = running.communicate(timeout=SECONDS)
-    is_told = running.returncode == 1 and "has ended" in err and "ledger commit" in err and "Traceback" not in err
+    is_told = running.returncode == 1 and "has ended" in err and "ledger peer" in err and "Traceback" not in err
     at.report.case("a node that ends is told, with what it said", is_told, f"{running.returncode}\n{out}{err}")
     at.nothing_is_left("a node that ends")
     at.stores_are_equal("a node that ends", 10)

@@ -24,20 +24,20 @@ REFUSED: list[tuple[list[str], int, str]] = [
     (["a", "--policy", "OutOf(1)"], 1, "names nobody: one is as AND('Buyer', 'Seller')"),
     (["a", "--policy", "AND('A'"], 1, "a/network.toml, [chaincodes.assets]: policy is no policy"),
 ]
-# The proposal of a call, a question, and their place among the words: what is read of the standard input.
-PROPOSAL = '{"chaincode":"assets","arg":"6c697374","nonce":"000102030405060708090a0b0c0d0e0f"}\n'
+# A call that a peer is to endorse.
+PROPOSAL = 'call c {"chaincode":"assets","arg":"6c697374","nonce":"000102030405060708090a0b0c0d0e0f"}\n'
 LIST = "6c697374"
 # Commands with a folder, and with its files, by the letters G (genesis), S (store) and K (keys).
 SAME = [
     ("audit net", "audit G S", ""), ("show net --from 2 --to 3", "show G S --from 2 --to 3", ""),
     ("state --members net", "state --members G S", ""), ("state net --at 1", "state G S --at 1", ""),
     ("marks net", "marks G S", ""), (f"sim net assets {LIST}", f"sim G assets {LIST} --store S", ""),
-    (f"trace net assets {LIST} --steps 3", f"trace G assets {LIST} --steps 3", ""), ("order net", "order G", "1 tick\n"),
-    ("commit net", "commit G S", ""), ("endorse net Maker", "endorse G Maker S --keys K", PROPOSAL),
-    ("query net", "query G S", '{"ask":"block","number":1}\n'), ("threads net assets 1", "threads G assets 1 --keys K", ""),
+    (f"trace net assets {LIST} --steps 3", f"trace G assets {LIST} --steps 3", ""),
+    ("peer net --org Maker", "peer G S --org Maker --keys K", PROPOSAL), ("peer net", "peer G S", 'ask q {"ask":"block","number":1}\n'),
+    ("threads net assets 1", "threads G assets 1 --keys K", ""),
     ("page net", "page G S", ""), ("audit net other.store", "audit G other.store", ""),
     (f"sim net assets {LIST} --store other.store", f"sim G assets {LIST} --store other.store", ""),
-    ("endorse net Maker other.store", "endorse G Maker other.store --keys K", PROPOSAL),
+    ("peer net other.store --org Maker", "peer G other.store --org Maker --keys K", PROPOSAL),
 ]
 
 

@@ -82,6 +82,6 @@ def tell_of_others(at: Keygen) -> None:
     (at.room / "open.key").chmod(0o644)
     for file, is_told in ("one.key", False), ("open.key", True):
         for words in (["--keys", file], [f"--keys={file}"]):
-            ran = at.ledger("endorse", "none", "A_1", "none", *words)
+            ran = at.ledger("peer", "none", "none", "--org", "A_1", *words)
             told = "can read the key file open.key" in ran.err
             at.report.case(f"others can read {words}: {is_told}", told == is_told and ran.out == "refused 703\n", ran.out + ran.err)

@@ -21,9 +21,9 @@ SECONDS = 60
 # A name of a store in the cases, of which so many bytes are taken.
 CUT = re.compile(r"(.+):(\d+)")
 # What refuses on the standard output, and what has to stand at the end of a sentence for it.
-REFUSAL = re.compile(r"refused (\d+).*|(bad line) \d+|(flags differ) \d+|(usage): .*")
+REFUSAL = re.compile(r"(?:answer \S+ \d+ )?refused (\d+).*|answer \S+ \d+ (bad)|(bad line) \d+|(flags differ) \d+|(usage): .*")
 # How a sentence on the standard error ends, and how each of its lines begins.
-SENTENCE, SAID = re.compile(r"ledger: .*\((\d+|bad line|flags differ|usage)\)"), "ledger: "
+SENTENCE, SAID = re.compile(r"ledger: .*\((\d+|bad|bad line|flags differ|usage)\)"), "ledger: "
 
 
 @dataclasses.dataclass
@@ -95,9 +95,9 @@ def as_it_was(files: list[pathlib.Path]) -> Iterator[dict[pathlib.Path, bytes | 
 
 
 def did(case: Case, program: pathlib.Path, data: pathlib.Path) -> Ran:
-    """Types a case. What `commit` writes is forgotten."""
+    """Types a case. What `peer` writes is forgotten."""
     words, given = made(case, data)
-    with as_it_was([data / it for it in words] if words[0] == "commit" else []):
+    with as_it_was([data / it for it in words] if words[0] == "peer" else []):
         return ran(program, words, data, given)
 
 
@@ -116,7 +116,7 @@ def try_sentences(report: Report, case: Case, now: Ran) -> None:
     if case.words()[0] == "show":
         return
     told, said = refusals(now.out.splitlines()), sentences(now.err)
-    if case.words()[0] == "order":
+    if case.words()[0] == "peer":
         # A line that is skipped has a sentence, and no refusal.
         said = [it for it in said if it in told]
     report.case(f"{case.line}: a sentence for each number", told == said, f"told {told}\nsaid {said}\n{now.err[:1000]}")
@@ -125,7 +125,7 @@ def try_sentences(report: Report, case: Case, now: Ran) -> None:
 def try_shown(report: Report, case: Case, now: Ran, data: pathlib.Path) -> None:
     """What is shown of a store is what is worked out here of its bytes."""
     lines = now.out.splitlines()
-    if shown.is_shown(case.words(), lines, now.status, data):
+    if shown.is_shown(case.line, lines, now.status, data):
         wanted = shown.stated(case.line, data)
         report.case(f"{case.line}: what the store's bytes say", (lines, now.status) == wanted, f"{lines}\nwanted {wanted}"[:4000])
 

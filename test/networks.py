@@ -126,7 +126,7 @@ class Networks:
             return {}
         self.report.case(f"{what}: no seed is printed", not any(it.strip() in ran.out for it in self.seeds))
         (self.room / "genesis.json").write_text(ran.out)
-        read = self.ledger("order", "genesis.json")
+        read = self.ledger("marks", "genesis.json", "/dev/null")
         self.report.case(f"{what}: the program reads it", read.status == 0, read.out + read.err)
         return json.loads(ran.out)
 

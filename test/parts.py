@@ -23,7 +23,7 @@ import modules_files
 import networks
 import operating
 import proved
-import questions
+import questions as questioning
 import reasons as sentences
 import running
 import sources
@@ -42,7 +42,7 @@ SHORT, LONG = 30, 550
 SCRIPTS = ["ledger", "docs/definitions", "docs/stands-on", "test/run", "test/documents", "test/questions.py", "examples/chaincode/build.sh",
            "examples/assets/*.py", "examples/page/make.py", "examples/page/seal.py", "examples/page/test", "examples/roles/plain",
            "bench/build.sh", "bench/gate", "bench/hostile", "bench/instructions", "bench/node", "bench/plants", "bench/plot",
-           "bench/run", "bench/state", "bench/threads", "bench/untuned/build.sh",
+           "bench/run", "bench/slowest", "bench/state", "bench/threads", "bench/untuned/build.sh",
            "node/bin/*", "node/certs.sh", "node/change.py", "node/demo/run", "node/demo/demo.py", "node/demo/traffic.py"]
 # Scripts that say whether a file is as they would write it; and those that write, with the files.
 CHECKS = ["docs/definitions --check", "docs/stands-on --check", "examples/page/seal.py --check"]
@@ -284,8 +284,8 @@ def change(report: Report, at: Setting) -> None:
     changes.try_changes(report, at.tree, at.room, at.env)
 
 
-def query(report: Report, at: Setting) -> None:
-    questions.try_questions(report, at.tree, at.room, at.env)
+def questions(report: Report, at: Setting) -> None:
+    questioning.try_questions(report, at.tree, at.room, at.env)
 
 
 def reasons(report: Report, at: Setting) -> None:
@@ -377,7 +377,7 @@ COMPILED: dict[Part, unproved.Compiled] = {**dict.fromkeys(WITH_LEDGER, LEDGER),
                                            signatures: ("ed25519_cases",)}
 QUICK: list[Part] = [*WITHOUT_PROGRAM, tests, cases, signatures, *WITH_LEDGER]
 # What test/documents does behind the gate: what needs the programs as they were proved, a browser, etcd, a Rust compiler, or many signatures.
-BEHIND: list[Part] = [demo, operations, dev, calls, escrow, page, query, chaincode, tutorial, lines, install, growths, timed]
+BEHIND: list[Part] = [demo, operations, dev, calls, escrow, page, questions, chaincode, tutorial, lines, install, growths, timed]
 DOCUMENTS: list[Part] = [*BEHIND, *(it for it in [*WITH_LEDGER, made, prove, calling, types] if it not in BEHIND)]
 # The documents all of whose commands test/run types.
 TYPED_BEFORE = {readme: "README.md", formats: "docs/OUTPUT.md"}

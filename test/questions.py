@@ -1,5 +1,5 @@
 #!/usr/bin/env python3
-"""./ledger query: its answers on random chains are what `show`, `state` and `sim` print, also where the store grows.
+"""./ledger peer: its answers on random chains are what `show`, `state` and `sim` print, also where a log makes the chain longer.
 
     test/questions.py CHAINS
 
@@ -100,11 +100,23 @@ def questions(asked: Asked) -> Iterator[tuple[dict, object]]:
 
 
 def asked_in_turn(process: subprocess.Popen, lines: list[str]) -> list[str]:
-    """What a running `query` prints to these lines, one each."""
+    """What a running peer answers to these questions, one each."""
     assert process.stdin and process.stdout
-    process.stdin.write("".join(it + "\n" for it in lines))
+    process.stdin.write("".join(f"ask q {it}\n" for it in lines))
     process.stdin.flush()
-    return [process.stdout.readline().rstrip("\n") for _ in lines]
+    return [process.stdout.readline().rstrip("\n").removeprefix("answer q ") for _ in lines]
+
+
+def has_read(process: subprocess.Popen, marks: list[str]) -> bool:
+    """Whether a running peer reads these marks of a log, of which it skips none."""
+    assert process.stdin and process.stdout
+    for number, mark in enumerate(marks):
+        process.stdin.write(f"log {number} {mark}\n")
+        process.stdin.flush()
+        while not (line := process.stdout.readline()).startswith(f"read {number} "):
+            if not line.startswith(("known ", "tx ", "committed ")):
+                return False
+    return True
 
 
 def try_chain(report: Report, name: str, asked: Asked, process: subprocess.Popen) -> None:
@@ -112,8 +124,9 @@ def try_chain(report: Report, name: str, asked: Asked, process: subprocess.Popen
     wanted = list(questions(asked))
     height = len(asked.blocks)
     for (question, answer), line in zip(wanted, asked_in_turn(process, [json.dumps(it) for it, _ in wanted])):
-        said = json.loads(line) if line.startswith("{") else line
-        report.case(f"{name}: {question}", said == {"answer": answer, "height": height}, f"{line[:400]}\nand not {str(answer)[:400]}")
+        at, _, said = line.partition(" ")
+        is_so = at == str(height) and said != "bad" and json.loads(said) == answer
+        report.case(f"{name}: {question}", is_so, f"{line[:400]}\nand not {str(answer)[:400]}")
     for argument in ARGUMENTS:
         for chaincode in ("assets", "other", "none"):
             texts = bytes.fromhex(argument).decode().split(" ")
@@ -122,7 +135,8 @@ def try_chain(report: Report, name: str, asked: Asked, process: subprocess.Popen
             line, by_texts = asked_in_turn(process, by)
             report.case(f"{name}: call of {chaincode} with {texts}", by_texts == line, f"{by_texts[:400]}\nand not {line[:400]}")
             by_sim = asked.printed("sim", chaincode, argument or "-", "--store", str(asked.store))
-            said = called(json.loads(line)["answer"]) if line.startswith("{") else line
+            words = line.partition(" ")[2]
+            said = called(json.loads(words)) if words.startswith("{") else line
             behind = by_sim if by_sim.startswith("refused") else by_sim.partition("\n")[2]
             report.case(f"{name}: call of {chaincode} with {argument}", said == behind, f"{line[:400]}\nand not {by_sim[:400]}")
 
@@ -138,23 +152,23 @@ def try_questions(report: Report, tree: pathlib.Path, room: pathlib.Path, env: d
         odd.odd_chain(at, ROUNDS - 1, seed)
         growing.write_bytes(store.read_bytes())
         genesis = at / "odd_genesis.json"
-        command: list[str | pathlib.Path] = [tree / "ledger", "query", genesis, growing]
+        command: list[str | pathlib.Path] = [tree / "ledger", "peer", genesis, growing]
         with subprocess.Popen(command, cwd=at, env={**os.environ, **env}, stdin=subprocess.PIPE, stdout=subprocess.PIPE,
                               stderr=subprocess.DEVNULL, text=True) as process:
-            try_chain(report, f"chain {seed}", Asked(tree, genesis, growing, env), process)
+            assert process.stdin and process.stdout
+            half = Asked(tree, genesis, growing, env)
+            report.case(f"chain {seed}: its height", process.stdout.readline() == f"height {len(half.blocks)}\n")
+            try_chain(report, f"chain {seed}", half, process)
             odd.odd_chain(at, ROUNDS, seed)
-            whole, half = store.read_bytes(), growing.read_bytes()
-            report.case(f"chain {seed}: it grows", whole.startswith(half) and len(whole) > len(half))
-            growing.write_bytes(whole[:len(half) + 7])
-            before = asked_in_turn(process, ['{"ask":"setting"}'])
-            report.case(f"chain {seed}: a part of a record", f'"height":{ROUNDS - 1}}}' in before[0], before[0][-200:])
-            growing.write_bytes(whole)
-            try_chain(report, f"chain {seed}, longer", Asked(tree, genesis, growing, env), process)
+            whole = Asked(tree, genesis, store, env)
+            report.case(f"chain {seed}: the log is read", has_read(process, whole.printed("marks", str(store)).splitlines()))
+            is_same = growing.read_bytes() == store.read_bytes()
+            report.case(f"chain {seed}: it grows", is_same and len(whole.blocks) > len(half.blocks))
+            try_chain(report, f"chain {seed}, longer", whole, process)
             for number, line in enumerate(asked_in_turn(process, BAD)):
-                report.case(f"chain {seed}: {BAD[number]!r}", line.startswith("bad line "), line[:200])
-            assert process.stdin
+                report.case(f"chain {seed}: {BAD[number]!r}", line == f"{len(whole.blocks)} bad", line[:200])
             process.stdin.close()
-            report.case(f"chain {seed}: query ends", process.wait(SECONDS) == 0)
+            report.case(f"chain {seed}: the peer ends", process.wait(SECONDS) == 0)
 
 
 def main(words: list[str]) -> int:
@@ -162,7 +176,7 @@ def main(words: list[str]) -> int:
         is_help = words in (["--help"], ["-h"])
         print(__doc__, file=sys.stdout if is_help else sys.stderr)
         return 0 if is_help else 2
-    report = Report("query")
+    report = Report("questions")
     with tempfile.TemporaryDirectory() as room:
         try_questions(report, pathlib.Path(__file__).resolve().parent.parent, pathlib.Path(room), {}, int(words[0]))
     print(report.summary())

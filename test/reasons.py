@@ -8,10 +8,8 @@ import shutil
 from lines import as_it_was, ran
 from report import Report
 
-# The command that reads a kind of lines, and how it names what it reads.
-LINES = {"event": ("run put.json wrong.jsonl", "wrong.jsonl"),
-         "proposal": ("endorse put.json A whole.store", "standard input"),
-         "question": ("query put.json whole.store", "standard input")}
+# What a peer is asked by a kind of lines. Others are events, which a run reads.
+ASKED = {"proposal": "call c", "question": "ask q"}
 
 
 def bytes_of(text: str) -> bytes:
@@ -46,7 +44,7 @@ def try_genesis(report: Report, program: pathlib.Path, tree: pathlib.Path, data:
     genesis = (tree / "examples/assets/genesis.json").read_text(encoding="utf-8")
     for row in rows_of(tree, "wrong_genesis"):
         (data / "wrong.json").write_bytes(bytes_of(genesis.replace(row["old"], row["new"], 1)))
-        now = ran(program, ["order", "wrong.json"], data)
+        now = ran(program, ["marks", "wrong.json", "/dev/null"], data)
         wanted = f"refused {row['number']}\n", f"ledger: wrong.json: {row['sentence']}\n"
         report.case(f"{row['old']} as {row['new'][:80]!a}", (now.out, now.err) == wanted, f"{now}\nwanted {wanted}")
 
@@ -54,12 +52,15 @@ def try_genesis(report: Report, program: pathlib.Path, tree: pathlib.Path, data:
 def try_lines(report: Report, program: pathlib.Path, tree: pathlib.Path, data: pathlib.Path) -> None:
     """Each row of a file: a line of events, proposals or questions, and the sentence."""
     for row in rows_of(tree, "wrong_lines"):
-        line = bytes_of(f"{row['line']}\n")
-        (data / "wrong.jsonl").write_bytes(line)
-        words, place = LINES[row["kind"]]
-        now = ran(program, words.split(), data, line)
-        wanted = "bad line 1\n", f"ledger: {place}, line 1: {row['sentence']} (bad line)\n"
-        report.case(f"{row['kind']} {row['line'][:80]!a}", (now.out, now.err) == wanted, f"{now}\nwanted {wanted}")
+        line, kind = bytes_of(row["line"]), row["kind"]
+        if kind in ASKED:
+            now = ran(program, ["peer", "put.json", "empty.store", "--org", "A"], data, f"{ASKED[kind]} ".encode() + line + b"\n")
+            wanted = "height 0\nanswer %s 0 bad\n" % ASKED[kind][-1], f"ledger: standard input, line 1: {row['sentence']} (bad)\n"
+        else:
+            (data / "wrong.jsonl").write_bytes(line + b"\n")
+            now = ran(program, ["run", "put.json", "wrong.jsonl"], data)
+            wanted = "bad line 1\n", f"ledger: wrong.jsonl, line 1: {row['sentence']} (bad line)\n"
+        report.case(f"{kind} {row['line'][:80]!a}", (now.out, now.err) == wanted, f"{now}\nwanted {wanted}")
 
 
 def try_modules(report: Report, program: pathlib.Path, tree: pathlib.Path, data: pathlib.Path) -> None:
@@ -75,8 +76,8 @@ def try_pipe(report: Report, program: pathlib.Path, data: pathlib.Path) -> None:
     """A store that is a pipe is refused at once: nobody waits for its other end."""
     os.mkfifo(data / "pipe.store")
     wanted = "refused 703\n", "ledger: pipe.store: it is a device or a pipe, and cannot be used so (703)\n"
-    now = ran(program, ["commit", "put.json", "pipe.store"], data)
-    report.case("commit to a pipe", (now.out, now.err) == wanted, f"{now}\nwanted {wanted}")
+    now = ran(program, ["peer", "put.json", "pipe.store"], data)
+    report.case("a peer of a pipe", (now.out, now.err) == wanted, f"{now}\nwanted {wanted}")
 
 
 def try_reasons(report: Report, tree: pathlib.Path, room: pathlib.Path, program: pathlib.Path) -> None:

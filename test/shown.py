@@ -1,4 +1,5 @@
-"""What `show`, `state`, `marks` and `query` print of the stores of test/cases, worked out from their bytes by docs/OUTPUT.md."""
+"""What `show`, `state`, `marks` and a peer that is asked questions print of the stores of test/cases, worked out from their bytes by
+docs/OUTPUT.md."""
 import hashlib
 import hmac
 import json
@@ -23,6 +24,8 @@ REREAD = "get.json"
 PUTS = hashlib.sha256(bytes.fromhex(json.loads((DATA / "put.json").read_text())["chaincodes"][0]["module"])).hexdigest()
 # The first byte of a proposal that is an amendment, and what the first byte of a definition that is open has more.
 AMENDMENT, OPEN = 0x80, 16
+# How many bytes of a record stand before its block and behind its flags.
+AROUND = 36
 Item = TypeVar("Item")
 # The modules at hand, by digests and profiles.
 Modules = set[tuple[str, int]]
@@ -364,14 +367,22 @@ def answer(it: dict, genesis: dict, blocks: list[dict], at_hand: Modules) -> obj
             return outcome(it["chaincode"], genesis, blocks, at_hand)
 
 
-def answers(lines: list[str], genesis: dict, blocks: list[dict], at_hand: Modules) -> Iterator[str | dict]:
-    """The lines of `query`."""
+def answers(lines: list[bytes], genesis: dict, blocks: list[dict], at_hand: Modules) -> Iterator[str]:
+    """The answers to lines that ask questions."""
     for number, line in enumerate(lines, 1):
-        question = question_of(line)
-        if question is None:
+        try:
+            _, tag, words = line.decode().split(" ", 2)
+        except UnicodeDecodeError:
             yield f"bad line {number}"
-        else:
-            yield {"answer": answer(question, genesis, blocks, at_hand), "height": len(blocks)}
+            continue
+        question = question_of(words)
+        said = "bad" if question is None else text_of(answer(question, genesis, blocks, at_hand))
+        yield f"answer {tag} {len(blocks)} {said}"
+
+
+def text_of(value: object) -> str:
+    """JSON as the program prints it."""
+    return json.dumps(value, separators=(",", ":"), sort_keys=True)
 
 
 def options_of(words: list[str]) -> dict[str, str]:
@@ -379,7 +390,7 @@ def options_of(words: list[str]) -> dict[str, str]:
     return {word: value for word, value in zip(words, [*words[1:], ""]) if word.startswith("--")}
 
 
-def shown(words: list[str], folder: pathlib.Path, asked: list[str]) -> tuple[list, int]:
+def shown(words: list[str], folder: pathlib.Path, asked: list[bytes]) -> tuple[list, int]:
     """The lines that a command prints, as values; and its status."""
     command, genesis_name, store_name, *rest = words
     options = options_of(rest)
@@ -398,15 +409,17 @@ def shown(words: list[str], folder: pathlib.Path, asked: list[str]) -> tuple[lis
         return [f"refused 711 block {found['audit'].split()[-1]}"], 1
     # No module is needed for a state.
     audit = "agrees" if found["audit"].startswith("refused 406") else found["audit"]
-    # A query waits for the rest of a record, and says which block does not fit.
-    if command == "query":
+    # A peer cuts off a part of a record, and says which block does not fit.
+    if command == "peer":
         audit += f" block {len(blocks) + 1}" if audit.startswith("refused") else ""
         found["end"] = "clean" if found["end"] == "refused 701" else found["end"]
     for refusal in audit, found["end"]:
         if refusal.startswith("refused"):
             return [refusal], 1
-    if command == "query":
-        return list(answers(asked, genesis, blocks, at_hand)), 0
+    if command == "peer":
+        whole = sum(len(it) + AROUND for it in records(store)[0])
+        opened = [*([f"cut {len(store) - whole}"] if whole < len(store) else []), f"height {len(blocks)}"]
+        return [*opened, *answers(asked, genesis, blocks, at_hand)], 0
     if command == "marks":
         return [mark for record in records(store)[0] for mark in marks_of(record)], 0
     blocks = [it for it in blocks if it["block"] <= int(options.get("--at", 65535))]
@@ -418,13 +431,22 @@ def shown(words: list[str], folder: pathlib.Path, asked: list[str]) -> tuple[lis
 def stated(line: str, folder: pathlib.Path) -> tuple[list[str], int]:
     """What a command line's lines have to be, and its status."""
     words, _, name = line.partition(" < ")
-    asked = (folder / name).read_text(errors="replace").split("\n")[:-1] if name else []
-    lines, status = shown(words.split(), folder, asked)
-    return [it if isinstance(it, str) else json.dumps(it, separators=(",", ":"), sort_keys=True) for it in lines], status
+    lines, status = shown(words.split(), folder, asked_in(name, folder))
+    return [it if isinstance(it, str) else text_of(it) for it in lines], status
 
 
-def is_shown(words: list[str], lines: list[str], status: int | None, folder: pathlib.Path) -> bool:
-    """Whether the lines of a command are worked out here: it is carried out, and no file is refused."""
-    if words[0] not in ("show", "state", "marks", "query") or status is None or status > 1 or not (folder / words[2]).exists():
+def asked_in(name: str, folder: pathlib.Path) -> list[bytes]:
+    """The lines of a standard input. A part of a line is none."""
+    return (folder / name).read_bytes().split(b"\n")[:-1] if name else []
+
+
+def is_shown(line: str, lines: list[str], status: int | None, folder: pathlib.Path) -> bool:
+    """Whether the lines of a command are worked out here: it is carried out, and no file is refused. A peer is one that is asked
+    questions alone."""
+    given, _, name = line.partition(" < ")
+    words = given.split()
+    if words[0] not in ("show", "state", "marks", "peer") or status is None or status > 1 or not (folder / words[2]).exists():
+        return False
+    if words[0] == "peer" and ("--org" in words or not all(it.startswith(b"ask ") for it in asked_in(name, folder))):
         return False
     return not lines or not lines[0].startswith(("refused 8", "refused 703"))

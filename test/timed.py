@@ -20,10 +20,10 @@ OF_ZEROS = ("9de44a3f864f0eb9cb91b673fcc0c99a12c50d9f60064ba20d24f0dcc81775a24b1
             "13895c92306405")
 # How the rows of each script begin.
 ROWS = {
-    "run": ["large, instructions", "large, bytes +54", "start, commands +1", "endorse, proposals +6", "order, envelopes +6",
-            "commit by 1, transactions +6", "replay by 1, transactions +6", "audit, transactions +6", "rerun, transactions +6",
-            "replay, blocks +10", "signed by 1, transactions +4", "reorder over 5 keys, txs +12", "over 5 keys +12 +2 +4"],
+    "run": ["large, instructions", "large, bytes +54", "start, commands +1", "call, proposals +6", "log by 1, transactions +6",
+            "replay by 1, transactions +6", "audit, transactions +6", "rerun, transactions +6", "replay, blocks +10", "signed by 1, transactions +4", "reorder over 5 keys, txs +12", "over 5 keys +12 +2 +4"],
     "state": ["130 +2 +[0-9]+ +[0-9]+"],
+    "slowest": ["log, a block, two signatures +[0-9]", "call, instructions +[0-9]", "call, host calls, reads +[0-9]", "ask, history +[0-9]"],
     "threads": ["1 +5 ", "2 +10 ", "4 +20 "],
 }
 SECONDS, LONG = 60, 550

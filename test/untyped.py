@@ -19,6 +19,7 @@ REASONS = {
     ("bench/README.md", "bench/untuned/build.sh"): "makes what bench/run measures",
     ("bench/README.md", "bench/plot"): "draws figures, which the part made compares",
     ("bench/README.md", "bench/state"): SMALL,
+    ("bench/README.md", "bench/slowest"): SMALL,
     ("bench/README.md", "bench/threads"): SMALL,
     ("bench/README.md", "bench/node"): MEASURES,
     ("bench/README.md", "bench/instructions"): f"{MEASURES}; it needs a build of ed25519_cases",

@@ -1,9 +1,9 @@
 #!/usr/bin/env python3
 """Writes orders*, sizes*, names*, ends.json, scans.jsonl, stranger.jsonl, bytes.jsonl, upgrades*, versions.jsonl,
 predicted.jsonl, profiles*, seatless.json, nobody.json, doubled.json, look.json, extend.wasm, signed*, alone*, second.json,
-forged.jsonl, seen*, asked.txt, open*, modules*, members*, *questions.jsonl, calls.jsonl, proposals.jsonl, args*, logs, blocks
-for `commit` (*.txt), key files and stores beside this file: events with envelopes, genesis files, modules files, modules and
-stores that are laid out here, by docs/RULES.md.
+forged.jsonl, open*, modules*, members*, args.jsonl, logs (*.log) and other lines of a peer (*.lines), key files and stores
+beside this file: events with envelopes, genesis files, modules files, modules and stores that are laid out here, by
+docs/RULES.md.
 
 older.store is not among them: the program wrote it when calls did not read their definitions yet. It has the blocks of
 whole.store but for these reads.
@@ -408,8 +408,8 @@ for name, store in STORES.items():
 write("notes.txt", ["Pallet 7 is with the carrier.", "Pallet 9 is not."])
 write("no-events.jsonl", [])
 
-# Logs: lines of an index and a mark. Of the limits of sizes.json: each kind of mark and of line, two that end two blocks,
-# and at the end a part of a line.
+# Logs, as a peer reads them: `log`, an index and a mark. Of the limits of sizes.json: each kind of mark and of line, two that
+# end two blocks, and at the end a part of a line.
 LIMITED = hashlib.sha256((HERE / "sizes.json").read_bytes()).hexdigest()
 
 
@@ -419,7 +419,17 @@ def sized(nonce, size):
 
 
 def log(marks):
-    return [f"{1 + at // 4}.{at % 4} {mark}" for at, mark in enumerate(marks)]
+    return [f"log {1 + at // 4}.{at % 4} {mark}" for at, mark in enumerate(marks)]
+
+
+def asking(*lines):
+    """Lines that ask, each a word and what stands behind its tag, with the tags 1, 2, .."""
+    return [f"{word} {tag} {rest}" for tag, (word, rest) in enumerate(lines, 1)]
+
+
+def asks(*questions):
+    """The lines of questions."""
+    return asking(*(("ask", it if isinstance(it, str) else json.dumps(it)) for it in questions))
 
 
 def header_hash(number, link, data):
@@ -439,41 +449,25 @@ marks += [sized(4, 140), sized(5, 30), sized(6, 30), sized(7, 30), f"genesis {'0
 lines = log(marks)
 write("marks.log", lines[:20])
 (HERE / "all-marks.log").write_bytes(
-    "".join(line + "\n" for line in lines).encode() + b"alone\n\n \xff\xfe\n9.0 \xff\n9.1 " + sized(10, 30).encode() + b"\n9.2 tick"
+    "".join(line + "\n" for line in lines).encode()
+    + b"log alone\nlog \nlog  \xff\xfe\nlog 9.0 \xff\nlog 9.1 " + sized(10, 30).encode() + b"\nlog 9.2 tick"
 )
-write("another.log", [f"1.0 genesis {'00' * 32}", "1.1 tick"])
+write("another.log", log([f"genesis {'00' * 32}", "tick"]))
+# The first line of the log behind one that asks, and a later one that names another genesis.
+write("asked-another.log", [*asks({"ask": "members"}), *log([f"genesis {'00' * 32}"])])
+write("later-another.log", log(["tick", f"genesis {'00' * 32}"]))
 # First lines: the digest behind another word, cut short, and missing; no word; an envelope that is too large; and a block
 # that was seen.
 FIRST_LINES = {"upper": f"GENESIS {LIMITED}", "short": f"genesis {LIMITED[:-1]}", "bare": "genesis", "blank": ""}
 FIRST_LINES |= {"too-large": sized(3, 141), "seen": f"seen A 1 {SEEN}", "tick": "tick"}
 for name, mark in FIRST_LINES.items():
-    write(f"first-{name}.log", [f"1.0 {mark}", "1.1 GENESIS"])
+    write(f"first-{name}.log", log([mark, "GENESIS"]))
 
 # The batches of orders.jsonl.
 marks = [json.loads(line) for line in orders]
 write("orders.log", log([mark["hex"] if mark["do"] == "submit" else "tick" for mark in marks if mark["do"] in ("submit", "tick")]))
 
-# Blocks for `commit`: those of whole.store, between other lines; the second before the first; the second with other
-# data, and with another hash of its data; and lines that hold no block.
-
-
-def block(stored):
-    return stored[4:-33].hex()
-
-
-def blocks(name, *lines):
-    write(name, [f"block {line}" for line in lines])
-
-
-LINES = [f"1 {block(first)}", f"2 {block(second)}"]
-write("blocks.txt", ["read 1.0 0", f"block {LINES[0]}", "", "blocks", f"block {LINES[1]}", f"block {LINES[0]}", f"block {LINES[1]}"])
-blocks("gap.txt", LINES[1])
-blocks("forked.txt", LINES[0], "2 " + block(record(2, link, data_hash=hashlib.sha256(b"").digest())[0]))
-blocks("no-hex.txt", LINES[0], "2 zz", LINES[1])
-blocks("no-block.txt", LINES[0], LINES[1][:-2])
-(HERE / "part.txt").write_text(f"block {LINES[0]}\nblock {LINES[1]}")
-
-# Proposals for `endorse`: calls that return, trap and fail, and an unknown name; an upgrade; and lines that are none.
+# Calls that return, trap and fail, and of an unknown name; upgrades; and words that spell no proposal.
 
 
 def proposal(begun):
@@ -483,10 +477,10 @@ def proposal(begun):
 
 calls = [proposal(begin(0, at, chaincode=name)) for at, name in enumerate(("kv", "trap", "status", "zero", "none"))]
 calls += [proposal(upgrade(0, 6, PUT_A)), proposal(upgrade(0, 7, b"another module")), begin(0, 1), "{}", "", calls[0]]
-write("proposals.jsonl", calls)
+write("proposals.lines", asking(*(("call", it) for it in calls)))
 # By texts, and by hex; and by both, by a number among the texts, and by no list.
 arguments: list[dict[str, object]] = [{"args": ["a", "b"]}, {"arg": "612062"}, {"args": ["a"], "arg": "61"}, {"args": ["a", 1]}, {"args": "a"}]
-write("args-asked.jsonl", [proposal(begin(0, 1, **it)) for it in arguments])
+write("args.lines", asking(*(("call", proposal(begin(0, 1, **it))) for it in arguments)))
 
 # Public keys: those of the seeds of RFC 8032, section 7.1, tests 1 and 2. B has the first, A a shared key.
 SEEDS = [
@@ -545,12 +539,11 @@ for nonce in range(1, 6):
     forged += [event("submit", hex=one.hex()), event("take"), event("commit", peer=0)]
 write("forged.jsonl", forged)
 
-# A store of one block with both tags, and that block for `commit`; the same envelope as a line of a log.
+# A store of one block with both tags, and the same envelope as a line of a log.
 data = call(1, writes=puts(b"a"))
 one = data + b"\2" + tag_of("A", hmac.digest(KEYS["A"], data, "sha256")) + tag_of("B", rfc8032.sign(SEEDS[0], data))
 stored, _ = record(1, NO_LINK, one=one)
 (HERE / "signed.store").write_bytes(stored)
-blocks("signed.txt", f"1 {block(stored)}")
 write("signed.log", log([one.hex(), one[:-1].hex()]))
 
 # What organisations say of the block of signed.store, which has OWN as its header's hash.
@@ -565,24 +558,33 @@ def seen(org, number, header, seed=SEEDS[0], ledger="signed.json", signed=None):
 
 
 LIES = seen("B", 1, LIE)
-# Marks of a log, behind that block: of who has a shared key, is not listed, and has a public key; signed, in the name of
-# all three; and a signature that is cut short, and has a word behind it.
-marks = [one.hex(), f"seen A 1 {OWN.hex()}", f"seen A 1 {LIE.hex()}", f"seen C 1 {LIE.hex()}", f"seen B 1 {LIE.hex()}"]
-marks += [seen("B", 1, OWN), LIES, seen("A", 1, LIE), seen("C", 1, LIE), LIES[:-2], LIES + " 00"]
-write("seen.log", log(marks))
+# A log of that block and of what is said of it: what is so; lies of who has a shared key, is not listed, and has a public key,
+# without a signature; B's lies of the block, and of blocks that there are not; with a signature by another seed, a wrong one,
+# and one of another ledger and of another number; lies in the name of the others, and of who cannot be; digits of the other
+# case; and less, and more.
+marks = [one.hex(), *(f"seen {org} 1 {header.hex()}" for org, header in (("A", OWN), ("A", LIE), ("C", LIE), ("B", LIE)))]
+marks += [seen("B", 1, OWN), LIES, seen("B", 0, LIE), seen("B", 2, OWN), seen("B", 70000, OWN)]
+marks += [seen("B", 1, LIE, SEEDS[1]), LIES[:-1] + "%x" % (int(LIES[-1], 16) ^ 1)]
+marks += [seen("B", 1, LIE, ledger="alone.json"), seen("B", 1, LIE, signed=2)]
+marks += [seen("A", 1, LIE), seen("C", 1, LIE), seen("-", 1, LIE), LIES[:10] + LIES[10:].upper()]
+write("seen.log", log([*marks, LIES[:-2], LIES + " 00", "seen B 1", "seen"]))
 # A log whose first mark is signed.
 write("seen-first.log", log([LIES]))
-# Lines for `commit`, behind that block: what is so; lies of a block, and of blocks that there are not; lies without a
-# signature, with one by another seed, a wrong one, and one of another ledger and of another number; lies in the name of who
-# has a shared key, is not listed, and cannot be; digits of the other case; and less.
-said = [seen("B", 1, OWN), LIES, seen("B", 0, LIE), seen("B", 2, OWN), seen("B", 70000, OWN), f"seen B 1 {LIE.hex()}"]
-said += [seen("B", 1, LIE, SEEDS[1]), LIES[:-1] + "%x" % (int(LIES[-1], 16) ^ 1)]
-said += [seen("B", 1, LIE, ledger="alone.json"), seen("B", 1, LIE, signed=2)]
-said += [seen("A", 1, LIE), seen("C", 1, LIE), seen("-", 1, LIE), LIES[:10] + LIES[10:].upper(), LIES[:-2], "seen B 1", "seen"]
-write("seen.txt", [f"block 1 {block(stored)}", *said])
-# Lines for `endorse`: the block, one that there is not yet, and what is no such line.
-asked = ["seen 1", "seen 2", "seen 99", "seen 0", "seen 01", "seen +1", "seen 1 ", "seen 1 1", "seen  1", " seen 1", "seen 4294967297"]
-write("asked.txt", [*asked, "seen ", "seen", "SEEN 1"])
+# The block, one that there is not yet, and what names none.
+numbers = ["1", "2", "99", "0", "01", "+1", "1 ", "1 1", " 1", "4294967297", "", "x"]
+write("seen.lines", asking(*(("seen", it) for it in numbers)))
+
+# A log and what is asked between its lines; lines that are none of a peer's, and such as have no tag or are no UTF-8; a line of
+# the log in which a call stands. The log is that of signed.store.
+CALL, GET = proposal(begin(0, 9)), json.dumps({"ask": "get", "key": "61"})
+AGREES = proposal(amend(0, 5, 1, "'A'", {"name": "A"}))
+between = [f"log 1 genesis {hashlib.sha256((HERE / 'signed.json').read_bytes()).hexdigest()}", f"ask q1 {GET}", f"call c1 {CALL}"]
+between += [f"log 2 call c2 {CALL}", "seen s1 1", f"log 3 {one.hex()}", f"ask q2 {GET}", f"call c3 {CALL}", f"log 4 {one.hex()}"]
+between += ["seen s2 1", "seen s3 9", f"call c4 {AGREES}", f"agreed c5 {AGREES}", "call c6 {}", 'ask q3 {"ask":"none"}', "log 5 tick"]
+between += [f"log 6 {LIES}", "", "hello", "log", "call", "call c7", f" ask q4 {GET}", f"asks q5 {GET}", f"ASK q6 {GET}", f"ask  {GET}"]
+(HERE / "between.lines").write_bytes(
+    "".join(it + "\n" for it in between).encode() + b"ask q\xff {}\ncall c8 \xff\nlog 7 \xff\nlog 8 tick\nlog 9 ti"
+)
 
 # Open definitions, and modules files. A is alone, and no module is installed beside that of `kv`. Modules files: of the
 # module that `open.jsonl` upgrades to; of none; of 65; of a module that is not valid; and what is no JSON.
@@ -611,9 +613,9 @@ write(
     + alone("e5", upgrade(0, 5, PUT_A, profile=17, policy="'Z'"))
     + [amend(0, 6, 2, "'A'", {"name": "A"}), finish(0, "e6")],
 )
-# Proposals behind that chain, for `endorse`: a call, the upgrade once more, and an amendment.
+# Proposals behind that chain: a call, the upgrade once more, and an amendment.
 asked = [proposal(begin(0, 7)), proposal(upgrade(0, 8, **TO)), proposal(amend(0, 6, 1, "'A'", {"name": "A"}))]
-write("open-asked.jsonl", asked)
+write("open.lines", asking(*(("call", it) for it in asked)))
 
 
 def putting(proposed, key, data, reads):
@@ -628,7 +630,7 @@ def written(*parts):
     return envelope(putting(*parts))
 
 
-# The blocks of open.jsonl with modules.json, for `commit`, and their store.
+# The log of open.jsonl with modules.json, and its store.
 OPENED = b"\x11" + hashlib.sha256(GET_PUT_A).digest() + struct.pack(">I", 141) + value(b"'A'")
 NAMED = short(b"kv")
 called = [NAMED + value(b"") + bytes.fromhex("%032x" % nonce) for nonce in (1, 3)]
@@ -639,7 +641,10 @@ opened = [
 ]
 stored = chain(*(([one], [0]) for one in opened))
 (HERE / "open.store").write_bytes(b"".join(stored))
-blocks("open.txt", *(f"{number} {block(kept)}" for number, kept in enumerate(stored, 1)))
+write("open.log", log([one.hex() for one in opened]))
+# The same chain, made of envelopes that others endorsed.
+handed = [[event("submit", hex=one.hex()), event("take"), event("commit", peer=0)] for one in opened]
+write("open-handed.jsonl", sum(handed, []))
 
 # Memberships: A and B are listed, and each endorses calls; A agrees to upgrades and amendments. C has the second seed.
 genesis("members.json", policy="OR('A','B')", upgrade="'A'")
@@ -659,7 +664,7 @@ members += committed(amend(0, 6, 2, "OR('A','B')", A, B)) + committed(begin(1, 7
 members += committed(amend(0, 8, 3, "'B'", B)) + committed(begin(0, 9))
 write("members.jsonl", members)
 # Behind it A, which has left, is named by the policy of calls, and satisfies nothing.
-write("members-left.jsonl", [json.dumps({"ask": "satisfied", "chaincode": "kv", "orgs": orgs}) for orgs in (["A"], ["A", "B"])])
+write("members-left.lines", asks(*({"ask": "satisfied", "chaincode": "kv", "orgs": orgs} for orgs in (["A"], ["A", "B"]))))
 
 
 def membership(serial, policy, *members):
@@ -715,14 +720,17 @@ joined = [
 stored = chain(*(([one], [flag]) for one, flag in joined))
 (HERE / "members-keys.store").write_bytes(b"".join(stored))
 (HERE / "members-joined.store").write_bytes(b"".join(stored[:5]))
-blocks("members-keys.txt", *(f"{number} {block(kept)}" for number, kept in enumerate(stored, 1)))
 
-# Between these blocks C and B say by their seeds that the first is another one; behind them B says what is so.
+# Between these blocks C and B say by their seeds that the first is another one, and are asked to endorse a call; behind them B
+# says what is so.
 lies = [seen("C", 1, LIE, SEEDS[1], "members.json"), seen("B", 1, LIE, SEEDS[0], "members.json")]
-told = []
-for number, kept in enumerate(stored[:9], 1):
-    told += [f"block {number} {block(kept)}", *(lies if number in (1, 2, 5, 9) else [])]
-write("members-seen.txt", [*told, seen("B", 1, hashlib.sha256(stored[0][4:72]).digest(), SEEDS[0], "members.json")])
+lines = []
+for number, (envelope_of, _) in enumerate(joined, 1):
+    lines.append(f"log {number} {envelope_of.hex()}")
+    if number in (1, 2, 5, 9):
+        lines += [*(f"log {number}.{at} {lie}" for at, lie in enumerate(lies)), f"call {number} {CALL}"]
+own = seen("B", 1, hashlib.sha256(stored[0][4:72]).digest(), SEEDS[0], "members.json")
+write("members-keys.log", [*lines, f"log 13 {own}"])
 
 
 def by_hand(number):
@@ -757,21 +765,26 @@ batches = [
 ]
 (HERE / "members-two.store").write_bytes(b"".join(chain(*batches)))
 
-# Proposals for `endorse`: a call, the amendment of serial number 1 and the one of 3, and whether there is a first block.
-asked = [begin(0, 20), amend(0, 21, 1, "'A'", A), amend(0, 22, 3, "OR('A','C')", A, OWN_B, C)]
-write("members-asked.jsonl", [*map(proposal, asked), "seen 1"])
+# A call, the amendment of serial number 1 and the one of 3, as calls and as what is agreed to, and whether there is a first block.
+asked = [*map(proposal, (begin(0, 20), amend(0, 21, 1, "'A'", A), amend(0, 22, 3, "OR('A','C')", A, OWN_B, C)))]
+write("members.lines", asking(*((word, it) for word in ("call", "agreed") for it in asked), ("seen", "1")))
 
-# Marks of chains, as `order` reads them: those of whole.store, and of members-two.store.
+# Logs of chains: those of whole.store, which are also cut short by the last line's end, in another order, and with another
+# second block; and of members-two.store.
 
 
 def marks_of(*blocks):
     return [line for envelopes in blocks for line in [*(one.hex() for one in envelopes), "tick"]]
 
 
-write("marks-whole.log", log(marks_of([envelope(call(1, writes=puts(b"a")))], [envelope(call(2, writes=puts(b"a")))])))
+ONE, TWO, OTHER = ([envelope(call(nonce, writes=puts(b"a")))] for nonce in (1, 2, 3))
+write("marks-whole.log", log(marks_of(ONE, TWO)))
+(HERE / "marks-part.log").write_text("\n".join(log(marks_of(ONE, TWO)[:3])))
+write("marks-turned.log", log(marks_of(TWO, ONE)))
+write("marks-forked.log", log(marks_of(ONE, OTHER)))
 write("marks-two.log", log(marks_of(*(envelopes for envelopes, _ in batches))))
 
-# Questions for `query`: one of each form, in any order of its fields and in hex of either case; and lines that are none.
+# Questions: one of each form, in any order of its fields and in hex of either case; and words that spell none.
 ID = "00" * 32
 questions = [
     {"ask": "setting"},
@@ -814,22 +827,22 @@ none = [
     {"ask": "call", "chaincode": "kv", "arg": "-"},
     {"ask": "call", "chaincode": "kv", "arg": "00" * 4097},
 ]
-lines = [json.dumps(it) for it in questions + none]
-write("questions.jsonl", [*lines, "", "[]", "{", lines[0]])
+write("questions.lines", asks(*questions, *none, "", "[]", "{", questions[0]))
 calls = [{"chaincode": name, "arg": ""} for name in ("status", "trap", "zero", "kv")]
 # By texts; and by both, by a number among the texts, by no list, by a list as hex, and by more bytes than there may be.
 calls += [{"chaincode": "kv", "args": texts} for texts in (["a", "b"], [])]
 calls += [{"chaincode": "kv", "args": [], "arg": ""}, {"chaincode": "kv", "args": ["a", 1]}, {"chaincode": "kv", "args": "a"}]
 calls += [{"chaincode": "kv", "arg": ["a"]}, {"chaincode": "kv", "args": ["a" * 2048, "b" * 2048]}]
-write("calls.jsonl", [json.dumps({"ask": "call", **it}) for it in calls])
-one = json.dumps({"ask": "history", "key": "61"})
-write("one-question.jsonl", [one])
-# A question, a line that is no text, and a question without its line's end.
-(HERE / "part-questions.jsonl").write_bytes(one.encode() + b"\n\xff\n" + one.encode())
+write("calls.lines", asks(*({"ask": "call", **it} for it in calls)))
+one = {"ask": "history", "key": "61"}
+write("one-question.lines", asks(one))
+# A question, one that is no text, and one without its line's end.
+first, second, third = (it.encode() for it in asks(one, "?", one))
+(HERE / "part-questions.lines").write_bytes(first + b"\n" + second.replace(b"?", b"\xff") + b"\n" + third)
 # Of the chain of members-keys.store: tags of B under the old key and the new one, and of C.
 of_call = hashlib.sha256(b"\2kv\0\0" + bytes.fromhex("%032x" % 4)).hexdigest()
 questions = [{"ask": "members"}, {"ask": "block", "number": 6}, {"ask": "block", "number": 7}]
 questions += [{"ask": "transaction", "id": of_call}]
 questions += [{"ask": "block", "number": 10}, {"ask": "get", "key": "00"}, {"ask": "history", "key": "00"}]
 questions += [{"ask": "range", "start": "", "end": "", "limit": 1000}, {"ask": "satisfied", "chaincode": "kv", "orgs": ["A"]}]
-write("members-questions.jsonl", map(json.dumps, questions))
+write("members-questions.lines", asks(*questions))
