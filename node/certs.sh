@@ -17,6 +17,9 @@
 # takes the place of the old one, with a new key. What etcd is asked by has no common name, which etcd may take for a user.
 set -eu
 umask 077
+# How openssl prints that a certificate is an authority's, which makes no other one.
+CONSTRAINTS="X509v3 Basic Constraints: critical
+    CA:TRUE, pathlen:0"
 
 complain() {
     echo "regtuma-certs: $*" >&2
@@ -80,47 +83,54 @@ sign() { # DIR AUTHORITY NAME SUBJECT DAYS, and extensions at the input
     mv "$work/pem" "$1/$3.pem"
 }
 
-make_authority() { # DIR NAME SUBJECT
-    made=yes
-    make_key "$1/$2.key"
-    openssl req -x509 -new -key "$1/$2.key" -subj "$3" -days 3650 -sha256 -addext "basicConstraints=critical,CA:true,pathlen:0" \
-        -addext "keyUsage=critical,keyCertSign,cRLSign" -out "$1/$2.pem"
-    chmod 644 "$1/$2.pem"
+subject_of() { # NAME ORG: whose certificate the authority of a name has
+    case $1 in
+        ca) echo "O=$2,CN=$2 authority" ;;
+        member.ca) echo "O=$2,OU=etcd,CN=$2 authority of members of etcd" ;;
+        etcd.ca) echo "O=$2,OU=etcd,CN=$2 authority of those who ask etcd" ;;
+    esac
 }
 
 make_authorities() { # DIR ORG: those that are not there yet
     mkdir -p "$1"
     made=
-    test -e "$1/ca.key" || make_authority "$1" ca "/O=$2/CN=$2 authority"
-    test -e "$1/member.ca.key" || make_authority "$1" member.ca "/O=$2/OU=etcd/CN=$2 authority of members of etcd"
-    test -e "$1/etcd.ca.key" || make_authority "$1" etcd.ca "/O=$2/OU=etcd/CN=$2 authority of those who ask etcd"
+    for name in ca member.ca etcd.ca; do
+        test ! -e "$1/$name.key" || continue
+        made=yes
+        make_key "$1/$name.key"
+        openssl req -x509 -new -key "$1/$name.key" -subj "/$(subject_of "$name" "$2" | tr , /)" -days 3650 -sha256 \
+            -addext "basicConstraints=critical,CA:true,pathlen:0" -addext "keyUsage=critical,keyCertSign,cRLSign" -out "$1/$name.pem"
+        chmod 644 "$1/$name.pem"
+    done
     test -n "$made" || complain "$1 has its authorities: their keys are not written over"
 }
 
-read_authority() { # FILE PARTS: the certificate of one organisation's authority that makes no other one, with so many parts etcd
+read_authority() { # FOLDER NAME: the certificate of one organisation's authority, exactly as make_authorities makes it
     # What another program reads is $certificate, as openssl wrote it anew: a file may have more than the certificate.
-    test "$(grep -c -e -----BEGIN "$1" 2> /dev/null)" = 1 && certificate=$(openssl x509 -in "$1" 2> /dev/null) ||
-        complain "$1 has to hold the certificate of one authority, and nothing else"
-    said=$(echo "$certificate" | openssl x509 -noout -subject -nameopt sep_multiline,esc_2253,esc_ctrl -ext basicConstraints 2> /dev/null)
-    owner=$(echo "$said" | sed -n 's/^ *O=//p')
-    case $(echo "$said" | grep -c '^ *OU=etcd$'):$owner:$said in
-        "$2::"* | "$2:"*[!A-Za-z0-9_]*:subject=*) complain "$1 has to name one organisation" ;;
-        "$2:"*"CA:TRUE, pathlen:0"*) ;;
-        *) complain "$1 is no authority as regtuma-certs ca makes it" ;;
-    esac
+    file="$1/$2.pem"
+    test "$(grep -c -e -----BEGIN "$file" 2> /dev/null)" = 1 && certificate=$(openssl x509 -in "$file" 2> /dev/null) ||
+        complain "$file has to hold the certificate of one authority, and nothing else"
+    subject=$(echo "$certificate" | openssl x509 -noout -subject -nameopt RFC2253,-dn_rev 2> /dev/null)
+    owner=${subject#subject=O=}
+    owner=${owner%%,*}
+    case $owner in "" | *[!A-Za-z0-9_]*) complain "$file has to name one organisation" ;; esac
+    # Whole lines are compared: of a name of several parts, or a long number, another program may read another part.
+    constraints=$(echo "$certificate" | openssl x509 -noout -ext basicConstraints 2> /dev/null)
+    test "$subject" = "subject=$(subject_of "$2" "$owner")" && test "$constraints" = "$CONSTRAINTS" ||
+        complain "$file is no authority as regtuma-certs ca makes it"
     # Another kind may be passed over by one program, and taken by the next.
-    ! grep -e '-----BEGIN' "$1" | grep -v -q -x -e '-----BEGIN CERTIFICATE-----' || complain "$1 holds more than certificates"
+    ! grep -e '-----BEGIN' "$file" | grep -v -q -x -e '-----BEGIN CERTIFICATE-----' || complain "$file holds more than certificates"
 }
 
 gather() { # DIR FOLDER..: whom the machine of the first folder trusts
     mkdir "$work/etcd"
     known=" "
     for folder in "$@"; do
-        read_authority "$folder/ca.pem" 0
+        read_authority "$folder" ca
         first=$owner
         echo "$certificate" >> "$work/proxy.ca.pem"
         for name in member etcd; do
-            read_authority "$folder/$name.ca.pem" 1
+            read_authority "$folder" "$name.ca"
             test "$owner" = "$first" || complain "$folder has authorities of $first and $owner"
             echo "$certificate" >> "$work/etcd/$name"
             test "$folder" != "$1" || echo "$certificate" >> "$work/etcd/own.pem"

@@ -171,6 +171,12 @@ def try_certs(at: Installing) -> None:
         shutil.copy(at.certs / "maker" / f"{name}.pem", at.certs / "twice")
     (at.certs / "more" / "ca.pem").write_text(shop + maker.replace("CERTIFICATE", "TRUSTED CERTIFICATE"))
     (at.certs / "false" / "ca.pem").write_text(maker)
+    # A name of which another program may read another part, and a length of a path that only looks like none.
+    for folder, subject, length in (("named", "/CN=x+O=Maker/O=Shop/OU=etcd", "0"), ("deep", "/O=Shop/OU=etcd/CN=Shop authority of those who ask etcd", str(1 << 130))):
+        shutil.copytree(at.certs / "shop", at.certs / folder)
+        at.run("openssl", "req", "-x509", "-newkey", "ec", "-pkeyopt", "ec_paramgen_curve:P-256", "-nodes", "-multivalue-rdn", "-keyout", f"{folder}/etcd.ca.key",
+               "-out", f"{folder}/etcd.ca.pem", "-subj", subject, "-addext", f"basicConstraints=critical,CA:true,pathlen:{length}",
+               "-addext", "keyUsage=critical,keyCertSign,cRLSign")
     # An organisation's seed, which `ledger keygen` makes beside.
     (at.certs / "maker" / "seed.key").write_text("seed")
     kept = (at.certs / "maker" / "ca.key").read_bytes()
@@ -179,7 +185,7 @@ def try_certs(at: Installing) -> None:
                   ["client", "maker", "Maker", "member"], ["client", "maker", "Maker", "shop.ca"], ["client", "maker", "Maker", "root"],
                   ["client", "maker", "Maker", "proxy"], ["client", "maker", "Maker", "seed"], ["ca", "other", "A-1"],
                   ["ca", "other", "Root"], ["trust", "none", "maker"], ["trust", "maker", "mixed"], ["trust", "maker", "twice"],
-                  ["trust", "maker", "more"], ["trust", "maker", "false"]):
+                  ["trust", "maker", "more"], ["trust", "maker", "false"], ["trust", "maker", "named"], ["trust", "maker", "deep"]):
         ran = at.run(certs, *words)
         at.case(f"refused: {' '.join(words)}", fails_in_words(ran) and ran.err.count("\n") == 1, ran)
     (at.certs / "shop" / "member.ca.key").unlink()

@@ -285,7 +285,7 @@ class Failures(Case):
         with mock.patch.multiple(etcd, LONGEST=1000, NODE_SECONDS=5.0), contextlib.redirect_stdout(io.StringIO()):
             self.assertEqual(await self.watched(log, 1), [b"6.0 02\n"])
         asked = [body for _, body, _ in node.asked]
-        self.assertEqual([it["limit"] for it in asked[2:6]], [1000, 125, 15, 30])
+        self.assertEqual([it["limit"] for it in asked[2:6]], [100, 12, 1, 2])
         self.assertEqual(asked[6], {"key": short["key"]})
 
     async def test_entries_of_one_revision_have_one_order(self):
