@@ -6,6 +6,7 @@ import ssl
 import subprocess
 import tempfile
 import unittest
+from typing import Any
 from unittest import mock
 
 import support
@@ -43,7 +44,9 @@ class Certificates:
         assert isinstance(key, ec.EllipticCurvePrivateKey)
         own = [it if it.oid != NameOID.ORGANIZATION_NAME else x509.NameAttribute(it.oid, signer) for it in authority.subject]
         subject = [*authority.subject.get_attributes_for_oid(NameOID.ORGANIZATION_NAME), x509.NameAttribute(NameOID.COMMON_NAME, "node")]
-        begin, made = authority.not_valid_before, ec.generate_private_key(ec.SECP256R1())
+        begin = authority.not_valid_before
+        # Debian's stubs do not know all that a key can do.
+        made: Any = ec.generate_private_key(ec.SECP256R1())
         unsigned = x509.CertificateBuilder(x509.Name(own), x509.Name(subject), made.public_key(), x509.random_serial_number(), begin,
                                            begin + datetime.timedelta(days=1))
         form, kind, secret = serialization.Encoding.PEM, serialization.PrivateFormat.PKCS8, serialization.NoEncryption()
