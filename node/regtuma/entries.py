@@ -6,9 +6,10 @@ the marks. What an organisation writes has a name below `ORG/`: that is its part
 import collections
 import dataclasses
 import json
+import math
 import pathlib
 import re
-from collections.abc import AsyncIterator
+from collections.abc import AsyncIterator, Iterator
 from typing import Protocol
 
 from .ticks import LAST_BLOCK, SHARE_OF
@@ -22,9 +23,18 @@ PART = re.compile(rb"([A-Za-z0-9_]{1,32})/")
 TICK, REFILL = re.compile(rb"[A-Za-z0-9_]{1,32}/tick-([1-9][0-9]{0,9})(?:-[0-9a-f]+)?"), b"/refill-"
 # The entry in which an organisation says what its block of a number is.
 SEEN = re.compile(rb"([A-Za-z0-9_]{1,32})/seen-([1-9][0-9]{0,4})")
-ENVELOPE, GENESIS = re.compile(rb"[0-9A-Fa-f]+"), re.compile(rb"genesis [0-9a-f]{64}")
+# The bytes of the shortest envelope, by the table of docs/RULES.md, "Bytes of the ledger": of a call whose name has one byte, behind its
+# length, without argument (the two bytes of its length), with a nonce, without result, reads, ranges, writes (two bytes each) and
+# endorsements (one). Upgrades and amendments are longer.
+SHORTEST = 2 + 2 + 16 + 4 * 2 + 1
+# What may be a mark in any entry, as long as no line has counted, and in a refill: each line between line feeds of its own.
+ENVELOPE, GENESIS = rb"[0-9A-Fa-f]{%d,}\n" % (2 * SHORTEST), rb"genesis [0-9a-f]{64}\n"
+MARKS, FIRST_MARKS, REFILL_MARKS = (re.compile(rb"\n(?:%s)" % b"|".join(it))
+                                    for it in ([ENVELOPE], [ENVELOPE, GENESIS], [ENVELOPE, GENESIS, rb"tick\n"]))
 # Whose the blocks of a refill are.
 NOBODY = b""
+# The most envelopes that any ledger's batch may have.
+MOST_COUNT = 512
 
 
 class LogError(Exception):
@@ -77,6 +87,8 @@ class Shares:
     def __init__(self, count: int, preferred: int):
         # A batch has at most so many envelopes, and where it has several so many bytes. Costs are in parts of a block.
         self.count, self.preferred, self.block = count, preferred, count * preferred
+        # What an entry costs that counts for nothing.
+        self.least = math.ceil(self.block / MOST_COUNT)
         self.paid: collections.Counter[bytes] = collections.Counter()
         self.total = 0
 
@@ -85,10 +97,14 @@ class Shares:
         weight = min(size, self.preferred) * self.count
         return weight + max(weight, self.preferred)
 
+    def bears(self, part: bytes, cost: int) -> bool:
+        """Whether a part's share bears this."""
+        left = LAST_BLOCK * self.block - self.total - cost
+        return part == NOBODY or self.paid[part] + cost <= (SHARE_OF - 1) * left
+
     def pay(self, part: bytes, cost: int) -> bool:
         """Whether a part's share bears this, which is then paid."""
-        left = LAST_BLOCK * self.block - self.total - cost
-        if part != NOBODY and self.paid[part] + cost > (SHARE_OF - 1) * left:
+        if not self.bears(part, cost):
             return False
         self.paid[part] += cost
         self.total += cost
@@ -105,9 +121,12 @@ class Lines:
     whenever the log is read from its beginning.
 
     An organisation says what it has seen of each block once, in its own part, in its entry `ORG/seen-N`. An envelope counts in any
-    organisation's part, as far as that one's share goes, and a tick in its entry `ORG/tick-N`, where it is the Nth that counts, and
-    there is an envelope behind the one before. What the first entry's organisation puts next, as `ORG/refill-..`, is a chain that
+    organisation's part, as far as that one's share goes, and a tick as the first line of its entry `ORG/tick-N`, where it is the Nth that
+    counts, and there is an envelope behind the one before. What the first entry's organisation puts next, as `ORG/refill-..`, is a chain that
     was, and costs nobody's share. Which genesis file counts says the first line that counts, and no other one.
+
+    Each entry takes each node some time. So one that counts for nothing costs its part a little, and is passed over once the share is used
+    up. One regular expression finds what may count: Python sees no other line.
     """
 
     def __init__(self, count: int = 512, preferred: int = 65536):
@@ -136,14 +155,16 @@ class Lines:
         """The lines of an entry that count, by their places in it."""
         if entry.revision != self.revision:
             self.revision, self.lines = entry.revision, 0
-        part, found = self._part(entry.name), {}
-        marks = entry.value.split(b"\n", ENTRY_LINES)[:ENTRY_LINES]
-        for place, mark in enumerate(marks):
-            if part is not None and self._counts(part, entry.name, place, mark):
-                self.has_lines = True
-                # Any byte is a character, the same on each machine, so that each line is UTF-8.
-                found[place] = f"{self.revision}.{self.lines + place} {mark.decode('latin-1')}\n".encode()
-        self.lines += len(marks)
+        part, found, text = self._part(entry.name), dict[int, bytes](), apart(entry.value)
+        if part is not None:
+            for place, mark in numbered(text, self._candidates(part, entry.name, text)):
+                if self._counts(part, entry.name, mark):
+                    self.has_lines = True
+                    # Any byte is a character, the same on each machine, so that each line is UTF-8.
+                    found[place] = f"{self.revision}.{self.lines + place} {mark.decode('latin-1')}\n".encode()
+            if not found and part != NOBODY:
+                self.shares.pay(part, self.shares.least)
+        self.lines += text.count(b"\n") // 2
         return found
 
     def _part(self, name: bytes) -> bytes | None:
@@ -155,16 +176,30 @@ class Lines:
         self.is_begun = True
         return found[1] if found else None
 
-    def _counts(self, part: bytes, name: bytes, place: int, mark: bytes) -> bool:
-        """Whether a line counts at a place of the entry of a name. One that can be no mark is left out here: the ledger's peer would
-        skip it."""
-        if ENVELOPE.fullmatch(mark):
-            return self._takes(part, len(mark) // 2)
+    def _candidates(self, part: bytes, name: bytes, text: bytes) -> list[tuple[int, bytes]]:
+        """The lines of an entry that may count, each behind where it begins; of a share that is used up, what was seen alone."""
+        found = []
+        if self.shares.bears(part, self.shares.least):
+            marks = REFILL_MARKS if part == NOBODY else MARKS if self.has_lines else FIRST_MARKS
+            found = [(it.start(), it[0].strip(b"\n")) for it in marks.finditer(text)]
+            if text.startswith(b"\ntick\n") and TICK.fullmatch(name):
+                found.append((0, b"tick"))
+        if (said := SEEN.fullmatch(name)) and name not in self.seen:
+            if (at := text.find(b"\nseen %s %s " % said.groups())) >= 0:
+                found.append((at, text[at + 1:text.index(b"\n", at + 1)]))
+        return found
+
+    def _counts(self, part: bytes, name: bytes, mark: bytes) -> bool:
+        """Whether a line counts that may, in the entry of a name."""
         if mark == b"tick":
             return self._ticks(part, name)
         if mark.startswith(b"seen "):
-            return self._says(name, mark)
-        return not self.has_lines and GENESIS.fullmatch(mark) is not None
+            # It may cost each node the verification of a signature, so that there is one for each block of an organisation.
+            self.seen.add(name)
+            return True
+        if mark.startswith(b"genesis "):
+            return not self.has_lines
+        return self._takes(part, len(mark) // 2)
 
     def _takes(self, part: bytes, size: int) -> bool:
         """Whether an envelope of so many bytes counts. What a refill has is paid by its ticks, one behind each block."""
@@ -172,15 +207,6 @@ class Lines:
         if is_paid:
             self.behind.add(part)
         return is_paid
-
-    def _says(self, name: bytes, mark: bytes) -> bool:
-        """Whether what was seen counts in the entry of a name. It may cost each node the verification of a signature, so that there is
-        one for each block of an organisation."""
-        found = SEEN.fullmatch(name)
-        if found is None or name in self.seen or not mark.startswith(b"seen %s %s " % found.groups()):
-            return False
-        self.seen.add(name)
-        return True
 
     def _ticks(self, part: bytes, name: bytes) -> bool:
         """Whether a tick counts in the entry of a name."""
@@ -190,3 +216,18 @@ class Lines:
             return False
         self.ticks, self.behind = self.ticks + 1, set()
         return True
+
+
+def apart(value: bytes) -> bytes:
+    """The lines of an entry's value that may count, each between line feeds of its own."""
+    if value.count(b"\n") >= ENTRY_LINES:
+        value = b"\n".join(value.split(b"\n", ENTRY_LINES)[:ENTRY_LINES])
+    return b"\n%s\n" % value.replace(b"\n", b"\n\n")
+
+
+def numbered(text: bytes, marks: list[tuple[int, bytes]]) -> Iterator[tuple[int, bytes]]:
+    """Lines of such a text in their order, each behind its number, of lines that are found by where they begin."""
+    number = last = 0
+    for at, mark in sorted(marks):
+        number, last = number + text.count(b"\n", last, at) // 2, at
+        yield number, mark

@@ -22,6 +22,8 @@ from regtuma.wire import id_of
 
 CALL = {"chaincode": "assets", "arg": "00", "nonce": "07" * 16}
 ENDORSED = {"payload": "aa", "endorsement": "01", "height": 3}
+# As many digits as the shortest envelope has.
+ENVELOPE = "0161" + "00" * 27
 
 
 class Says:
@@ -137,7 +139,7 @@ class Ticks(Case):
     async def test_nobody_asks_for_others(self):
         """Each organisation pays for its own ticks: whose envelopes do not wait asks for no block."""
         for part, is_asked in (("Shop", False), ("Maker", True)):
-            self.chain.counted(Entry(2, f"{part}/call-1".encode(), b"00"))
+            self.chain.counted(Entry(2, f"{part}/call-1".encode(), ENVELOPE.encode()))
             await self.passed("read 2.0 1")
             self.assertEqual(self.chain.awaited.since is not None, is_asked)
 
@@ -145,7 +147,7 @@ class Ticks(Case):
         for revision, now in enumerate((0.0, 1e12), 2):
             self.chain.awaited, self.chain.asking, began = Awaited(), Asking(), time.monotonic()
             with self.subTest(now=now), mock.patch("time.time", return_value=now):
-                self.chain.counted(Entry(revision, b"Maker/call", b"00"))
+                self.chain.counted(Entry(revision, b"Maker/call", ENVELOPE.encode()))
                 await self.passed(f"read {revision}.0 1")
                 work = asyncio.ensure_future(self.chain.keep_time())
                 async with asyncio.timeout(60):
@@ -187,12 +189,12 @@ class Lines(Case):
         self.assertEqual((await self.gateway.outcome("Maker/alice", waiter.result()))["refused"], 441)
 
     async def test_a_call_whose_line_is_skipped_is_told_why(self):
-        waiter, envelope = self.chain.wait_for("ab"), "aa"
+        waiter, envelope = self.chain.wait_for("ab"), ENVELOPE
         work = asyncio.ensure_future(self.chain.put_envelopes())
         await self.chain.put("ab", envelope)
         work.cancel()
         name, = self.chain.log.entries
-        self.assertEqual(self.chain.counted(Entry(7, name.encode(), envelope.encode())), [b"7.0 aa\n"])
+        self.assertEqual(self.chain.counted(Entry(7, name.encode(), envelope.encode())), [f"7.0 {envelope}\n".encode()])
         await self.passed("skipped 7.0 301", "read 7.0 0")
         told = {"id": "ab", "refused": 301, "why": "the orderer skips its envelope (refused 301)"}
         self.assertEqual([await self.gateway.outcome("Maker/alice", waiter.result()), await self.gateway.status("Maker/alice", "ab")], [told, told])
@@ -201,11 +203,11 @@ class Lines(Case):
     async def test_a_call_that_finds_no_share_left_is_told(self):
         waiter = self.chain.wait_for("ab")
         work = asyncio.ensure_future(self.chain.put_envelopes())
-        await self.chain.put("ab", "aa")
+        await self.chain.put("ab", ENVELOPE)
         work.cancel()
         self.chain.lines.shares.paid[b"Maker"] = 3 * LAST_BLOCK * self.chain.lines.shares.block
         name, = self.chain.log.entries
-        self.assertEqual(self.chain.counted(Entry(7, name.encode(), b"aa")), [])
+        self.assertEqual(self.chain.counted(Entry(7, name.encode(), ENVELOPE.encode())), [])
         self.assertEqual(await self.gateway.outcome("Maker/alice", waiter.result()), {"id": "ab", "why": chains.NO_SHARE})
         with self.assertRaises(Refused) as raised:
             self.gateway.check_open()

@@ -1,7 +1,10 @@
 """Which lines of a log count, and how many blocks each organisation's part of it may bring about."""
+import itertools
 import json
 import pathlib
 import random
+import re
+import sys
 import tempfile
 import unittest
 from unittest import mock
@@ -11,8 +14,8 @@ from regtuma import entries
 from regtuma.entries import Entry, Lines, Shares
 from regtuma.ticks import LAST_BLOCK
 
-# An envelope of the fewest bytes, which nobody has endorsed: a call of `a` with no argument, no reads, no writes.
-ENVELOPE = "0161" + "00" * 27
+# Envelopes of the fewest bytes, which nobody has endorsed: calls of `a` and `b` with no argument, no reads, no writes.
+ENVELOPE, OTHER = "0161" + "00" * 27, "0162" + "00" * 27
 GENESIS = support.ROOT / "examples" / "assets" / "genesis.json"
 
 
@@ -24,56 +27,68 @@ def counted(lines: Lines, *given: tuple[str, str], first: int = 2) -> list[str]:
 
 class Counts(unittest.TestCase):
     def test_what_can_be_no_mark_does_not(self):
-        noise = "\n\nno hex\n00 \nTICK\ngenesis 00\nmodule 1 0061736d\nseen\nseen \nseen Maker\n\xff"
-        self.assertEqual(counted(Lines(), ("Maker/a", noise + "\naB")), ["2.11 aB"])
+        noise = f"\n\nno hex\n{ENVELOPE} \nTICK\ngenesis 00\nmodule 1 0061736d\nseen\nseen \nseen Maker\n\xff\n{ENVELOPE}g\n {ENVELOPE}\r"
+        self.assertEqual(counted(Lines(), ("Maker/a", f"{noise}\n{ENVELOPE}aB")), [f"2.13 {ENVELOPE}aB"])
+
+    def test_an_envelope_has_so_many_bytes(self):
+        self.assertEqual(len(ENVELOPE), 2 * entries.SHORTEST)
+        given = "\n".join((ENVELOPE[:-1], ENVELOPE[:-2], "", ENVELOPE + "0", ENVELOPE))
+        self.assertEqual(counted(Lines(), ("Maker/a", given)), [f"2.3 {ENVELOPE}0", f"2.4 {ENVELOPE}"])
 
     def test_an_organisation_speaks_for_itself(self):
-        given = [("Shop/seen-1", "seen Maker 1 00\n00"), ("Maker/seen-1", "seen Maker 1 \xff"), ("seen", "seen")]
-        self.assertEqual(counted(Lines(), *given), ["2.1 00", "3.0 seen Maker 1 \xff"])
+        given = [("Shop/seen-1", f"seen Maker 1 00\n{ENVELOPE}"), ("Maker/seen-1", "seen Maker 1 \xff"), ("seen", "seen")]
+        self.assertEqual(counted(Lines(), *given), [f"2.1 {ENVELOPE}", "3.0 seen Maker 1 \xff"])
 
     def test_an_organisation_says_of_each_block_once_what_it_is(self):
-        given = [("Shop/a", "seen Shop 64 00"), ("Shop/seen-64", "seen Shop 65 00\nseen Shop 6\n00\nseen Shop 64 01\nseen Shop 64 02"),
-                 ("Shop/seen-64", "seen Shop 64 03"), ("Shop/seen-064", "seen Shop 064 00"), ("Shop/seen-65", "seen Shop 65 04"),
+        said = f"seen Shop 65 00\nseen Shop 6\n{ENVELOPE}\nseen Shop 64 01\nseen Shop 64 02\n{OTHER}"
+        given = [("Shop/a", "seen Shop 64 00"), ("Shop/seen-64", said), ("Shop/seen-64", "seen Shop 64 03"), ("Shop/seen-064", "seen Shop 064 00"), ("Shop/seen-65", "seen Shop 65 04"),
                  ("Shop/x/seen-66", "seen Shop 66 00"), ("Maker/seen-64", "seen Maker 64 05"), ("Shop/seen-100000", "seen Shop 100000 00")]
-        self.assertEqual(counted(Lines(), *given), ["3.2 00", "3.3 seen Shop 64 01", "6.0 seen Shop 65 04", "8.0 seen Maker 64 05"])
+        self.assertEqual(counted(Lines(), *given), [f"3.2 {ENVELOPE}", "3.3 seen Shop 64 01", f"3.5 {OTHER}", "6.0 seen Shop 65 04",
+                                                    "8.0 seen Maker 64 05"])
 
     def test_the_first_line_says_which_genesis_counts(self):
         first, other = (f"genesis {it * 32}" for it in ("0f", "f0"))
-        for given in ([("Maker/genesis", first)], [("tick-1", other), ("Maker/genesis", first)], [("Maker/genesis", f"{first}\n{other}")] * 9,
+        for given in ([("Maker/genesis", first)], [("tick-1", other), ("Maker/genesis", first)],
+                      [("Maker/tick-1", f"tick\n{first}\n{other}")], [("Maker/genesis", f"{first}\n{other}")] * 9,
                       [("Maker/genesis", first), *((f"Shop/{it}", f"{other}\n" * 500) for it in range(9))]):
             self.assertEqual([it.split(" ", 1)[1] for it in counted(Lines(), *given)], [first])
 
     def test_nothing_counts_in_what_is_nobodys_part(self):
         for name in ("tick-1", "tick-refill-1", "x", "", "/tick-1", "Ma-ker/tick-1", f"{'M' * 33}/tick-1"):
-            self.assertEqual(counted(Lines(), ("Maker/a", "00"), (name, "tick\n00\nseen Maker 1 00")), ["2.0 00"], name)
+            given = [("Maker/a", ENVELOPE), (name, f"tick\n{ENVELOPE}\nseen Maker 1 00")]
+            self.assertEqual(counted(Lines(), *given), [f"2.0 {ENVELOPE}"], name)
 
     def test_the_nth_tick_counts_once_where_an_envelope_is(self):
-        given = [("Shop/tick-1", "tick"), ("Maker/a", "00\ntick"), ("Maker/tick-2", "tick"), ("Maker/tick-01", "tick"),
-                 ("Maker/tick-1-x", "tick"), ("Maker/b/tick-1", "tick"), ("Shop/tick-1-0f", "00\ntick\n00\ntick"), ("Maker/tick-1", "tick"),
-                 ("Maker/tick-2-1", "tick")]
-        self.assertEqual(counted(Lines(), *given), ["3.0 00", "8.0 00", "8.1 tick", "8.2 00", "10.0 tick"])
+        given = [("Shop/tick-1", "tick"), ("Maker/a", f"{ENVELOPE}\ntick"), ("Maker/tick-2", "tick"), ("Maker/tick-01", "tick"),
+                 ("Maker/tick-1-x", "tick"), ("Maker/b/tick-1", "tick"), ("Maker/tick-1", f"{OTHER}\ntick"),
+                 ("Shop/tick-1-0f", f"tick\ntick\n{OTHER}\ntick"), ("Maker/tick-1", "tick"), ("Maker/tick-2-1", "tick")]
+        self.assertEqual(counted(Lines(), *given), [f"3.0 {ENVELOPE}", f"8.0 {OTHER}", "9.0 tick", f"9.2 {OTHER}", "11.0 tick"])
 
     def test_so_many_lines_of_an_entry_count(self):
-        found = counted(Lines(), ("Maker/a", "00\n" * 501), ("Maker/b", "\n" * 1_400_000))
-        self.assertEqual((len(found), found[-1]), (500, "2.499 00"))
+        found = counted(Lines(), ("Maker/a", f"{ENVELOPE}\n" * 501), ("Maker/b", "\n" * 1_400_000), ("Maker/c", "\n" * 499 + ENVELOPE))
+        self.assertEqual((len(found), found[-2:]), (501, [f"2.499 {ENVELOPE}", f"4.499 {ENVELOPE}"]))
 
     def test_entries_of_one_revision_are_numbered_on(self):
         lines = Lines()
-        found = [lines.of(Entry(7, name, text)) for name, text in ((b"Maker/a", b"00\n01"), (b"Shop/b", b"\n02"), (b"x", b""), (b"Shop/c", b"03"))]
-        self.assertEqual([list(it.values()) for it in found], [[b"7.0 00\n", b"7.1 01\n"], [b"7.3 02\n"], [], [b"7.5 03\n"]])
+        one, two = ENVELOPE.encode(), OTHER.encode()
+        given = ((b"Maker/a", one + b"\n" + two), (b"Shop/b", b"\n" + one), (b"x", b""), (b"Maker/d", b"\n" * 600), (b"Shop/c", two))
+        found = [list(lines.of(Entry(7, name, text)).values()) for name, text in given]
+        self.assertEqual(found, [[b"7.0 %s\n" % one, b"7.1 %s\n" % two], [b"7.3 %s\n" % one], [], [], [b"7.505 %s\n" % two]])
 
 
 class Refills(unittest.TestCase):
     def test_they_cost_no_share(self):
         with mock.patch.object(entries, "LAST_BLOCK", 8):
-            lines = Lines()
-            found = counted(lines, ("Maker/genesis", f"genesis {'0f' * 32}"), *((f"Maker/refill-{it}", "00\ntick\n01\ntick") for it in range(3)))
-        self.assertEqual((len(found), lines.shares.left(b"Maker") - lines.shares.left(b"Shop")), (13, 0))
+            lines, blocks = Lines(), f"{ENVELOPE}\ntick\n{OTHER}\ntick"
+            refill = [(f"Maker/refill-{it}", text) for text in (blocks, "x") for it in range(3)]
+            found = counted(lines, ("Maker/genesis", f"genesis {'0f' * 32}"), *refill)
+        self.assertEqual((len(found), lines.shares.paid), (13, {b"": 6 * lines.shares.block}))
 
     def test_they_come_first_and_of_whom_the_log_begins_with(self):
         first = ("Maker/genesis", f"genesis {'0f' * 32}")
-        for given in ([first, ("Shop/refill-1", "00\ntick")], [first, ("Maker/a", ""), ("Maker/refill-1", "00\ntick")],
-                      [("tick-1", ""), ("Maker/refill-1", "00\ntick")]):
+        chain = f"{ENVELOPE}\ntick"
+        for given in ([first, ("Shop/refill-1", chain)], [first, ("Maker/a", ""), ("Maker/refill-1", chain)],
+                      [("tick-1", ""), ("Maker/refill-1", chain)]):
             self.assertNotIn("tick", str(counted(Lines(), *given)))
 
 
@@ -149,6 +164,88 @@ class Attacks(unittest.TestCase):
             for it in range(10_000):
                 shares.pay(b"%d" % (it % 16), shares.block)
             self.assertTrue(580 <= shares.total // shares.block <= 600)
+
+
+class Junk(unittest.TestCase):
+    """What counts for nothing: it costs each node little, and its part something."""
+
+    def begun(self, last: int = LAST_BLOCK) -> Lines:
+        self.enterContext(mock.patch.object(entries, "LAST_BLOCK", last))
+        lines = Lines()
+        counted(lines, ("Maker/genesis", f"genesis {'0f' * 32}"))
+        return lines
+
+    def test_python_sees_nothing_of_what_cannot_count(self):
+        """However many lines of whatever kind an entry has, it takes few calls."""
+        lines, calls = self.begun(), 0
+
+        def count(_frame, event, _):
+            nonlocal calls
+            calls += event in ("call", "c_call")
+        for name, line in itertools.product(("a", "tick-1", "tick-2", "seen-7"), (
+                "", "x", "00", "0" * 57, "0" * 60 + "x", "tick", "seen ", "seen Shop 70 ", "seen Shop 8 00", f"genesis {'0f' * 32}", "tick\nx")):
+            entry, calls = Entry(5, f"Shop/{name}".encode(), "\n".join([line] * 500).encode()), 0
+            sys.setprofile(count)
+            found = lines.of(entry)
+            sys.setprofile(None)
+            with self.subTest(name=name, line=line):
+                self.assertEqual((found, calls < 60), ({}, True), calls)
+
+    def test_an_entry_that_counts_for_nothing_costs_a_little(self):
+        lines = self.begun()
+        given = [("Shop/a", "x"), ("Shop/b", ""), ("Shop/tick-1", "tick"), ("Shop/seen-7", "x"), ("Shop/seen-8", "seen Shop 8 00"), ("x", "x")]
+        self.assertEqual(counted(lines, *given), ["6.0 seen Shop 8 00"])
+        self.assertEqual((lines.shares.paid, lines.shares.least), ({b"Shop": 4 * lines.shares.block // 512}, lines.shares.block // 512))
+        counted(lines, ("Carrier/a", ENVELOPE))
+        self.assertEqual(lines.shares.paid[b"Carrier"], lines.shares.cost(entries.SHORTEST))
+
+    def test_where_the_share_is_used_up_an_entry_is_passed_over(self):
+        """But for what was seen: of that nobody is to be silenced."""
+        lines = self.begun(last=2)
+        for it in range(3000):
+            counted(lines, (f"Shop/{it}", "x"), first=2 + it)
+        paid = lines.shares.paid[b"Shop"]
+        self.assertTrue(1.4 < paid / lines.shares.block <= 1.5)
+        given = [("Shop/a", ENVELOPE), ("Shop/seen-64", f"{ENVELOPE}\nseen Shop 64 00"), ("Carrier/a", ENVELOPE)]
+        self.assertEqual(counted(lines, *given, first=9000), ["9001.1 seen Shop 64 00", f"9002.0 {ENVELOPE}"])
+        self.assertEqual(lines.shares.paid[b"Shop"], paid)
+
+    def test_one_expression_finds_what_each_line_by_itself_is(self):
+        chance, words = random.Random(7), ["", "x", "tick", "tick", "tickx", ENVELOPE, ENVELOPE, OTHER + "x", ENVELOPE[:-1], "seen Shop 7 1",
+                                           "seen Shop 7", "seen Shop 7 \xff", f"genesis {'0f' * 32}", f"genesis {'0f' * 31}"]
+        for _ in range(300):
+            lines, plain = Lines(), Plain()
+            for number in range(2, 12):
+                name = chance.choice(("Shop/a", f"Shop/tick-{lines.ticks + 1}", "Shop/seen-7", "Shop/refill-1", "x", "Maker/tick-1-0"))
+                entry = Entry(number, name.encode(), "\n".join(chance.choices(words, k=chance.randrange(9))).encode("latin-1"))
+                self.assertEqual(list(lines.of(entry)), plain.of(entry), entry)
+            self.assertEqual((lines.ticks, lines.has_lines), (plain.ticks, plain.has_lines))
+
+
+class Plain:
+    """Which lines count, each by itself, where no share is used up."""
+
+    def __init__(self):
+        self.ticks, self.behind, self.has_lines, self.seen, self.names = 0, False, False, set[bytes](), list[bytes]()
+
+    def of(self, entry: Entry) -> list[int]:
+        self.names.append(entry.name)
+        is_refill = self.names[0].startswith(b"Shop/") and all(it.startswith(b"Shop/refill-") for it in self.names[1:]) and len(self.names) > 1
+        if b"/" not in entry.name:
+            return []
+        return [place for place, it in enumerate(entry.value.split(b"\n")) if self.counts(entry.name, it, is_refill, place)]
+
+    def counts(self, name: bytes, line: bytes, is_refill: bool, place: int) -> bool:
+        if line.startswith(b"seen Shop 7 ") and name == b"Shop/seen-7" and name not in self.seen:
+            self.seen.add(name)
+        elif re.fullmatch(rb"[0-9a-f]{58,}", line):
+            self.behind = True
+        elif line == b"tick" and self.behind and (is_refill or not place and re.fullmatch(rb"\w+/tick-%d(-0)?" % (self.ticks + 1), name)):
+            self.ticks, self.behind = self.ticks + 1, False
+        elif self.has_lines or not re.fullmatch(rb"genesis [0-9a-f]{64}", line):
+            return False
+        self.has_lines = True
+        return True
 
 
 class Blocks(unittest.TestCase):

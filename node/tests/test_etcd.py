@@ -4,6 +4,7 @@ import base64
 import contextlib
 import io
 import json
+import re
 import shutil
 import socket
 import tempfile
@@ -12,6 +13,7 @@ from unittest import mock
 
 import support
 from aiohttp import web
+from regtuma import entries as log_entries
 from regtuma import etcd
 from regtuma.entries import Lines, LogError
 from regtuma.etcd import EtcdLog as Log
@@ -109,6 +111,9 @@ class Case(unittest.IsolatedAsyncioTestCase):
     async def asyncSetUp(self):
         # A busy machine is no failure of etcd; and what is asked one by one is answered in this order.
         self.enterContext(mock.patch.multiple(etcd, NODE_SECONDS=20.0, ENTRIES=1))
+        # Here digits of any number stand for an envelope.
+        digits = re.compile(rb"\n[0-9a-f]+\n")
+        self.enterContext(mock.patch.multiple(log_entries, MARKS=digits, FIRST_MARKS=digits))
 
     async def log(self, *nodes: Node, user: str = "") -> Log:
         for node in nodes:

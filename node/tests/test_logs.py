@@ -11,7 +11,7 @@ from unittest import mock
 import support
 from aiohttp import web
 from regtuma import etcd, filed
-from regtuma.entries import Entry, Lines, Log, LogError
+from regtuma.entries import SHORTEST, Entry, Lines, Log, LogError
 from regtuma.etcd import EtcdLog
 from regtuma.filed import FileLog
 
@@ -105,7 +105,8 @@ class Of:
 
         async def test_lines_have_their_numbers(self):
             log = await self.log()
-            await log.append("Maker/a", ["00", "tick", "ff"])
+            one, two = "00" * SHORTEST, "ff" * SHORTEST
+            await log.append("Maker/a", [one, "tick", two])
             await log.append("Shop/seen-1", ["seen Shop 1 \xff", "seen Shop 1 00"])
             await log.append("Shop/tick-1", ["tick"])
             entries = await watched(log, 3)
@@ -114,7 +115,7 @@ class Of:
             self.assertLess(second, third)
             lines = Lines()
             self.assertEqual(b"".join(line for it in entries for line in lines.of(it).values()).decode("latin-1"),
-                             f"{first}.0 00\n{first}.2 ff\n{second}.0 seen Shop 1 \xc3\x83\xc2\xbf\n{third}.0 tick\n")
+                             f"{first}.0 {one}\n{first}.2 {two}\n{second}.0 seen Shop 1 \xc3\x83\xc2\xbf\n{third}.0 tick\n")
 
         async def test_all_see_one_order(self):
             logs = [await self.log() for _ in range(3)]
