@@ -22,6 +22,8 @@ const LOCAL = /^http:\/\/(localhost|127(\.\d{1,3}){3}|\[::1\]):\d+\/?$/;
 export const hex = bytes => Array.from(bytes, it => it.toString(16).padStart(2, "0")).join("");
 export const bytes = hex => Uint8Array.from(hex.match(/../g) ?? [], it => parseInt(it, 16));
 export const text = bytes => new TextDecoder().decode(bytes);
+/** Whether a call that is not VALID may be so by another nonce. */
+const mayBeTriedAgain = said => CONFLICTS.includes(said.flag) || ABORTED.includes(said.refused) || "used_up_by" in said;
 /** Whether no other node is to be asked: one has refused, and not for now alone. */
 const isFinal = error => error instanceof NotValid && error.status !== 503;
 /** Where calls are posted, so that a node answers before the time is up. */
@@ -68,9 +70,9 @@ export class Client {
   }
 
   /**
-   * Has a call committed: its id, block, place, flag and result once it is VALID. One that conflicts with another is made anew,
-   * `tries` times in all. `organisations` are to endorse, in place of those that the policy needs. After the client's `seconds` it ends
-   * by `Pending`, where the call is in no block yet.
+   * Has a call committed: its id, block, place, flag and result once it is VALID. One that conflicts with another, or whose id another
+   * organisation used up, is made anew, `tries` times in all. `organisations` are to endorse, in place of those that the policy needs.
+   * After the client's `seconds` it ends by `Pending`, where the call is in no block yet.
    */
   async submit(chaincode, args, { organisations, tries = 1, nonce } = {}) {
     const until = performance.now() + 1000 * this.seconds;
@@ -79,7 +81,7 @@ export class Client {
       if (said.valid) return said;
       if (said.pending) throw new Pending(said);
       const isLast = left <= 0 || performance.now() > until;
-      if (isLast || !CONFLICTS.includes(said.flag) && !ABORTED.includes(said.refused)) throw new NotValid(200, said);
+      if (isLast || !mayBeTriedAgain(said)) throw new NotValid(200, said);
     }
   }
 

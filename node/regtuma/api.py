@@ -100,7 +100,9 @@ class Api:
 
     def warnings(self) -> list[str]:
         warnings = [self.endorsing.out_of_place and f"nothing is endorsed: {self.endorsing.out_of_place}",
-                    self.config.ticks.warning(self.chain.height, self.chain.share, time.time())]
+                    self.config.ticks.warning(self.chain.height, self.chain.share, time.time()),
+                    *(f"{it} used up the id of a call of ours, and is asked to endorse only if no others will do"
+                      for it in sorted(self.chain.origins.blamed))]
         return [it for it in warnings if it]
 
     async def get_metrics(self, _request: web.Request) -> web.Response:

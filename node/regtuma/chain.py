@@ -15,6 +15,7 @@ from . import ticks
 from .config import Config
 from .entries import ENTRY_CHARACTERS, ENTRY_LINES, Entry, Lines, Log, LogError
 from .filters import FilterEnded
+from .origins import Origins
 from .peer import Peer
 from .tags import Key, Keys
 from .times import Times
@@ -80,6 +81,8 @@ class Chain:
         self.in_log: set[str] = set()
         self.own: dict[bytes, list[str]] = {}
         self.unread: dict[str, str] = {}
+        # Whose envelopes of the calls that are under way here came first.
+        self.origins = Origins(config.organisation, say)
         # Ids and envelopes that are to be put, and who waits for that.
         self.unput: list[tuple[str, str, asyncio.Future[None]]] = []
         self.put_wanted = asyncio.Event()
@@ -137,6 +140,7 @@ class Chain:
     def counted(self, entry: Entry) -> list[bytes]:
         """The lines of an entry that count. Who waits for one that does not is told."""
         made = self.lines.of(entry)
+        self.origins.read(entry.name, made.values())
         for place, id in enumerate(self.own.pop(entry.name, [])):
             if line := made.get(place):
                 self.unread[line.decode().split(" ")[0]] = id
@@ -191,6 +195,7 @@ class Chain:
             self.unsaid.put_nowait(number)
         told, self.told = self.told, []
         for place, id, flag, result in told:
+            self.origins.judge(id, flag)
             if id in self.waiters or id in self.in_log:
                 self.resolve(id, outcome_of(place, id, flag, result))
         if ticks.is_full(number + 1):
@@ -278,6 +283,7 @@ class Chain:
             if len(self.refused) > REMEMBERED:
                 self.refused.popitem(last=False)
         self.in_log.discard(id)
+        self.origins.end(id)
         for waiter in self.waiters.pop(id, []):
             if not waiter.done():
                 waiter.set_result(outcome)
@@ -290,6 +296,7 @@ class Chain:
         self.unput.append((id, envelope, done))
         self.put_wanted.set()
         self.in_log.add(id)
+        self.origins.note_put(id, envelope)
         try:
             await done
         except LogError:

@@ -127,17 +127,17 @@ class Client:
 
     def submit(self, chaincode: str, *args: str, arg: bytes | None = None, organisations: list[str] | None = None,
                tries: int = 1, nonce: str | None = None) -> Object:
-        """Has a call committed: its id, block, place, flag and result once it is VALID. One that conflicts with another is made
-        anew, `tries` times in all. `organisations` are to endorse, in place of those that the policy needs; a `nonce` of 32 hex
-        digits names the transaction, where the caller has asked for it before. After the client's `seconds` it ends by `Pending`, where
-        the call is in no block yet."""
+        """Has a call committed: its id, block, place, flag and result once it is VALID. One that conflicts with another, or whose id
+        another organisation used up, is made anew, `tries` times in all. `organisations` are to endorse, in place of those that the
+        policy needs; a `nonce` of 32 hex digits names the transaction, where the caller has asked for it before. After the client's
+        `seconds` it ends by `Pending`, where the call is in no block yet."""
         until = time.monotonic() + self.seconds
         for left in range(max(tries, 1) - 1, -1, -1):
             call = call_of(chaincode, args, arg, organisations, nonce)
             said, nonce = self.outcome(call, until), None
             if said.get("valid"):
                 return said
-            if not left or time.monotonic() > until or said.get("flag") not in CONFLICTS and said.get("refused") not in ABORTED:
+            if not left or time.monotonic() > until or not may_be_tried_again(said):
                 break
         raise failure(said)
 
@@ -327,6 +327,11 @@ def refusal(answer: http.client.HTTPResponse) -> Refused:
     """What a node, or who answers in its place, refuses by."""
     said = json.loads(answer.read())
     return Refused(answer.status, said if isinstance(said, dict) else {})
+
+
+def may_be_tried_again(said: Object) -> bool:
+    """Whether a call that is not VALID may be so by another nonce."""
+    return said.get("flag") in CONFLICTS or said.get("refused") in ABORTED or "used_up_by" in said
 
 
 def is_final(why: Failed) -> bool:

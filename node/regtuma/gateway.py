@@ -69,8 +69,19 @@ class Gateway:
         return answers
 
     async def submit(self, caller: str, body: Object, patience: float) -> Object:
-        """Has a call put into the log, and waits for its flag. A call of the same nonce is the same transaction, and is put
-        into the log by this node once, however often it is asked for."""
+        """Has a call put into the log, and waits for its flag. If an organisation used up its id, and the caller gave no nonce, it is made
+        anew, but not for one that did so before or that the caller names."""
+        until, blamed = time.monotonic() + patience, set(organisations_of(body) or [])
+        while True:
+            said = await self.submit_once(caller, body, until - time.monotonic())
+            organisation = said.get("used_up_by")
+            if "nonce" in body or organisation is None or organisation in blamed:
+                return said
+            blamed.add(organisation)
+
+    async def submit_once(self, caller: str, body: Object, patience: float) -> Object:
+        """The same by one id. A call of the same nonce is the same transaction, and is put into the log by this node once, however often it
+        is asked for."""
         named = organisations_of(body)
         is_change = "chaincode" not in body
         proposal = checked({it: body[it] for it in body if it != "organisations"}) if is_change else call_of(body)
@@ -82,6 +93,7 @@ class Gateway:
             if id not in self.under_way and id not in self.chain.in_log:
                 self.check_open()
                 self.count(caller)
+                self.chain.origins.begin(id)
                 self.under_way[id] = asyncio.ensure_future(self.endorse_and_put(id, caller, proposal, named))
                 self.under_way[id].add_done_callback(lambda it: self.ended(id, caller, it))
             async with asyncio.timeout(patience):
@@ -120,6 +132,8 @@ class Gateway:
         """A call is in the log, or is not put. Where nobody waits any more, nobody minds which."""
         self.under_way.pop(id, None)
         self.callers[caller] -= 1
+        if id not in self.chain.in_log:
+            self.chain.origins.end(id)
         if not task.cancelled():
             task.exception()
 
@@ -152,6 +166,9 @@ class Gateway:
         if "block" not in tx:
             return {**(numbers.in_words(f"refused {tx['refused']}") if "refused" in tx else {}), **tx}
         words = {it: tx[it] for it in ("id", "block", "place", "flag", "result")}
+        if organisation := self.chain.origins.used_up.get(tx["id"]):
+            why = f"its id was used up by an entry of {organisation}: ask again by a new nonce"
+            return {**words, "valid": False, "used_up_by": organisation, "why": why}
         if tx["flag"] in numbers.EXPLAINED and "reads" not in tx:
             tx = await self.transaction(caller, tx["id"]) or tx
         return {**words, "valid": tx["flag"] == 0, "why": await numbers.why(self.chain.peer, tx)}
@@ -159,7 +176,8 @@ class Gateway:
     async def endorse_and_put(self, id: str, caller: str, proposal: Object, named: list[str] | None) -> None:
         made = await self.endorsed(caller, proposal, named)
         await self.check_size(made)
-        await self.chain.put(id, made)
+        if id not in self.chain.origins.used_up:
+            await self.chain.put(id, made)
 
     async def check_size(self, made: str) -> None:
         """Whether the orderer takes an envelope of this size."""
@@ -248,12 +266,14 @@ class Gateway:
         return max(self.chain.keys.since, max((it for it in heights.values() if it <= most), default=self.chain.height))
 
     async def organisations(self, proposal: Object, asking: "Asking") -> list[str]:
-        """Who is asked: the fewest that satisfy the chaincode's policy, this one first, then those that answer soonest."""
+        """Who is asked: the fewest that satisfy the chaincode's policy, this one first, then those that answer soonest, and at last those
+        that used up an id of a call."""
         check("chaincode" in proposal, "a change of code or members names the organisations that have agreed to it: organisations")
         chaincode, now = proposal["chaincode"], time.monotonic()
         if now - self.chosen_at > MEMORY:
             self.chosen, self.chosen_at = {}, now
-        links = sorted(self.links.values(), key=lambda it: round(it.each, 2))
+        blamed = self.chain.origins.blamed
+        links = sorted(self.links.values(), key=lambda it: (it.organisation in blamed, round(it.each, 2)))
         own = () if self.endorsing.out_of_place else (self.config.organisation,)
         up = (*own, *(it.organisation for it in links if it.down < now and it.organisation not in asking.refusals))
         if (chaincode, up) not in self.chosen:

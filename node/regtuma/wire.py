@@ -5,6 +5,8 @@ from typing import Any
 
 # A JSON object, as those who make or check it know its values.
 Object = dict[str, Any]
+# The bytes of the longest proposal: a call, by its name, argument and nonce.
+LONGEST_PROPOSAL = 33 + 2 + 4096 + 16
 
 
 def text(said: str, places: int) -> bytes:
@@ -32,6 +34,26 @@ def proposal_bytes(it: Object) -> bytes:
     if "upgrade" in it:
         return b"\0" + text(it["upgrade"], 1) + definition(it) + nonce
     return b"\x80" + membership(it) + nonce
+
+
+def proposal_in(payload: bytes) -> bytes:
+    """The bytes of the proposal with which a payload begins, as far as they are there. IndexError where its lengths are not."""
+    def behind_text(place: int) -> int:
+        return place + 2 + int.from_bytes(payload[place:place + 2], "big")
+    match payload[0]:
+        case 0x00:
+            # A name, and a definition: its profile, module and fuel, and the text of its policy.
+            end = behind_text(2 + payload[1] + 1 + 32 + 4)
+        case 0x80:
+            # A membership: its first byte, serial, and members, of whom each has a name, and a key or none; and the text of its policy.
+            end = 7
+            for _ in range(payload[6]):
+                end += 1 + payload[end]
+                end += 33 if payload[end] else 1
+            end = behind_text(end)
+        case length:
+            end = behind_text(1 + length)
+    return payload[:end + 16]
 
 
 def id_of(proposal: Object) -> str:

@@ -237,6 +237,18 @@ class Clients(unittest.TestCase):
             client_of("https://1:1").submit("assets", "x", tries=50)
         self.assertLess(len(nonces), 9)
 
+    def test_a_call_whose_id_was_used_up_is_made_anew(self):
+        nonces = []
+
+        def begin(_link: Link, _method: str, _path: str, body: dict, _seconds: float) -> Answer:
+            nonces.append(body["nonce"])
+            return Answer(200, b'{"flag":1,"valid":false,"why":"used up","used_up_by":"Shop"}' if len(nonces) < 3 else b'{"valid":true}')
+        with mock.patch.object(Link, "begin", begin):
+            with self.assertRaisesRegex(Invalid, "^used up$"):
+                client_of("https://1:1").submit("assets", "x", nonce="0f" * 16)
+            self.assertTrue(client_of("https://1:1").submit("assets", "x", tries=2)["valid"])
+        self.assertEqual((nonces[0], len(set(nonces))), ("0f" * 16, 3))
+
     def test_a_node_that_says_nothing_is_not_waited_for(self):
         with socket.create_server(("127.0.0.1", 0)) as silent:
             client = Client([f"http://127.0.0.1:{silent.getsockname()[1]}"], seconds=0.6)
@@ -292,6 +304,17 @@ class InJavascript(unittest.TestCase):
             }, { seconds: 1 });
             await busy.submit("assets", ["x"], { tries: 50 }).catch(error => console.log(error.message, asked < 9));""")
         self.assertEqual(said, "call again true\n")
+
+    def test_a_call_whose_id_was_used_up_is_made_anew(self):
+        said = self.said("""
+            const nonces = new Set();
+            const vetoed = new Client(["https://1:1"], async (_, { body }) => {
+              nonces.add(JSON.parse(body).nonce);
+              return new Response(nonces.size < 3 ? '{"flag":1,"valid":false,"why":"used up","used_up_by":"Shop"}' : '{"valid":true}');
+            });
+            await vetoed.submit("assets", ["x"]).catch(error => console.log(error.message));
+            console.log((await vetoed.submit("assets", ["x"], { tries: 2 })).valid, nonces.size);""")
+        self.assertEqual(said, "used up\ntrue 3\n")
 
     def test_a_node_that_says_nothing_is_not_waited_for(self):
         with socket.create_server(("127.0.0.1", 0)) as silent:

@@ -188,6 +188,44 @@ class Endorsers(Case):
         self.assertEqual((raised.exception.status, str(raised.exception)), (503, f"no endorsement of Carrier: {gateway.OTHER_CALL}"))
         self.assertEqual(self.log.read_text().count('"Maker/call-'), len(lies))
 
+    def use_up(self, said: dict) -> dict:
+        """The Carrier puts another envelope of the id first, which nobody has endorsed, and has it cut; and then endorses as it should."""
+        number = self.chain.lines.ticks + 1
+        for name, line in ((f"forged-{self.asked}", said["payload"] + "00"), (f"tick-{number}", "tick")):
+            self.assertTrue(self.chain.log._append(f"Carrier/{name}", [line], PATIENCE))
+        return said
+
+    async def test_who_uses_up_the_id_of_a_call_is_asked_no_more(self):
+        self.answer, self.gateway.links["Shop"].each = self.use_up, 100.0
+        body = {it: call(0)[it] for it in ("chaincode", "arg")}
+        done = await self.gateway.submit("Maker/alice", body, PATIENCE)
+        block = json.loads(await self.chain.block(done["block"]))
+        endorsers = [it["org"] for it in block["txs"][done["place"]]["endorsements"]]
+        self.assertEqual((done["flag"], endorsers, self.asked), (0, ["Maker", "Shop"], 1))
+        self.assertEqual([it for it in self.said if "Carrier" in it], [self.said[-1]])
+        self.assertTrue(self.said[-1].startswith("Carrier used up the id of a call of ours: "))
+        # It answers sooner than the Shop, and is asked where it is named.
+        self.assertEqual(((await self.submit(1))["flag"], self.asked), (0, 1))
+        for number, named in enumerate((["Maker", "Carrier"], ["Carrier", "Shop"]), 2):
+            said = await self.submit(number, *named)
+            self.assertEqual((said["flag"], said["valid"], said["used_up_by"], self.asked), (1, False, "Carrier", number))
+            self.assertEqual(said["why"], "its id was used up by an entry of Carrier: ask again by a new nonce")
+            self.assertEqual((await self.gateway.status("Maker/alice", said["id"])), said)
+        self.assertEqual(len([it for it in self.said if "used up" in it]), 1)
+        self.assertEqual((self.chain.origins.first, self.chain.origins.put), ({}, {}))
+
+    async def test_one_call_at_two_nodes_blames_nobody(self):
+        """The Carrier's own node has the same call committed meanwhile, by other endorsements or by the same ones."""
+        for number, others in enumerate((["Carrier", "Shop"], ["Maker", "Carrier"])):
+            made = await asyncio.to_thread(self.enveloped, call(number), *others)
+
+            def answer(said: dict) -> dict:
+                self.assertTrue(self.chain.log._append(f"Carrier/call-{number}", [made], PATIENCE))
+                return said
+            self.answer = answer
+            self.assertEqual((await self.submit(number, "Maker", "Carrier"))["flag"], 0)
+        self.assertEqual((self.chain.origins.blamed, self.chain.origins.used_up), (set(), {}))
+
     async def test_who_calls_is_told_of_a_line_that_the_orderer_skips(self):
         """As where a lie got by."""
         self.answer = lambda said: {**said, "endorsement": "00"}
