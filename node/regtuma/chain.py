@@ -15,6 +15,7 @@ from . import ticks
 from .config import Config
 from .entries import ENTRY_CHARACTERS, ENTRY_LINES, Entry, Lines, Log, LogError
 from .filters import FilterEnded
+from .journal import Quota
 from .origins import Origins
 from .peer import Peer
 from .tags import Key, Keys
@@ -56,13 +57,14 @@ class Chain:
         ledger = config.ledger
         options = [word for it in ("keys", "modules") if (file := getattr(ledger, it)) for word in (f"--{it}", file)]
         command = [ledger.program, "peer", ledger.genesis, ledger.store, "--org", config.organisation, *options]
-        self.peer = Peer(command, self.hear)
+        self.peer = Peer(command, self.hear, say)
         # How many blocks the store has, and the transactions of the next one that the peer has told of.
         self.height, self.grown = 0, asyncio.Condition()
         self.told: list[list[str]] = []
         self.keys = Keys(ledger.genesis)
         # Who has another block, as long as nobody has looked into it: nothing is endorsed or put meanwhile.
         self.forked: str | None = None
+        self.lies: dict[str, Quota] = {}
         # When the log was seen last to take entries.
         self.led = time.monotonic()
         # This organisation's part of the log, and what of the log counts.
@@ -181,7 +183,7 @@ class Chain:
     def hear_fork(self, organisation: str, number: str) -> None:
         """Somebody has another block: as long as nobody has looked into these very words, the node reads on, and puts nothing."""
         words = f"{organisation} says that it has another block {number}"
-        self.say(f"forked: {words}")
+        self.lies.setdefault(organisation, Quota(organisation, self.say)).tell(f"forked: {words}")
         if f"{organisation} {number}" not in self.config.ledger.past_forks:
             self.forked = self.forked or words
 

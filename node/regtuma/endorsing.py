@@ -97,7 +97,7 @@ class Endorsing:
     def __init__(self, config: Config, chain: Chain):
         self.config, self.chain = config, chain
         ledger = config.ledger
-        self.approver = Approver("the approver", ledger.approver) if ledger.approver else None
+        self.approver = Approver("the approver", ledger.approver, chain.say) if ledger.approver else None
         self.agreed = Agreed(ledger.store + ".agreed")
         # The proposals that approver and peer are given, by who asks.
         self.turns: weakref.WeakValueDictionary[str, asyncio.Semaphore] = weakref.WeakValueDictionary()

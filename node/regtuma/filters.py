@@ -1,6 +1,9 @@
 """Filters as children: lines in, lines out. They are the proved program's `peer` (peer.py) and the approver (endorsing.py)."""
 import asyncio
 import collections
+from collections.abc import Callable
+
+from . import journal
 
 # The longest line, as a block's JSON, and how much is read at a time.
 LONGEST, PIECE = 1 << 24, 1 << 18
@@ -18,9 +21,13 @@ class TooLong(Exception):
     """A filter's line is longer than any that the node reads, as the history of a key that was written very often."""
 
 
+def say_nothing(_line: str) -> None:
+    """Where nobody wants to know what a filter says on its standard error."""
+
+
 class Filter:
-    def __init__(self, name: str, command: list[str]):
-        self.name, self.command = name, command
+    def __init__(self, name: str, command: list[str], say: Callable[[str], None] = say_nothing):
+        self.name, self.command, self.say = name, command, say
         self.is_started = False
 
     async def start(self) -> None:
@@ -29,11 +36,12 @@ class Filter:
         self.begun, self.is_cut = b"", False
         pipe = asyncio.subprocess.PIPE
         try:
-            self.process = await asyncio.create_subprocess_exec(*self.command, stdin=pipe, stdout=pipe, limit=PIECE)
+            self.process = await asyncio.create_subprocess_exec(*self.command, stdin=pipe, stdout=pipe, stderr=pipe, limit=PIECE)
         except OSError as error:
             raise FilterEnded(f"{self.name}: {self.command[0]} cannot be run: {error.strerror}") from None
-        # Both are pipes.
-        assert self.process.stdin and self.process.stdout
+        # All are pipes.
+        assert self.process.stdin and self.process.stdout and self.process.stderr
+        self.errors = asyncio.ensure_future(journal.follow(self.name, self.process.stderr, self.say))
         self.stdin, self.stdout, self.is_started = self.process.stdin, self.process.stdout, True
         # Where it ends before it has read all, that is asked for here: else asyncio of Python 3.11.2 says that nobody did.
         closed = asyncio.ensure_future(self.stdin.wait_closed())
@@ -81,6 +89,12 @@ class Filter:
         except asyncio.TimeoutError:
             self.process.kill()
             await self.process.wait()
+        await self._end_errors()
+
+    async def _end_errors(self) -> None:
+        """What it said last is said. A child of its own may keep its standard error open."""
+        await asyncio.wait([self.errors], timeout=LAST_SECONDS)
+        self.errors.cancel()
 
     async def _drain(self) -> None:
         while await self.stdout.read(1 << 16):
@@ -90,8 +104,8 @@ class Filter:
 class Asked(Filter):
     """A filter that answers each line by one line, in their order."""
 
-    def __init__(self, name: str, command: list[str]):
-        super().__init__(name, command)
+    def __init__(self, name: str, command: list[str], say: Callable[[str], None] = say_nothing):
+        super().__init__(name, command, say)
         # The lines that wait for an answer, each with who asked; and by how many of their kind may wait at a time those that are not
         # written yet, and how many are.
         self.asked: collections.deque[tuple[str, asyncio.Future[str], int]] = collections.deque()

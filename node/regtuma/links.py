@@ -8,6 +8,7 @@ import aiohttp
 
 from .config import Config
 from .fields import CALLER_HEADER
+from .journal import Quota
 from .proposals import is_hex, matches
 from .waiting import TooMuch, value_of, whole
 from .wire import Object
@@ -90,7 +91,7 @@ class Link(Batches):
 
     def __init__(self, organisation: str, config: Config, say: Callable[[str], None]):
         super().__init__(REQUESTS)
-        self.organisation, self.url, self.say = organisation, config.nodes[organisation], say
+        self.organisation, self.url, self.quota = organisation, config.nodes[organisation], Quota(organisation, say)
         connector = aiohttp.TCPConnector(ssl=config.node_tls(organisation), limit_per_host=8)
         # Where there are no certificates, a node says who it is.
         headers = {CALLER_HEADER: f"{config.organisation}/node"} if config.is_local else {}
@@ -140,7 +141,7 @@ class Link(Batches):
 
     def pass_over(self, why: str) -> None:
         """The node is not asked for a while. Those who wait for their turn have no answer at once, so that they ask another one's."""
-        self.say(f"no endorsement of {self.organisation}: {why}")
+        self.quota.tell(f"no endorsement of {self.organisation}: {why}")
         self.down = time.monotonic() + DOWN_SECONDS
         waiting, self.waiting = self.waiting, []
         for _, _, done in waiting:

@@ -7,7 +7,7 @@ import json
 from collections.abc import Awaitable, Callable
 from typing import Any
 
-from .filters import MOST_ASKED, Asked, FilterEnded, TooLong
+from .filters import MOST_ASKED, Asked, FilterEnded, TooLong, say_nothing
 
 # So many lines of the log are handed on together: what is asked meanwhile comes between.
 AT_ONCE = 64
@@ -17,8 +17,8 @@ LONG, MOST_LONG = ("block", "history", "transaction"), 4
 
 
 class Peer(Asked):
-    def __init__(self, command: list[str], hear_log: Callable[[list[str]], Awaitable[None]]):
-        super().__init__("ledger peer", command)
+    def __init__(self, command: list[str], hear_log: Callable[[list[str]], Awaitable[None]], say: Callable[[str], None] = say_nothing):
+        super().__init__("ledger peer", command, say)
         # Who hears what becomes of the log's lines, a word at a time.
         self.hear_log = hear_log
         self.turn = 0

@@ -48,6 +48,11 @@ class Case(unittest.IsolatedAsyncioTestCase):
         self.enterContext(mock.patch.object(gateway.Link, "most", lambda _: 1))
         self.enterContext(mock.patch("regtuma.links.ENDORSE_SECONDS", PATIENCE))
 
+    def say(self, line: str) -> None:
+        """What the node says itself; the peer's sentences, of which each begins so, are no matter here."""
+        if not line.startswith("ledger: "):
+            self.said.append(line)
+
     async def begin(self, organisation: str = "Maker", store: str = "store", **nodes: str) -> Gateway:
         """A node's part as it runs, with other organisations' nodes at these URLs. Its works are cancelled behind the test."""
         key = "" if organisation == "Maker" else f'keys = "{organisation}"\n'
@@ -55,7 +60,7 @@ class Case(unittest.IsolatedAsyncioTestCase):
         changes = [('"Maker"', f'"{organisation}"'), ('"ledger"', f'"{program.find()}"'), ('"chain.store"', f'"{store}"'),
                    ('keys = "maker.key"\n', key), ('Carrier = "http://127.0.0.1:7052"', others)]
         config = self.folder.config(*changes, text=support.LOCAL)
-        chain = Chain(config, FileLog(str(self.log)), self.said.append)
+        chain = Chain(config, FileLog(str(self.log)), self.say)
         self.addAsyncCleanup(chain.log.close)
         made = Gateway(config, chain, Endorsing(config, chain))
         self.addAsyncCleanup(made.close)
