@@ -289,10 +289,14 @@ class Api:
                 return
 
     async def ask(self, request: web.Request, form: str, what: str, **question: object) -> web.StreamResponse:
-        """What the program answers to a question, with its height, in this form."""
-        async def text() -> AsyncIterator[str]:
-            yield form.format(*await self.chain.peer.text_of(what, **question))
-        return await self.send(request, text(), JSON)
+        """What the program answers to a question, with its height, in this form. As long as it is on its way, a long one counts among the
+        bytes that are held for the organisation."""
+        async def texts() -> AsyncIterator[str]:
+            text = form.format(*await self.chain.peer.text_of(what, **question))
+            if len(text) > PIECE:
+                self.access.load.take(request, len(text))
+            yield text
+        return await self.send(request, texts(), JSON)
 
     async def tell(self, request: web.Request, said: Object, status: int = 200) -> web.StreamResponse:
         """An answer that may be long: as long as it is on its way, it is one of the bytes that are held for the organisation."""

@@ -53,6 +53,9 @@ class LongBlocks(Query):
     async def text_of(self, what, **question):
         if what == "block":
             return json.dumps({"block": question["number"], "txs": [], "long": f"{LONG}{question['number']}"}), BLOCKS
+        if what in ("range", "history"):
+            # As long as 1,000 entries of 4,096 bytes.
+            return f'["{28 * LONG}"]', BLOCKS
         return await super().text_of(what, **question)
 
 
@@ -326,6 +329,16 @@ class Doors(unittest.TestCase):
         for it in held:
             it.close()
         self.come(lambda: self.answered(self.connect("alice"), call)[0] == 200)
+
+    def test_who_does_not_read_many_entries(self):
+        for path, route in (("/state?limit=1000", "/state"), ("/history/a", "/history/{key}")):
+            for name in ("alice", "bob"):
+                for _ in range(20):
+                    self.connect(name).sendall(f"GET {path} HTTP/1.1\r\nHost: 127.0.0.1\r\n\r\n".encode())
+            self.come(lambda: self.counted(429, route) > 0 and self.get("/height", "carrier")[0] == 200)
+            self.others_are_served("carrier")
+        self.opened.close()
+        self.come(lambda: self.get("/state", "alice")[0] == 200)
 
     def test_a_body_of_many_values(self):
         said = self.answered(self.connect("alice"), self.post(b'{"calls":[' + b"[]," * 1_700_000 + b"[]]}", JSON))
