@@ -176,6 +176,9 @@ class World:
         self.configure_proxy(place)
         others = [it for it in self.known if it != org]
         endpoints = [f"https://{self.etcd_at(it, place)}" for it in sorted(self.voters, key=lambda it: it != org)]
+        if org in self.voters and org == place != self.cabled:
+            # An organisation's own node has no door before its member.
+            endpoints[0] = f"https://{self.address[org]}:{LOCAL}"
         parts: dict[str, dict[str, object]] = {
             "": {"organisation": org, "listen": str(self.sockets(place) / "node.sock"), "page": str(self.sockets(place) / "page.sock")},
             "ledger": {"program": self.program, "genesis": "genesis.json", "store": "chain.store", "keys": "secret.key", "seen": 4,
@@ -183,7 +186,7 @@ class World:
             "tls": {"certificate": "node.pem", "key": "node.key"},
             "authorities": {it: f"../{it.lower()}/ca.pem" for it in self.known},
             "etcd": {"endpoints": endpoints, "authorities": "etcd/members.pem", "user": org.lower(), "password_file": "etcd.password",
-                     "local": f"https://{self.address[org]}:{LOCAL}", "certificate": "etcd.pem", "key": "etcd.key"},
+                     "certificate": "etcd.pem", "key": "etcd.key"},
             "nodes": {it: self.url(it) for it in others},
             "rights": {"read": [f"{org}/*"], "observe": [f"{org}/*"], "evaluate": [f"{org}/alice"], "submit": [f"{org}/alice"],
                        "endorse": [f"{it}/node" for it in others], "agree": [f"{org}/operator"]},

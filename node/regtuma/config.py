@@ -62,13 +62,12 @@ class Files:
 
 @dataclasses.dataclass
 class Etcd(Files):
-    # Asked in turn, the first as long as it answers; and by which authorities their certificates are signed.
+    # Asked in turn, the first as long as it answers: the organisation's own, past its door; and by which authorities their
+    # certificates are signed.
     endpoints: list[str]
     authorities: str
     user: str = ""
     password_file: str = ""
-    # Where this machine's own member is for its operator, past the door.
-    local: str = "https://127.0.0.1:2378"
 
 
 @dataclasses.dataclass

@@ -89,7 +89,7 @@ TABLES: dict[str, dict[str, Field]] = {
     "tls": {"certificate": NEEDED_FILE, "key": NEEDED_FILE},
     "etcd": {"endpoints": Field(lambda it: listed(url)(it) and it != [], "a list of URLs with ports, one at least", True),
              "user": Field(text, "the name of a user of etcd"), "password_file": FILE,
-             "local": URL, "authorities": NEEDED_FILE, "certificate": NEEDED_FILE, "key": NEEDED_FILE},
+             "authorities": NEEDED_FILE, "certificate": NEEDED_FILE, "key": NEEDED_FILE},
     "ticks": {"wait": number(0.01, 3600, whole=False), "longest": number(0.01, 86400, whole=False),
               "begins": Field(date, "a date, as 2026-12-01"), "lasts_days": number(1, 36500), "burst": number(0, 40000)},
     "rights": {it: CALLERS for it in RIGHTS},

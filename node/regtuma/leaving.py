@@ -52,7 +52,7 @@ async def leave(config: Config, organisation: str, root_password: str) -> str:
     done = []
     if root_password:
         password = pathlib.Path(root_password).read_text(encoding="utf-8").strip()
-        etcd = EtcdLog([config.etcd.local], "root", password, config.etcd_tls())
+        etcd = EtcdLog(config.etcd.endpoints[:1], "root", password, config.etcd_tls())
         try:
             done = await leave_etcd(etcd, organisation)
         finally:
