@@ -114,6 +114,7 @@ read_authority() { # FOLDER NAME: the certificate of one organisation's authorit
     owner=${subject#subject=O=}
     owner=${owner%%,*}
     case $owner in "" | *[!A-Za-z0-9_]*) complain "$file has to name one organisation" ;; esac
+    check_organisation "$owner"
     # Whole lines are compared: of a name of several parts, or a long number, another program may read another part.
     constraints=$(echo "$certificate" | openssl x509 -noout -ext basicConstraints 2> /dev/null)
     test "$subject" = "subject=$(subject_of "$2" "$owner")" && test "$constraints" = "$CONSTRAINTS" ||

@@ -174,7 +174,9 @@ class Chain:
                     self.resolve(id, {"id": id, "refused": int(number), "why": f"the orderer skips its envelope (refused {number})"})
             case ["aborted", id, number]:
                 self.counts[f"aborted {number}"] += 1
-                self.resolve(id, {"id": id, "refused": int(number)})
+                # Whoever knows the id may have put an envelope that is left out, before the one that was endorsed.
+                if self.origins.is_own(id):
+                    self.resolve(id, {"id": id, "refused": int(number)})
             case ["forked", organisation, number]:
                 self.hear_fork(organisation, number)
             case _:

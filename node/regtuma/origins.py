@@ -28,6 +28,8 @@ class Origins:
         # The calls that this node has under way, by their ids, as soon as an envelope of them was read; and what the node put itself.
         self.first: dict[str, Origin | None] = {}
         self.put: dict[str, bytes] = {}
+        # The calls of which an envelope was read that this node did not put.
+        self.foreign: set[str] = set()
         # Which organisation used up an id, and those that ever did since the node began.
         self.used_up: collections.OrderedDict[str, str] = collections.OrderedDict()
         self.blamed: set[str] = set()
@@ -45,17 +47,25 @@ class Origins:
         """A call is under way no more."""
         self.first.pop(id, None)
         self.put.pop(id, None)
+        self.foreign.discard(id)
+
+    def is_own(self, id: str) -> bool:
+        """Whether each envelope of a call that was read is the one that this node put."""
+        return id in self.put and id not in self.foreign
 
     def read(self, name: bytes, lines: Iterable[bytes]) -> None:
         """The lines that count of the entry of a name come next in the log."""
         if not self.first:
             return
-        organisation = name.partition(b"/")[0].decode()
+        organisation = name.partition(b"/")[0].decode("latin-1")
         for line in lines:
             envelope = line.rstrip(b"\n").partition(b" ")[2]
             id = id_in(envelope)
-            if id in self.first and self.first[id] is None:
-                self.first[id] = Origin(organisation, digest_of(envelope))
+            if id in self.first:
+                digest = digest_of(envelope)
+                self.first[id] = self.first[id] or Origin(organisation, digest)
+                if digest != self.put.get(id):
+                    self.foreign.add(id)
 
     def judge(self, id: str, flag: str) -> None:
         """A transaction of the chain has a flag. If another organisation's envelope came first, and the policy does not accept it, that

@@ -185,8 +185,22 @@ class Lines(Case):
 
     async def test_an_aborted_transaction_is_told(self):
         waiter = self.chain.wait_for("ab")
+        self.chain.origins.begin("ab")
+        self.chain.origins.note_put("ab", ENVELOPE)
         await self.passed("aborted ab 441")
         self.assertEqual((await self.gateway.outcome("Maker/alice", waiter.result()))["refused"], 441)
+
+    async def test_an_envelope_of_another_one_that_is_aborted_is_not_told(self):
+        """Nor that of a call which another node has put: its own one may come into a block."""
+        waiter = self.chain.wait_for("ab")
+        await self.passed("aborted ab 442")
+        self.chain.origins.begin("ab")
+        self.chain.origins.note_put("ab", ENVELOPE)
+        self.chain.origins.foreign.add("ab")
+        await self.passed("aborted ab 442")
+        self.assertFalse(waiter.done())
+        await self.passed("tx 7.0 ab 0 6d", "committed 7 flags 0")
+        self.assertEqual(waiter.result()["flag"], 0)
 
     async def test_a_call_whose_line_is_skipped_is_told_why(self):
         waiter, envelope = self.chain.wait_for("ab"), ENVELOPE

@@ -41,7 +41,7 @@ class Blame(unittest.TestCase):
         self.origins, self.call_id = Origins("Maker", self.said.append), id_of(CALL)
 
     def read(self, name: str, *envelopes: str) -> None:
-        self.origins.read(name.encode(), [f"7.{place} {it}\n".encode() for place, it in enumerate(envelopes)])
+        self.origins.read(name.encode("latin-1"), [f"7.{place} {it}\n".encode() for place, it in enumerate(envelopes)])
 
     def blamed(self, *entries: tuple[str, str], flag: str = "1", put: str = "") -> set[str]:
         """Who is blamed where these entries come in this order, and the first has this flag."""
@@ -70,6 +70,14 @@ class Blame(unittest.TestCase):
             self.assertEqual(self.blamed(("Shop/x", other), flag=flag, put=own), set())
         for entries in ([("Shop/x", own.upper())], [("Maker/call", own), ("Shop/x", other)], [("Maker/other", other)], []):
             self.assertEqual(self.blamed(*entries, put=own), set())
+
+    def test_whose_envelopes_were_read(self):
+        own, other = envelope(CALL), envelope(CALL, "00")
+        for entries, wanted in (([], True), ([("Maker/call", own)], True), ([("Shop/x", other), ("Maker/call", own)], False),
+                                ([("\xff/x", other)], False)):
+            self.assertEqual((self.blamed(*entries, flag="0", put=own), self.origins.is_own(self.call_id)), (set(), wanted))
+        self.origins.end(self.call_id)
+        self.assertEqual((self.origins.is_own(self.call_id), self.origins.foreign), (False, set()))
 
     def use_up(self, count: int) -> None:
         """The Shop uses up the ids of so many calls."""
