@@ -25,7 +25,7 @@ LONGEST, LONGEST_ONE, MOST_COMMAS = 16 << 20, (1 << 20) + (1 << 16), 1000
 WORDS, MOST_WORDS = 1 << 20, 300
 # The status of a node that holds as much for the asking organisation as it does at a time.
 TOO_MANY = 429
-REFUSAL = re.compile(r"refused \d{1,3}( .*)?")
+REFUSAL = re.compile(r"refused \d{1,3}( .{0,%d})?" % MOST_WORDS, re.ASCII)
 # A proposal, the height on which it is simulated at least, and who waits for the answer.
 Waiting = tuple[Object, int, asyncio.Future[Object | None]]
 

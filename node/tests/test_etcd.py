@@ -213,6 +213,13 @@ class Failures(Case):
             self.assertFalse(await log.is_led())
             self.assertEqual(await found, [b"5.0 a\n", b"6.0 b\n"])
 
+    async def test_the_first_member_is_asked_again_as_soon_as_it_is_well(self):
+        well = (200, {})
+        first, second = Node(NO_LEADER, well, well), Node(well, well)
+        log = await self.log(first, second)
+        self.assertEqual([(await log.is_led(), log.turn) for _ in range(2)], [(False, 1), (True, 0)])
+        self.assertEqual((len(first.asked), len(second.asked)), (3, 0))
+
     async def test_a_watch_that_is_silent_for_too_long_is_begun_again(self):
         first, second = Node([told(event(5, "a")), "nothing"]), Node([told(event(6, "b"))])
         with mock.patch.object(etcd, "QUIET", 0.3), mock.patch.object(etcd, "LOOK", 0.1):

@@ -90,7 +90,8 @@ class AnswersOfNodes(unittest.TestCase):
 
     def test_what_is_none(self):
         for it in (None, [], {}, {"payload": "aa"}, {"payload": "aa", "endorsement": "01\nff"}, {"payload": 1, "endorsement": "01"},
-                   {"refused": "yes"}, {"refused": "refused x"}, {"refused": "refused 4\nrefused 5"}, {"denied": None}):
+                   {"refused": "yes"}, {"refused": "refused x"}, {"refused": "refused 4\nrefused 5"}, {"refused": f"refused 404 {'a' * 301}"},
+                   {"denied": None}):
             self.assertFalse(is_answer({**it, "height": 1} if isinstance(it, dict) else it), it)
         self.assertFalse(is_answer({"denied": "no", "height": "1"}))
 
