@@ -87,8 +87,7 @@ class Api:
         chain, awaited, now, wrong = self.chain, self.chain.awaited, time.monotonic(), []
         if chain.forked:
             wrong.append(f"forked: {chain.forked}. Compare the hash of that block with each organisation, not through the log")
-        patience = STUCK + self.config.ticks.seconds(awaited.number, time.time())
-        if awaited.since and now - awaited.since > patience and not chain.is_full:
+        if awaited.since and now - awaited.since > STUCK + chain.wait and not chain.is_full:
             wrong.append("envelopes wait, and no tick comes: the log may take none")
         if (unled := now - chain.led) > UNLED:
             wrong.append(f"the log could take no entry for {unled:.0f} s: {chain.log.why}")
@@ -100,7 +99,7 @@ class Api:
 
     def warnings(self) -> list[str]:
         warnings = [self.endorsing.out_of_place and f"nothing is endorsed: {self.endorsing.out_of_place}",
-                    self.config.ticks.warning(self.chain.height, self.chain.share, time.time()),
+                    self.config.ticks.warning(self.chain.height, self.chain.share, self.chain.wait),
                     *(f"{it} used up the id of a call of ours, and is asked to endorse only if no others will do"
                       for it in sorted(self.chain.origins.blamed))]
         return [it for it in warnings if it]

@@ -125,6 +125,11 @@ class Chain:
         """How many blocks this organisation can bring about still."""
         return self.lines.shares.left(self.part)
 
+    @property
+    def wait(self) -> float:
+        """For how many seconds this organisation's envelopes wait before it asks for a block, by what it has brought about itself."""
+        return self.config.ticks.seconds(self.lines.shares.brought(self.part), time.time())
+
     async def standing(self) -> dict[str, Key]:
         """The members and their keys, as the store has them now."""
         return await self.keys.at(self.peer, self.height)
@@ -230,7 +235,7 @@ class Chain:
         if self.read < self.given or awaited.since is None or self.forked or ticks.is_full(awaited.number) or not self.share:
             return False
         asked = asking.at if asking.number == self.lines.ticks + 1 else 0.0
-        return now - max(awaited.since, asked) >= self.config.ticks.seconds(awaited.number, time.time())
+        return now - max(awaited.since, asked) >= self.wait
 
     async def tick(self, now: float) -> None:
         """Asks for a block, where one is due. Nodes of one organisation ask by one name; that may be used up, so that the next one has

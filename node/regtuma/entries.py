@@ -110,6 +110,10 @@ class Shares:
         self.total += cost
         return True
 
+    def brought(self, part: bytes) -> int:
+        """How many blocks a part has brought about, at the most."""
+        return self.paid[part] // self.block
+
     def left(self, part: bytes) -> int:
         """How many blocks a part can still bring about, where no other one brings about any."""
         left = LAST_BLOCK * self.block - self.total

@@ -1,5 +1,6 @@
 """The chain's decisions, with a peer, an approver and a log that say what a test wants."""
 import asyncio
+import dataclasses
 import json
 import time
 import unittest
@@ -8,7 +9,7 @@ from unittest import mock
 
 import support
 from regtuma import chain as chains
-from regtuma import config, endorsing, gateway
+from regtuma import config, endorsing, gateway, ticks
 from regtuma.chain import Asking, Awaited, Chain
 from regtuma.endorsing import Agreed, Endorsing
 from regtuma.entries import Entry, LogError
@@ -142,6 +143,23 @@ class Ticks(Case):
             self.chain.counted(Entry(2, f"{part}/call-1".encode(), ENVELOPE.encode()))
             await self.passed("read 2.0 1")
             self.assertEqual(self.chain.awaited.since is not None, is_asked)
+
+    async def test_blocks_of_others_make_nobody_here_wait_longer(self):
+        """An organisation waits by the blocks that it has brought about itself."""
+        plan = ticks.Ticks(begins=time.time(), lasts_days=365, burst=10)
+        self.chain.config = dataclasses.replace(self.config, ticks=plan)
+        for part, is_due in (("Shop", True), ("Maker", False)):
+            self.bring_about(part, 20)
+            for height in (0, 20, 40):
+                self.assertEqual(self.due(100.5, Awaited(height + 1, 1, 100.0)), is_due, (part, height))
+        self.assertTrue(self.due(100.0 + plan.longest, Awaited(41, 1, 100.0)))
+
+    def bring_about(self, part: str, blocks: int) -> None:
+        """The log has so many blocks of one envelope each in an organisation's part."""
+        for _ in range(blocks):
+            number = self.chain.lines.ticks + 1
+            for name, text in ((f"{part}/call-{number}", ENVELOPE), (f"{part}/tick-{number}", "tick")):
+                self.assertEqual(len(self.chain.counted(Entry(number, name.encode(), text.encode()))), 1)
 
     async def test_waiting_is_measured_by_a_clock_that_never_goes_back(self):
         for revision, now in enumerate((0.0, 1e12), 2):

@@ -1,4 +1,4 @@
-"""When blocks are asked for, over simulated years, and what is told of a chain that comes to its end."""
+"""When an organisation asks for blocks, over simulated years, and what is told of a chain that comes to its end."""
 import dataclasses
 import random
 import unittest
@@ -11,18 +11,18 @@ BEGINS = float(DAY)
 
 
 def chain(rule: Ticks, arrivals: list[float], block: int = 512) -> tuple[int, list[float]]:
-    """The number of the block behind those that calls at these times make, and how long each call waits, sorted."""
-    number, waits = 1, []
+    """How many blocks calls of one organisation at these times bring about, and how long each call waits, sorted."""
+    brought, waits = 0, []
     pending: list[float] = []
     for at in arrivals:
-        if pending and at >= (due := pending[0] + rule.seconds(number, pending[0])):
+        if pending and at >= (due := pending[0] + rule.seconds(brought, pending[0])):
             waits += [due - it for it in pending]
-            number, pending = number + 1, []
+            brought, pending = brought + 1, []
         pending.append(at)
         if len(pending) == block:
             waits += [at - it for it in pending]
-            number, pending = number + 1, []
-    return number, sorted(waits)
+            brought, pending = brought + 1, []
+    return brought, sorted(waits)
 
 
 def office(days: int, calls_a_day: int) -> list[float]:
@@ -38,19 +38,19 @@ def plan(days: int, **more) -> Ticks:
 
 class Years(unittest.TestCase):
     def test_light_traffic_waits_half_a_second(self):
-        number, waits = chain(plan(5 * 365), office(5 * 365, 30))
-        self.assertLess(number, LAST_BLOCK)
+        brought, waits = chain(plan(5 * 365), office(5 * 365, 30))
+        self.assertLess(brought, LAST_BLOCK)
         self.assertEqual(waits[len(waits) * 99 // 100], 0.5)
 
-    def test_a_chain_lasts_as_long_as_it_was_laid_out(self):
+    def test_a_share_lasts_as_long_as_it_was_laid_out(self):
         for calls in (100, 1000):
-            number, waits = chain(plan(365, longest=3600.0), office(365, calls))
-            self.assertLessEqual(number, SHARE)
+            brought, waits = chain(plan(365, longest=3600.0), office(365, calls))
+            self.assertLessEqual(brought, SHARE)
             self.assertLess(waits[-1], 3600.1)
 
     def test_five_busy_years(self):
-        number, _ = chain(plan(5 * 365, longest=3600.0), office(5 * 365, 300))
-        self.assertLessEqual(number, SHARE)
+        brought, _ = chain(plan(5 * 365, longest=3600.0), office(5 * 365, 300))
+        self.assertLessEqual(brought, SHARE)
 
     def test_without_a_plan_each_block_waits_alike(self):
         self.assertEqual(Ticks().seconds(60000, 1e9), 0.5)
@@ -59,24 +59,24 @@ class Years(unittest.TestCase):
         self.assertEqual(plan(365, longest=60.0).seconds(LAST_BLOCK, BEGINS + DAY), 60.0)
 
     def test_before_the_day_it_begins_the_burst_is_there(self):
-        self.assertEqual((plan(365).seconds(1000, 0.0), plan(365).seconds(1001, 0.0) > 0.5), (0.5, True))
+        self.assertEqual((plan(365).seconds(999, 0.0), plan(365).seconds(1000, 0.0) > 0.5), (0.5, True))
 
 
 class Words(unittest.TestCase):
     def test_a_promise_that_is_not_kept_is_told(self):
-        self.assertIn("lets the chain end after 398 days of steady traffic, not after 1825: 3275 s would do", plan(1825).promise())
+        self.assertIn("lets this organisation use up its share after 398 days of steady traffic, not after 1825: 3275 s would do", plan(1825).promise())
         self.assertEqual((plan(365).promise(), Ticks().promise()), ("", ""))
 
     def test_the_end_comes_near(self):
         rule = Ticks()
-        said = [rule.warning(*it, BEGINS) for it in ((55535, ticks.FEW), (55535, ticks.FEW - 1), (LAST_BLOCK - 1, 0), (LAST_BLOCK, 0))]
+        said = [rule.warning(*it, rule.wait) for it in ((55535, ticks.FEW), (55535, ticks.FEW - 1), (LAST_BLOCK - 1, 0), (LAST_BLOCK, 0))]
         self.assertEqual(said, ["", "the chain has 10000 blocks left, and this organisation's share of these is 4999",
                                 "the chain has 1 blocks left, and this organisation's share of these is 0",
                                 "the chain is full: it has its 65,535 blocks, and takes no calls"])
 
     def test_ahead_of_the_plan(self):
-        self.assertIn("ahead of its plan, so a block is asked for after 700 s: 60535 blocks are left", plan(365).warning(5000, SHARE, BEGINS))
-        self.assertEqual(plan(365).warning(900, SHARE, BEGINS), "")
+        said = "this organisation is ahead of its plan, so it asks for a block after 700 s: 40000 blocks of its share are left"
+        self.assertEqual([plan(365).warning(5000, 40000, it) for it in (0.5, 700.0)], ["", said])
 
     def test_the_last_block_is_the_end(self):
         self.assertEqual([ticks.is_full(it) for it in (1, LAST_BLOCK, LAST_BLOCK + 1)], [False, False, True])
