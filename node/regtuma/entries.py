@@ -31,6 +31,8 @@ SHORTEST = 2 + 2 + 16 + 4 * 2 + 1
 ENVELOPE, GENESIS = rb"[0-9A-Fa-f]{%d,}\n" % (2 * SHORTEST), rb"genesis [0-9a-f]{64}\n"
 MARKS, FIRST_MARKS, REFILL_MARKS = (re.compile(rb"\n(?:%s)" % b"|".join(it))
                                     for it in ([ENVELOPE], [ENVELOPE, GENESIS], [ENVELOPE, GENESIS, rb"tick\n"]))
+# An envelope of so many bytes costs no more than two blocks, however small the batches of a ledger are.
+LONG = 65536
 # Whose the blocks of a refill are.
 NOBODY = b""
 # The most envelopes that any ledger's batch may have.
@@ -82,6 +84,8 @@ class Shares:
     is there for the others. That is counted by the lines alone, since a log has no state. A tick costs a block. An envelope costs
     what it adds to a batch: of a batch that ends by its envelopes' count, or by their bytes and those of the next one, each has
     paid its part. So there are never more blocks than were paid for.
+
+    Every peer keeps each envelope. So all bytes are paid for: those of a batch alone too, which makes one block however long it is.
     """
 
     def __init__(self, count: int, preferred: int):
@@ -93,8 +97,10 @@ class Shares:
         self.total = 0
 
     def cost(self, size: int) -> int:
-        """What an envelope of so many bytes costs: two blocks where it ends what waits, and is a batch alone."""
-        weight = min(size, self.preferred) * self.count
+        """What an envelope of so many bytes costs: two blocks or more where it ends what waits, and is a batch alone."""
+        if size > self.preferred:
+            return 2 * max(self.block, size * self.block // max(self.preferred, LONG))
+        weight = size * self.count
         return weight + max(weight, self.preferred)
 
     def bears(self, part: bytes, cost: int) -> bool:

@@ -124,6 +124,14 @@ class Attacks(unittest.TestCase):
             self.assertEqual(counted(lines, ("Shop/large", "00" * 4096), first=200), [])
             self.others_go_on(lines, 9000)
 
+    def test_by_long_envelopes(self):
+        """Each peer keeps all their bytes, and so these are paid for."""
+        with mock.patch.object(entries, "LAST_BLOCK", 600):
+            lines, long = Lines(), "00" * 266_531
+            many = len(counted(lines, *((f"Shop/{it}", long) for it in range(60))))
+            self.assertTrue(50 < many <= 450 * 32_768 // 266_531, many)
+            self.others_go_on(lines, 9000)
+
     def test_by_a_tick_behind_each_envelope_of_others(self):
         """Who ticks pays: what others put costs them no more than their part of a block."""
         with mock.patch.object(entries, "LAST_BLOCK", 600):
@@ -148,6 +156,15 @@ class Attacks(unittest.TestCase):
         for wrong in ("\n" + said, f"seen Shop 70 {'0f' * 32}", "seen Shop 7"):
             self.assertEqual(counted(lines, ("Shop/seen-7", wrong)), [])
         self.others_go_on(lines, 9)
+
+    def test_the_longest_envelope_counts_in_each_ledger(self):
+        for preferred in (1, 1000, 65_536, 524_288):
+            shares = Shares(512, preferred)
+            costs = [shares.cost(it) / shares.block for it in (preferred, preferred + 1, 65_536, 524_288)]
+            with self.subTest(preferred=preferred):
+                self.assertTrue(max(costs[:3]) < 2.1, costs)
+                self.assertEqual(costs[3], 2 if preferred == 524_288 else 16)
+                self.assertEqual(len(counted(Lines(512, preferred), ("Maker/a", "00" * 524_288))), 1)
 
     def test_two_leave_a_sixteenth(self):
         with mock.patch.object(entries, "LAST_BLOCK", 600):
@@ -248,6 +265,18 @@ class Plain:
         return True
 
 
+def batches(count: int, preferred: int, sizes: list[int]) -> int:
+    """How many batches are cut of envelopes of these sizes without a tick, by docs/RULES.md, "Ordering"."""
+    cut, waiting = 0, list[int]()
+    for size in sizes:
+        if waiting and sum(waiting) + size > preferred:
+            cut, waiting = cut + 1, []
+        waiting.append(size)
+        if size > preferred or len(waiting) == count:
+            cut, waiting = cut + 1, []
+    return cut
+
+
 class Blocks(unittest.TestCase):
     """A peer never makes more blocks than were paid for, whatever it is given."""
 
@@ -265,6 +294,16 @@ class Blocks(unittest.TestCase):
         said = support.ledger("peer", genesis, pathlib.Path(room) / "chain.store", lines=given.decode())
         self.assertNotIn("skipped", said)
         return said.count("committed "), lines.shares.total / lines.shares.block
+
+    def test_by_the_rules(self):
+        """Of lengths up to the longest, for which the program would take long."""
+        chance = random.Random(11)
+        for count, preferred in itertools.product((1, 2, 7, 512), (1, 500, 65_536, 524_288)):
+            shares, kinds = Shares(count, preferred), (29, preferred // 3, preferred, preferred + 1, 65_537, 524_288)
+            for _ in range(20):
+                sizes = [max(29, chance.choice(kinds)) for _ in range(chance.randrange(1, 40))]
+                paid = sum(map(shares.cost, sizes)) / shares.block
+                self.assertLessEqual(batches(count, preferred, sizes), paid, (count, preferred, sizes))
 
     def test_by_the_program(self):
         for count, preferred, seed in ((512, 600, 1), (3, 200, 3), (1, 400, 4), (7, 1, 5)):
