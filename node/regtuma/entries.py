@@ -31,8 +31,8 @@ SHORTEST = 2 + 2 + 16 + 4 * 2 + 1
 ENVELOPE, GENESIS = rb"[0-9A-Fa-f]{%d,}\n" % (2 * SHORTEST), rb"genesis [0-9a-f]{64}\n"
 MARKS, FIRST_MARKS, REFILL_MARKS = (re.compile(rb"\n(?:%s)" % b"|".join(it))
                                     for it in ([ENVELOPE], [ENVELOPE, GENESIS], [ENVELOPE, GENESIS, rb"tick\n"]))
-# An envelope of so many bytes costs no more than two blocks, however small the batches of a ledger are.
-LONG = 65536
+# The longest line of what was seen, by a name of 32 characters, a number of ten digits, and a hash and a signature in hex.
+LONGEST_SEEN = len("seen ") + 33 + 11 + 65 + 128
 # Whose the blocks of a refill are.
 NOBODY = b""
 # The most envelopes that any ledger's batch may have.
@@ -196,7 +196,9 @@ class Lines:
                 found.append((0, b"tick"))
         if (said := SEEN.fullmatch(name)) and name not in self.seen:
             if (at := text.find(b"\nseen %s %s " % said.groups())) >= 0:
-                found.append((at, text[at + 1:text.index(b"\n", at + 1)]))
+                mark = text[at + 1:text.index(b"\n", at + 1)]
+                if len(mark) <= LONGEST_SEEN:
+                    found.append((at, mark))
         return found
 
     def _counts(self, part: bytes, name: bytes, mark: bytes) -> bool:

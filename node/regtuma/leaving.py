@@ -3,10 +3,12 @@
 Files are not written here: whom a machine trusts, and whom a node serves, is changed by its operator.
 """
 import pathlib
+from urllib.parse import urlsplit
 
 from .config import Config, Reader, owners_of
 from .entries import LogError
 from .etcd import EtcdLog
+from .fields import is_loopback
 
 
 async def leave_etcd(etcd: EtcdLog, organisation: str) -> list[str]:
@@ -51,6 +53,9 @@ async def leave(config: Config, organisation: str, root_password: str) -> str:
         raise LogError(f"{organisation} is this organisation itself: it leaves by the others")
     done = []
     if root_password:
+        if not is_loopback(urlsplit(config.etcd.endpoints[0]).hostname or ""):
+            raise LogError("root's password is told to this organisation's own member of etcd alone: let the first of [etcd] endpoints be"
+                           " that, on the loopback")
         password = pathlib.Path(root_password).read_text(encoding="utf-8").strip()
         etcd = EtcdLog(config.etcd.endpoints[:1], "root", password, config.etcd_tls())
         try:

@@ -46,6 +46,11 @@ class Counts(unittest.TestCase):
         self.assertEqual(counted(Lines(), *given), [f"3.2 {ENVELOPE}", "3.3 seen Shop 64 01", f"3.5 {OTHER}", "6.0 seen Shop 65 04",
                                                     "8.0 seen Maker 64 05"])
 
+    def test_what_was_seen_has_a_longest_line(self):
+        said = f"seen Shop 7 {'0f' * 32} {'0f' * 64}"
+        for more, wanted in (("", 1), ("0" * 500, 0)):
+            self.assertEqual(len(Lines().of(Entry(7, b"Shop/seen-7", (said + more).encode()))), wanted)
+
     def test_the_first_line_says_which_genesis_counts(self):
         first, other = (f"genesis {it * 32}" for it in ("0f", "f0"))
         for given in ([("Maker/genesis", first)], [("tick-1", other), ("Maker/genesis", first)],
