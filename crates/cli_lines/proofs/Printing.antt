@@ -1,11 +1,11 @@
 -- Texts that are printed one after another, and beginnings of them.
 use Rattle.std.proofs.Common.{◌≡◌, ℕ, ◌+◌, ◌<◌, ◌≤◌, List, [], ◌∷◌, ◌++◌, length, get_or, take, drop, refl, sym, ap, ◌∙◌, subst, zero, suc, arith}
-use Rattle.std.proofs.Common.{append_assoc, inl, inr, true, Result, Ok, Err, OnOk, OnErr}
+use Rattle.std.proofs.Common.{append_assoc, inl, Result, Ok, Err, OnOk, OnErr}
 use Rattle.std.proofs.lemmas.List.{append-nil, take_all, take-append-drop}
 use Rattle.std.proofs.lemmas.List.Concat.{flat_map-append}
 use Rattle.std.specs.List.{flat_map}
 use Rattle.std.proofs.KnownBytes.{Appends-nil, Appends-trans}
-use Rattle.cli_lines.specs.Told.{Told, IsMore, Prints, PrintsNothing, PrintsPart}
+use Rattle.cli_lines.specs.Told.{Told, Prints, PrintsNothing, PrintsPart}
 use Rattle.cli_lines.proofs.Silence.{no_less, and_more}
 
 pub prints_none : (t : Told) → Prints t t []

@@ -99,6 +99,7 @@ pub trait Files {
         ensures held { IfSome result (λ s. Self.Store.contents s ≡ bytes self.old name.now) }
         ensures there { is_known ≡ true →
             IfSome result (λ _. bytes self.new name.now ≡ bytes self.old name.now) }
+        ensures refused { is_known ≡ true → IfNone result (bytes self.new ≡ bytes self.old) }
         ensures input { input_bytes self.new ≡ input_bytes self.old }
         ensures others { ChangesOnly is_known (name.now ∷ []) (bytes self.old) (bytes self.new) };
 

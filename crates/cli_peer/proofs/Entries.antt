@@ -1,5 +1,5 @@
 -- What is printed of a line of the log.
-use Rattle.std.proofs.Common.{◌≡◌, ℕ, List, [], ◌++◌, false, true, None, OnErr, Result, Ok, Err, refl, sym, subst, inl, inr, ◌⊎◌}
+use Rattle.std.proofs.Common.{◌≡◌, [], ◌++◌, false, true, None, OnErr, Result, Ok, Err, refl, sym, subst, inl, inr, ◌⊎◌}
 use Rattle.hex.specs.Hex.{encode_lower}
 use Rattle.endorsement_policy.specs.Endorsed.{Listed}
 use Rattle.ledger_model.specs.Chain.{Bytes}

@@ -127,7 +127,7 @@ comes_more Does Ends Done Ended does ends text (inr is) = inr (ends text is)
 
 -- ---- lines
 
-next_by : (before after : Input) (there b : Bool) → IsNext there before after → there ≡ b → IsNext b before after
+pub next_by : (before after : Input) (there b : Bool) → IsNext there before after → there ≡ b → IsNext b before after
 next_by before after there b next is = subst (λ (k : Bool). IsNext k before after) is next
 
 -- what is so of each line is more than that

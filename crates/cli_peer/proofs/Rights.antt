@@ -1,5 +1,5 @@
 -- What is endorsed by who stands is right.
-use Rattle.std.proofs.Common.{◌≡◌, ◌∙◌, Bool, true, false, Option, Some, None, Result, Ok, Err, cond, if◌then◌else◌, refl, sym, subst, ap}
+use Rattle.std.proofs.Common.{◌≡◌, ◌∙◌, Bool, true, false, Option, Some, None, Result, Ok, Err, if◌then◌else◌, refl, subst}
 use Rattle.std.specs.Option.{option_map_or}
 use Rattle.fab_types.specs.Payloads.{Payload}
 use Rattle.fab_types.specs.declared.envelope.Endorsement.{Endorsement}
@@ -15,8 +15,7 @@ use Rattle.org_keys.specs.declared.organisation.OrgKey.{OrgKey}
 use Rattle.simulator.specs.declared.refusal.SimRefusal.{SimRefusal}
 use Rattle.cli_peer.specs.Calls.{endorses_by}
 use Rattle.cli_peer.specs.Placing.{place_in, place_of}
-use Rattle.cli_peer.specs.declared.place.Place.{Place}
-use Rattle.cli_peer.specs.declared.place.Place.TheVariants.{Stranger, Keyless, Stands}
+use Rattle.cli_peer.specs.declared.place.Place.TheVariants.{Keyless, Stands}
 
 stands_by : (b : Bool) → (if b then Stands else Keyless) ≡ Stands → b ≡ true
 stands_by true is = refl

@@ -1,5 +1,5 @@
 -- The lines of the standard input, each of which ends with a byte 10. What stands behind the last end may be a part of a line, and is none.
-use Rattle.std.specs.Prelude.{◌≡◌, ◌≢◌, ◌==◌, ◌-◌, ◌++◌, ℕ, Bool, true, false, List, Option, IfSome, All, length, slice_index}
+use Rattle.std.specs.Prelude.{◌≡◌, ◌≢◌, ◌==◌, ◌-◌, ◌++◌, ℕ, Bool, true, false, List, Option, Some, None, IfSome, All, length, slice_index}
 use Rattle.std.specs.Io.KnownBytes.{Consumes}
 use Rattle.std.specs.List.{flat_map, list_any}
 use Rattle.cli_lines.specs.Texts.{line}
@@ -23,6 +23,11 @@ HasNoEnd bytes = All (λ b. b ≢ 10) bytes
 abbrev pub IsNext : Bool → Input → Input → Type 0
 IsNext true old new = HasNoEnd new.last × Consumes old.left new.left (line new.last)
 IsNext false old new = IfSome old.left HasNoEnd
+
+-- the next line is taken, if it is at hand
+abbrev pub IsTaken : Option (List ℕ) → Input → Input → Type 0
+IsTaken (Some l) old new = HasNoEnd l × Consumes old.left new.left (line l)
+IsTaken None old new = (is_at_hand old ≡ false) × (new ≡ old)
 
 -- whether bytes end a line, whose end is taken off
 abbrev pub IsEnded : Bool → List ℕ → List ℕ → Type 0

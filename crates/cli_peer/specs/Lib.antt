@@ -14,6 +14,9 @@ pub mod Printed
 pub mod Logged
 pub mod Peering
 pub mod Running
+pub mod Keeping
+pub mod Alike
 pub mod Spoken
 pub mod Setting
 pub mod Spelled
+pub mod Rounds

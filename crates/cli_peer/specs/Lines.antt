@@ -1,5 +1,5 @@
 -- The lines that a peer reads.
-use Rattle.std.specs.Prelude.{Bool, true, false, Option, Some, None, bytes_eq, codes, if◌then◌else◌}
+use Rattle.std.specs.Prelude.{true, false, Option, Some, None, bytes_eq, codes, if◌then◌else◌}
 use Rattle.ledger_model.specs.Chain.{Bytes}
 use Rattle.cli_peer.specs.Parts.{behind_first, first_word}
 use Rattle.cli_peer.specs.Words.{behind, split_at_space}

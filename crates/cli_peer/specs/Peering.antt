@@ -1,9 +1,8 @@
 -- What `peer` does by its lines, and what is printed of them.
-use Rattle.std.specs.Prelude.{◌≡◌, ◌⊎◌, ℕ, [], false, Option, Some, None, Result}
+use Rattle.std.specs.Prelude.{◌≡◌, ◌⊎◌, ℕ, false, Option, Some, None, Result}
 use Rattle.std.specs.Str.{IsUtf8}
 use Rattle.std.specs.Str.Lossy.{utf8_lossy}
 use Rattle.ledger_model.specs.Chain.{Bytes, Chain}
-use Rattle.log_committer.specs.Peering.{Held}
 use Rattle.log_peer.specs.Peering.{fresh}
 use Rattle.cli_lines.specs.Texts.{bad_line, line}
 use Rattle.cli_lines.specs.declared.failure.Failure.{Failure}

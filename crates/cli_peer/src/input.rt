@@ -1,13 +1,15 @@
 //! The lines of the standard input, as they come.
 
-ghost use Rattle.std.specs.Prelude.{◌≡◌, IfErr, IfOk};
+ghost use Rattle.std.specs.Prelude.{◌≡◌, ◌==◌, IfErr, IfOk, option_map};
+ghost use Rattle.std.specs.List.{position};
 ghost use Rattle.cli_lines.specs.Told.{IsBrokenOff, IsSilent};
-ghost use Rattle.cli_peer.specs.Input.{IsEnded, IsNext, is_at_hand};
+ghost use Rattle.cli_peer.specs.Input.{IsEnded, IsNext, IsTaken, is_at_hand};
 
 use cli_lines::{Failure, Files, Location, STANDARD_INPUT, explain_numbered};
-use std::alloc::Global;
+use std::alloc::{AllocError, Global};
 use std::io::{BufRead, BufReader, Read};
 use std::marker::Model;
+use std::mem;
 
 /// So many bytes are asked for at a time.
 const CAPACITY: usize = 65_536;
@@ -79,11 +81,27 @@ impl<R: Read + Drop> InputLines<R> {
         next
     }
 
-    /// The line that was read last, without its end.
-    pub fn line(&self) -> &[u8]
-        ensures { result.now ≡ self.now.last }
+    /// Takes the line that was read last, without its end.
+    pub(crate) fn take_last(&mut self, alloc: Global) -> Vec<u8>
+        ensures line { result.items ≡ self.old.last }
+        ensures left { self.new.left ≡ self.old.left }
+        ensures ahead { self.new.ahead ≡ self.old.ahead }
     {
-        &self.line
+        mem::replace(&mut self.line, Vec::new(alloc))
+    }
+
+    /// Takes the next line, without its end, if it was read with the last one. It waits for nothing.
+    pub(crate) fn take_at_hand(&mut self, alloc: Global) -> Result<Option<Vec<u8>>, AllocError>
+        ensures { IfOk result
+            (λ l. IsTaken (option_map (λ v. v.items) l) self.old self.new) }
+    {
+        let buffer = self.input.buffer();
+        let Some(length) = first_end(buffer) else {
+            return Ok(None);
+        };
+        let line = buffer[..length].to_vec(alloc)?;
+        self.input.consume(length + 1);
+        Ok(Some(line))
     }
 
     /// Whether a further line was read with the last one.
@@ -92,6 +110,13 @@ impl<R: Read + Drop> InputLines<R> {
     {
         self.input.buffer().contains(&b'\n')
     }
+}
+
+/// How many bytes stand before the first end of a line, if these bytes have one.
+fn first_end(bytes: &[u8]) -> Option<usize>
+    ensures { result ≡ position (λ b. b == 10) bytes.now }
+{
+    bytes.iter().position(|byte| *byte == b'\n')
 }
 
 /// Takes the end off a line. Answers whether it has one.

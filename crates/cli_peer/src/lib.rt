@@ -12,6 +12,7 @@
 #![tactic(auto)]
 
 mod aborted;
+mod ahead;
 mod answer;
 mod answering;
 mod explaining;
@@ -28,9 +29,10 @@ mod numbers;
 mod opening;
 mod peering;
 mod place;
+mod round;
 mod seen;
 mod words;
 
-pub use laws::{seen_is_no_payload, what_is_endorsed_is_right};
+pub use laws::{a_line_has_one_answer, seen_is_no_payload, what_is_endorsed_is_right};
 pub use log_genesis::LogGenesis;
 pub use peering::{Peering, peer};

@@ -1,31 +1,36 @@
 //! The command `peer`.
 
 ghost use Rattle.std.specs.Prelude.{◌≡◌, ◌↔◌, ◌∷◌, [], Ok, Err, IfErr, IfOk, IsTrue, OnErr, OnOk};
-ghost use Rattle.std.specs.Prelude.{codes, false};
+ghost use Rattle.std.specs.Prelude.{codes, false, true, IfSome, MatchResult};
 ghost use Rattle.std.specs.Str.{IsUtf8};
 ghost use Rattle.hex.specs.Hex.{encode_lower};
 ghost use Rattle.cli_lines.specs.Places.{ChangesOnly};
 ghost use Rattle.cli_lines.specs.Told.{Answers, Begins, IsBrokenOff, IsMore, Prints, PrintsNothing};
 ghost use Rattle.cli_lines.specs.Told.{Says, Tells};
 ghost use Rattle.ledger_setting.specs.Rule.{table_of};
-ghost use Rattle.log_peer.specs.Peering.{IsPeer, fresh, held_by, rules_of};
+ghost use Rattle.log_peer.specs.Holding.{HoldsRecords, KeepsRecords};
+ghost use Rattle.log_peer.specs.Peering.{IsPeer, file_of, fresh, held_by, rules_of};
 ghost use Rattle.log_peer.specs.Storing.{IsOpenRefused, IsOpened};
 ghost use Rattle.store_replay.specs.Lawful.{AreLawful};
-ghost use Rattle.cli_peer.specs.Answering.{AnswersText};
+ghost use Rattle.cli_peer.specs.Answering.{AnswersText, Says as SaysBy};
 ghost use Rattle.cli_peer.specs.Filters.{ComesTo, DoesOrEnds, IsEndedBy, PrintsSo};
+ghost use Rattle.cli_peer.specs.Keeping.{HoldsReached, KeepsStore, LeadTo, StoresOn};
 ghost use Rattle.cli_peer.specs.Logged.{EndsEntry, IsLogged};
 ghost use Rattle.cli_peer.specs.Marks.{NamesAnotherIn};
 ghost use Rattle.cli_peer.specs.Opening.{ComesBehind};
 ghost use Rattle.cli_peer.specs.Peering.{DoesAsked, DoesLine, EndsLine, LinesBegin, Peers};
 ghost use Rattle.cli_peer.specs.Peering.{PeersBegin, PeersLines, bad_text};
+ghost use Rattle.cli_peer.specs.Rounds.{IsKnown, IsRound, left_behind};
 ghost use Rattle.cli_peer.specs.Running.{IsReader, reached};
 ghost use Rattle.cli_peer.specs.Setting.{asked_by, peer_of};
+ghost use Rattle.cli_peer.specs.Spoken.{answer_text};
 
+use crate::answer::Answer;
 use crate::answering::{Answering, place_in};
 use crate::explaining::{
     explain_answer, explain_cut, explain_no_line, explain_store, explain_unread,
 };
-use crate::filter::{end, next_line};
+use crate::filter::end;
 use crate::input::InputLines;
 use crate::line::{Asked, Entry, Line};
 use crate::log_genesis::LogGenesis;
@@ -33,6 +38,7 @@ use crate::logged::Telling;
 use crate::marks::{is_of_mark, leaves_genesis_open, names_another_genesis};
 use crate::opening::print_opened;
 use crate::place::Place;
+use crate::round::Round;
 use cli_lines::{Access, Failure, Files, Location, Printer, explain_number, explain_trouble};
 use endorsement_policy::Workers;
 use fab_types::OrgName;
@@ -79,8 +85,8 @@ pub struct Peering<'a> {
 /// Each other line is answered once, in its order, by `answer`, its tag, the height of the chain,
 /// and what is said: `endorsed` with the bytes of the payload and of the endorsement in hex, or why
 /// not; the answer to a question; `seen` with the hash of a block; or `bad`. A line that is none of
-/// these is `bad line` and its number. Tags are checked by workers at once: what is printed is the
-/// same for every number of them.
+/// these is `bad line` and its number. Workers check tags at once, and answer at once the lines that
+/// are at hand at once: what is printed is the same for every number of them.
 pub fn peer<T: Threads + Sync, F: Files, W: Write>(
     workers: &Workers<'_, T>,
     alloc: Global,
@@ -96,7 +102,14 @@ pub fn peer<T: Threads + Sync, F: Files, W: Write>(
     ensures begins { Begins
         (PeersBegin (asked_by log.now asked.now) (F.bytes files.old asked.now.store.now)
         (F.input_bytes files.old)) out.old out.new result }
-    // No file is changed but the store, where it is known what is written.
+    // Where it is known what is written, the whole records that the store held stand first in it. At
+    // the end of the input it has the records of the chain that was reached, and nothing else.
+    ensures keeps { KeepsStore F.is_known asked.now.store.now (F.bytes files.old)
+        (F.bytes files.new) }
+    ensures holds { OnOk result
+        (HoldsReached F.is_known (asked_by log.now asked.now) asked.now.store.now
+        (F.input_bytes files.old) (F.bytes files.old) (F.bytes files.new)) }
+    // No other file is changed then.
     ensures others { ChangesOnly F.is_known (asked.now.store.now ∷ []) (F.bytes files.old)
         (F.bytes files.new) }
 {
@@ -151,38 +164,56 @@ fn open_peer<T: Threads + Sync, V: Watch + Drop, D: StoreFile>(
         (λ p. IsOpened (D.contents file) (held_by p.0).chain p.1) }
     ensures refused { IfErr result
         (λ u. IsOpenRefused (table_of genesis.now.rules.value) (D.contents file) u.refusal) }
+    ensures holds { IfOk result
+        (λ p. IfSome (D.contents file)
+        (λ _. HoldsRecords (D.contents (file_of p.0)) (held_by p.0).chain)) }
+    ensures keeps { MatchResult result
+        (λ p. KeepsRecords (D.contents file) (D.contents (file_of p.0)))
+        (λ u. KeepsRecords (D.contents file) (D.contents u.file)) }
 {
     LogPeer::open(&TagChecks::new(workers, &watch), alloc, genesis, file)
 }
 
-/// Opens the store of a file, and does each line.
-fn peer_to<T: Threads + Sync, F: Files, V: Watch + Drop, D: StoreFile, R: Read + Drop, W: Write>(
+/// Opens the store of a file, does each line, and closes the file.
+fn peer_to<T: Threads + Sync, F: Files, V: Watch + Drop, R: Read + Drop, W: Write>(
     files: &mut F,
     setting: &Setting<'_, T>,
     watch: V,
-    file: D,
+    file: F::Store,
     lines: &mut InputLines<R>,
     out: &mut Printer<'_, W>,
 ) -> Result<(), Failure>
+    requires there { F.is_known ≡ true →
+        F.Store.contents file ≡ F.bytes files.old setting.now.store.now }
     ensures tells { Tells out.old out.new result }
     ensures answers { Answers
-        (Peers (peer_of setting.now.answering) (D.contents file) lines.old.left) out.old out.new
-        result }
-    ensures begins { Begins
-        (PeersBegin (peer_of setting.now.answering) (D.contents file) lines.old.left) out.old
+        (Peers (peer_of setting.now.answering) (F.Store.contents file) lines.old.left) out.old
         out.new result }
-    ensures kept { F.bytes files.new ≡ F.bytes files.old }
+    ensures begins { Begins
+        (PeersBegin (peer_of setting.now.answering) (F.Store.contents file) lines.old.left) out.old
+        out.new result }
+    ensures keeps { KeepsStore F.is_known setting.now.store.now (F.bytes files.old)
+        (F.bytes files.new) }
+    ensures holds { OnOk result
+        (HoldsReached F.is_known (peer_of setting.now.answering) setting.now.store.now
+        lines.old.left (F.bytes files.old) (F.bytes files.new)) }
+    ensures others { ChangesOnly F.is_known (setting.now.store.now ∷ []) (F.bytes files.old)
+        (F.bytes files.new) }
 {
     let alloc = setting.answering.alloc;
     let genesis = &setting.answering.log.genesis;
     match open_peer(setting.workers, watch, alloc, genesis, file) {
         Ok((peer, cut)) => {
             let mut reader = Reader { peer, begun: false };
-            peer_behind(files, setting, &mut reader, cut, lines, out)
+            let ended = peer_behind(files, setting, &mut reader, cut, lines, out);
+            files.close_store(reader.peer.into_file(), setting.store);
+            ended
         }
         Err(unopened) => {
             explain_store(alloc, files, setting.store, &unopened.refusal);
-            Err(end(unopened.refusal, out))
+            let failure = end(unopened.refusal, out);
+            files.close_store(unopened.file, setting.store);
+            Err(failure)
         }
     }
 }
@@ -207,6 +238,10 @@ fn peer_behind<T: Threads + Sync, F: Files, D: StoreFile, R: Read + Drop, W: Wri
         (ComesBehind (held_by reader.old.peer).chain cut
         (LinesBegin (peer_of setting.now.answering) (reached reader.old) lines.old.left)) out.old
         out.new result }
+    ensures leads { OnOk result
+        (LeadTo (peer_of setting.now.answering) (reached reader.old) lines.old.left
+        (reached reader.new)) }
+    ensures stores { StoresOn D.contents reader.old.peer reader.new.peer result }
     ensures kept { F.bytes files.new ≡ F.bytes files.old }
 {
     let height = reader.peer.snapshot().height();
@@ -251,55 +286,106 @@ fn peer_lines<T: Threads + Sync, F: Files, D: StoreFile, R: Read + Drop, W: Writ
     ensures begins { Begins
         (LinesBegin (peer_of setting.now.answering) (reached reader.old) lines.old.left) out.old
         out.new result }
+    ensures leads { OnOk result
+        (LeadTo (peer_of setting.now.answering) (reached reader.old) lines.old.left
+        (reached reader.new)) }
+    ensures stores { StoresOn D.contents reader.old.peer reader.new.peer result }
     ensures kept { F.bytes files.new ≡ F.bytes files.old }
 {
+    let mut round = Round::new(setting.answering.alloc);
+    do_lines(files, setting, reader, &mut round, lines, out)
+}
+
+/// Does each line that is left of a round and of the input behind it.
+fn do_lines<T: Threads + Sync, F: Files, D: StoreFile, R: Read + Drop, W: Write>(
+    files: &mut F,
+    setting: &Setting<'_, T>,
+    reader: &mut Reader<D>,
+    round: &mut Round,
+    lines: &mut InputLines<R>,
+    out: &mut Printer<'_, W>,
+) -> Result<(), Failure>
+    requires reader { IsReader setting.now.answering.log.now reader.old }
+    requires round { IsRound (peer_of setting.now.answering) (held_by reader.old.peer).chain
+        round.old }
+    ensures tells { Tells out.old out.new result }
+    ensures answers { Answers
+        (PeersLines (peer_of setting.now.answering) (reached reader.old)
+        (left_behind round.old.lines.items lines.old.left)) out.old out.new result }
+    ensures begins { Begins
+        (LinesBegin (peer_of setting.now.answering) (reached reader.old)
+        (left_behind round.old.lines.items lines.old.left)) out.old out.new result }
+    ensures leads { OnOk result
+        (LeadTo (peer_of setting.now.answering) (reached reader.old)
+        (left_behind round.old.lines.items lines.old.left) (reached reader.new)) }
+    ensures stores { StoresOn D.contents reader.old.peer reader.new.peer result }
+    ensures kept { F.bytes files.new ≡ F.bytes files.old }
+{
+    let Setting {
+        workers,
+        answering,
+        ..
+    } = setting;
     for number in 1..u64::MAX {
-        let there = next_line(setting.answering.alloc, files, lines, out)?;
+        let snapshot = reader.peer.snapshot();
+        let there = round.next(files, workers, answering, snapshot, lines, out)?;
         if !there {
             return Ok(());
         }
-        take_line(files, setting, reader, lines.line(), number, out)?;
+        take_line(files, setting, reader, round, number, out)?;
     }
     // So many lines no input has.
     Err(Failure::File)
 }
 
-/// Does the line of this number.
+/// Does the line of a round, which has this number. What is known of the answers to the lines
+/// behind it is thrown away where the chain may grow.
 fn take_line<T: Threads + Sync, F: Files, D: StoreFile, W: Write>(
     files: &mut F,
     setting: &Setting<'_, T>,
     reader: &mut Reader<D>,
-    line: &[u8],
+    round: &mut Round,
     number: u64,
     out: &mut Printer<'_, W>,
 ) -> Result<(), Failure>
     requires reader { IsReader setting.now.answering.log.now reader.old }
+    requires round { IsRound (peer_of setting.now.answering) (held_by reader.old.peer).chain
+        round.old }
+    requires answer { IsKnown (peer_of setting.now.answering) (held_by reader.old.peer).chain
+        round.old.line.items round.old.answer }
     ensures reader { OnOk result (IsReader setting.now.answering.log.now reader.new) }
+    ensures round { OnOk result
+        (IsRound (peer_of setting.now.answering) (held_by reader.new.peer).chain round.new) }
+    ensures lines { round.new.lines.items ≡ round.old.lines.items }
     ensures tells { Tells out.old out.new result }
     ensures does { Answers
         (DoesOrEnds
-        (λ text. DoesLine (peer_of setting.now.answering) number (reached reader.old) line.now text
-        (reached reader.new))
-        (EndsLine (peer_of setting.now.answering) number (reached reader.old) line.now)) out.old
-        out.new result }
+        (λ text. DoesLine (peer_of setting.now.answering) number (reached reader.old)
+        round.old.line.items text (reached reader.new))
+        (EndsLine (peer_of setting.now.answering) number (reached reader.old)
+        round.old.line.items)) out.old out.new result }
     ensures begins { Begins
         (ComesTo
-        (λ text. DoesLine (peer_of setting.now.answering) number (reached reader.old) line.now text
-        (reached reader.new))
-        (EndsLine (peer_of setting.now.answering) number (reached reader.old) line.now)) out.old
-        out.new result }
+        (λ text. DoesLine (peer_of setting.now.answering) number (reached reader.old)
+        round.old.line.items text (reached reader.new))
+        (EndsLine (peer_of setting.now.answering) number (reached reader.old)
+        round.old.line.items)) out.old out.new result }
+    ensures stores { StoresOn D.contents reader.old.peer reader.new.peer result }
     ensures kept { F.bytes files.new ≡ F.bytes files.old }
 {
-    let alloc = setting.answering.alloc;
-    let decoded = String::from_utf8_lossy(alloc, line)?;
+    let Answering { alloc, .. } = setting.answering;
+    let decoded = String::from_utf8_lossy(alloc, round.line())?;
     match Line::of(&decoded) {
-        Some(Line::Log(entry)) => take_entry(files, setting, reader, number, &entry, out),
+        Some(Line::Log(entry)) => {
+            round.forget();
+            take_entry(files, setting, reader, number, &entry, out)
+        }
         Some(Line::Ask(asked)) => {
             answer_line(
                 files,
                 &setting.answering,
                 &reader.peer,
-                line,
+                round,
                 number,
                 &asked,
                 out,
@@ -309,29 +395,38 @@ fn take_line<T: Threads + Sync, F: Files, D: StoreFile, W: Write>(
     }
 }
 
-/// Answers the line of this number, which asks for something. One that is no text is a bad one.
+/// Answers the line of a round, which has this number and asks for something. One that is no text is
+/// a bad one.
 fn answer_line<F: Files, D: StoreFile, W: Write>(
     files: &mut F,
     answering: &Answering<'_>,
     peer: &LogPeer<D>,
-    line: &[u8],
+    round: &Round,
     number: u64,
     asked: &Asked<'_>,
     out: &mut Printer<'_, W>,
 ) -> Result<(), Failure>
+    requires answer { IfSome round.now.answer
+        (λ a. SaysBy (peer_of answering.now) (held_by peer.now).chain asked.now.request
+        asked.now.words.now (answer_text a)) }
     ensures tells { Tells out.old out.new result }
     ensures prints { OnOk result
         (PrintsSo
-        (DoesAsked (peer_of answering.now) number (held_by peer.now).chain line.now
+        (DoesAsked (peer_of answering.now) number (held_by peer.now).chain round.now.line.items
         asked.now.request asked.now.tag.now asked.now.words.now) out.old out.new) }
     ensures nothing { OnErr result (PrintsNothing out.old out.new) }
     ensures lost { IfErr result IsBrokenOff }
     ensures kept { F.bytes files.new ≡ F.bytes files.old }
 {
-    if is_text(line) {
-        print_answer(files, answering, peer, number, asked, out)
-    } else {
-        print_bad_line(answering.alloc, files, number, out)
+    if !is_text(round.line()) {
+        return print_bad_line(answering.alloc, files, number, out);
+    }
+    match round.answer() {
+        Some(answer) => print_answer(files, answering, peer, number, asked, answer, out),
+        None => {
+            let answer = answering.answer(peer.snapshot(), asked.request, asked.words)?;
+            print_answer(files, answering, peer, number, asked, &answer, out)
+        }
     }
 }
 
@@ -359,15 +454,19 @@ fn print_bad_line<F: Files, W: Write>(
     writeln!(out, "bad line {number}")
 }
 
-/// Answers what the line of this number asks for, and prints the answer.
+/// Prints the answer to what the line of this number asks for, and says why it is not answered as it
+/// asks, if that is so.
 fn print_answer<F: Files, D: StoreFile, W: Write>(
     files: &mut F,
     answering: &Answering<'_>,
     peer: &LogPeer<D>,
     line: u64,
     asked: &Asked<'_>,
+    answer: &Answer,
     out: &mut Printer<'_, W>,
 ) -> Result<(), Failure>
+    requires answer { SaysBy (peer_of answering.now) (held_by peer.now).chain asked.now.request
+        asked.now.words.now (answer_text answer.now) }
     ensures tells { Tells out.old out.new result }
     ensures prints { OnOk result
         (PrintsSo
@@ -377,15 +476,13 @@ fn print_answer<F: Files, D: StoreFile, W: Write>(
     ensures lost { IfErr result IsBrokenOff }
     ensures kept { F.bytes files.new ≡ F.bytes files.old }
 {
-    let snapshot = peer.snapshot();
     let Asked {
         request,
         tag,
         words,
     } = *asked;
-    let answer = answering.answer(snapshot, request, words)?;
-    explain_answer(answering.alloc, files, line, request, words, &answer);
-    writeln!(out, "answer {tag} {} {answer}", snapshot.height())
+    explain_answer(answering.alloc, files, line, request, words, answer);
+    writeln!(out, "answer {tag} {} {answer}", peer.snapshot().height())
 }
 
 /// Reads the entry of the line of this number. The first may name a genesis, which has to be this log's.
@@ -413,6 +510,7 @@ fn take_entry<T: Threads + Sync, F: Files, D: StoreFile, W: Write>(
         (EndsEntry setting.now.answering.log.now (reached reader.old) entry.now.text.now))
         out.old out.new result }
     ensures handed_on { OnOk result (out.new.waits ≡ false) }
+    ensures stores { StoresOn D.contents reader.old.peer reader.new.peer result }
     ensures kept { F.bytes files.new ≡ F.bytes files.old }
 {
     let Answering { alloc, log, .. } = setting.answering;

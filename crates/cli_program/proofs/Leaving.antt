@@ -10,6 +10,7 @@ use Rattle.cli_words.specs.declared.task.Task.TheVariants as task
 use Rattle.cli_words.specs.declared.task.Work.{Work}
 use Rattle.cli_words.specs.declared.task.Work.TheVariants as work
 use Rattle.cli_session.specs.Stored.{Stays, WhereNoStore, store_names}
+use Rattle.cli_peer.proofs.Keeping.{keeps_all}
 use Rattle.cli_session.proofs.Stored.{where_all}
 use Rattle.cli_program.specs.Leaving.{Leaves, LeavesFiles, SparesStore}
 use Rattle.cli_program.specs.Verdicts.{verdict_answer}
@@ -18,7 +19,8 @@ pub leaves_all : (known : Bool) (w : Work) (before after : FilesHeld) → after 
 leaves_all known (work.Run events None) before after same = same
 leaves_all known (work.Run events (Some store)) before after same =
     (changes_none known (store_names store.now) before after same, where_all known before store.now (after ≡ before) same)
-leaves_all known (work.Peer org store) before after same = changes_none known (store.now ∷ []) before after same
+leaves_all known (work.Peer org store) before after same =
+    (changes_none known (store.now ∷ []) before after same, keeps_all known store.now before after same)
 leaves_all known w before after same = same
 
 -- a run leaves all files where it has no store, and else all but that, or all where no store begins there

@@ -1,5 +1,5 @@
 -- What the program's tasks come to.
-use Rattle.std.specs.Prelude.{◌≡◌, ◌⊎◌, ℕ, Bool, List, Option, Result, Err, option_map}
+use Rattle.std.specs.Prelude.{◌≡◌, ◌⊎◌, ℕ, Bool, List, OnOk, Option, Result, Err, option_map}
 use Rattle.ledger_setting.specs.declared.genesis.Genesis.{Genesis}
 use Rattle.cli_lines.specs.Places.{FilesHeld}
 use Rattle.cli_lines.specs.Told.{Told, Answers, Begins, IsTextOf}
@@ -13,6 +13,7 @@ use Rattle.cli_words.specs.declared.task.Work.{Work}
 use Rattle.cli_words.specs.declared.task.Work.TheVariants as work
 use Rattle.cli_peer.specs.declared.log_genesis.LogGenesis.{LogGenesis}
 use Rattle.cli_peer.specs.Answering.{Peer}
+use Rattle.cli_peer.specs.Keeping.{HoldsReached}
 use Rattle.cli_peer.specs.Peering.{Peers, PeersBegin}
 use Rattle.cli_show.specs.Modules.{Checks, Digests}
 use Rattle.cli_show.specs.Simulations.{Simulates}
@@ -80,14 +81,15 @@ Works log (work.Trace call most) k before after answer = Does (Traces log.genesi
 Works log (work.Peer org store) k before after answer =
     let p : Peer = record { log = log; org = org } in
     Does (Peers p (k.before store.now) k.input) (PeersBegin p (k.before store.now) k.input) before after answer
+    × OnOk answer (HoldsReached k.writes p store.now k.input k.before k.after)
 Works log (work.Marks store) k before after answer = DoesAll (Marks log.genesis (k.before store.now)) before after answer
 
--- the files of a genesis are read, and then this is done; or one of them is refused, and nothing is printed
+-- the files of a genesis are read, and then this is done; or one of them is refused, nothing is printed, and all files stay
 abbrev pub WithGenesis : KnownFiles → Beginning → (LogGenesis → (before after : Told) → Result (Unit {0}) Failure → Type 0) → (before after : Told) →
     Result (Unit {0}) Failure → Type 0
 WithGenesis k b Does before after answer =
     ((log : LogGenesis) × Opens k.before b log × Does log before after answer)
-    ⊎ ((f : Failure) × NotOpens k.before b f × (answer ≡ Err f) × (after ≡ before))
+    ⊎ ((f : Failure) × NotOpens k.before b f × (answer ≡ Err f) × (after ≡ before) × (k.after ≡ k.before))
 
 -- a task is done
 abbrev pub Comes : Task → KnownFiles → (before after : Told) → Result (Unit {0}) Failure → Type 0

@@ -65,7 +65,8 @@ pub fn program<R: Threads + Wait + Sync + Send + Copy + 'static, F: Files, W: Wr
         (known_files F.is_known (F.bytes files.old) (F.bytes files.new)
         (F.input_bytes files.old)) out.old out.new result }
     // Only a run with a store and a peer write files, and none but the store's, where it is known
-    // what is written; and a run none, where that holds bytes with which no store begins.
+    // what is written. A run writes none where that holds bytes with which no store begins. A peer
+    // keeps the whole records that its store held.
     ensures files { KeepsFiles F.is_known (map string_bytes words.now) (F.bytes files.old)
         (F.bytes files.new) }
 {

@@ -1,4 +1,4 @@
-use Rattle.std.proofs.Common.{◌≡◌, ◌+◌, ℕ, [], get_or, length, arith, subst}
+use Rattle.std.proofs.Common.{◌≡◌, ◌+◌, ℕ, [], get_or, arith, subst}
 use Rattle.std.specs.List.{flat_map}
 use Rattle.fab_types.specs.declared.flag.Flag.TheVariants.{Valid}
 use Rattle.ledger_model.specs.Chain.{transactions_from}

@@ -1,11 +1,14 @@
-use Rattle.std.proofs.Common.{◌∙◌, ℕ, List, [], ◌∷◌, Option, inl, subst}
+use Rattle.std.proofs.Common.{◌∙◌, ℕ, List, [], ◌∷◌, Option, OnOk, ap, inl, subst, sym}
 use Rattle.std.proofs.lemmas.Result.{err_from_is_err_and}
+use Rattle.cli_lines.specs.Places.{FilesHeld}
 use Rattle.cli_lines.specs.Told.{Answers, Begins}
-use Rattle.cli_lines.proofs.Changes.{changes_kept}
+use Rattle.cli_lines.proofs.Changes.{changes_from, changes_kept, changes_then}
 use Rattle.cli_lines.proofs.Printing.{nothing_same}
 use Rattle.cli_lines.proofs.Silence.{no_less, tells_by}
+use Rattle.cli_peer.specs.Keeping.{HoldsReached}
 use Rattle.cli_peer.specs.Peering.{Peers, PeersBegin}
 use Rattle.cli_peer.specs.Setting.{asked_by}
+use Rattle.cli_peer.proofs.Keeping.{holds_from, keeps_from, keeps_same}
 use Rattle.cli_peer.proofs.peering.peer.Goals as goal
 
 pub returns-in_default-clause-others : goal.returns-in_default-clause-others
@@ -22,6 +25,9 @@ returns-in_err-lines g c =
       tells = tells_by c.args.out.now c.args.out.now _ (no_less c.args.out.now) c.in_err-lines.ensures.silent;
       answers = inl c.in_err-lines.ensures.lost;
       begins = λ broken. inl (nothing_same c.args.out.now);
+      keeps = keeps_same g.F.Files.is_known c.args.asked.now.store.now (bytes c.args.files.now) (bytes c.input.new.self)
+          (λ is. ap (λ (h : FilesHeld). h c.args.asked.now.store.now) c.input.ensures.kept ∙ c.in-Some.ensures.there is);
+      holds = tt;
       others = changes_kept g.F.Files.is_known (c.args.asked.now.store.now ∷ []) (bytes c.args.files.now) (bytes c.open_store.new.self) (bytes c.input.new.self)
           c.input.ensures.kept c.open_store.ensures.others;
     })
@@ -50,5 +56,47 @@ returns-clause-begins g c =
 pub returns-clause-others : goal.returns-clause-others
 returns-clause-others g c =
     let bytes = g.F.Files.bytes in
-    changes_kept g.F.Files.is_known (c.args.asked.now.store.now ∷ []) (bytes c.args.files.now) (bytes c.open_store.new.self) (bytes c.peer_to.new.files)
-    (c.peer_to.ensures.kept ∙ c.watch-watch.ensures.kept ∙ c.input.ensures.kept) c.open_store.ensures.others
+    let names = c.args.asked.now.store.now ∷ [] in
+    let opened = bytes c.open_store.new.self in
+    changes_then g.F.Files.is_known names (bytes c.args.files.now) opened (bytes c.peer_to.new.files) c.open_store.ensures.others
+    (changes_from g.F.Files.is_known names opened (bytes c.watch-watch.new.self) (bytes c.peer_to.new.files)
+    (c.watch-watch.ensures.kept ∙ c.input.ensures.kept) c.peer_to.ensures.others)
+
+-- ---- its store
+
+-- the file of a store, as it is opened
+pub peer_to-requires-clause-there : goal.peer_to-requires-clause-there
+peer_to-requires-clause-there g c κs within =
+    let name = c.args.asked.now.store.now in
+    let same = ap (λ (h : FilesHeld). h name) (c.watch-watch.ensures.kept ∙ c.input.ensures.kept) in
+    λ is. c.in-Some.ensures.held ∙ sym (same ∙ c.in-Some.ensures.there is)
+
+pub returns-in_default-clause-keeps : goal.returns-in_default-clause-keeps
+returns-in_default-clause-keeps g c =
+    let bytes = g.F.Files.bytes in
+    let name = c.args.asked.now.store.now in
+    keeps_same g.F.Files.is_known name (bytes c.args.files.now) (bytes c.explain_trouble.new.files)
+    (λ is. ap (λ (h : FilesHeld). h name) (c.explain_trouble.ensures.kept ∙ c.in_default.ensures.refused is))
+
+pub returns-clause-keeps : goal.returns-clause-keeps
+returns-clause-keeps g c =
+    let bytes = g.F.Files.bytes in
+    let name = c.args.asked.now.store.now in
+    let same = ap (λ (h : FilesHeld). h name) (c.watch-watch.ensures.kept ∙ c.input.ensures.kept) in
+    keeps_from g.F.Files.is_known name (bytes c.args.files.now) (bytes c.watch-watch.new.self) (bytes c.peer_to.new.files)
+    (λ is. same ∙ c.in-Some.ensures.there is) c.peer_to.ensures.keeps
+
+pub returns-clause-holds : goal.returns-clause-holds
+returns-clause-holds g c =
+    let bytes = g.F.Files.bytes in
+    let p = asked_by c.args.log.now c.args.asked.now in
+    let name = c.args.asked.now.store.now in
+    let before = bytes c.args.files.now in
+    let mid = bytes c.watch-watch.new.self in
+    let after = bytes c.peer_to.new.files in
+    let known = g.F.Files.is_known in
+    let r = c.peer_to.result in
+    let same = ap (λ (h : FilesHeld). h name) (c.watch-watch.ensures.kept ∙ c.input.ensures.kept) in
+    let left = c.in_ok-lines.ensures.whole ∙ c.input.ensures.read ∙ c.in-Some.ensures.input in
+    holds_from known p name (g.F.Files.input_bytes c.args.files.now) before mid after r (λ is. same ∙ c.in-Some.ensures.there is)
+    (subst (λ (input : Option (List ℕ)). OnOk r (HoldsReached known p name input mid after)) left c.peer_to.ensures.holds)

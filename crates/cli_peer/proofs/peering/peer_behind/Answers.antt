@@ -9,6 +9,7 @@ use Rattle.cli_peer.specs.Peering.{DoesLine, EndsLine, LinesBegin, PeersLines}
 use Rattle.cli_peer.specs.Running.{reached}
 use Rattle.cli_peer.specs.Setting.{peer_of}
 use Rattle.cli_peer.proofs.Filters.{none_begun, tells_behind}
+use Rattle.cli_peer.proofs.Keeping.{stores_none}
 use Rattle.cli_peer.proofs.peering.peer_behind.Goals as goal
 
 pub returns-clause-answers : goal.returns-clause-answers
@@ -57,3 +58,12 @@ returns-in_err-print_opened-clause-kept g c = c.explain_cut.ensures.kept
 
 pub returns-clause-kept : goal.returns-clause-kept
 returns-clause-kept g c = c.peer_lines.ensures.kept ∙ c.remark_place.ensures.kept ∙ c.explain_cut.ensures.kept
+
+pub returns-in_err-print_opened-clause-stores : goal.returns-in_err-print_opened-clause-stores
+returns-in_err-print_opened-clause-stores g c = stores_none g.D.Write.contents c.args.reader.now.peer c.from_residual.result
+
+pub returns-clause-stores : goal.returns-clause-stores
+returns-clause-stores g c = c.peer_lines.ensures.stores
+
+pub returns-clause-leads : goal.returns-clause-leads
+returns-clause-leads g c = c.peer_lines.ensures.leads

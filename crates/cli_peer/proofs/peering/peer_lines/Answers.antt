@@ -1,109 +1,39 @@
-use Rattle.std.proofs.Common.{◌∙◌, ◌+◌, inl, Ok, Err, refl}
-use Rattle.std.proofs.lemmas.Result.{err_from_is_err_and}
-use Rattle.cli_lines.specs.declared.failure.Failure.TheVariants as failure
-use Rattle.cli_lines.proofs.Printing.{nothing_same}
-use Rattle.cli_peer.specs.Peering.{DoesLine, EndsLine}
+use Rattle.std.proofs.Common.{◌∙◌, List, OnOk, Option, ap, subst}
+use Rattle.std.specs.Global.{Vec}
+use Rattle.std.specs.Prelude.{ℕ}
+use Rattle.ledger_model.specs.Chain.{Bytes}
+use Rattle.cli_lines.specs.Told.{Answers, Begins}
+use Rattle.cli_peer.specs.Keeping.{LeadTo}
+use Rattle.cli_peer.specs.Peering.{LinesBegin, PeersLines}
+use Rattle.cli_peer.specs.Rounds.{left_behind}
 use Rattle.cli_peer.specs.Running.{reached}
 use Rattle.cli_peer.specs.Setting.{peer_of}
-use Rattle.cli_peer.proofs.Filters.{all_done, begins_between, begins_lines, done_kept, line_ended, none_done, one_done, tells_then}
+use Rattle.cli_peer.proofs.Rounds.{left_none}
 use Rattle.cli_peer.proofs.peering.peer_lines.Goals as goal
 
-pub loop-number-init : goal.loop-number-init
-loop-number-init g c =
-    record {
-      reader = c.requires.reader;
-      kept = refl;
-      done = none_done (DoesLine (peer_of c.args.setting.now.answering)) c.args.lines.now.left (reached c.args.reader.now) c.args.out.now;
-    }
-
-pub loop-number-preserved : goal.loop-number-preserved
-loop-number-preserved g c =
-    let inv = c.loop-number.invariant in
+pub returns-clause-answers : goal.returns-clause-answers
+returns-clause-answers g c =
     let p = peer_of c.args.setting.now.answering in
-    let n = c.loop-number.number in
     let input = c.args.lines.now.left in
-    let after = c.next_line.new.lines in
-    let lent = c.line.result.now in
-    let first = reached c.args.reader.now in
-    let mid = reached c.loop-number.reader in
-    let new = reached c.take_line.new.reader in
-    let t = c.next_line.new.out in
-    let told = done_kept (DoesLine p) input c.loop-number.lines.left first n mid c.args.out.now c.loop-number.out t inv.done
-    (λ text printed. c.in_ok-there.ensures.told c.args.out.now text printed) in
-    record {
-      reader = c.in_ok-take_line.ensures.reader;
-      kept = c.take_line.ensures.kept ∙ c.next_line.ensures.kept ∙ inv.kept;
-      done = one_done (DoesLine p) (EndsLine p) input c.loop-number.lines after c.in_ok-there.there lent first mid new n c.args.out.now t c.take_line.new.out
-          (tt {0}) told c.in_ok-there.ensures.next c.if-not-there.false c.line.ensures c.in_ok-take_line.ensures.does;
-    }
-
-pub returns-then-not-there-clause-answers : goal.returns-then-not-there-clause-answers
-returns-then-not-there-clause-answers g c =
-    let p = peer_of c.args.setting.now.answering in
-    let first = reached c.args.reader.now in
-    let mid = reached c.loop-number.reader in
-    let t = c.next_line.new.out in
-    let told = done_kept (DoesLine p) c.args.lines.now.left c.loop-number.lines.left first c.loop-number.number mid c.args.out.now c.loop-number.out t
-    c.loop-number.invariant.done (λ text printed. c.in_ok-there.ensures.told c.args.out.now text printed) in
-    all_done (DoesLine p) (EndsLine p) c.args.lines.now.left c.loop-number.lines c.next_line.new.lines c.in_ok-there.there first mid c.loop-number.number
-    c.args.out.now t (tt {0}) told c.in_ok-there.ensures.next c.if-not-there.true
-
-pub returns-then-not-there-clause-tells : goal.returns-then-not-there-clause-tells
-returns-then-not-there-clause-tells g c =
-    let p = peer_of c.args.setting.now.answering in
-    let told = done_kept (DoesLine p) c.args.lines.now.left c.loop-number.lines.left (reached c.args.reader.now) c.loop-number.number
-    (reached c.loop-number.reader) c.args.out.now c.loop-number.out c.next_line.new.out c.loop-number.invariant.done
-    (λ text printed. c.in_ok-there.ensures.told c.args.out.now text printed) in
-    (told.prints.more, told.prints.whole)
-
-pub returns-in_err-take_line : goal.returns-in_err-take_line
-returns-in_err-take_line g c =
-    let by = err_from_is_err_and c.from_residual-in_err-take_line.result c.from_residual-in_err-take_line.ensures.1 in
-    let inv = c.loop-number.invariant in
-    let p = peer_of c.args.setting.now.answering in
-    let n = c.loop-number.number in
-    let lent = c.line.result.now in
-    let first = reached c.args.reader.now in
-    let mid = reached c.loop-number.reader in
-    let new = reached c.take_line.new.reader in
-    let t = c.next_line.new.out in
-    let told = done_kept (DoesLine p) c.args.lines.now.left c.loop-number.lines.left first n mid c.args.out.now c.loop-number.out t inv.done
-    (λ text printed. c.in_ok-there.ensures.told c.args.out.now text printed) in
-    let u = c.take_line.new.out in
-    let e = c.in_err-take_line.field-0.0 in
-    let took = c.in_err-take_line.ensures in
-    let ended = line_ended (DoesLine p) (EndsLine p) (Unit {0}) c.args.lines.now.left c.loop-number.lines c.next_line.new.lines c.in_ok-there.there lent
-    first mid new n c.args.out.now t u e told c.in_ok-there.ensures.next c.if-not-there.false c.line.ensures took.tells took.does took.begins in
-    rw (by.1, by.2) (record {
-      tells = ended.0;
-      answers = ended.1;
-      begins = ended.2;
-      kept = c.take_line.ensures.kept ∙ c.next_line.ensures.kept ∙ inv.kept;
-    })
-
-pub returns-in_err-there : goal.returns-in_err-there
-returns-in_err-there g c =
-    let by = err_from_is_err_and c.from_residual.result c.from_residual.ensures.1 in
-    let p = peer_of c.args.setting.now.answering in
-    rw (by.1, by.2) (record {
-      tells = tells_then c.args.out.now c.loop-number.out c.next_line.new.out c.in_err-there.field-0.0 c.loop-number.invariant.done.prints.more
-          c.in_err-there.ensures.tells;
-      answers = inl c.in_err-there.ensures.lost;
-      begins = begins_between (DoesLine p) (EndsLine p) {A = Unit {0}} c.args.lines.now.left c.loop-number.lines.left (reached c.args.reader.now)
-          c.loop-number.number (reached c.loop-number.reader) c.args.out.now c.loop-number.out c.next_line.new.out (Err c.in_err-there.field-0.0)
-          c.loop-number.invariant.done c.in_err-there.ensures.part;
-      kept = c.in_err-there.ensures.kept ∙ c.loop-number.invariant.kept;
-    })
+    let left = ap (λ (ls : List (Vec ℕ)). left_behind ls input) c.new-round.ensures.lines ∙ left_none input in
+    subst (λ (i : Option Bytes). Answers (PeersLines p (reached c.args.reader.now) i) c.args.out.now c.do_lines.new.out c.do_lines.result) left
+    c.do_lines.ensures.answers
 
 pub returns-clause-begins : goal.returns-clause-begins
 returns-clause-begins g c =
     let p = peer_of c.args.setting.now.answering in
-    let t = c.loop-number.out in
-    begins_lines (DoesLine p) (EndsLine p) {A = Unit {0}} c.args.lines.now.left c.loop-number.lines.left (reached c.args.reader.now) c.loop-number.number
-    (reached c.loop-number.reader) c.args.out.now t t (Err failure.File) c.loop-number.invariant.done (nothing_same t)
+    let input = c.args.lines.now.left in
+    let left = ap (λ (ls : List (Vec ℕ)). left_behind ls input) c.new-round.ensures.lines ∙ left_none input in
+    subst (λ (i : Option Bytes). Begins (LinesBegin p (reached c.args.reader.now) i) c.args.out.now c.do_lines.new.out c.do_lines.result) left
+    c.do_lines.ensures.begins
 
-pub returns-then-not-there-clause-kept : goal.returns-then-not-there-clause-kept
-returns-then-not-there-clause-kept g c = c.next_line.ensures.kept ∙ c.loop-number.invariant.kept
+pub returns-clause-leads : goal.returns-clause-leads
+returns-clause-leads g c =
+    let p = peer_of c.args.setting.now.answering in
+    let input = c.args.lines.now.left in
+    let left = ap (λ (ls : List (Vec ℕ)). left_behind ls input) c.new-round.ensures.lines ∙ left_none input in
+    subst (λ (i : Option Bytes). OnOk c.do_lines.result (LeadTo p (reached c.args.reader.now) i (reached c.do_lines.new.reader))) left
+    c.do_lines.ensures.leads
 
-pub returns-clause-kept : goal.returns-clause-kept
-returns-clause-kept g c = c.loop-number.invariant.kept
+pub returns-clause-stores : goal.returns-clause-stores
+returns-clause-stores g c = c.do_lines.ensures.stores

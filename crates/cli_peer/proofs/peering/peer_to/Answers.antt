@@ -1,14 +1,20 @@
-use Rattle.std.proofs.Common.{◌≡◌, [], Err, false, inl, inr, refl, subst, ◌∙◌}
+use Rattle.std.proofs.Common.{[], ◌∷◌, Err, false, IfSome, OnOk, ap, inl, inr, refl, subst, sym}
 use Rattle.orderer.specs.Ordering.{Ordering}
-use Rattle.log_peer.specs.Peering.{held_by}
+use Rattle.log_peer.specs.Holding.{HoldsRecords, KeepsRecords}
+use Rattle.log_peer.specs.Peering.{file_of, held_by}
 use Rattle.log_peer.specs.Refusals.{store_text}
+use Rattle.log_peer.proofs.Keeping.{keeps_on}
 use Rattle.cli_lines.specs.Told.{Answers, Begins}
+use Rattle.cli_lines.proofs.Changes.{changes_from}
 use Rattle.cli_lines.proofs.Answering.{answers_by, begins_by}
 use Rattle.cli_peer.specs.Filters.{DoesOrEnds}
 use Rattle.cli_peer.specs.Opening.{ComesBehind, TellsUnopened}
 use Rattle.cli_peer.specs.Peering.{LinesBegin, Peers, PeersBegin, PeersLines, opened}
+use Rattle.cli_peer.specs.Logged.{Reached}
+use Rattle.cli_peer.specs.Running.{reached}
 use Rattle.cli_peer.specs.Setting.{peer_of}
 use Rattle.cli_peer.proofs.Filters.{begins_ended, ended_by}
+use Rattle.cli_peer.proofs.Keeping.{closed_holds, closed_keeps, held_then}
 use Rattle.cli_peer.proofs.peering.peer_to.Goals as goal
 
 pub returns-in-Ok-clause-answers : goal.returns-in-Ok-clause-answers
@@ -18,25 +24,25 @@ returns-in-Ok-clause-answers g c =
     let cut = c.in-Ok.cut in
     let input = c.args.lines.now.left in
     let t = c.args.out.now in
-    let u = c.peer_behind.new.out in
-    let r = c.peer_behind.result in
-    answers_by (λ answer. ComesBehind chain cut (PeersLines p (opened p chain) input answer)) (Peers p (g.D.Write.contents c.args.file) input) t u r
+    let u = c.peer_behind-ended.new.out in
+    let r = c.peer_behind-ended.result in
+    answers_by (λ answer. ComesBehind chain cut (PeersLines p (opened p chain) input answer)) (Peers p (g.F.Store.Write.contents c.args.file) input) t u r
     (λ text behind. inl (chain, cut, c.in-Ok.ensures.opened, c.in-Ok.ensures.lawful, behind))
     (subst
     (λ (log : Ordering). Answers (λ answer. ComesBehind chain cut
     (PeersLines p (record { held = record { log = log; chain = chain }; begun = false }) input answer)) t u r) c.in-Ok.ensures.unread
-    c.peer_behind.ensures.answers)
+    c.peer_behind-ended.ensures.answers)
 
 pub returns-in-Err-clause-answers : goal.returns-in-Err-clause-answers
 returns-in-Err-clause-answers g c =
     let p = peer_of c.args.setting.now.answering in
-    let held = g.D.Write.contents c.args.file in
+    let held = g.F.Store.Write.contents c.args.file in
     let cause = c.in-Err.unopened.refusal in
     let t = c.args.out.now in
-    let u = c.end.new.out in
+    let u = c.end-failure.new.out in
     let Ends = TellsUnopened p.log.genesis.rules.value held in
-    answers_by {A = Unit {0}} (DoesOrEnds (λ text. ⊥) Ends) (Peers p held c.args.lines.now.left) t u (Err c.end.result) (λ text ends. inr ends)
-    (ended_by (Unit {0}) (λ text. ⊥) Ends t u c.end.result (store_text cause) c.end.ensures.ends (cause, c.in-Err.ensures.refused, refl))
+    answers_by {A = Unit {0}} (DoesOrEnds (λ text. ⊥) Ends) (Peers p held c.args.lines.now.left) t u (Err c.end-failure.result) (λ text ends. inr ends)
+    (ended_by (Unit {0}) (λ text. ⊥) Ends t u c.end-failure.result (store_text cause) c.end-failure.ensures.ends (cause, c.in-Err.ensures.refused, refl))
 
 pub returns-in-Ok-clause-begins : goal.returns-in-Ok-clause-begins
 returns-in-Ok-clause-begins g c =
@@ -45,20 +51,65 @@ returns-in-Ok-clause-begins g c =
     let cut = c.in-Ok.cut in
     let input = c.args.lines.now.left in
     let t = c.args.out.now in
-    let u = c.peer_behind.new.out in
-    let r = c.peer_behind.result in
-    begins_by (ComesBehind chain cut (LinesBegin p (opened p chain) input)) (PeersBegin p (g.D.Write.contents c.args.file) input) t u r
+    let u = c.peer_behind-ended.new.out in
+    let r = c.peer_behind-ended.result in
+    begins_by (ComesBehind chain cut (LinesBegin p (opened p chain) input)) (PeersBegin p (g.F.Store.Write.contents c.args.file) input) t u r
     (λ text behind. inl (chain, cut, c.in-Ok.ensures.opened, c.in-Ok.ensures.lawful, behind))
     (subst
     (λ (log : Ordering). Begins (ComesBehind chain cut (LinesBegin p (record { held = record { log = log; chain = chain }; begun = false }) input)) t u r)
-    c.in-Ok.ensures.unread c.peer_behind.ensures.begins)
+    c.in-Ok.ensures.unread c.peer_behind-ended.ensures.begins)
 
 pub returns-in-Err-clause-begins : goal.returns-in-Err-clause-begins
 returns-in-Err-clause-begins g c =
-    begins_ended (Unit {0}) _ c.args.out.now c.end.new.out c.end.result (store_text c.in-Err.unopened.refusal) c.end.ensures.ends
+    begins_ended (Unit {0}) _ c.args.out.now c.end-failure.new.out c.end-failure.result (store_text c.in-Err.unopened.refusal) c.end-failure.ensures.ends
 
-pub returns-in-Ok-clause-kept : goal.returns-in-Ok-clause-kept
-returns-in-Ok-clause-kept g c = c.peer_behind.ensures.kept
+pub returns-in-Ok-clause-keeps : goal.returns-in-Ok-clause-keeps
+returns-in-Ok-clause-keeps g c =
+    let bytes = g.F.Files.bytes in
+    let contents = g.F.Store.Write.contents in
+    let name = c.args.setting.now.store.now in
+    let old = c.in-Ok.peer in
+    let new = c.peer_behind-ended.new.reader.peer in
+    let kept = keeps_on (contents c.args.file) (contents (file_of old)) (contents (file_of new)) c.in-Ok.ensures.keeps c.peer_behind-ended.ensures.stores.0 in
+    closed_keeps g.F.Files.is_known name (bytes c.args.files.now) (bytes c.peer_behind-ended.new.files) (bytes c.close_store.new.self) (contents c.args.file)
+    (contents c.into_file.result) c.requires.there c.peer_behind-ended.ensures.kept c.close_store.ensures.stored
+    (subst (λ (d : g.row.F-Store.Denot). KeepsRecords (contents c.args.file) (contents d)) (sym c.into_file.ensures) kept)
 
-pub returns-in-Err-clause-kept : goal.returns-in-Err-clause-kept
-returns-in-Err-clause-kept g c = c.explain_store.ensures.kept
+pub returns-in-Ok-clause-holds : goal.returns-in-Ok-clause-holds
+returns-in-Ok-clause-holds g c =
+    let bytes = g.F.Files.bytes in
+    let contents = g.F.Store.Write.contents in
+    let p = peer_of c.args.setting.now.answering in
+    let name = c.args.setting.now.store.now in
+    let old = c.in-Ok.peer in
+    let new = c.peer_behind-ended.new.reader in
+    let chain = (held_by old).chain in
+    let last = (held_by new.peer).chain in
+    let r = c.peer_behind-ended.result in
+    let from : Reached = record { held = held_by old; begun = false } in
+    let starts = ap (λ (log : Ordering). let r : Reached = record { held = record { log = log; chain = chain }; begun = false } in r) c.in-Ok.ensures.unread in
+    let holds = held_then (contents c.args.file) (HoldsRecords (contents (file_of old)) chain) (OnOk r (HoldsRecords (contents (file_of new.peer)) last))
+    c.in-Ok.ensures.holds c.peer_behind-ended.ensures.stores.1 in
+    closed_holds g.F.Files.is_known name (bytes c.args.files.now) (bytes c.peer_behind-ended.new.files) (bytes c.close_store.new.self) (contents c.args.file)
+    (contents c.into_file.result) c.requires.there c.peer_behind-ended.ensures.kept c.close_store.ensures.stored p c.args.lines.now.left chain c.in-Ok.cut from
+    (reached new) r c.in-Ok.ensures.opened c.in-Ok.ensures.lawful starts c.peer_behind-ended.ensures.leads
+    (subst (λ (d : g.row.F-Store.Denot). IfSome (contents c.args.file) (λ _. OnOk r (HoldsRecords (contents d) last))) (sym c.into_file.ensures) holds)
+
+pub returns-in-Ok-clause-others : goal.returns-in-Ok-clause-others
+returns-in-Ok-clause-others g c =
+    let bytes = g.F.Files.bytes in
+    changes_from g.F.Files.is_known (c.args.setting.now.store.now ∷ []) (bytes c.args.files.now) (bytes c.peer_behind-ended.new.files)
+    (bytes c.close_store.new.self) c.peer_behind-ended.ensures.kept c.close_store.ensures.others
+
+pub returns-in-Err-clause-keeps : goal.returns-in-Err-clause-keeps
+returns-in-Err-clause-keeps g c =
+    let bytes = g.F.Files.bytes in
+    let contents = g.F.Store.Write.contents in
+    closed_keeps g.F.Files.is_known c.args.setting.now.store.now (bytes c.args.files.now) (bytes c.explain_store.new.files) (bytes c.close_store-in-Err.new.self)
+    (contents c.args.file) (contents c.in-Err.unopened.file) c.requires.there c.explain_store.ensures.kept c.close_store-in-Err.ensures.stored c.in-Err.ensures.keeps
+
+pub returns-in-Err-clause-others : goal.returns-in-Err-clause-others
+returns-in-Err-clause-others g c =
+    let bytes = g.F.Files.bytes in
+    changes_from g.F.Files.is_known (c.args.setting.now.store.now ∷ []) (bytes c.args.files.now) (bytes c.explain_store.new.files)
+    (bytes c.close_store-in-Err.new.self) c.explain_store.ensures.kept c.close_store-in-Err.ensures.others

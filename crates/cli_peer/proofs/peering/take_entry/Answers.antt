@@ -1,4 +1,4 @@
-use Rattle.std.proofs.Common.{◌≡◌, ◌∙◌, inl, inr, refl, true, false}
+use Rattle.std.proofs.Common.{◌∙◌, Err, inl, inr, refl, true}
 use Rattle.std.proofs.lemmas.Bool.{iff_false}
 use Rattle.std.specs.Prelude.{codes}
 use Rattle.ledger_model.specs.Chain.{Bytes}
@@ -10,6 +10,7 @@ use Rattle.cli_peer.specs.Logged.{EndsEntry, IsLogged, Reached, TellsEntry}
 use Rattle.cli_peer.specs.Running.{reached}
 use Rattle.cli_peer.proofs.Filters.{begins_behind_so, begins_ended, begins_more, done_so, ended_by, handed_so, tells_behind}
 use Rattle.cli_peer.proofs.Entries.{line_logged}
+use Rattle.cli_peer.proofs.Keeping.{stores_none, stores_read}
 use Rattle.cli_peer.proofs.peering.take_entry.Goals as goal
 
 -- ---- the first line names another genesis
@@ -120,3 +121,23 @@ returns-in_ok-print_entry-in-Ok-clause-reader g c =
 
 pub returns-in_ok-print_entry-in-Ok-clause-kept : goal.returns-in_ok-print_entry-in-Ok-clause-kept
 returns-in_ok-print_entry-in-Ok-clause-kept g c = c.print_entry.ensures.kept ∙ c.explain_open.ensures.kept
+
+-- ---- what its file holds
+
+pub returns-in_err-other-clause-stores : goal.returns-in_err-other-clause-stores
+returns-in_err-other-clause-stores g c = stores_none g.D.Write.contents c.args.reader.now.peer c.from_residual.result
+
+pub returns-then-other-clause-stores : goal.returns-then-other-clause-stores
+returns-then-other-clause-stores g c = stores_none g.D.Write.contents {A = Unit {0}} c.args.reader.now.peer (Err c.end_by_genesis.result)
+
+pub returns-in-Err-clause-stores : goal.returns-in-Err-clause-stores
+returns-in-Err-clause-stores g c = (c.read.ensures.grows, λ held. tt)
+
+pub returns-in_err-print_entry-in-Ok-clause-stores : goal.returns-in_err-print_entry-in-Ok-clause-stores
+returns-in_err-print_entry-in-Ok-clause-stores g c =
+    stores_read g.D.Write.contents c.args.reader.now.peer c.read.new.self c.from_residual-in_err-print_entry-in-Ok.result c.read.ensures.grows
+    c.in-Ok.ensures.holds
+
+pub returns-in_ok-print_entry-in-Ok-clause-stores : goal.returns-in_ok-print_entry-in-Ok-clause-stores
+returns-in_ok-print_entry-in-Ok-clause-stores g c =
+    stores_read g.D.Write.contents c.args.reader.now.peer c.read.new.self c.flush.result c.read.ensures.grows c.in-Ok.ensures.holds

@@ -67,12 +67,13 @@ returns-in-Peer-clause-works g c =
     let log = c.args.subject.log.now in
     subst (λ (w : Work). Works log w k c.args.out.now r.new.out r.result) (sym c.in-Peer.is)
     (subst (λ (org : Option (List ℕ)). Works log (work.Peer org c.in-Peer.store) k c.args.out.now r.new.out r.result) c.as_ref.ensures.value
-    (r.ensures.answers, r.ensures.begins))
+    ((r.ensures.answers, r.ensures.begins), r.ensures.holds))
 
 pub returns-in-Peer-clause-files : goal.returns-in-Peer-clause-files
 returns-in-Peer-clause-files g c =
     let r = c.peer in
-    subst (λ (w : Work). Leaves g.F.Files.is_known w (g.F.Files.bytes c.args.files.now) (g.F.Files.bytes r.new.files)) (sym c.in-Peer.is) r.ensures.others
+    subst (λ (w : Work). Leaves g.F.Files.is_known w (g.F.Files.bytes c.args.files.now) (g.F.Files.bytes r.new.files)) (sym c.in-Peer.is)
+    (r.ensures.others, r.ensures.keeps)
 
 pub returns-in-Marks-clause-works : goal.returns-in-Marks-clause-works
 returns-in-Marks-clause-works g c =

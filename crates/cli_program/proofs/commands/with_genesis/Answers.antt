@@ -15,7 +15,7 @@ returns-in_err-log g c =
     let e = c.in_err-log.ensures in
     rw (p.1, p.2) (record {
       tells = tells_by t t _ (no_less t) e.silent;
-      works = inr (c.in_err-log.field-0.0, e.refused, refl, refl);
+      works = inr (c.in_err-log.field-0.0, e.refused, refl, refl, e.kept);
       files = leaves_all g.F.Files.is_known c.args.work.now (g.F.Files.bytes c.args.files.now) (g.F.Files.bytes c.opened.new.files) e.kept;
     })
 

@@ -1,4 +1,4 @@
-use Rattle.std.proofs.Common.{None, rules}
+use Rattle.std.proofs.Common.{rules}
 use Rattle.std.specs.List.{flat_map}
 use Rattle.log_peer.specs.Peering.{held_by}
 use Rattle.cli_lines.proofs.Answering.{begins_part}

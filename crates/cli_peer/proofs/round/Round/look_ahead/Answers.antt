@@ -1,0 +1,15 @@
+use Rattle.std.proofs.Common.{List, Option, refl, subst, sym}
+use Rattle.cli_peer.specs.Rounds.{AreKnown}
+use Rattle.cli_peer.specs.Setting.{peer_of}
+use Rattle.cli_peer.specs.declared.answer.Answer.{Answer}
+use Rattle.cli_peer.proofs.Rounds.{known_run}
+use Rattle.cli_peer.proofs.round.Round.look_ahead.Goals as goal
+
+pub returns-in-Ok-clause-known : goal.returns-in-Ok-clause-known
+returns-in-Ok-clause-known g c =
+    let p = peer_of c.args.answering.now in
+    let chain = c.args.snapshot.now in
+    let all = c.args.self.now.lines.items in
+    subst (λ (ks : List (Option Answer)). AreKnown p chain ks all) (sym c.from_vec.ensures.items)
+    (known_run p chain _ c.as_slices.result.0.now c.as_slices.result.1.now all c.in-Ok.answers.items c.run_length.result refl c.as_slices.ensures.items
+    c.in-Ok.ensures)
