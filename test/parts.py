@@ -110,7 +110,7 @@ def follow(report: Report, at: Setting) -> None:
         more.writelines(lines[first:])
     is_whole = is_begun and comes_to_be(lambda: store.read_bytes() == whole.read_bytes())
     said = "\n".join(end(replica))
-    # Its filters end by the same signal, each in its time.
+    # The programs that it began end by the same signal, each in its time.
     has_ended = comes_to_be(lambda: not any(is_alive(it, replica.pid) for it in children()))
     report.case("examples/roles/plain --follow", is_whole and has_ended, said)
 

@@ -33,6 +33,8 @@ MARKS, FIRST_MARKS, REFILL_MARKS = (re.compile(rb"\n(?:%s)" % b"|".join(it))
                                     for it in ([ENVELOPE], [ENVELOPE, GENESIS], [ENVELOPE, GENESIS, rb"tick\n"]))
 # The longest line of what was seen, by a name of 32 characters, a number of ten digits, and a hash and a signature in hex.
 LONGEST_SEEN = len("seen ") + 33 + 11 + 65 + 128
+# An envelope of so many bytes costs no more than two blocks, however small the batches of a ledger are.
+LONG = 65536
 # Whose the blocks of a refill are.
 NOBODY = b""
 # The most envelopes that any ledger's batch may have.
