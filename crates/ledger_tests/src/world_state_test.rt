@@ -1,4 +1,4 @@
-//! An older snapshot, behind which a hundred blocks are put.
+//! An older snapshot, behind which a hundred blocks are put, and an id that comes twice.
 
 use crate::samples::{deletion, refusal_of, transaction};
 use committer::{Replay, commit_on};
@@ -36,13 +36,18 @@ fn order(alloc: Global, orderer: &mut Orderer) -> Result<(), Fail> {
     Ok(())
 }
 
-/// Whether a copy of a block of one transaction, which is endorsed, joins a chain and is VALID.
-fn is_pushed(alloc: Global, chain: &mut Replay, block: &Block) -> Result<bool, AllocError> {
+/// Whether a copy of a block of one transaction, which is endorsed, joins a chain with this flag.
+fn is_pushed(
+    alloc: Global,
+    chain: &mut Replay,
+    block: &Block,
+    flag: Flag,
+) -> Result<bool, AllocError> {
     if block.envelopes.as_slice().len() != 1 {
         return Ok(false);
     }
     match chain.push(alloc, block.clone()?, &[true]) {
-        Ok(flags) => Ok(flags == [Flag::Valid].as_slice()),
+        Ok(flags) => Ok(flags == [flag].as_slice()),
         Err(_) => Ok(false),
     }
 }
@@ -51,7 +56,7 @@ fn is_pushed(alloc: Global, chain: &mut Replay, block: &Block) -> Result<bool, A
 fn are_pushed(alloc: Global, chain: &mut Replay, blocks: &[Block]) -> Result<bool, AllocError> {
     let mut are_pushed = true;
     for block in blocks {
-        are_pushed &= is_pushed(alloc, chain, block)?;
+        are_pushed &= is_pushed(alloc, chain, block, Flag::Valid)?;
     }
     Ok(are_pushed)
 }
@@ -85,8 +90,10 @@ fn is_of_block(alloc: Global, old: &Snapshot, block: &Block) -> Result<bool, All
         return Ok(false);
     };
     let id = tx_id(alloc, envelope.payload.proposal())?;
-    let has = block.header.number.get() <= OLD as u32;
-    Ok(old.has_tx(&id) == has && is_found(old, &write.key))
+    let number = block.header.number.get();
+    let has = number <= OLD as u32;
+    let first = if has { Some(number) } else { None };
+    Ok(old.has_tx(&id) == has && old.block_of(&id) == first && is_found(old, &write.key))
 }
 
 /// Whether entries are those of blocks 1 to 5, in key order.
@@ -159,5 +166,41 @@ fn an_older_snapshot_stays_as_it_is(rt: HostRuntime) -> Result<(), Fail> {
     let mut old = Replay::new(Snapshot::empty(alloc));
     let is_kept = is_kept(alloc, &mut old, orderer.blocks());
     assert!(rt; is_kept == Ok(true));
+    Ok(())
+}
+
+fn order_twice(alloc: Global, orderer: &mut Orderer) -> Result<(), Fail> {
+    for _ in 0..2 {
+        if refusal_of(orderer, transaction(alloc, 1, 1)?) != 0 {
+            return Err("a block".into());
+        }
+    }
+    Ok(())
+}
+
+/// Whether two blocks of one transaction, the same one, join a chain, and its id then has block 1.
+fn has_first_block(
+    alloc: Global,
+    chain: &mut Replay,
+    blocks: &[Block],
+    id: &[u8; 32],
+) -> Result<bool, AllocError> {
+    let [first, second] = blocks else {
+        return Ok(false);
+    };
+    let is_first = is_pushed(alloc, chain, first, Flag::Valid)?;
+    let is_second = is_pushed(alloc, chain, second, Flag::DuplicateTxid)?;
+    Ok(is_first && is_second && chain.snapshot().block_of(id) == Some(1))
+}
+
+#[test]
+fn an_id_that_comes_twice_has_its_first_block(rt: HostRuntime) -> Result<(), Fail> {
+    let alloc = rt.alloc();
+    let id = tx_id(alloc, transaction(alloc, 1, 1)?.payload.proposal())?;
+    let mut orderer = Orderer::new(alloc, 1, 1000, 1000, false);
+    order_twice(alloc, &mut orderer)?;
+    let mut chain = Replay::new(Snapshot::empty(alloc));
+    let has = has_first_block(alloc, &mut chain, orderer.blocks(), &id);
+    assert!(rt; has == Ok(true));
     Ok(())
 }

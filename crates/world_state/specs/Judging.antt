@@ -1,7 +1,7 @@
 -- What goes with a block that joins a chain.
 use Rattle.std.specs.Prelude.{◌≡◌, length}
 use Rattle.fab_types.specs.declared.block.Block.{Block}
-use Rattle.ledger_model.specs.Chain.{Chain, Committed}
+use Rattle.ledger_model.specs.Chain.{Committed}
 use Rattle.world_state.specs.Ids.{ids_of}
 use Rattle.world_state.specs.declared.judged.Judged.{Judged}
 

@@ -1,42 +1,44 @@
-//! The ids of a chain's transactions.
+//! The ids of a chain's transactions, each with its block.
 
-ghost use Rattle.std.specs.Prelude.{◌≡◌, ◌||◌, OnOk, bytes_eq};
-ghost use Rattle.std.specs.Map.{keys_of};
+ghost use Rattle.std.specs.Prelude.{◌≡◌, [], ◌∷◌, OnOk};
 ghost use Rattle.ledger_model.specs.Chain.{Bytes};
-ghost use Rattle.world_state.specs.Ids.{is_known, has_id};
+ghost use Rattle.world_state.specs.Ids.{block_of_id, block_behind};
 
 use persist_map::PMap;
 use std::alloc::AllocError;
 
-/// Ids, each once, in versions that share their pages.
-pub type IdIndex = PMap<[u8; 32], ()>;
+/// The number of a block for each id, in versions that share their pages.
+pub type IdIndex = PMap<[u8; 32], u32>;
 
-/// Whether an id is among these. It takes no memory.
-pub fn is_indexed(ids: &IdIndex, id: &[u8; 32]) -> bool
-    ensures { result ≡ is_known (keys_of ids.now.entries) id.now }
+/// The block of an id. None where the id is not among these. It takes no memory.
+pub fn block_in(ids: &IdIndex, id: &[u8; 32]) -> Option<u32>
+    ensures { result ≡ block_of_id ids.now.entries id.now }
 {
-    ids.get(id).is_some()
+    ids.get(id).copied()
 }
 
-/// Adds an id.
-fn index(ids: &mut IdIndex, id: [u8; 32]) -> Result<(), AllocError>
+/// Adds an id of a block. One that is there keeps its block.
+fn index(ids: &mut IdIndex, id: [u8; 32], block: u32) -> Result<(), AllocError>
     ensures { OnOk result
         ((sought : Bytes) →
-        is_known (keys_of ids.new.entries) sought
-        ≡ (bytes_eq id sought || is_known (keys_of ids.old.entries) sought)) }
+        block_of_id ids.new.entries sought
+        ≡ block_behind ids.old.entries block (id ∷ []) sought) }
 {
-    ids.put(id, ())
+    if block_in(ids, &id).is_some() {
+        return Ok(());
+    }
+    ids.put(id, block)
 }
 
-/// Adds ids.
-pub fn index_all(known: &mut IdIndex, ids: &[[u8; 32]]) -> Result<(), AllocError>
+/// Adds the ids of a block. Each that is there keeps its block.
+pub fn index_all(known: &mut IdIndex, ids: &[[u8; 32]], block: u32) -> Result<(), AllocError>
     ensures { OnOk result
         ((sought : Bytes) →
-        is_known (keys_of known.new.entries) sought
-        ≡ (is_known (keys_of known.old.entries) sought || has_id ids.now sought)) }
+        block_of_id known.new.entries sought
+        ≡ block_behind known.old.entries block ids.now sought) }
 {
     for id in ids {
-        index(known, *id)?;
+        index(known, *id, block)?;
     }
     Ok(())
 }

@@ -2,8 +2,9 @@
 //!
 //! Contracts see a snapshot as its chain. What it answers of a key is what the last VALID writer in
 //! that chain left there, with that writer's version: this is the invariant of its map. It also
-//! keeps the ids of the chain's transactions. The snapshot of a longer chain shares the blocks, and
-//! the pages of the map and of the ids that its last block does not change.
+//! keeps the ids of the chain's transactions, each with the block where it stands first. The
+//! snapshot of a longer chain shares the blocks, and the pages of the map and of the ids that its
+//! last block does not change.
 #![tactic(auto)]
 
 mod ids;

@@ -1,6 +1,6 @@
 //! Snapshots.
 
-ghost use Rattle.std.specs.Prelude.{◌≡◌, ◌≤◌, ◌+◌, ◌-◌, [], ◌∷◌, ◌++◌, length, map, ◌||◌, IfOk, OnOk, OnErr, IfNone, option_map, slice_get};
+ghost use Rattle.std.specs.Prelude.{◌≡◌, ◌≤◌, ◌+◌, ◌-◌, [], ◌∷◌, ◌++◌, length, map, IfOk, OnOk, OnErr, IfNone, option_map, slice_get};
 ghost use Rattle.std.specs.Arc.{arc_value};
 ghost use Rattle.std.specs.FinMap.{entries};
 ghost use Rattle.std.specs.List.{AllByRecursion};
@@ -13,13 +13,13 @@ ghost use Rattle.ledger_model.specs.Views.{key_cmp, first, entries_within};
 ghost use Rattle.ledger_model.specs.State.{state, state_at};
 ghost use Rattle.wire.specs.Ids.{id_of};
 ghost use Rattle.ledger_model.specs.Flags.{stands_in};
-ghost use Rattle.world_state.specs.Ids.{is_known, has_id, ids_of};
+ghost use Rattle.world_state.specs.Ids.{ids_of, placed_ids, block_of_id, block_behind};
 ghost use Rattle.world_state.specs.Judging.{IsOf, flagged};
 ghost use Rattle.world_state.specs.Shared.{blocks_in};
 ghost use Rattle.world_state.specs.Writing.{as_state, put_block};
 
 use crate::ids::tx_ids;
-use crate::index::{IdIndex, index_all, is_indexed};
+use crate::index::{IdIndex, block_in, index_all};
 use crate::judged::Judged;
 use crate::ranges::{first_entries, range_in};
 use crate::within::show_block;
@@ -74,14 +74,14 @@ fn after_block(
         flags.now) }
     ensures ids { IfOk result
         (λ t. (sought : Bytes) →
-        is_known (keys_of t.1.entries) sought
-        ≡ (is_known (keys_of known.now.entries) sought || has_id ids.now sought)) }
+        block_of_id t.1.entries sought
+        ≡ block_behind known.now.entries block.now.header.number ids.now sought) }
 {
     show_block(block);
     let mut map = map.clone()?;
     let mut known = known.clone()?;
     apply_block(&mut map, block, flags)?;
-    index_all(&mut known, ids)?;
+    index_all(&mut known, ids, block.header.number.get())?;
     Ok((map, known))
 }
 
@@ -94,10 +94,7 @@ pub struct Snapshot {
 }
 
 impl Model for Snapshot {
-    ghost use Rattle.std.specs.Map.{keys_of};
     ghost use Rattle.ledger_model.specs.Chain.{Chain};
-    ghost use Rattle.wire.specs.Ids.{id_of};
-    ghost use Rattle.ledger_model.specs.Flags.{stands_in};
     ghost use Rattle.world_state.specs.Shared.{blocks_in};
     ghost use Rattle.world_state.specs.Inside.{IsRight};
 
@@ -105,8 +102,7 @@ impl Model for Snapshot {
 
     ghost view = { λ s. blocks_in s.blocks.items };
 
-    ghost invariant = { λ s. IsRight (blocks_in s.blocks.items) s.map.entries
-        (keys_of s.ids.entries) };
+    ghost invariant = { λ s. IsRight (blocks_in s.blocks.items) s.map.entries s.ids.entries };
 }
 
 impl Snapshot {
@@ -153,7 +149,15 @@ impl Snapshot {
     pub fn has_tx(&self, id: &[u8; 32]) -> bool
         ensures { result ≡ stands_in id_of (history self.now) id.now }
     {
-        is_indexed(&self.ids, id)
+        block_in(&self.ids, id).is_some()
+    }
+
+    /// The number of the first block that has a transaction of this id, whatever its flag. None
+    /// where no block has. It takes no memory.
+    pub fn block_of(&self, id: &[u8; 32]) -> Option<u32>
+        ensures { result ≡ block_of_id (placed_ids (history self.now)) id.now }
+    {
+        block_in(&self.ids, id)
     }
 
     /// Each key of the state with its value and version, in key order. The error is of memory.

@@ -1,15 +1,14 @@
-use Rattle.std.proofs.Common.{◌∙◌, ap}
-use Rattle.std.specs.Ordering.{nat_cmp}
-use Rattle.std.specs.Cmp.Lexicographic.{slice_cmp}
-use Rattle.ledger_model.proofs.Keys.{keys_total}
-use Rattle.persist_map.specs.Entries.{get}
-use Rattle.persist_map.proofs.Lookups.{get-put}
+use Rattle.std.proofs.Common.{◌∙◌, ap, sym, is_some}
 use Rattle.persist_map.proofs.Reading.{on_ok}
-use Rattle.world_state.proofs.Known.{known_put}
+use Rattle.world_state.proofs.Placed.{id_added, id_kept}
 use Rattle.world_state.proofs.index.index.Goals as goal
+
+pub returns-then-is_some : goal.returns-then-is_some
+returns-then-is_some c = λ sought.
+    id_kept c.args.ids.now.entries c.args.block c.args.id sought (ap is_some (sym c.block_in.ensures) ∙ sym c.is_some.ensures ∙ c.if-is_some.true)
 
 pub returns : goal.returns
 returns c =
     on_ok c.put.result _ _ c.put.ensures.ok (λ n sought.
-    known_put c.args.ids.now.entries c.put.new.self.entries c.args.id sought tt
-    (ap (λ es. get (slice_cmp nat_cmp) es sought) n ∙ get-put (slice_cmp nat_cmp) keys_total c.args.id c.args.ids.now.entries tt sought))
+    id_added c.args.ids.now.entries c.put.new.self.entries c.args.block c.args.id sought
+    (ap is_some (sym c.block_in.ensures) ∙ sym c.is_some.ensures ∙ c.if-is_some.false) n)

@@ -1,6 +1,5 @@
-use Rattle.std.proofs.Common.{◌∙◌, ◌||◌}
-use Rattle.std.specs.Map.{keys_of}
-use Rattle.world_state.specs.Ids.{is_known, has_id}
+use Rattle.std.proofs.Common.{◌∙◌}
+use Rattle.world_state.specs.Ids.{block_behind}
 use Rattle.world_state.specs.Writing.{as_state, put_block}
 use Rattle.world_state.proofs.snapshot.after_block.Goals as goal
 
@@ -12,4 +11,4 @@ returns-clause-map c =
 
 pub returns-clause-ids : goal.returns-clause-ids
 returns-clause-ids c = λ q.
-    c.in_ok-index_all.ensures q ∙ (λ i. is_known (keys_of (c.in_ok-known.ensures.cases i).entries) q || has_id c.args.ids.now q)
+    c.in_ok-index_all.ensures q ∙ (λ i. block_behind (c.in_ok-known.ensures.cases i).entries (c.get.ensures.value i) c.args.ids.now q)

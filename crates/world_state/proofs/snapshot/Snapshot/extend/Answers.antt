@@ -1,5 +1,4 @@
 use Rattle.std.proofs.Common.{◌≡◌, ◌∙◌, ap, sym, ◌+◌, ◌++◌, ◌∷◌, [], length, subst, OnOk}
-use Rattle.std.specs.Arc.{arc_value}
 use Rattle.ledger_model.specs.Chain.{Committed}
 use Rattle.world_state.specs.Ids.{ids_of}
 use Rattle.world_state.proofs.snapshot.Snapshot.extend.Goals as goal

@@ -1,11 +1,10 @@
-use Rattle.std.proofs.Common.{◌≡◌, ◌≤◌, ◌∙◌, ap, sym, refl, ◌+◌, length, arith, ◌||◌, subst}
+use Rattle.std.proofs.Common.{◌≡◌, ◌≤◌, ◌∙◌, ap, sym, refl, ◌+◌, length, arith, subst}
 use Rattle.std.specs.Arc.{arc_value}
-use Rattle.std.specs.Map.{keys_of}
 use Rattle.fab_types.specs.BlockWithin.{IsBlock}
 use Rattle.fab_types.specs.declared.block.Block.{Block}
 use Rattle.ledger_model.specs.Chain.{Committed, Chain}
 use Rattle.world_state.specs.Writing.{as_state, put_block}
-use Rattle.world_state.specs.Ids.{is_known, has_id}
+use Rattle.world_state.specs.Ids.{block_behind}
 use Rattle.world_state.specs.Inside.{IsRight}
 use Rattle.world_state.specs.Shared.{blocks_in}
 use Rattle.world_state.proofs.Blocks.{blocks_pushed}
@@ -24,8 +23,8 @@ invariant_of-self-2 c =
     let limit : new.block.header.number ≤ 65535 = subst (λ (b : Block). b.header.number ≤ 65535) block c.in_ok-map.ensures.limits in
     let number : new.block.header.number ≡ length chain + 1 = omega (arith, c.requires.next, ap length c.self.view_is) in
     let pushed = blocks_pushed s.blocks.items c.push.new.self.items c.args.committed new c.in_ok-push.ensures.items refl in
-    subst (λ (bs : Chain). IsRight bs c.in_ok-map.map.entries (keys_of c.in_ok-map.ids.entries)) (sym pushed)
-    (right_more chain new s.map.entries _ (keys_of s.ids.entries) _ c.self.invariant number limit each
+    subst (λ (bs : Chain). IsRight bs c.in_ok-map.map.entries c.in_ok-map.ids.entries) (sym pushed)
+    (right_more chain new s.map.entries _ s.ids.entries _ c.self.invariant number limit each
     (c.in_ok-map.ensures.map ∙ (λ i. put_block (as_state s.map.entries) (block i).header.number 0 (block i).envelopes (flags i)))
-    (λ q. c.in_ok-map.ensures.ids q ∙ ap (λ ids. is_known (keys_of s.ids.entries) q || has_id ids q) c.requires.ids)
+    (λ q. c.in_ok-map.ensures.ids q ∙ (λ i. block_behind s.ids.entries (block i).header.number (c.requires.ids i) q))
     (subst IsBlock block c.in_ok-map.ensures.within))
