@@ -1,6 +1,7 @@
 mod OneQuestion
 mod OrgLists
 mod Placing
+mod FirstBlock
 mod Refusals
 mod AnswerDepths
 mod AnswerFloats

@@ -1,10 +1,8 @@
 -- The transactions of a chain, place by place.
-use Rattle.std.proofs.Common.{◌≡◌, ℕ, zero, suc, ◌+◌, ◌<◌, ◌≤◌, Bool, true, false, List, [], ◌∷◌, ◌++◌, ◌||◌, cond, length, get_or, drop, Some, None, refl, sym, ap, ◌∙◌, arith}
+use Rattle.std.proofs.Common.{◌≡◌, ℕ, zero, suc, ◌+◌, ◌<◌, ◌≤◌, Bool, true, false, List, [], ◌∷◌, ◌++◌, length, get_or, drop, Some, refl, sym, ap, ◌∙◌, arith}
 use Rattle.std.proofs.lemmas.List.{append_assoc}
-use Rattle.std.proofs.lemmas.List.Folds.{find-append}
 use Rattle.std.proofs.lemmas.List.Concat.{flat_map-append}
-use Rattle.std.specs.List.{find, list_any}
-use Rattle.std.specs.Option.{option_or}
+use Rattle.std.specs.List.{find}
 use Rattle.std.specs.declared.sync.Arc.{Arc}
 use Rattle.std.specs.declared.alloc.Global.{Global}
 use Rattle.fab_types.specs.Committed.{Committed}
@@ -63,19 +61,3 @@ found_here test x xs is = rw is refl
 
 pub found_later : {A : Type 0} (test : A → Bool) (x : A) (xs : List A) → test x ≡ false → find test (x ∷ xs) ≡ find test xs
 found_later test x xs is = rw is refl
-
--- where none passes, none is found
-pub none_found : {A : Type 0} (test : A → Bool) (xs : List A) → list_any test xs ≡ false → find test xs ≡ None
-none_found test [] none = refl
-none_found test (x ∷ xs) none =
-    elim (test x) as (λ b. (b || list_any test xs) ≡ false → cond b (Some x) (find test xs) ≡ None) [
-      | true ↦ λ h. absurd cc
-      | false ↦ λ h. none_found test xs h
-    ] none
-
--- in the first part, or else in the second
-pub found_in_front : {A : Type 0} (test : A → Bool) (xs ys : List A) (x : A) → find test xs ≡ Some x → find test (xs ++ ys) ≡ Some x
-found_in_front test xs ys x is = find-append test xs ys ∙ ap (λ o. option_or o (find test ys)) is
-
-pub found_behind : {A : Type 0} (test : A → Bool) (xs ys : List A) → find test xs ≡ None → find test (xs ++ ys) ≡ find test ys
-found_behind test xs ys is = find-append test xs ys ∙ ap (λ o. option_or o (find test ys)) is

@@ -17,8 +17,7 @@ use wire::payload_id;
 use world_state::Snapshot;
 
 /// The first transaction of this id, at its place in the chain, by who stands before its block;
-/// null where there is none. An id that the chain does not have is told at once; one that it has is
-/// looked for from block 1 on.
+/// null where there is none. It is looked for in the block that has the id first.
 pub(crate) fn transaction_of(
     alloc: Global,
     rules: &Rules,
@@ -30,9 +29,6 @@ pub(crate) fn transaction_of(
         ≡ or_null (placed_json rules.now snapshot.now)
         (find (has_id id.now) (history snapshot.now))) }
 {
-    if !snapshot.has_tx(id) {
-        return Ok(Value::Null);
-    }
     match first_of(snapshot, id) {
         Some(placed) => placed_of(alloc, rules, snapshot, &placed),
         None => Ok(Value::Null),
@@ -55,18 +51,14 @@ fn placed_of(
     placed_transaction_of(alloc, standing.organisations(), placed)
 }
 
-/// The first transaction of this id in a chain.
+/// The first transaction of this id in a chain, from the block that has the id first.
 fn first_of<'a>(snapshot: &'a Snapshot, id: &[u8; 32]) -> Option<Placed<'a>>
     ensures { option_map (λ p. placed_at p.envelope.now p.flag p.block p.place) result
         ≡ find (has_id id.now) (history snapshot.now) }
 {
-    let blocks = snapshot.blocks();
-    for index in 0..blocks.len() {
-        if let Some(placed) = first_in(&blocks[index], id, index + 1) {
-            return Some(placed);
-        }
-    }
-    None
+    let number = snapshot.block_of(id)? as usize;
+    let committed = &snapshot.blocks()[number - 1];
+    first_in(committed, id, number)
 }
 
 /// The first transaction of this id in the block of a number.

@@ -1,40 +1,34 @@
-use Rattle.std.proofs.Common.{rules, ◌≡◌, ◌+◌, None, Some, drop, sym, ap, ◌∙◌, arith}
-use Rattle.std.specs.List.{find}
-use Rattle.world_state.specs.Shared.{blocks_in}
-use Rattle.fab_types.specs.Committed.{Committed}
-use Rattle.ledger_model.specs.Chain.{Chain, history, placed_from, transactions_from}
-use Rattle.json_chain.specs.Writes.{placed_at}
-use Rattle.json_questions.specs.Answers.{has_id}
-use Rattle.json_questions.proofs.Placing.{blocks_at, found_behind, found_in_front}
+use Rattle.std.proofs.Common.{◌≡◌, ◌-◌, ◌<◌, ◌∙◌, length, get_or, sym, ap, arith}
+use Rattle.std.proofs.lemmas.List.{get_or-map, length-map}
+use Rattle.ledger_model.specs.Chain.{Chain}
+use Rattle.json_questions.proofs.FirstBlock.{first_block, no_block}
 use Rattle.json_questions.proofs.transactions.first_of.Goals as goal
 
-pub loop-index-preserved : goal.loop-index-preserved
-loop-index-preserved c =
-    let k = c.loop-index.index in
-    let xs = c.blocks-blocks.result.now in
-    let arc = c.index-blocks-index.result in
-    let test = has_id c.args.id.now in
-    let here = transactions_from (k + 1) 0 arc.value.block.envelopes arc.value.flags in
-    let later = placed_from (k + 1 + 1) (blocks_in (drop (k + 1) xs)) in
-    let block = ap (λ (b : Committed). find test (transactions_from (k + 1) 0 b.block.envelopes b.flags)) (sym c.deref.ensures) in
-    let missing : find test (transactions_from (k + 1) 0 c.deref.result.now.block.envelopes c.deref.result.now.flags) ≡ None = search rules in
-    let none : find test here ≡ None = block ∙ missing in
-    sym (found_behind test here later none)
-    ∙ ap (λ ts. find test ts) (sym (blocks_at (k + 1) k xs arc (omega (arith, c.loop-index-test.true)) c.index-blocks-index.is))
-    ∙ c.loop-index.invariant
+pub returns-in_err-number : goal.returns-in_err-number
+returns-in_err-number c =
+    rw c.from_residual.ensures (sym (no_block c.args.id.now c.args.snapshot.now (sym c.block_of.ensures ∙ c.in_err-number.was)))
 
-pub returns-in-Some : goal.returns-in-Some
-returns-in-Some c =
-    let k = c.loop-index.index in
-    let xs = c.blocks-blocks.result.now in
-    let arc = c.index-blocks-index.result in
-    let test = has_id c.args.id.now in
-    let p = c.in-Some.placed in
-    let t = placed_at p.envelope.now p.flag p.block p.place in
-    let here = transactions_from (k + 1) 0 arc.value.block.envelopes arc.value.flags in
-    let later = placed_from (k + 1 + 1) (blocks_in (drop (k + 1) xs)) in
-    let block = ap (λ (b : Committed). find test (transactions_from (k + 1) 0 b.block.envelopes b.flags)) (sym c.deref.ensures) in
-    let is : find test here ≡ Some t = block ∙ sym c.in-Some.ensures in
-    sym (found_in_front test here later t is)
-    ∙ ap (λ ts. find test ts) (sym (blocks_at (k + 1) k xs arc (omega (arith, c.loop-index-test.true)) c.index-blocks-index.is))
-    ∙ c.loop-index.invariant ∙ ap (λ (cs : Chain). find test (history cs)) c.blocks-blocks.ensures.value
+pub overflow_sub-committed : goal.overflow_sub-committed
+overflow_sub-committed c = (first_block c.args.id.now c.args.snapshot.now c.in_ok-number.field-0 (sym c.block_of.ensures ∙ c.in_ok-number.was)).from
+
+pub bounds-blocks-number : goal.bounds-blocks-number
+bounds-blocks-number c =
+    let chain = c.args.snapshot.now in
+    let xs = c.blocks-2.result.now in
+    let b = first_block c.args.id.now chain c.in_ok-number.field-0 (sym c.block_of.ensures ∙ c.in_ok-number.was) in
+    let long : length xs ≡ length chain = sym (length-map xs (λ a. a.value)) ∙ ap (λ (bs : Chain). length bs) c.blocks-2.ensures.value in
+    omega (arith, b.from, b.within, long)
+
+pub returns : goal.returns
+returns c =
+    let chain = c.args.snapshot.now in
+    let xs = c.blocks-2.result.now in
+    let n = c.in_ok-number.field-0 in
+    let b = first_block c.args.id.now chain n (sym c.block_of.ensures ∙ c.in_ok-number.was) in
+    let long : length xs ≡ length chain = sym (length-map xs (λ a. a.value)) ∙ ap (λ (bs : Chain). length bs) c.blocks-2.ensures.value in
+    let within : n - 1 < length xs = omega (arith, b.from, b.within, long) in
+    let block = c.deref.result.now in
+    let at : block ≡ get_or chain (n - 1) block =
+    c.deref.ensures ∙ ap (λ a. a.value) c.index-blocks-number.is ∙ sym (get_or-map (λ a. a.value) xs (n - 1) c.index-blocks-number.result block within)
+    ∙ ap (λ (bs : Chain). get_or bs (n - 1) block) c.blocks-2.ensures.value in
+    c.first_in.ensures ∙ b.there block at
