@@ -2,4 +2,5 @@ pub mod Depths
 pub mod Floats
 mod Collecting
 mod Written
+mod LastAmendment
 mod Stands

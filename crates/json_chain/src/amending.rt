@@ -1,11 +1,12 @@
 //! Which membership stands before a block.
 
-ghost use Rattle.std.specs.Prelude.{◌≡◌, None, option_map};
+ghost use Rattle.std.specs.Prelude.{◌≡◌, None, option_map, take};
 ghost use Rattle.world_state.specs.Shared.{blocks_in};
 ghost use Rattle.json_chain.specs.Standing.{amended, amended_by, membership_behind};
 
 use fab_types::{CommittedBlock, Flag, Membership, Proposal};
 use std::sync::Arc;
+use world_state::Snapshot;
 
 /// The membership behind the first blocks of a chain: that of their last VALID amendment. None
 /// where there is none, and the genesis stands.
@@ -17,6 +18,17 @@ pub fn membership_behind(blocks: &[Arc<CommittedBlock>]) -> Option<&Membership>
         membership = amended_by(membership, committed);
     }
     membership
+}
+
+/// The same of the first blocks of a snapshot's chain, of so many. No block but that of the
+/// amendment is looked at.
+pub fn membership_at(snapshot: &Snapshot, height: usize) -> Option<&Membership>
+    ensures { option_map (λ s. s.now) result ≡ membership_behind None (take height snapshot.now) }
+{
+    match snapshot.last_amending(height) {
+        Some(committed) => amended_by(None, committed),
+        None => None,
+    }
 }
 
 /// The membership behind a block, where this one stood before it.

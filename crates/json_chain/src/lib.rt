@@ -6,7 +6,7 @@
 //! [`Object`].
 //!
 //! Which tags of a block are right is by who stands before it: by the last VALID amendment of the
-//! earlier blocks ([`membership_behind`]), or by the genesis (`specs/Standing.antt`). The judge goes
+//! earlier blocks ([`membership_at`]), or by the genesis (`specs/Standing.antt`). The judge goes
 //! by the same ([`who_is_shown_stands`]).
 #![tactic(auto)]
 
@@ -27,7 +27,7 @@ mod to_json;
 mod transaction;
 mod writes;
 
-pub use amending::{amended_by, membership_behind};
+pub use amending::{amended_by, membership_at, membership_behind};
 pub use block::block_of;
 pub use ending::Finding;
 pub use entries::{entry_of, written_of};

@@ -4,12 +4,11 @@ ghost use Rattle.std.specs.Prelude.{◌≡◌, IfOk};
 ghost use Rattle.json_chain.specs.Standing.{orgs_before};
 
 use endorsement_policy::{Rules, Standing};
-use json_chain::membership_behind;
+use json_chain::membership_at;
 use std::alloc::{AllocError, Global};
 use world_state::Snapshot;
 
-/// Who stands before the block of a number of a chain: the earlier blocks are looked through for
-/// amendments.
+/// Who stands before the block of a number of a chain.
 pub(crate) fn standing_before<'a>(
     alloc: Global,
     rules: &'a Rules,
@@ -18,7 +17,6 @@ pub(crate) fn standing_before<'a>(
 ) -> Result<Standing<'a>, AllocError>
     ensures { IfOk result (λ s. s.orgs ≡ orgs_before rules.now number snapshot.now) }
 {
-    let blocks = snapshot.blocks();
-    let earlier = &blocks[..number.saturating_sub(1).min(blocks.len())];
-    Standing::after(alloc, rules, membership_behind(earlier))
+    let membership = membership_at(snapshot, number.saturating_sub(1));
+    Standing::after(alloc, rules, membership)
 }

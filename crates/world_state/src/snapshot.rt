@@ -1,6 +1,6 @@
 //! Snapshots.
 
-ghost use Rattle.std.specs.Prelude.{◌≡◌, ◌≤◌, ◌+◌, ◌-◌, [], ◌∷◌, ◌++◌, length, map, IfOk, OnOk, OnErr, IfNone, option_map, slice_get};
+ghost use Rattle.std.specs.Prelude.{◌≡◌, ◌≤◌, ◌+◌, ◌-◌, [], ◌∷◌, ◌++◌, None, length, map, take, IfOk, OnOk, OnErr, IfNone, option_map, slice_get};
 ghost use Rattle.std.specs.Arc.{arc_value};
 ghost use Rattle.std.specs.FinMap.{entries};
 ghost use Rattle.std.specs.List.{AllByRecursion};
@@ -13,6 +13,7 @@ ghost use Rattle.ledger_model.specs.Views.{key_cmp, first, entries_within};
 ghost use Rattle.ledger_model.specs.State.{state, state_at};
 ghost use Rattle.wire.specs.Ids.{id_of};
 ghost use Rattle.ledger_model.specs.Flags.{stands_in};
+ghost use Rattle.world_state.specs.Amending.{last_amending};
 ghost use Rattle.world_state.specs.Ids.{ids_of, placed_ids, block_of_id, block_behind};
 ghost use Rattle.world_state.specs.Judging.{IsOf, flagged};
 ghost use Rattle.world_state.specs.Shared.{blocks_in};
@@ -22,6 +23,7 @@ use crate::ids::tx_ids;
 use crate::index::{IdIndex, block_in, index_all};
 use crate::judged::Judged;
 use crate::ranges::{first_entries, range_in};
+use crate::shared_blocks::SharedBlocks;
 use crate::within::show_block;
 use crate::writes::{StateMap, apply_block};
 use fab_types::limits::LAST_BLOCK;
@@ -40,21 +42,6 @@ fn all_entries(
     ensures ordered { IsStrictlySortedBy key_cmp (keys_of entries.now.entries) }
 {
     entries.range(None, None).collect(alloc)
-}
-
-/// Shared blocks, and one more.
-fn with_block(
-    alloc: Global,
-    blocks: &[Arc<CommittedBlock>],
-    block: CommittedBlock,
-) -> Result<Vec<Arc<CommittedBlock>>, AllocError>
-    requires { length blocks.now ≤ LAST_BLOCK }
-    ensures { IfOk result (λ v. blocks_in v.items ≡ blocks_in blocks.now ++ block ∷ []) }
-{
-    let mut longer = Vec::with_capacity(alloc, blocks.len() + 1)?;
-    longer.extend_with_clones(blocks)?;
-    longer.push(Arc::new(alloc, block)?)?;
-    Ok(longer)
 }
 
 /// The state and the ids after one block more, whose transactions have these flags and ids.
@@ -88,21 +75,20 @@ fn after_block(
 /// The blocks of a chain from block 1 on, and the state after them.
 #[derive(Drop)]
 pub struct Snapshot {
-    blocks: Vec<Arc<CommittedBlock>>,
+    blocks: SharedBlocks,
     map: StateMap,
     ids: IdIndex,
 }
 
 impl Model for Snapshot {
     ghost use Rattle.ledger_model.specs.Chain.{Chain};
-    ghost use Rattle.world_state.specs.Shared.{blocks_in};
     ghost use Rattle.world_state.specs.Inside.{IsRight};
 
     ghost Value = { Chain };
 
-    ghost view = { λ s. blocks_in s.blocks.items };
+    ghost view = { λ s. s.blocks };
 
-    ghost invariant = { λ s. IsRight (blocks_in s.blocks.items) s.map.entries s.ids.entries };
+    ghost invariant = { λ s. IsRight s.blocks s.map.entries s.ids.entries };
 }
 
 impl Snapshot {
@@ -111,7 +97,7 @@ impl Snapshot {
         ensures { result ≡ [] }
     {
         Snapshot {
-            blocks: Vec::new(alloc),
+            blocks: SharedBlocks::new(alloc),
             map: PMap::new(alloc),
             ids: PMap::new(alloc),
         }
@@ -122,7 +108,7 @@ impl Snapshot {
         ensures value { result ≡ length self.now }
         ensures limits { length self.now ≤ LAST_BLOCK }
     {
-        self.blocks.len()
+        self.blocks.as_slice().len()
     }
 
     /// The blocks with their flags, from block 1 on. There are at most 65,535, each within the
@@ -132,7 +118,7 @@ impl Snapshot {
         ensures limits { length self.now ≤ LAST_BLOCK }
         ensures within { AllByRecursion (λ c. IsBlock c.block) self.now }
     {
-        &self.blocks
+        self.blocks.as_slice()
     }
 
     /// A key's value, and the version of its last writer. None where the key is absent.
@@ -158,6 +144,14 @@ impl Snapshot {
         ensures { result ≡ block_of_id (placed_ids (history self.now)) id.now }
     {
         block_in(&self.ids, id)
+    }
+
+    /// The last block that has a VALID amendment, of so many first blocks. None where none of them
+    /// has. It takes no memory, and looks at no other block.
+    pub fn last_amending(&self, height: usize) -> Option<&CommittedBlock>
+        ensures { option_map (λ c. c.now) result ≡ last_amending None (take height self.now) }
+    {
+        self.blocks.last_amending(height)
     }
 
     /// Each key of the state with its value and version, in key order. The error is of memory.
@@ -222,7 +216,9 @@ impl Snapshot {
     {
         let Judged { flags, ids } = judged;
         let (map, ids) = after_block(&self.map, &self.ids, &block, &flags, &ids)?;
-        let blocks = with_block(alloc, &self.blocks, CommittedBlock::new(block, flags))?;
+        let blocks = self
+            .blocks
+            .followed_by(alloc, CommittedBlock::new(block, flags))?;
         Ok(Snapshot { blocks, map, ids })
     }
 
@@ -281,7 +277,7 @@ impl Snapshot {
         ensures last { option_map (λ c. c.now) result ≡ slice_get self.now (length self.now - 1) }
         ensures none { IfNone result (self.now ≡ []) }
     {
-        match self.blocks.last() {
+        match self.blocks.as_slice().last() {
             None => None,
             Some(committed) => Some(committed),
         }

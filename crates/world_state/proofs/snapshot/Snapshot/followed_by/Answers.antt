@@ -3,17 +3,16 @@ use Rattle.ledger_model.specs.Chain.{Committed, Chain}
 use Rattle.world_state.specs.Writing.{as_state, put_block}
 use Rattle.world_state.specs.Ids.{block_behind}
 use Rattle.world_state.specs.Inside.{IsRight}
-use Rattle.world_state.specs.Shared.{blocks_in}
 use Rattle.world_state.proofs.Longer.{right_more}
 use Rattle.world_state.proofs.snapshot.Snapshot.followed_by.Goals as goal
 
 pub invariant_of-result : goal.invariant_of-result
 invariant_of-result c =
-    let chain = blocks_in c.self.inside.blocks.items in
+    let chain = c.self.inside.blocks in
     let b = c.args.block in
     let new : Committed = record { block = b; flags = c.args.judged.flags.items } in
     let number : b.header.number ≡ length chain + 1 = omega (arith, ap length c.self.view_is) in
-    let pushed = c.in_ok-blocks.ensures ∙ (λ i. blocks_in (c.deref-3.ensures.value i) ++ c.new.ensures i ∷ []) in
+    let pushed = c.in_ok-blocks.ensures ∙ (λ i. chain ++ c.new.ensures i ∷ []) in
     subst (λ (bs : Chain). IsRight bs c.in_ok-map.map.entries c.in_ok-map.ids.entries) (sym pushed)
     (right_more chain new c.self.inside.map.entries _ c.self.inside.ids.entries _ c.self.invariant number c.in_ok-map.ensures.limits
     c.requires.judged.one_each
@@ -27,4 +26,4 @@ invariant_of-result c =
 pub returns : goal.returns
 returns c =
     let new : Committed = record { block = c.args.block; flags = c.args.judged.flags.items } in
-    c.in_ok-blocks.ensures ∙ (λ i. blocks_in (c.deref-3.ensures.value i) ++ c.new.ensures i ∷ []) ∙ ap (λ bs. bs ++ new ∷ []) c.self.view_is
+    c.in_ok-blocks.ensures ∙ (λ i. c.self.inside.blocks ++ c.new.ensures i ∷ []) ∙ ap (λ bs. bs ++ new ∷ []) c.self.view_is

@@ -1,5 +1,5 @@
 use Rattle.world_state.proofs.Blocks.{blocks_more}
-use Rattle.world_state.proofs.snapshot.with_block.Goals as goal
+use Rattle.world_state.proofs.shared_blocks.with_block.Goals as goal
 
 pub returns : goal.returns
 returns c =
