@@ -57,6 +57,17 @@ def proposals(count: int) -> Iterator[str]:
         yield f"call {at} {proposal}\n"
 
 
+def amendments(count: int) -> Iterator[str]:
+    """So many amendments that keep the members, a block each, which A's peer simulates."""
+    members = [{"name": it} for it in ORGANISATIONS]
+    for serial in range(1, count + 1):
+        yield line("begin", peer=0, seat=0, members=members, policy="'A'", serial=serial, nonce=f"{serial:032x}")
+        yield line("finish", peer=0, seat=0, **{"as": "A"})
+        yield line("submit", use=["A"])
+        yield line("take")
+        yield line("commit", peer=0)
+
+
 def drawn(keys: int) -> Iterator[int]:
     """Numbers of keys, the same in every run, by a linear congruential generator (Knuth's MMIX)."""
     random = 1
@@ -96,12 +107,17 @@ class Chain:
 
 def make(program: pathlib.Path, room: pathlib.Path, setting: dict, blocks: Iterable[Block]) -> Chain:
     """The chain of such calls of the only chaincode of a genesis, each endorsed by as many organisations as it has peers."""
+    return made(program, room, setting, events(setting["chaincodes"][0]["name"], blocks, len(setting["peers"])))
+
+
+def made(program: pathlib.Path, room: pathlib.Path, setting: dict, asked_for: Iterable[str]) -> Chain:
+    """The chain of these events."""
     room.mkdir()
     chain = Chain(room / "genesis.json", room / "chain.store", room / "log")
     asked, seeds = room / "events.jsonl", write_seeds(room / "all.key")
     chain.genesis.write_text(json.dumps(setting))
     with asked.open("w") as lines:
-        lines.writelines(events(setting["chaincodes"][0]["name"], blocks, len(setting["peers"])))
+        lines.writelines(asked_for)
     done = said([program, "run", chain.genesis, asked, "--store", chain.store, "--keys", seeds])
     # Each peer commits each block.
     committed = [it.split()[3:] for it in done if it.startswith("committed ")][::len(setting["peers"])]
@@ -127,6 +143,14 @@ def register(program: pathlib.Path, room: pathlib.Path, module: bytes, blocks: i
     chain = make(program, room, setting, transfers(blocks, calls))
     if chain.flags != ["0"] * (blocks * calls):
         fail(f"{len(chain.flags)} flags, not all of them 0")
+    return chain
+
+
+def amended(program: pathlib.Path, room: pathlib.Path, blocks: int) -> Chain:
+    """So many blocks, of an amendment each, which all end VALID."""
+    chain = made(program, room, genesis("keys", KEYS_MODULE.read_bytes(), peers=ORGANISATIONS[:1]), amendments(blocks))
+    if chain.flags != ["0"] * blocks:
+        fail(f"{len(chain.flags)} flags of amendments, not all of them 0")
     return chain
 
 

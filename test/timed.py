@@ -23,7 +23,8 @@ ROWS = {
     "run": ["large, instructions", "large, bytes +54", "start, commands +1", "call, proposals +6", "log by 1, transactions +6",
             "replay by 1, transactions +6", "audit, transactions +6", "rerun, transactions +6", "replay, blocks +10", "signed by 1, transactions +4", "reorder over 5 keys, txs +12", "over 5 keys +12 +2 +4"],
     "state": ["130 +2 +[0-9]+ +[0-9]+"],
-    "slowest": ["log, a block, two signatures +[0-9]", "call, instructions +[0-9]", "call, host calls, reads +[0-9]", "ask, history +[0-9]"],
+    "slowest": ["log, a block, two signatures +[0-9]", "call, instructions +[0-9]", "call, host calls, reads +[0-9]", "ask, history +[0-9]", "ask, part of a history +[0-9]",
+                "ask, block, behind amendments +[0-9]"],
     "threads": ["1 +5 ", "2 +10 ", "4 +20 "],
 }
 SECONDS, LONG = 60, 550
