@@ -25,6 +25,8 @@ BAD = [
     "", "{}", "[]", '{"ask":"none"}', '{"ask":"block"}', '{"ask":"block","number":0}', '{"ask":"block","number":65536}',
     '{"ask":"block","number":1,"more":1}', '{"ask":"get","key":""}',
     '{"ask":"get","key":"0"}', '{"ask":"get","key":"' + "00" * 65 + '"}', '{"ask":"transaction","id":"00"}',
+    '{"ask":"history","key":"61","from":1}', '{"ask":"history","key":"61","blocks":1}',
+    '{"ask":"history","key":"61","from":0,"blocks":1}', '{"ask":"history","key":"61","from":1,"blocks":1001}',
     '{"ask":"range","start":"","end":"","limit":0}', '{"ask":"range","start":"","end":"","limit":1001}',
     '{"ask":"setting"} {"ask":"setting"}', '{"ask":"satisfied","chaincode":"assets","orgs":"Maker"}',
     '{"ask":"call","chaincode":"assets","arg":"","args":[]}', '{"ask":"call","chaincode":"assets","args":["list",1]}',
@@ -80,7 +82,11 @@ def questions(asked: Asked) -> Iterator[tuple[dict, object]]:
     for entry in asked.state:
         yield {"ask": "get", "key": entry["key"]}, entry
     for key in ("6e6f6e65", "00", *{it["key"] for it in asked.state[:3]}):
-        yield {"ask": "history", "key": key}, asked.lines("state", "--key", key)
+        writes = asked.lines("state", "--key", key)
+        yield {"ask": "history", "key": key}, writes
+        for number, most in [(1, 1), (1, 1000), (2, 2), (len(asked.blocks), 3), (len(asked.blocks) + 1, 1)]:
+            part = [it for it in writes if number <= it["block"] < number + most]
+            yield {"ask": "history", "key": key, "from": number, "blocks": most}, part
     yield {"ask": "get", "key": "6e6f6e65"}, None
     shown = [it for it in asked.state if not it["key"].startswith("00")]
     for start, end, limit in RANGES:

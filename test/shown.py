@@ -323,8 +323,9 @@ QUESTIONS: dict[str, dict[str, Callable[[Any], object]]] = {
     "satisfied": {"chaincode": lambda it: re.fullmatch("[a-z0-9_-]{1,32}", it), "orgs": are_names},
     "call": {"chaincode": lambda it: re.fullmatch("[a-z0-9_-]{1,32}", it), "arg": lambda it: is_hex(it, 0, 4096)},
 }
-# Those of a call by texts.
+# Those of a call by texts, and of a part of a history.
 BY_TEXTS = {"chaincode": QUESTIONS["call"]["chaincode"], "args": are_texts}
+OF_A_PART = {**QUESTIONS["history"], "from": QUESTIONS["block"]["number"], "blocks": QUESTIONS["range"]["limit"]}
 
 
 def question_of(line: str) -> dict | None:
@@ -335,7 +336,8 @@ def question_of(line: str) -> dict | None:
         return None
     if not isinstance(it, dict) or it.get("ask") not in QUESTIONS:
         return None
-    fields = BY_TEXTS if it["ask"] == "call" and "args" in it else QUESTIONS[it["ask"]]
+    other = {"call": ("args", BY_TEXTS), "history": ("from", OF_A_PART)}.get(it["ask"])
+    fields = other[1] if other and other[0] in it else QUESTIONS[it["ask"]]
     return it if {*it} == {"ask", *fields} and all(fits(it[name]) for name, fits in fields.items()) else None
 
 
@@ -355,7 +357,9 @@ def answer(it: dict, genesis: dict, blocks: list[dict], at_hand: Modules) -> obj
             kept = [one for one in entries_of(blocks) if start <= one["key"] and one["key"][:2] != "00"]
             return [one for one in kept if not end or one["key"] < end][: it["limit"]]
         case "history":
-            return [one for one in placed_writes(blocks) if one["key"] == it["key"].lower()]
+            first = it.get("from", 1)
+            part = blocks[first - 1:first - 1 + it.get("blocks", len(blocks))]
+            return [one for one in placed_writes(part) if one["key"] == it["key"].lower()]
         case "transaction":
             placed = ({**tx, "block": block["block"], "place": at} for block in blocks for at, tx in enumerate(block["txs"]))
             return next((tx for tx in placed if tx["id"] == it["id"].lower()), None)

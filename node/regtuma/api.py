@@ -29,6 +29,8 @@ MOST_BLOCKS, MOST_ENTRIES, MOST_CALLS, HEARTBEAT = 200, 1000, 500, 15.0
 BODY, MOST_COMMAS, BODY_SECONDS = 5 << 20, 50_000, 30.0
 # How much of the chain one answer has, beside its last block; how it is written, and how long the reader may take for one block.
 MOST_ANSWER, PIECE, READ_SECONDS = 4 << 20, 1 << 16, 60.0
+# The peer is asked for a history in parts of so many blocks, so that nothing waits long behind one.
+PART = 16
 JSON, LINES, EVENTS = "application/json", "application/jsonl", "text/event-stream"
 # How long it may take until it is told that something is wrong: envelopes that wait, a log that takes none; lines that are unread.
 STUCK, UNLED, BEHIND = 30.0, 15.0, 10_000
@@ -187,7 +189,7 @@ class Api:
         return self.found(answered)
 
     async def get_history(self, request: web.Request) -> web.StreamResponse:
-        return await self.ask(request, "{}", "history", key=key_of(request))
+        return await self.send(request, self.writes(request, key_of(request)), JSON)
 
     async def get_range(self, request: web.Request) -> web.StreamResponse:
         """Keys from one to another, as text, or as hex behind 0x."""
@@ -287,6 +289,25 @@ class Api:
             if size > MOST_ANSWER:
                 return
 
+    async def writes(self, request: web.Request, key: str) -> AsyncIterator[str]:
+        """The list of all writes to a key, in parts. As long as a long one is on its way, it counts as in `ask`."""
+        first, blocks, height, begin = 1, PART, 1, "["
+        while first <= height:
+            try:
+                said, height = await self.chain.peer.text_of("history", key=key, blocks=blocks, **{"from": first})
+            except TooLong:
+                if blocks == 1:
+                    raise
+                blocks //= 2
+                continue
+            first += blocks
+            if part := said[1:-1]:
+                self.access.load.take(request, len(part) if len(part) > PIECE else 0)
+                yield begin + part
+                self.access.load.give(request)
+                begin = ","
+        yield "[]" if begin == "[" else "]"
+
     async def ask(self, request: web.Request, form: str, what: str, **question: object) -> web.StreamResponse:
         """What the program answers to a question, with its height, in this form. As long as it is on its way, a long one counts among the
         bytes that are held for the organisation."""
@@ -321,7 +342,7 @@ class Api:
                     if not stream.prepared:
                         await stream.prepare(request)
                     await write(stream, text)
-            except (FilterEnded, TooLong, asyncio.TimeoutError):
+            except (FilterEnded, TooLong, Refused, asyncio.TimeoutError):
                 if stream.prepared:
                     # It is too late for another status.
                     return cut(request, stream)

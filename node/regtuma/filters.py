@@ -18,7 +18,7 @@ class FilterEnded(Exception):
 
 
 class TooLong(Exception):
-    """A filter's line is longer than any that the node reads, as the history of a key that was written very often."""
+    """A filter's line is longer than any that the node reads, as part of the history of a key that has long values."""
 
 
 def say_nothing(_line: str) -> None:

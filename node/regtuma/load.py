@@ -31,8 +31,8 @@ class Load:
         request["held"] = request.get("held", 0) + size
 
     def give(self, request: web.Request) -> None:
-        """The request is answered."""
-        if held := request.get("held", 0):
+        """The request is answered, or what was held for it is on its way."""
+        if held := request.pop("held", 0):
             self.bodies[organisation_of(request)] -= held
 
     @contextlib.asynccontextmanager

@@ -11,8 +11,8 @@ from .filters import MOST_ASKED, Asked, FilterEnded, TooLong, say_nothing
 
 # So many lines of the log are handed on together: what is asked meanwhile comes between.
 AT_ONCE = 64
-# Questions that look through the whole chain, or verify all of a block, and how many of them wait for an answer at a time: what comes
-# behind them waits too.
+# Questions that look through many transactions, or verify all of a block, and how many of them wait for an answer at a time: what
+# comes behind them waits too.
 LONG, MOST_LONG = ("block", "history", "transaction"), 4
 
 

@@ -15,7 +15,7 @@ from regtuma import api, config, gateway, load, page
 from regtuma.chain import Awaited, Chain
 from regtuma.endorsing import Endorsing
 from regtuma.fields import RIGHTS
-from regtuma.filters import FilterEnded
+from regtuma.filters import FilterEnded, TooLong
 from regtuma.gateway import Gateway
 from regtuma.ticks import LAST_BLOCK
 from test_chain import CALL, FakeLog, Says, Times
@@ -148,6 +148,24 @@ class Reads(Case):
         for it in ("start=0xz", "limit=0", "limit=1001", "height=x"):
             self.assertEqual((await self.get(f"/state?{it}"))[0], 400)
         self.assertEqual(await self.get("/history/a"), (200, []))
+
+    async def test_a_history_comes_in_parts(self):
+        """Whole, also where a part is too long for one answer, and where the chain grows meanwhile."""
+        asked: list[tuple[int, int]] = []
+
+        async def text_of(what, key, blocks, **question):
+            asked.append((question["from"], blocks))
+            if blocks > 8 and question["from"] > 16:
+                raise TooLong("too long")
+            height = 40 if len(asked) < 3 else 41
+            part = [it for it in range(question["from"], question["from"] + blocks) if it <= height]
+            return json.dumps([{"key": key, "block": it} for it in part if it != 17]), height
+        self.chain.peer.text_of = text_of
+        wanted = [{"key": "61", "block": it} for it in range(1, 42) if it != 17]
+        self.assertEqual(await self.get("/history/a"), (200, wanted))
+        self.assertEqual(asked, [(1, 16), (17, 16), (17, 8), (25, 8), (33, 8), (41, 8)])
+        with mock.patch.object(self.chain.peer, "text_of", side_effect=TooLong("too long")):
+            self.assertEqual(await self.get("/history/a"), (422, {"why": "too long"}))
 
     async def test_a_height_is_waited_for(self):
         with mock.patch.object(Chain, "at_least", return_value=False):

@@ -23,9 +23,9 @@ use Rattle.json_chain.specs.Entries.{entry_json}
 use Rattle.json_chain.specs.Standing.{orgs_before}
 use Rattle.json_chain.specs.Writes.{did_json, write_json, writes_json}
 use Rattle.json_chain.proofs.Depths.{block_low, did_low, genesis_low, items_low, payload_low, placed_transaction_low, standing_low}
-use Rattle.json_questions.specs.Answers.{answer_json, call_of, has_id, names_among, or_null, outcome_json, placed_json}
+use Rattle.json_questions.specs.Answers.{answer_json, call_of, has_id, names_among, or_null, outcome_json, part_of, placed_json}
 use Rattle.json_questions.specs.declared.question.Question.{Question}
-use Rattle.json_questions.specs.declared.question.Question.TheVariants.{Setting, Members, Block, Get, Range, History, Transaction, Satisfied, Call}
+use Rattle.json_questions.specs.declared.question.Question.TheVariants.{Setting, Members, Block, Get, Range, History, HistoryPart, Transaction, Satisfied, Call}
 
 or_null_low : {A : Type 0} (json : A → Data) (n : ℕ) → ((x : A) → depth (json x) ≤ n) → (o : Option A) → depth (or_null json o) ≤ n
 or_null_low json n low None = omega arith
@@ -59,6 +59,7 @@ answer_low g (Range start end limit) chain =
       items_low (λ (e : Bytes × (Bytes × Version)). entry_json e.0 e.1.0 e.1.1) 1 (λ e. omega arith) (first (state (history chain)) start end limit),
     )
 answer_low g (History key) chain = omega (arith, writes_low key (history chain))
+answer_low g (HistoryPart key from blocks) chain = omega (arith, writes_low key (part_of from blocks chain))
 answer_low g (Transaction id) chain =
     or_null_low (placed_json g.rules.value chain) 7
     (λ t. omega (arith, placed_transaction_low (orgs_before g.rules.value t.version.block chain) t)) (find (has_id id) (history chain))

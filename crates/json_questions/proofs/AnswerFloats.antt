@@ -26,9 +26,9 @@ use Rattle.json_chain.specs.Entries.{entry_json}
 use Rattle.json_chain.specs.Standing.{orgs_before}
 use Rattle.json_chain.specs.Writes.{did_json, write_json, writes_json}
 use Rattle.json_chain.proofs.Floats.{block_plain, genesis_plain, items_plain, payload_plain, placed_transaction_plain, placed_write_plain, standing_plain}
-use Rattle.json_questions.specs.Answers.{answer_json, call_of, has_id, names_among, or_null, outcome_json, placed_json}
+use Rattle.json_questions.specs.Answers.{answer_json, call_of, has_id, names_among, or_null, outcome_json, part_of, placed_json}
 use Rattle.json_questions.specs.declared.question.Question.{Question}
-use Rattle.json_questions.specs.declared.question.Question.TheVariants.{Setting, Members, Block, Get, Range, History, Transaction, Satisfied, Call}
+use Rattle.json_questions.specs.declared.question.Question.TheVariants.{Setting, Members, Block, Get, Range, History, HistoryPart, Transaction, Satisfied, Call}
 
 or_null_plain : {A : Type 0} (json : A → Data) → ((x : A) → has_float (json x) ≡ false) → (o : Option A) → has_float (or_null json o) ≡ false
 or_null_plain json plain None = refl
@@ -67,6 +67,7 @@ answer_plain g (Get key) chain = or_null_plain (λ (e : Bytes × Version). entry
 answer_plain g (Range start end limit) chain =
     items_plain (λ (e : Bytes × (Bytes × Version)). entry_json e.0 e.1.0 e.1.1) (λ e. refl) (first (state (history chain)) start end limit)
 answer_plain g (History key) chain = writes_plain key (history chain)
+answer_plain g (HistoryPart key from blocks) chain = writes_plain key (part_of from blocks chain)
 answer_plain g (Transaction id) chain =
     or_null_plain (placed_json g.rules.value chain) (λ t. placed_transaction_plain (orgs_before g.rules.value t.version.block chain) t)
     (find (has_id id) (history chain))

@@ -12,7 +12,7 @@ use Rattle.fab_types.specs.Limits.{IsName}
 use Rattle.json_events.specs.Spelling.{IsArgument, IsHex}
 use Rattle.json_events.proofs.Arguments.{one_standing}
 use Rattle.json_questions.specs.declared.question.Question.{Question}
-use Rattle.json_questions.specs.declared.question.Question.TheVariants.{Setting, Members, Block, Get, Range, History, Transaction, Satisfied, Call}
+use Rattle.json_questions.specs.declared.question.Question.TheVariants.{Setting, Members, Block, Get, Range, History, HistoryPart, Transaction, Satisfied, Call}
 use Rattle.json_questions.specs.Spelling.{IsOrg, IsQuestion, SpellsQuestion, call_object}
 
 same_ok : {A E : Type 0} (r : Result A E) (a b : A) → r ≡ Ok a → r ≡ Ok b → a ≡ b
@@ -22,19 +22,20 @@ abbrev key : Fields → List ℕ
 key no_members = []
 key (member k d ms) = k
 
--- the word by which a line asks: of a call it stands second
+-- the word by which a line asks: of a call it stands second. A history has its key behind it, and a part of one a count of blocks
 abbrev word_in : Data → List ℕ
 word_in d =
     if bytes_eq (key (members_in d)) (codes "ask") then text_in (first (members_in d)) else text_in (first (rest (members_in d)))
 
-abbrev form_by : List ℕ → ℕ
-form_by word =
+abbrev form_by : (word second : List ℕ) → ℕ
+form_by word second =
     if bytes_eq word (codes "setting") then 0 else if bytes_eq word (codes "block") then 1 else if bytes_eq word (codes "get") then 2
-    else if bytes_eq word (codes "range") then 3 else if bytes_eq word (codes "history") then 4 else if bytes_eq word (codes "transaction") then 5
+    else if bytes_eq word (codes "range") then 3 else if bytes_eq word (codes "history") then (if bytes_eq second (codes "key") then 4 else 9)
+    else if bytes_eq word (codes "transaction") then 5
     else if bytes_eq word (codes "satisfied") then 6 else if bytes_eq word (codes "members") then 8 else 7
 
 abbrev form_in : Data → ℕ
-form_in d = form_by (word_in d)
+form_in d = form_by (word_in d) (key (rest (members_in d)))
 
 abbrev form_of : Question → ℕ
 form_of Setting = 0
@@ -43,6 +44,7 @@ form_of (Block n) = 1
 form_of (Get k) = 2
 form_of (Range start end limit) = 3
 form_of (History k) = 4
+form_of (HistoryPart k from blocks) = 9
 form_of (Transaction id) = 5
 form_of (Satisfied chaincode orgs) = 6
 form_of (Call chaincode argument) = 7
@@ -58,6 +60,7 @@ of_its_form d (Block n) h = ap form_in h.0
 of_its_form d (Get k) h = ap form_in h.1
 of_its_form d (Range start end limit) h = ap form_in h.2
 of_its_form d (History k) h = ap form_in h.1
+of_its_form d (HistoryPart k from blocks) h = ap form_in h.1
 of_its_form d (Transaction id) h = ap form_in h.1
 of_its_form d (Satisfied chaincode orgs) h = ap form_in h.1
 of_its_form d (Call chaincode argument) h = ap form_in h.1 ∙ of_a_call h.0 chaincode
@@ -101,6 +104,13 @@ one_question d (History a) (History b) h k same =
     let e = sym h.1 ∙ k.1 in
     let hex : h.0 ≡ k.0 = cc in
     ap History (one_hex h.0 k.0 a b hex h.2.0 k.2.0)
+one_question d (HistoryPart a m p) (HistoryPart b n q) h k same =
+    let e = sym h.1 ∙ k.1 in
+    let hex : h.0 ≡ k.0 = cc in
+    let froms : m ≡ n = cc in
+    let blocks : p ≡ q = cc in
+    let keys : a ≡ b = one_hex h.0 k.0 a b hex h.2.0 k.2.0 in
+    cc
 one_question d (Transaction a) (Transaction b) h k same =
     let e = sym h.1 ∙ k.1 in
     let hex : h.0 ≡ k.0 = cc in

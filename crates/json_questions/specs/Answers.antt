@@ -1,5 +1,5 @@
 -- What is answered to a question, by a genesis and a chain.
-use Rattle.std.specs.Prelude.{ℕ, ◌-◌, ◌++◌, List, Option, Some, None, Result, Ok, Err, Bool, bytes_eq, codes, is_some, replicate, slice_get}
+use Rattle.std.specs.Prelude.{ℕ, ◌-◌, ◌++◌, List, Option, Some, None, Result, Ok, Err, Bool, bytes_eq, codes, drop, is_some, replicate, slice_get, take}
 use Rattle.std.specs.Fmt.{decimal, signed_decimal}
 use Rattle.std.specs.Int.{w32, cast_signed}
 use Rattle.std.specs.List.{filter, find}
@@ -9,7 +9,7 @@ use Rattle.fab_types.specs.Payloads.{Payload}
 use Rattle.fab_types.specs.declared.proposal.Proposal.{Proposal}
 use Rattle.fab_types.specs.declared.proposal.Proposal.TheVariants as proposal
 use Rattle.wire.specs.Ids.{id_of}
-use Rattle.ledger_model.specs.Chain.{Bytes, Chain, Placed, history}
+use Rattle.ledger_model.specs.Chain.{Bytes, Chain, Placed, history, placed_from}
 use Rattle.ledger_model.specs.State.{state, state_at}
 use Rattle.ledger_model.specs.Views.{first}
 use Rattle.policy_language.specs.GoodSets.{Names, is_satisfied}
@@ -31,7 +31,7 @@ use Rattle.json_chain.specs.Standing.{orgs_before}
 use Rattle.json_chain.specs.Transactions.{payload_json, placed_transaction_json}
 use Rattle.json_chain.specs.Writes.{writes_json}
 use Rattle.json_questions.specs.declared.question.Question.{Question}
-use Rattle.json_questions.specs.declared.question.Question.TheVariants.{Setting, Members, Block, Get, Range, History, Transaction, Satisfied, Call}
+use Rattle.json_questions.specs.declared.question.Question.TheVariants.{Setting, Members, Block, Get, Range, History, HistoryPart, Transaction, Satisfied, Call}
 
 -- null where there is nothing to show
 abbrev pub or_null : {A : Type 0} → (A → Data) → Option A → Data
@@ -65,6 +65,10 @@ outcome_json (Err r) = object (member (codes "refused") (string (refusal_words r
 abbrev pub placed_json : Listed → Chain → Placed → Data
 placed_json r chain t = placed_transaction_json (orgs_before r t.version.block chain) t
 
+-- the transactions of so many blocks of a chain at the most, from the block of a number on
+abbrev pub part_of : (from blocks : ℕ) → Chain → List Placed
+part_of from blocks chain = placed_from from (take blocks (drop (from - 1) chain))
+
 -- those of these names that organisations have
 abbrev pub names_among : List Organisation → Names → Names
 names_among orgs names = filter (λ name. is_some (find (is_org name) orgs)) names
@@ -78,6 +82,7 @@ answer_json g (Block n) chain = or_null (block_json (orgs_before g.rules.value n
 answer_json g (Get key) chain = or_null (λ e. entry_json key e.0 e.1) (state_at (history chain) key)
 answer_json g (Range start end limit) chain = array (items_of (entries_json (first (state (history chain)) start end limit)))
 answer_json g (History key) chain = array (items_of (writes_json key (history chain)))
+answer_json g (HistoryPart key from blocks) chain = array (items_of (writes_json key (part_of from blocks chain)))
 answer_json g (Transaction id) chain = or_null (placed_json g.rules.value chain) (find (has_id id) (history chain))
 answer_json g (Satisfied chaincode orgs) chain =
     let standing = names_among (orgs_behind g.rules.value chain) orgs in

@@ -8,7 +8,7 @@ use Rattle.hex.specs.Hex.{decode_sized}
 use Rattle.fab_types.specs.Limits.{IsBlockNumber, IsBound, IsKey, IsName, IsOrgName}
 use Rattle.json_events.specs.Spelling.{IsArgument, IsHex, argument_name}
 use Rattle.json_questions.specs.declared.question.Question.{Question}
-use Rattle.json_questions.specs.declared.question.Question.TheVariants.{Setting, Members, Block, Get, Range, History, Transaction, Satisfied, Call}
+use Rattle.json_questions.specs.declared.question.Question.TheVariants.{Setting, Members, Block, Get, Range, History, HistoryPart, Transaction, Satisfied, Call}
 
 -- {"ask":"setting"}, and the same with another word
 abbrev pub word_object : List ℕ → Data
@@ -28,6 +28,12 @@ range_object below limit from =
     object (member (codes "ask") (string (codes "range")) (member (codes "end") (string below)
     (member (codes "limit") (number (unsigned limit)) (member (codes "start") (string from) no_members))))
 
+-- {"ask":"history","blocks":100,"from":7,"key":"6b"}
+abbrev pub part_object : (blocks from : ℕ) → (key : List ℕ) → Data
+part_object blocks from key =
+    object (member (codes "ask") (string (codes "history")) (member (codes "blocks") (number (unsigned blocks))
+    (member (codes "from") (number (unsigned from)) (member (codes "key") (string key) no_members))))
+
 -- {"ask":"satisfied","chaincode":"kv","orgs":["A","B"]}
 abbrev pub satisfied_object : List ℕ → Items → Data
 satisfied_object chaincode orgs =
@@ -46,7 +52,7 @@ IsKeyOf text key = IsHex text key × IsKey key
 abbrev pub IsBoundOf : List ℕ → List ℕ → Type 0
 IsBoundOf text bound = IsHex text bound × IsBound bound
 
--- so many entries at most may be asked for
+-- so many entries, or blocks, at most may be asked for
 abbrev pub IsLimit : ℕ → Type 0
 IsLimit limit = (1 ≤ limit) × (limit ≤ 1000)
 
@@ -66,6 +72,8 @@ IsQuestion d (Get key) = (hex : List ℕ) × (d ≡ text_object (codes "get") (c
 IsQuestion d (Range start end limit) =
     (from : List ℕ) × (below : List ℕ) × (d ≡ range_object below limit from) × IsBoundOf from start × IsBoundOf below end × IsLimit limit
 IsQuestion d (History key) = (hex : List ℕ) × (d ≡ text_object (codes "history") (codes "key") hex) × IsKeyOf hex key
+IsQuestion d (HistoryPart key from blocks) =
+    (hex : List ℕ) × (d ≡ part_object blocks from hex) × IsKeyOf hex key × IsBlockNumber from × IsLimit blocks
 IsQuestion d (Transaction id) = (hex : List ℕ) × (d ≡ text_object (codes "transaction") (codes "id") hex) × (decode_sized hex 32 ≡ Ok id)
 IsQuestion d (Satisfied chaincode orgs) = (ds : Items) × (d ≡ satisfied_object chaincode ds) × IsName chaincode × AreOrgs ds orgs
 IsQuestion d (Call chaincode argument) = (arg : Data) × (d ≡ call_object arg chaincode) × IsName chaincode × IsArgument arg argument

@@ -13,7 +13,7 @@ use crate::policies::satisfied_of;
 use crate::question::Question;
 use crate::standing::standing_before;
 use crate::transactions::transaction_of;
-use crate::writes::writes_of;
+use crate::writes::{part_of, writes_of};
 use endorsement_policy::Rules;
 use fab_types::{BlockNumber, CommittedBlock};
 use json_chain::{block_of, genesis_of, line_of, standing_of};
@@ -53,6 +53,9 @@ fn answer_of(
         Question::Get(key) => entry_at(alloc, snapshot, key),
         Question::Range { start, end, limit } => entries_of(alloc, snapshot, start, end, *limit),
         Question::History(key) => writes_of(alloc, snapshot, key),
+        Question::HistoryPart { key, from, blocks } => {
+            part_of(alloc, snapshot, key, *from, *blocks)
+        }
         Question::Transaction(id) => transaction_of(alloc, rules, snapshot, id),
         Question::Satisfied { chaincode, orgs } => {
             satisfied_of(alloc, rules, snapshot, chaincode, orgs)

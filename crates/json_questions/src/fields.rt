@@ -3,7 +3,7 @@
 ghost use Rattle.std.specs.Prelude.{◌≡◌, ◌≢◌, ℕ, List, MatchOption, MatchBool};
 ghost use Rattle.serde_json.specs.Data.{Data, Items};
 ghost use Rattle.serde_json.specs.View.{view, items_view};
-ghost use Rattle.json_questions.specs.Spelling.{block_object, call_object, range_object, satisfied_object, text_object, word_object};
+ghost use Rattle.json_questions.specs.Spelling.{block_object, call_object, part_object, range_object, satisfied_object, text_object, word_object};
 
 use json_events::take_argument;
 use json_fields::{fields, is_end, take_list, take_number, take_text, take_word};
@@ -76,6 +76,34 @@ pub(crate) fn range_fields(value: &Value) -> Option<RangeFields<'_>>
     let from = take_text(&mut left, "start")?;
     if is_end(&mut left) {
         Some(RangeFields { below, limit, from })
+    } else {
+        None
+    }
+}
+
+/// What the fields of a question about writes in some blocks hold.
+#[derive(Clone, Copy)]
+pub(crate) struct PartFields<'a> {
+    pub blocks: u64,
+    pub from: u64,
+    pub key: &'a str,
+}
+
+/// The fields of a question about writes in some blocks. None where the line is of another form.
+pub(crate) fn part_fields(value: &Value) -> Option<PartFields<'_>>
+    ensures { MatchOption result
+        ((blocks from : ℕ) (key : List ℕ) → view value.now ≢ part_object blocks from key)
+        (λ f. view value.now ≡ part_object f.blocks f.from f.key.now) }
+{
+    let mut left = fields(value)?;
+    if !take_word(&mut left, "ask", "history") {
+        return None;
+    }
+    let blocks = take_number(&mut left, "blocks")?;
+    let from = take_number(&mut left, "from")?;
+    let key = take_text(&mut left, "key")?;
+    if is_end(&mut left) {
+        Some(PartFields { blocks, from, key })
     } else {
         None
     }

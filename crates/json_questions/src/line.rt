@@ -6,10 +6,10 @@ ghost use Rattle.json_events.specs.Refused.{NoneIs};
 ghost use Rattle.json_questions.specs.Spelling.{IsQuestion, SpellsQuestion};
 
 use crate::fields::{
-    asked_number, asked_text, asks_alone, call_fields, range_fields, satisfied_fields,
+    asked_number, asked_text, asks_alone, call_fields, part_fields, range_fields, satisfied_fields,
 };
 use crate::question::Question;
-use crate::values::{block_number, call, id, key, range, satisfied};
+use crate::values::{block_number, call, id, key, part, range, satisfied};
 use json_events::{BadLine, value_of};
 use serde_json::Value;
 use std::alloc::Global;
@@ -46,6 +46,9 @@ fn question_of(alloc: Global, value: &Value) -> Result<Question, BadLine>
     }
     if let Some(hex) = asked_text(value, "history", "key") {
         return Ok(Question::History(key(alloc, hex)?));
+    }
+    if let Some(fields) = part_fields(value) {
+        return part(alloc, &fields);
     }
     if let Some(hex) = asked_text(value, "transaction", "id") {
         return Ok(Question::Transaction(id(hex)?));

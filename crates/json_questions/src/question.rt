@@ -24,6 +24,12 @@ pub enum Question {
     },
     /// What VALID transactions wrote to a key.
     History(Key),
+    /// The same of some blocks alone: from a number on, 1 to 1,000 of them at most.
+    HistoryPart {
+        key: Key,
+        from: BlockNumber,
+        blocks: usize,
+    },
     /// The first transaction of this id.
     Transaction([u8; 32]),
     /// Whether those of these organisations that stand satisfy the policy of a chaincode.

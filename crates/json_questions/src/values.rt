@@ -6,9 +6,9 @@ ghost use Rattle.hex.specs.Hex.{decode_sized};
 ghost use Rattle.fab_types.specs.Limits.{IsBlockNumber};
 ghost use Rattle.json_events.specs.Refused.{NoneIs};
 ghost use Rattle.json_questions.specs.Spelling.{IsBoundOf, IsKeyOf, IsLimit, IsQuestion};
-ghost use Rattle.json_questions.specs.Spelling.{call_object, range_object, satisfied_object};
+ghost use Rattle.json_questions.specs.Spelling.{call_object, part_object, range_object, satisfied_object};
 
-use crate::fields::{CallFields, RangeFields, SatisfiedFields};
+use crate::fields::{CallFields, PartFields, RangeFields, SatisfiedFields};
 use crate::orgs::orgs;
 use crate::question::Question;
 use fab_types::{BlockNumber, Bound, Key};
@@ -16,8 +16,8 @@ use hex::FromHex;
 use json_events::{BadLine, argument, bytes_of, name};
 use std::alloc::Global;
 
-/// How many entries may be asked for at most.
-const MOST_ENTRIES: u64 = 1_000;
+/// How many entries, or blocks, may be asked for at most.
+const GREATEST_LIMIT: u64 = 1_000;
 
 /// The number of a block.
 pub(crate) fn block_number(number: u64) -> Result<BlockNumber, BadLine>
@@ -67,11 +67,11 @@ fn bound(alloc: Global, text: &str) -> Result<Bound, BadLine>
     }
 }
 
-/// How many entries are asked for, where that is within the limits.
+/// How many entries, or blocks, are asked for, where that is within the limits.
 fn limit(count: u64) -> Option<usize>
     ensures { MatchOption result (¬ IsLimit count) (λ n. (n ≡ count) × IsLimit count) }
 {
-    if count == 0 || count > MOST_ENTRIES {
+    if count == 0 || count > GREATEST_LIMIT {
         return None;
     }
     Some(count as usize)
@@ -91,6 +91,22 @@ pub(crate) fn range(alloc: Global, fields: &RangeFields<'_>) -> Result<Question,
     let start = bound(alloc, fields.from)?;
     let end = bound(alloc, fields.below)?;
     Ok(Question::Range { start, end, limit })
+}
+
+/// The question about writes in some blocks that these fields ask.
+pub(crate) fn part(alloc: Global, fields: &PartFields<'_>) -> Result<Question, BadLine>
+    ensures ok { IfOk result
+        (IsQuestion (part_object fields.now.blocks fields.now.from fields.now.key.now)) }
+    ensures refused { IfErr result
+        (λ r. NoneIs
+        (IsQuestion (part_object fields.now.blocks fields.now.from fields.now.key.now)) r) }
+{
+    let Some(blocks) = limit(fields.blocks) else {
+        return Err(BadLine::NoForm);
+    };
+    let from = block_number(fields.from)?;
+    let key = key(alloc, fields.key)?;
+    Ok(Question::HistoryPart { key, from, blocks })
 }
 
 /// The question about a policy that these fields ask.

@@ -213,6 +213,29 @@ const ASK_KEY: &[Form<Content>] = &[Form {
     fields: &[ASK, KEY],
 }];
 
+const PART_OF_HISTORY: &[Field] = &[
+    ASK,
+    KEY,
+    ("from", Content::One(Rule::Number(1, 65_535))),
+    ("blocks", Content::One(Rule::Number(1, 1_000))),
+];
+
+/// The whole history of a key, or what some blocks have of it.
+const ASK_HISTORY: &[Form<Content>] = &[
+    Form {
+        by: Some("from"),
+        fields: PART_OF_HISTORY,
+    },
+    Form {
+        by: Some("blocks"),
+        fields: PART_OF_HISTORY,
+    },
+    Form {
+        by: None,
+        fields: &[ASK, KEY],
+    },
+];
+
 const ASK_BLOCK: &[Form<Content>] = &[Form {
     by: None,
     fields: &[ASK, ("number", Content::One(Rule::Number(1, 65_535)))],
@@ -291,7 +314,7 @@ pub(crate) const QUESTIONS: Words = Words {
         },
         Action {
             word: "history",
-            forms: ASK_KEY,
+            forms: ASK_HISTORY,
         },
         Action {
             word: "transaction",
