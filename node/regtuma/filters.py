@@ -31,9 +31,9 @@ class Filter:
         self.is_started = False
 
     async def start(self) -> None:
-        # Lines that nobody has taken yet, the beginning of the next one, and whether it is too long, and left out.
+        # Lines that nobody has taken yet, and the pieces of the next one, with its length so far.
         self.unread: collections.deque[str | TooLong] = collections.deque()
-        self.begun, self.is_cut = b"", False
+        self.begun, self.length = list[bytes](), 0
         pipe = asyncio.subprocess.PIPE
         try:
             self.process = await asyncio.create_subprocess_exec(*self.command, stdin=pipe, stdout=pipe, stderr=pipe, limit=PIECE)
@@ -66,17 +66,29 @@ class Filter:
         return line
 
     async def _read(self) -> None:
-        """Reads on: many lines at once, or a part of one."""
+        """Reads on: many lines at once, or a piece of one."""
         piece = await self.stdout.read(PIECE)
         if not piece:
             raise FilterEnded(f"{self.name} ended with status {await self.process.wait()}")
-        *lines, rest = (self.begun + piece).split(b"\n")
-        too_long = TooLong(f"{self.name} has an answer of more than {LONGEST >> 20} MiB: ask for less")
+        *lines, rest = piece.split(b"\n")
         for line in lines:
-            self.unread.append(too_long if self.is_cut or len(line) > LONGEST else line.decode(errors="replace"))
-            self.is_cut = False
-        self.is_cut = self.is_cut or len(rest) > LONGEST
-        self.begun = b"" if self.is_cut else rest
+            self._begin(line)
+            self.unread.append(self._whole())
+        self._begin(rest)
+
+    def _begin(self, piece: bytes) -> None:
+        """Keeps a piece of the next line. One that is too long is left out."""
+        self.length += len(piece)
+        if self.length > LONGEST:
+            self.begun.clear()
+        elif piece:
+            self.begun.append(piece)
+
+    def _whole(self) -> str | TooLong:
+        """The line whose last piece has come. Its pieces are joined here, once: a long one has hundreds."""
+        line, is_too_long = b"".join(self.begun).decode(errors="replace"), self.length > LONGEST
+        self.begun, self.length = [], 0
+        return TooLong(f"{self.name} has an answer of more than {LONGEST >> 20} MiB: ask for less") if is_too_long else line
 
     async def close(self) -> None:
         """It ends behind what it was given, within some seconds."""

@@ -72,6 +72,20 @@ class Filters(unittest.IsolatedAsyncioTestCase):
                 self.assertEqual([len(it) if isinstance(it, str) else str(it) for it in found],
                                  [9, "cat has an answer of more than 1 MiB: ask for less", 1 << 19, "cat has an answer of more than 1 MiB: ask for less", 7])
 
+    async def test_a_long_line_is_joined_once(self):
+        """Its pieces are kept as they come: to join each to those before it takes seconds, and everybody else waits."""
+        asked = Filter("cat", ["cat"])
+        await asked.start()
+        pieces = [b"ab\n" + b"c" * 9, *(bytes([100 + it]) * 9 for it in range(9)), b"e\nf"]
+        stdout, asked.stdout = asked.stdout, mock.Mock(read=mock.AsyncMock(side_effect=pieces))
+        self.assertEqual(await asked.line(), "ab")
+        for number in range(1, 10):
+            await asked._read()
+            self.assertEqual([id(it) for it in asked.begun[1:]], [id(it) for it in pieces[1:number + 1]])
+        self.assertEqual(await asked.line(), b"".join(pieces)[3:-2].decode())
+        asked.stdout = stdout
+        await asked.close()
+
     async def test_an_input_that_breaks_is_told_once(self):
         told: list[str] = []
         asyncio.get_running_loop().set_exception_handler(lambda _, it: told.append(it["message"]))
