@@ -13,7 +13,7 @@ from .entries import LogError
 from .filters import FilterEnded
 from .links import Batches, Link
 from .proposals import Refused, call_of, check, checked, organisations_of
-from .wire import Object, envelope, id_of, proposal_bytes
+from .wire import Object, envelope, id_of, proposal_of
 
 TOO_LARGE = 421
 TRIES = 12
@@ -224,7 +224,7 @@ class Gateway:
 
     async def faults(self, proposal: Object, answers: dict[str, Object], own: Object | None) -> dict[str, str]:
         """What is wrong with endorsements, by who gave them: none of them is put."""
-        begin, keys, faults = proposal_bytes(proposal).hex(), await self.chain.standing(), {}
+        begin, keys, faults = proposal_of(proposal).encode().hex(), await self.chain.standing(), {}
         for organisation, said in answers.items():
             if "payload" not in said:
                 continue
