@@ -65,6 +65,8 @@ class Chain:
         # Who has another block, as long as nobody has looked into it: nothing is endorsed or put meanwhile.
         self.forked: str | None = None
         self.lies: dict[str, Quota] = {}
+        # What was looked into: an organisation, and what it says of a block; or the organisation whole.
+        self.past_forks = frozenset(ledger.past_forks)
         # When the log was seen last to take entries.
         self.led = time.monotonic()
         # This organisation's part of the log, and what of the log counts.
@@ -188,10 +190,11 @@ class Chain:
                 self.say(f"{self.peer.name}: {' '.join(words)}")
 
     def hear_fork(self, organisation: str, number: str) -> None:
-        """Somebody has another block: as long as nobody has looked into these very words, the node reads on, and puts nothing."""
+        """Somebody has another block: as long as nobody has looked into these very words, or into all that it says, the node reads on, and
+        puts nothing."""
         words = f"{organisation} says that it has another block {number}"
         self.lies.setdefault(organisation, Quota(organisation, self.say)).tell(f"forked: {words}")
-        if f"{organisation} {number}" not in self.config.ledger.past_forks:
+        if not self.past_forks & {organisation, f"{organisation} {number}"}:
             self.forked = self.forked or words
 
     async def committed(self, number: int) -> None:

@@ -276,13 +276,22 @@ class Lines(Case):
         self.assertEqual([await self.chain.at_least(it, 0.01) for it in (1, 2)], [True, False])
 
     async def test_past_forks_it_goes_on_for_that_lie_alone(self):
-        self.config.ledger.past_forks = ["Shop 4"]
+        self.chain.past_forks = frozenset(["Shop 4"])
         await self.passed("forked Shop 4")
         self.assertIsNone(self.chain.forked)
         for other in ("Shop 5", "Carrier 4"):
             await self.passed(f"forked {other}")
             self.assertIn("says that it has another block", self.chain.forked or "")
             self.chain.forked = None
+
+    async def test_past_all_forks_of_an_organisation(self):
+        """It may lie about each block, also of those that are still to come."""
+        self.config.ledger.past_forks = ["Shop", "Carrier 7"]
+        self.chain = Chain(self.config, FakeLog(), self.said.append)
+        await self.passed(*(f"forked Shop {it}" for it in range(1, 1000)), "forked Carrier 7")
+        self.assertIsNone(self.chain.forked)
+        await self.passed("forked Carrier 8")
+        self.assertEqual(self.chain.forked, "Carrier says that it has another block 8")
 
 
 class End(Case):
