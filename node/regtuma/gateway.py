@@ -302,10 +302,10 @@ class Gateway:
     def ask(self, organisation: str, caller: str, proposal: Object, height: int) -> Awaitable[Object | None]:
         """What an organisation will answer; None where its node gives no answer."""
         if organisation == self.config.organisation:
-            return self.own(caller).ask(proposal, height)
+            return self.own(caller).ask(caller, proposal, height)
         if organisation not in self.links:
             raise Refused(422, {"why": f"no node of {organisation} is known here"})
-        return self.links[organisation].ask(proposal, height)
+        return self.links[organisation].ask(caller, proposal, height)
 
     def own(self, caller: str) -> "Own":
         """What this organisation is asked by one of its callers."""

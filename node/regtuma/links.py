@@ -1,5 +1,6 @@
 """Other organisations' nodes, which are asked for endorsements."""
 import asyncio
+import collections
 import re
 import time
 from collections.abc import Callable, Sequence
@@ -31,11 +32,13 @@ Waiting = tuple[Object, int, asyncio.Future[Object | None]]
 
 
 class Batches:
-    """Proposals that are asked together. What comes while requests are under way goes into the next one."""
+    """Proposals that are asked together. What comes while requests are under way goes into the next one, of each caller one after another:
+    however many one has, those of others come soon."""
 
     def __init__(self, requests: int):
         self.requests, self.under_way = requests, 0
-        self.waiting: list[Waiting] = []
+        # Those that wait, by their callers: the first one's turn comes next.
+        self.waiting: collections.OrderedDict[str, collections.deque[Waiting]] = collections.OrderedDict()
         self.works: set[asyncio.Task[None]] = set()
 
     def most(self) -> int:
@@ -46,10 +49,11 @@ class Batches:
         """What is answered to proposals on a state after so many blocks at least, each by one; None where no answer came."""
         raise NotImplementedError
 
-    def ask(self, proposal: Object, height: int) -> asyncio.Future[Object | None]:
+    def ask(self, caller: str, proposal: Object, height: int) -> asyncio.Future[Object | None]:
         done: asyncio.Future[Object | None] = asyncio.get_running_loop().create_future()
-        self.waiting.append((proposal, height, done))
-        if len(self.waiting) == 1:
+        is_first = not self.waiting
+        self.waiting.setdefault(caller, collections.deque()).append((proposal, height, done))
+        if is_first:
             self._begin()
         return done
 
@@ -65,8 +69,7 @@ class Batches:
             # Those that ask in this very moment come along.
             await asyncio.sleep(0)
             while self.waiting:
-                most = self.most()
-                batch, self.waiting = self.waiting[:most], self.waiting[most:]
+                batch = self._next(self.most())
                 if self.waiting:
                     self._begin()
                 await self._answer(batch)
@@ -74,6 +77,16 @@ class Batches:
             self.under_way -= 1
             if self.waiting:
                 self._begin()
+
+    def _next(self, most: int) -> list[Waiting]:
+        """Takes so many of those that wait, one of each caller in turn."""
+        batch = list[Waiting]()
+        while self.waiting and len(batch) < most:
+            caller, own = self.waiting.popitem(last=False)
+            batch.append(own.popleft())
+            if own:
+                self.waiting[caller] = own
+        return batch
 
     async def _answer(self, batch: list[Waiting]) -> None:
         """Has a batch answered. Whatever fails, nobody waits for good."""
@@ -143,7 +156,8 @@ class Link(Batches):
         """The node is not asked for a while. Those who wait for their turn have no answer at once, so that they ask another one's."""
         self.quota.tell(f"no endorsement of {self.organisation}: {why}")
         self.down = time.monotonic() + DOWN_SECONDS
-        waiting, self.waiting = self.waiting, []
+        waiting = [it for own in self.waiting.values() for it in own]
+        self.waiting.clear()
         for _, _, done in waiting:
             if not done.done():
                 done.set_result(None)
