@@ -246,9 +246,14 @@ class Api:
         check(is_one, "a request has a list of proposals, and may have a height")
         proposals = [checked(it) for it in objects(body.get("proposals"), "proposals", MOST_CALLS)]
         asker: str = request["caller"]
+        counted = list[int]()
+
+        def take(size: int) -> None:
+            self.access.load.take(request, size)
+            counted.append(size)
         async with self.access.load.turn(request):
-            answers = await self.endorsing.answers(asker, proposals, height)
-        return await self.tell(request, {"answers": answers})
+            said: Object = {"answers": await self.endorsing.answers(asker, proposals, height, take)}
+        return await self.tell(request, said, counted=sum(counted))
 
     async def agree(self, request: web.Request) -> web.Response:
         """The operator's word that the organisation endorses this very upgrade or amendment."""
@@ -318,13 +323,14 @@ class Api:
             yield text
         return await self.send(request, texts(), JSON)
 
-    async def tell(self, request: web.Request, said: Object, status: int = 200) -> web.StreamResponse:
-        """An answer that may be long: as long as it is on its way, it is one of the bytes that are held for the organisation."""
+    async def tell(self, request: web.Request, said: Object, status: int = 200, counted: int = 0) -> web.StreamResponse:
+        """An answer that may be long: as long as it is on its way, it is one of the bytes that are held for the organisation, of which so
+        many were counted before."""
         text = dumps(said)
         if len(text) <= PIECE:
             return web.Response(text=text, status=status, content_type=JSON)
         said.clear()
-        self.access.load.take(request, len(text))
+        self.access.load.take(request, len(text) - counted)
 
         async def texts() -> AsyncIterator[str]:
             yield text

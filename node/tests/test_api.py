@@ -295,6 +295,22 @@ class Calls(Case):
                      {"proposals": [CALL] * (api.MOST_CALLS + 1)}):
             self.assertEqual((await self.post("/endorse", body))[0], 400)
 
+    async def test_answers_to_proposals_are_counted_as_they_come(self):
+        """Those that have no room are not made: an answer has up to a megabyte, and there may be 500."""
+        made = list[int]()
+
+        async def answer_to(*_) -> tuple[str, int]:
+            made.append(1)
+            await asyncio.sleep(0)
+            return f"endorsed {'aa' * 20_000} 01", 4
+        with mock.patch.object(load, "BODIES", 1 << 20), mock.patch.object(self.chain.peer, "answer_to", answer_to):
+            status, said = await self.post("/endorse", {"proposals": [CALL] * 500}, caller="Carrier/node")
+            self.assertEqual((status, said["why"]), (429, "requests of Carrier have 1 MiB under way here: ask again"))
+            self.assertLess(len(made), 100)
+            status, said = await self.post("/endorse", {"proposals": [CALL] * 20}, caller="Carrier/node")
+            self.assertEqual((status, len(said["answers"])), (200, 20))
+        self.assertEqual(self.api.access.load.bodies["Carrier"], 0)
+
     async def test_submit(self):
         with mock.patch.object(Gateway, "submit", side_effect=[{"id": "ab", "pending": True}, {"id": "ab"}, {"id": "a"}, {"id": "b"}]):
             self.assertEqual((await self.post("/transactions", CALL))[0], 202)

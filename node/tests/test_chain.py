@@ -9,13 +9,14 @@ from unittest import mock
 
 import support
 from regtuma import chain as chains
-from regtuma import config, endorsing, gateway, ticks
+from regtuma import config, endorsing, gateway, load, ticks
 from regtuma.chain import Asking, Awaited, Chain
 from regtuma.endorsing import Agreed, Endorsing
 from regtuma.entries import Entry, LogError
 from regtuma.filters import FilterEnded
 from regtuma.gateway import Gateway
 from regtuma.links import Link
+from regtuma.load import Held
 from regtuma.proposals import Refused
 from regtuma.tags import Key
 from regtuma.ticks import LAST_BLOCK
@@ -531,6 +532,9 @@ class Calls(Case):
             return answers[organisation].pop(0)
         self.gateway.ask = ask if answers else self.gateway.ask
 
+    def held(self) -> Held:
+        return Held(self.gateway.held, "Maker/alice")
+
     async def entries(self, count: int) -> None:
         """Waits until so many entries are in the log."""
         while len(self.chain.log.entries) < count:
@@ -538,7 +542,7 @@ class Calls(Case):
 
     async def refusal(self, named=None) -> tuple[int, str]:
         with self.assertRaises(Refused) as raised:
-            await self.gateway.endorsed("Maker/alice", CALL, named)
+            await self.gateway.endorsed(self.held(), CALL, named)
         return raised.exception.status, raised.exception.said["why"]
 
     async def test_the_fewest_are_asked(self):
@@ -553,11 +557,11 @@ class Calls(Case):
 
     async def test_an_envelope_is_made_of_what_agrees(self):
         self.answer(Maker=[{**ENDORSED}], Carrier=[{**ENDORSED, "endorsement": "02"}])
-        self.assertEqual(await self.gateway.endorsed("Maker/alice", CALL, None), "aa020102")
+        self.assertEqual(await self.gateway.endorsed(self.held(), CALL, None), "aa020102")
 
     async def test_who_is_behind_is_asked_again_on_the_height_of_the_other(self):
         self.answer(Maker=[{**ENDORSED, "height": 2, "payload": "bb"}, ENDORSED], Carrier=[ENDORSED, ENDORSED])
-        await self.gateway.endorsed("Maker/alice", CALL, None)
+        await self.gateway.endorsed(self.held(), CALL, None)
         self.assertEqual([height for _, height in self.asked], [0, 0, 3, 3])
 
     async def test_who_stays_behind_is_passed_over(self):
@@ -583,7 +587,7 @@ class Calls(Case):
             with self.subTest(lie=lie):
                 self.gateway.chosen, self.gateway.links["Carrier"].down = {}, 0
                 self.answer(Maker=[ENDORSED] * 12, Carrier=[lie] * 12, Shop=[shop] * 12)
-                self.assertEqual(await self.gateway.endorsed("Maker/alice", CALL, None), "aa020102")
+                self.assertEqual(await self.gateway.endorsed(self.held(), CALL, None), "aa020102")
                 self.assertEqual(([it for it, _ in self.asked].count("Carrier"), self.asked[-1]), (4, ("Shop", 3)))
         self.chain.peer.satisfying = [{"Maker", "Carrier", "Shop"}]
         self.gateway.chosen, self.gateway.links["Carrier"].down = {}, 0
@@ -613,7 +617,7 @@ class Calls(Case):
         self.assertEqual(await self.refusal(), (422, "Carrier does not endorse it: the module of the definition is not installed, or not at hand"))
         self.assertEqual(len(self.asked), 2)
         self.answer(Maker=[ENDORSED] * 2, Carrier=[{**no_module, "height": 2}, ENDORSED])
-        self.assertEqual(await self.gateway.endorsed("Maker/alice", CALL, None), "aa020101")
+        self.assertEqual(await self.gateway.endorsed(self.held(), CALL, None), "aa020101")
 
     async def test_another_one_is_asked_in_the_place_of_who_refuses(self):
         self.shop()
@@ -621,7 +625,7 @@ class Calls(Case):
         for carrier in ([{"denied": "not today", "height": 3}], [refused]):
             self.gateway.chosen, turns = {}, len(carrier) + 1
             self.answer(Maker=[ENDORSED] * turns, Carrier=carrier, Shop=[{**ENDORSED, "endorsement": "02"}])
-            self.assertEqual(await self.gateway.endorsed("Maker/alice", CALL, None), "aa020102")
+            self.assertEqual(await self.gateway.endorsed(self.held(), CALL, None), "aa020102")
         self.answer(Maker=[ENDORSED], Carrier=[{"denied": "not today", "height": 3}])
         self.assertEqual(await self.refusal(["Maker", "Carrier"]), (422, "Carrier does not endorse it: not today"))
         self.answer(Maker=[{"denied": "not today", "height": 3}], Carrier=[ENDORSED])
@@ -643,7 +647,7 @@ class Calls(Case):
             with self.subTest(height=height):
                 self.answer(Maker=[ENDORSED] * 2, Carrier=[doubted, ENDORSED])
                 self.gateway.faults.side_effect = [{"Carrier": "it lies"}, {}]
-                self.assertEqual(await self.gateway.endorsed("Maker/alice", CALL, ["Maker", "Carrier"]), "aa020101")
+                self.assertEqual(await self.gateway.endorsed(self.held(), CALL, ["Maker", "Carrier"]), "aa020101")
                 self.answer(Maker=[ENDORSED] * 3, Carrier=[doubted] * 3)
                 self.gateway.faults.side_effect = [{"Carrier": "it lies"}] * 3
                 self.assertEqual(await self.refusal(["Maker", "Carrier"]), (503, "no endorsement of Carrier: it lies"))
@@ -651,13 +655,13 @@ class Calls(Case):
 
     async def test_this_node_is_asked_too_where_others_are_named(self):
         self.answer(Maker=[ENDORSED], Carrier=[ENDORSED])
-        self.assertEqual(await self.gateway.endorsed("Maker/alice", CALL, ["Carrier"]), "aa0101")
+        self.assertEqual(await self.gateway.endorsed(self.held(), CALL, ["Carrier"]), "aa0101")
         self.assertEqual((len(self.asked), list(self.gateway.faults.call_args.args[1]), self.gateway.faults.call_args.args[2]),
                          (2, ["Carrier"], ENDORSED))
 
     async def test_an_approver_that_has_ended_gives_no_answer(self):
         self.endorsing.approver = Says()
-        self.assertIsNone(await self.gateway.own("Maker/alice").answers([CALL], 0))
+        self.assertIsNone(await self.gateway.own("Maker/alice", CALL, 0))
         self.assertEqual(await self.refusal(["Maker"]), (503, "no answer of Maker"))
 
     async def test_an_unknown_organisation(self):
@@ -672,6 +676,22 @@ class Calls(Case):
         with mock.patch.object(gateway, "MOST_UNDER_WAY", 0), self.assertRaises(Refused) as raised:
             await self.gateway.submit("Maker/alice", CALL, 60.0)
         self.assertEqual((raised.exception.status, self.chain.waiters), (503, {}))
+
+    async def test_calls_of_one_caller_hold_so_many_bytes(self):
+        """As long as they wait for other answers, or for the log; others go on."""
+        calls = [{**CALL, "nonce": f"{it:032x}"} for it in range(5)]
+        size = load.size_of(CALL) + 2 * load.size_of(ENDORSED)
+        self.answer(Maker=[ENDORSED] * 5, Carrier=[ENDORSED] * 5)
+        with mock.patch.object(load, "CALLS_OF_CALLER", 2 * size), mock.patch.object(load, "CALLS", 3 * size):
+            said = [await self.gateway.submit_all(it, [call], 0.05) for it, call in zip(("Maker/alice",) * 3 + ("Maker/bob",) * 2, calls)]
+        self.assertEqual([it.get("pending") or it["why"][:16] for answers in said for it in answers],
+                         [True, True, "calls of Maker/a", True, "calls have 0 MiB"])
+        self.assertEqual(self.gateway.held, {"Maker/alice": 2 * size, "Maker/bob": size})
+        work = asyncio.ensure_future(self.chain.put_envelopes())
+        while self.gateway.under_way:
+            await asyncio.sleep(0.01)
+        work.cancel()
+        self.assertEqual(self.gateway.held.total(), 0)
 
     async def test_one_nonce_is_put_once(self):
         self.answer(Maker=[ENDORSED] * 2, Carrier=[ENDORSED] * 2)
