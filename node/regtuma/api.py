@@ -34,6 +34,8 @@ PART = 16
 JSON, LINES, EVENTS = "application/json", "application/jsonl", "text/event-stream"
 # How long it may take until it is told that something is wrong: envelopes that wait, a log that takes none; lines that are unread.
 STUCK, UNLED, BEHIND = 30.0, 15.0, 10_000
+# With so many entries of the log a node takes minutes to start.
+MANY_ENTRIES = 300_000
 # Method, path, the right that it needs, and what answers.
 Route = tuple[str, str, str, Handler]
 
@@ -104,6 +106,8 @@ class Api:
                     self.config.ticks.warning(self.chain.height, self.chain.share, self.chain.wait),
                     *(f"{it} used up the id of a call of ours, and is asked to endorse only if no others will do"
                       for it in sorted(self.chain.origins.blamed))]
+        if self.chain.entries > MANY_ENTRIES:
+            warnings.append(f"the log has {self.chain.entries:,} entries, so that a node takes minutes to start: refill it")
         return [it for it in warnings if it]
 
     async def get_metrics(self, _request: web.Request) -> web.Response:

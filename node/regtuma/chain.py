@@ -17,6 +17,7 @@ from .entries import ENTRY_CHARACTERS, ENTRY_LINES, Entry, Lines, Log, LogError
 from .filters import FilterEnded
 from .journal import Quota
 from .origins import Origins
+from .pace import EACH, Pace
 from .peer import Peer
 from .tags import Key, Keys
 from .times import Times
@@ -71,8 +72,10 @@ class Chain:
         self.led = time.monotonic()
         # This organisation's part of the log, and what of the log counts.
         self.part, self.lines = config.organisation.encode(), Lines()
-        # Where the log is; how many of its lines the peer was given, and how many it has read.
-        self.revision = self.given = self.read = 0
+        # Where the log is, and how many entries it has; how many of its lines the peer was given, and how many it has read.
+        self.revision = self.entries = self.given = self.read = 0
+        # How often entries are put: a file bears any number.
+        self.pace = Pace(0.0 if config.is_local else EACH)
         self.awaited, self.asking = Awaited(), Asking()
         # Numbers of committed blocks whose hashes are to be told.
         self.unsaid: asyncio.Queue[int] = asyncio.Queue()
@@ -145,6 +148,7 @@ class Chain:
             self.given += len(made)
             await self.peer.log(made)
             self.revision = entries[-1].revision
+            self.entries += len(entries)
 
     def counted(self, entry: Entry) -> list[bytes]:
         """The lines of an entry that count. Who waits for one that does not is told."""
@@ -219,7 +223,9 @@ class Chain:
         while True:
             await asyncio.sleep(0.05)
             try:
-                await self.tick(time.monotonic())
+                if self.is_due(time.monotonic()):
+                    await self.pace.turn()
+                    await self.tick(time.monotonic())
             except LogError as error:
                 self.say(f"not put: {error}")
                 await asyncio.sleep(1)
@@ -303,7 +309,7 @@ class Chain:
     # ---------------------------------------------------------------- envelopes
 
     async def put(self, id: str, envelope: str) -> None:
-        """Puts a transaction's envelope into the log. What comes while one entry is under way goes into the next one together."""
+        """Puts a transaction's envelope into the log. What comes before the next entry may be put goes into it together."""
         done: asyncio.Future[None] = asyncio.get_running_loop().create_future()
         self.unput.append((id, envelope, done))
         self.put_wanted.set()
@@ -318,6 +324,7 @@ class Chain:
     async def put_envelopes(self) -> None:
         while True:
             await self.put_wanted.wait()
+            await self.pace.turn()
             batch = self._next_entry()
             failed: LogError | None = None
             began, name = time.monotonic(), f"{self.config.organisation}/call-{secrets.token_hex(12)}"

@@ -217,6 +217,7 @@ class Endorsing:
             await self.put_seen(number, said)
 
     async def put_seen(self, number: int, line: str) -> None:
+        await self.chain.pace.turn()
         while True:
             try:
                 await self.chain.log.append(f"{self.config.organisation}/seen-{number}", [line])

@@ -39,6 +39,7 @@ class Metrics(Collector):
             "behind": ("Lines of the log not yet read", chain.given - chain.read),
             "asked": ("What was asked of the ledger's peer, and is not answered", chain.peer.unanswered),
             "log_revision": ("Where the log was read to", chain.revision),
+            "log_entries": ("Entries of the log that were read", chain.entries),
             "forked": ("Whether somebody says that a block is another one", int(chain.forked is not None)),
             "streams": ("Readers of /events", self.streams),
         }

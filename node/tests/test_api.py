@@ -244,6 +244,11 @@ class Health(Case):
         status, said = await self.get("/healthz")
         self.assertEqual((status, said["warnings"]), (200, ["nothing is endorsed: refused 806", "the chain has 9 blocks left, and this organisation's share of these is 9"]))
 
+    async def test_a_log_of_many_entries(self):
+        self.chain.entries = 312_000
+        self.assertEqual((await self.get("/healthz"))[1]["warnings"], ["the log has 312,000 entries, so that a node takes minutes to start: refill it"])
+        self.assertIn("\nregtuma_log_entries 312000.0\n", (await self.get("/metrics"))[1])
+
     async def test_waiting_is_measured_by_a_clock_that_never_goes_back(self):
         self.chain.awaited = Awaited(5, 1, time.monotonic() - 3)
         for now in (0.0, 1e12):

@@ -333,6 +333,29 @@ class Entries(Case):
         (name, marks), = self.chain.log.entries.items()
         self.assertEqual((name.startswith("Maker/call-"), marks), (True, ["aa", "bb"]))
 
+    async def test_what_comes_until_the_next_entry_may_be_put_goes_into_it(self):
+        """A tick takes a turn as well."""
+        turns = asyncio.Semaphore(0)
+        self.chain.pace, self.chain.awaited = mock.Mock(turn=turns.acquire), Awaited(4, 1, 0.0)
+        works = [asyncio.ensure_future(self.chain.put_envelopes())]
+        puts = []
+        for it in ("aa", "bb", "cc"):
+            puts.append(asyncio.ensure_future(self.chain.put(it, it)))
+            await asyncio.sleep(0.01)
+        self.assertEqual(self.chain.log.entries, {})
+        turns.release()
+        await asyncio.gather(*puts)
+        works.append(asyncio.ensure_future(self.chain.keep_time()))
+        await asyncio.sleep(0.2)
+        self.assertEqual(list(self.chain.log.entries.values()), [["aa", "bb", "cc"]])
+        turns.release()
+        async with asyncio.timeout(60):
+            while len(self.chain.log.entries) < 2:
+                await asyncio.sleep(0.01)
+        for it in works:
+            it.cancel()
+        self.assertEqual(list(self.chain.log.entries.values()), [["aa", "bb", "cc"], ["tick"]])
+
     async def test_entries_have_so_many_lines_and_characters(self):
         await self.put(*["aa"] * (chains.ENTRY_LINES + 1))
         self.assertEqual([len(it) for it in self.chain.log.entries.values()], [chains.ENTRY_LINES, 1])
