@@ -103,12 +103,21 @@ class Api:
 
     def warnings(self) -> list[str]:
         warnings = [self.endorsing.out_of_place and f"nothing is endorsed: {self.endorsing.out_of_place}",
-                    self.config.ticks.warning(self.chain.height, self.chain.share, self.chain.wait),
+                    self.plan_warning(),
                     *(f"{it} used up the id of a call of ours, and is asked to endorse only if no others will do"
                       for it in sorted(self.chain.origins.blamed))]
         if self.chain.entries > MANY_ENTRIES:
             warnings.append(f"the log has {self.chain.entries:,} entries, so that a node takes minutes to start: refill it")
         return [it for it in warnings if it]
+
+    def plan_warning(self) -> str:
+        """What is told of the chain's end and of this organisation's plan, and whose calls the ticks were for."""
+        chain = self.chain
+        warning = self.config.ticks.warning(chain.height, chain.share, chain.wait)
+        if not warning or not chain.ticked:
+            return warning
+        (caller, count), = chain.ticked.most_common(1)
+        return f"{warning}; calls of {caller} waited for {count:,} of the {chain.counts['ticks']:,.0f} ticks since this node began"
 
     async def get_metrics(self, _request: web.Request) -> web.Response:
         return web.Response(body=self.metrics.text(), headers={"Content-Type": TYPE})

@@ -21,6 +21,7 @@ from .pace import EACH, Pace
 from .peer import Peer
 from .tags import Key, Keys
 from .times import Times
+from .turns import Turns
 from .waiting import within
 from .wire import Object
 
@@ -33,6 +34,8 @@ NEWEST = 16
 REMEMBERED = 1000
 # So many blocks may be of lines that the log has told other nodes and not yet this one.
 AHEAD = 100
+# An id and its envelope that are to be put, and who waits for that.
+Unput = tuple[str, str, asyncio.Future[None]]
 NO_SHARE = "this organisation has brought about its share of the chain's blocks: a call may be put by another one's node"
 
 
@@ -83,17 +86,18 @@ class Chain:
         self.waiters: dict[str, list[asyncio.Future[Object]]] = {}
         # What became of those that this node has put and that are in no block, for those who ask later.
         self.refused: collections.OrderedDict[str, Object] = collections.OrderedDict()
-        # Ids of those that this node has put into the log, and that are in no block yet; those of the envelopes of its entries, by
-        # their names, until these are read; and those of lines that the peer has not read.
-        self.in_log: set[str] = set()
+        # Ids of those that this node has put into the log, and that are in no block yet, with their callers; those of the envelopes of its
+        # entries, by their names, until these are read; and those of lines that the peer has not read.
+        self.in_log: dict[str, str] = {}
         self.own: dict[bytes, list[str]] = {}
         self.unread: dict[str, str] = {}
         # Whose envelopes of the calls that are under way here came first.
         self.origins = Origins(config.organisation, say)
-        # Ids and envelopes that are to be put, and who waits for that.
-        self.unput: list[tuple[str, str, asyncio.Future[None]]] = []
+        self.unput: Turns[Unput] = Turns()
         self.put_wanted = asyncio.Event()
         self.counts: collections.defaultdict[str, float] = collections.defaultdict(float)
+        # For how many ticks calls of each caller have waited.
+        self.ticked: collections.Counter[str] = collections.Counter()
         self.newest: collections.OrderedDict[int, asyncio.Task[str]] = collections.OrderedDict()
 
     async def start(self) -> None:
@@ -254,7 +258,9 @@ class Chain:
             name = f"{self.config.organisation}/tick-{number}"
             if self.asking.number == number:
                 name += f"-{secrets.token_hex(8)}"
-            self.counts["ticks"] += await self.log.append(name, ["tick"], SHORT_PATIENCE)
+            if await self.log.append(name, ["tick"], SHORT_PATIENCE):
+                self.counts["ticks"] += 1
+                self.ticked.update(set(self.in_log.values()))
             self.asking = Asking(number, time.monotonic())
 
     # ---------------------------------------------------------------- blocks, and who waits for them
@@ -300,7 +306,7 @@ class Chain:
             self.refused[id] = outcome
             if len(self.refused) > REMEMBERED:
                 self.refused.popitem(last=False)
-        self.in_log.discard(id)
+        self.in_log.pop(id, None)
         self.origins.end(id)
         for waiter in self.waiters.pop(id, []):
             if not waiter.done():
@@ -308,17 +314,17 @@ class Chain:
 
     # ---------------------------------------------------------------- envelopes
 
-    async def put(self, id: str, envelope: str) -> None:
+    async def put(self, caller: str, id: str, envelope: str) -> None:
         """Puts a transaction's envelope into the log. What comes before the next entry may be put goes into it together."""
         done: asyncio.Future[None] = asyncio.get_running_loop().create_future()
-        self.unput.append((id, envelope, done))
+        self.unput.add(caller, (id, envelope, done))
         self.put_wanted.set()
-        self.in_log.add(id)
+        self.in_log[id] = caller
         self.origins.note_put(id, envelope)
         try:
             await done
         except LogError:
-            self.in_log.discard(id)
+            self.in_log.pop(id, None)
             raise
 
     async def put_envelopes(self) -> None:
@@ -341,15 +347,15 @@ class Chain:
                 if not done.done():
                     done.set_exception(failed) if failed else done.set_result(None)
 
-    def _next_entry(self) -> list[tuple[str, str, asyncio.Future[None]]]:
+    def _next_entry(self) -> list[Unput]:
         """Takes as many envelopes as one entry may have."""
-        taken, size = 0, 0
-        for _, envelope, _ in self.unput[:ENTRY_LINES]:
+        batch, size = list[Unput](), 0
+        while self.unput and len(batch) < ENTRY_LINES:
+            _, envelope, _ = self.unput.next()
             size += len(envelope) + 1
-            if taken and size > ENTRY_CHARACTERS:
+            if batch and size > ENTRY_CHARACTERS:
                 break
-            taken += 1
-        batch, self.unput = self.unput[:taken], self.unput[taken:]
+            batch.append(self.unput.take())
         if not self.unput:
             self.put_wanted.clear()
         return batch

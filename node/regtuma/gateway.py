@@ -181,7 +181,7 @@ class Gateway:
             made = await self.endorsed(held, proposal, named)
             await self.check_size(made)
             if id not in self.chain.origins.used_up:
-                await self.chain.put(id, made)
+                await self.chain.put(caller, id, made)
         finally:
             held.give()
 

@@ -1,6 +1,5 @@
 """Other organisations' nodes, which are asked for endorsements."""
 import asyncio
-import collections
 import re
 import time
 from collections.abc import Callable, Sequence
@@ -11,6 +10,7 @@ from .config import Config
 from .fields import CALLER_HEADER
 from .journal import Quota
 from .proposals import is_hex, matches
+from .turns import Turns
 from .waiting import TooMuch, value_of, whole
 from .wire import Object
 
@@ -32,13 +32,11 @@ Waiting = tuple[Object, int, asyncio.Future[Object | None]]
 
 
 class Batches:
-    """Proposals that are asked together. What comes while requests are under way goes into the next one, of each caller one after another:
-    however many one has, those of others come soon."""
+    """Proposals that are asked together. What comes while requests are under way goes into the next one."""
 
     def __init__(self, requests: int):
         self.requests, self.under_way = requests, 0
-        # Those that wait, by their callers: the first one's turn comes next.
-        self.waiting: collections.OrderedDict[str, collections.deque[Waiting]] = collections.OrderedDict()
+        self.waiting: Turns[Waiting] = Turns()
         self.works: set[asyncio.Task[None]] = set()
 
     def most(self) -> int:
@@ -52,7 +50,7 @@ class Batches:
     def ask(self, caller: str, proposal: Object, height: int) -> asyncio.Future[Object | None]:
         done: asyncio.Future[Object | None] = asyncio.get_running_loop().create_future()
         is_first = not self.waiting
-        self.waiting.setdefault(caller, collections.deque()).append((proposal, height, done))
+        self.waiting.add(caller, (proposal, height, done))
         if is_first:
             self._begin()
         return done
@@ -69,7 +67,7 @@ class Batches:
             # Those that ask in this very moment come along.
             await asyncio.sleep(0)
             while self.waiting:
-                batch = self._next(self.most())
+                batch = [self.waiting.take() for _ in range(min(self.most(), len(self.waiting)))]
                 if self.waiting:
                     self._begin()
                 await self._answer(batch)
@@ -77,16 +75,6 @@ class Batches:
             self.under_way -= 1
             if self.waiting:
                 self._begin()
-
-    def _next(self, most: int) -> list[Waiting]:
-        """Takes so many of those that wait, one of each caller in turn."""
-        batch = list[Waiting]()
-        while self.waiting and len(batch) < most:
-            caller, own = self.waiting.popitem(last=False)
-            batch.append(own.popleft())
-            if own:
-                self.waiting[caller] = own
-        return batch
 
     async def _answer(self, batch: list[Waiting]) -> None:
         """Has a batch answered. Whatever fails, nobody waits for good."""
@@ -156,9 +144,7 @@ class Link(Batches):
         """The node is not asked for a while. Those who wait for their turn have no answer at once, so that they ask another one's."""
         self.quota.tell(f"no endorsement of {self.organisation}: {why}")
         self.down = time.monotonic() + DOWN_SECONDS
-        waiting = [it for own in self.waiting.values() for it in own]
-        self.waiting.clear()
-        for _, _, done in waiting:
+        for _, _, done in self.waiting.take_all():
             if not done.done():
                 done.set_result(None)
 

@@ -195,12 +195,12 @@ class Lines(Case):
 
     async def test_who_waits_for_a_transaction_is_told_once_its_block_is_on_the_disk(self):
         waiters = [self.chain.wait_for(it) for it in ("ab", "cd", "ef")]
-        self.chain.in_log = {"ab"}
+        self.chain.in_log = {"ab": "Maker/alice"}
         await self.passed("tx 7.0 ab 0 6d", "tx 7.1 cd 4 -")
         self.assertEqual([it.done() for it in waiters], [False] * 3)
         await self.passed("committed 7 flags 0 4")
         told = [{"id": "ab", "block": 7, "place": 0, "flag": 0, "result": "6d"}, {"id": "cd", "block": 7, "place": 1, "flag": 4, "result": ""}]
-        self.assertEqual(([it.result() for it in waiters[:2]], waiters[2].done(), self.chain.in_log), (told, False, set()))
+        self.assertEqual(([it.result() for it in waiters[:2]], waiters[2].done(), self.chain.in_log), (told, False, {}))
 
     async def test_an_aborted_transaction_is_told(self):
         waiter = self.chain.wait_for("ab")
@@ -224,19 +224,19 @@ class Lines(Case):
     async def test_a_call_whose_line_is_skipped_is_told_why(self):
         waiter, envelope = self.chain.wait_for("ab"), ENVELOPE
         work = asyncio.ensure_future(self.chain.put_envelopes())
-        await self.chain.put("ab", envelope)
+        await self.chain.put("Maker/alice", "ab", envelope)
         work.cancel()
         name, = self.chain.log.entries
         self.assertEqual(self.chain.counted(Entry(7, name.encode(), envelope.encode())), [f"7.0 {envelope}\n".encode()])
         await self.passed("skipped 7.0 301", "read 7.0 0")
         told = {"id": "ab", "refused": 301, "why": "the orderer skips its envelope (refused 301)"}
         self.assertEqual([await self.gateway.outcome("Maker/alice", waiter.result()), await self.gateway.status("Maker/alice", "ab")], [told, told])
-        self.assertEqual((self.chain.in_log, self.chain.own, self.chain.unread), (set(), {}, {}))
+        self.assertEqual((self.chain.in_log, self.chain.own, self.chain.unread), ({}, {}, {}))
 
     async def test_a_call_that_finds_no_share_left_is_told(self):
         waiter = self.chain.wait_for("ab")
         work = asyncio.ensure_future(self.chain.put_envelopes())
-        await self.chain.put("ab", ENVELOPE)
+        await self.chain.put("Maker/alice", "ab", ENVELOPE)
         work.cancel()
         self.chain.lines.shares.paid[b"Maker"] = 3 * LAST_BLOCK * self.chain.lines.shares.block
         name, = self.chain.log.entries
@@ -324,7 +324,7 @@ class End(Case):
 class Entries(Case):
     async def put(self, *envelopes: str) -> list:
         work = asyncio.ensure_future(self.chain.put_envelopes())
-        done = await asyncio.gather(*(self.chain.put(it, it) for it in envelopes), return_exceptions=True)
+        done = await asyncio.gather(*(self.chain.put("Maker/alice", it, it) for it in envelopes), return_exceptions=True)
         work.cancel()
         return done
 
@@ -340,7 +340,7 @@ class Entries(Case):
         works = [asyncio.ensure_future(self.chain.put_envelopes())]
         puts = []
         for it in ("aa", "bb", "cc"):
-            puts.append(asyncio.ensure_future(self.chain.put(it, it)))
+            puts.append(asyncio.ensure_future(self.chain.put("Maker/alice", it, it)))
             await asyncio.sleep(0.01)
         self.assertEqual(self.chain.log.entries, {})
         turns.release()
@@ -355,6 +355,23 @@ class Entries(Case):
         for it in works:
             it.cancel()
         self.assertEqual(list(self.chain.log.entries.values()), [["aa", "bb", "cc"], ["tick"]])
+
+    async def test_callers_take_turns(self):
+        """However many long envelopes one has, those of others go into the next entries."""
+        work = asyncio.ensure_future(self.chain.put_envelopes())
+        with mock.patch.object(chains, "ENTRY_CHARACTERS", 10):
+            puts = [self.chain.put("Maker/alice", it, it) for it in ("a1a1a1", "a2a2a2", "a3a3a3")]
+            await asyncio.gather(*puts, *(self.chain.put(f"Maker/{it}", it, it) for it in ("bb", "cc")))
+        work.cancel()
+        self.assertEqual(list(self.chain.log.entries.values()), [["a1a1a1", "bb"], ["cc", "a2a2a2"], ["a3a3a3"]])
+
+    async def test_who_waited_for_ticks_is_counted(self):
+        self.chain.in_log = {"ab": "Maker/alice", "cd": "Maker/alice", "ef": "Maker/bob"}
+        for number in (4, 5):
+            self.chain.awaited = Awaited(number, 1, 0.0)
+            await self.chain.tick(1e10)
+            self.chain.in_log.pop("ef", None)
+        self.assertEqual((self.chain.ticked, self.chain.counts["ticks"]), ({"Maker/alice": 2, "Maker/bob": 1}, 2))
 
     async def test_entries_have_so_many_lines_and_characters(self):
         await self.put(*["aa"] * (chains.ENTRY_LINES + 1))
@@ -755,7 +772,7 @@ class Calls(Case):
         for _ in range(2):
             self.assertTrue((await self.gateway.submit("Maker/alice", CALL, 0.1))["pending"])
             await self.entries(1)
-        self.assertEqual((len(self.chain.log.entries), self.chain.in_log), (1, {id_of(CALL)}))
+        self.assertEqual((len(self.chain.log.entries), self.chain.in_log), (1, {id_of(CALL): "Maker/alice"}))
         self.chain.resolve(id_of(CALL), {"id": id_of(CALL), "refused": 441})
         await asyncio.sleep(0)
         self.assertTrue((await self.gateway.submit("Maker/alice", CALL, 0.1))["pending"])
@@ -769,7 +786,7 @@ class Calls(Case):
         for _ in range(2):
             failure, = await asyncio.gather(self.gateway.submit("Maker/alice", CALL, 60.0), return_exceptions=True)
             self.assertEqual(str(failure), "no majority")
-        self.assertEqual((self.chain.in_log, self.chain.waiters), (set(), {}))
+        self.assertEqual((self.chain.in_log, self.chain.waiters), ({}, {}))
         work.cancel()
 
     async def test_what_is_too_large_is_not_put(self):
