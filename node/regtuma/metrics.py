@@ -46,8 +46,8 @@ class Metrics(Collector):
         for name, (words, value) in gauges.items():
             yield GaugeMetricFamily(f"regtuma_{name}", words, value=value)
         ticked = CounterMetricFamily("regtuma_ticks", "Ticks that this node has put while calls of a caller waited", labels=["caller"])
-        for caller, count in chain.ticked.items():
-            ticked.add_metric([caller], count)
+        for caller, number in chain.ticked.items():
+            ticked.add_metric([caller], number)
         yield ticked
         events = CounterMetricFamily("regtuma_counted", "What happened", labels=["what"])
         for what, count in chain.counts.items():

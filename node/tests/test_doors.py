@@ -221,6 +221,15 @@ class Doors(unittest.TestCase):
             it.close()
         self.come(lambda: self.get("/height", "alice")[0] == 200)
 
+    def test_an_address_begins_so_many_connections(self):
+        """Each costs the proxy a millisecond, also where nothing more is said."""
+        for _ in range(700):
+            with contextlib.suppress(OSError):
+                socket.create_connection(("127.0.0.1", self.port), PATIENCE, ("127.0.0.6", 0)).close()
+        with self.assertRaises(OSError):
+            self.connect("alice", source="127.0.0.6")
+        self.others_are_served()
+
     def test_an_organisation_has_one_share_however_it_spells_its_name(self):
         for name in ("before", "behind"):
             with self.subTest(name=name):

@@ -1,5 +1,6 @@
 """How often a node puts entries into the log."""
 import asyncio
+import asyncio
 import re
 import unittest
 from unittest import mock
@@ -27,7 +28,7 @@ class Paces(unittest.IsolatedAsyncioTestCase):
     def setUp(self) -> None:
         self.clock = Clock()
         self.enterContext(mock.patch.object(pace, "time", self.clock))
-        self.enterContext(mock.patch.object(pace.asyncio, "sleep", self.clock.sleep))
+        self.enterContext(mock.patch.object(asyncio, "sleep", self.clock.sleep))
 
     async def test_who_comes_alone_waits_for_nothing(self) -> None:
         turns = Pace()
