@@ -83,7 +83,7 @@ class Chain:
         # Numbers of committed blocks whose hashes are to be told.
         self.unsaid: asyncio.Queue[int] = asyncio.Queue()
         # Who waits for the flag of a transaction, by its id.
-        self.waiters: dict[str, list[asyncio.Future[Object]]] = {}
+        self.waiters: dict[str, set[asyncio.Future[Object]]] = {}
         # What became of those that this node has put and that are in no block, for those who ask later.
         self.refused: collections.OrderedDict[str, Object] = collections.OrderedDict()
         # Ids of those that this node has put into the log, and that are in no block yet, with their callers; those of the envelopes of its
@@ -291,13 +291,12 @@ class Chain:
 
     def wait_for(self, id: str) -> asyncio.Future[Object]:
         waiter: asyncio.Future[Object] = asyncio.get_running_loop().create_future()
-        self.waiters.setdefault(id, []).append(waiter)
+        self.waiters.setdefault(id, set()).add(waiter)
         return waiter
 
     def forget(self, id: str, waiter: asyncio.Future[Object]) -> None:
-        waiters = self.waiters.get(id, [])
-        if waiter in waiters:
-            waiters.remove(waiter)
+        if waiters := self.waiters.get(id):
+            waiters.discard(waiter)
             if not waiters:
                 del self.waiters[id]
 
@@ -308,7 +307,7 @@ class Chain:
                 self.refused.popitem(last=False)
         self.in_log.pop(id, None)
         self.origins.end(id)
-        for waiter in self.waiters.pop(id, []):
+        for waiter in self.waiters.pop(id, ()):
             if not waiter.done():
                 waiter.set_result(outcome)
 

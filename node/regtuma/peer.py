@@ -12,9 +12,9 @@ from .filters import MOST_ASKED, Asked, FilterEnded, TooLong, say_nothing
 
 # So many lines of the log are handed on together: what is asked meanwhile comes between.
 AT_ONCE = 64
-# Where so many lines are unread, only as many calls and questions of a kind wait for an answer as the program answers side by side: between
-# those at hand and the next ones it reads no more lines than the pipe has.
-BEHIND, WORKERS = 2 * AT_ONCE, len(os.sched_getaffinity(0))
+# Where so many lines are unread, which are two entries, only as many calls and questions of a kind wait for an answer as the program answers
+# side by side: between those at hand and the next ones it reads no more lines than the pipe has.
+BEHIND, WORKERS = 1000, len(os.sched_getaffinity(0))
 # Questions that look through many transactions, or verify all of a block, and how many of them wait for an answer at a time: what
 # comes behind them waits too.
 LONG, MOST_LONG = ("block", "history", "transaction"), 4

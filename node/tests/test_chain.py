@@ -202,6 +202,16 @@ class Lines(Case):
         told = [{"id": "ab", "block": 7, "place": 0, "flag": 0, "result": "6d"}, {"id": "cd", "block": 7, "place": 1, "flag": 4, "result": ""}]
         self.assertEqual(([it.result() for it in waiters[:2]], waiters[2].done(), self.chain.in_log), (told, False, {}))
 
+    async def test_many_that_wait_for_one_call_may_go_at_once(self):
+        """Their number is not looked through for each."""
+        asyncio.get_running_loop().set_debug(False)
+        waiters = [self.chain.wait_for("ab") for _ in range(50_000)]
+        began = time.process_time()
+        for it in reversed(waiters):
+            self.chain.forget("ab", it)
+        self.assertLess(time.process_time() - began, 5.0)
+        self.assertEqual(self.chain.waiters, {})
+
     async def test_an_aborted_transaction_is_told(self):
         waiter = self.chain.wait_for("ab")
         self.chain.origins.begin("ab")
