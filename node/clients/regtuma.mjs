@@ -22,8 +22,10 @@ const LOCAL = /^http:\/\/(localhost|127(\.\d{1,3}){3}|\[::1\]):\d+\/?$/;
 export const hex = bytes => Array.from(bytes, it => it.toString(16).padStart(2, "0")).join("");
 export const bytes = hex => Uint8Array.from(hex.match(/../g) ?? [], it => parseInt(it, 16));
 export const text = bytes => new TextDecoder().decode(bytes);
-/** Whether a call that is not VALID may be so by another nonce. */
-const mayBeTriedAgain = said => CONFLICTS.includes(said.flag) || ABORTED.includes(said.refused) || "used_up_by" in said;
+/** Whether the orderer left a call out of a batch: as anybody may put it once more, it is asked for again by its own nonce. */
+const isAborted = said => ABORTED.includes(said.refused);
+/** Whether a call that is not VALID may be so later, or by another nonce. */
+const mayBeTriedAgain = said => CONFLICTS.includes(said.flag) || isAborted(said) || "used_up_by" in said;
 /** Whether no other node is to be asked: one has refused, and not for now alone. */
 const isFinal = error => error instanceof NotValid && error.status !== 503;
 /** Where calls are posted, so that a node answers before the time is up. */
@@ -41,7 +43,7 @@ export class NotValid extends Error {
   }
 }
 
-/** No node answered. Whether a call is in the log is not known. */
+/** No node answered, or could do it. Whether a call is in the log is not known. */
 export class NoAnswer extends Error {
   constructor(nodes, cause) {
     super(`no node answers, of ${nodes.join(", ")}: ${cause.message}`, { cause });
@@ -71,24 +73,30 @@ export class Client {
 
   /**
    * Has a call committed: its id, block, place, flag and result once it is VALID. One that conflicts with another, or whose id another
-   * organisation used up, is made anew, `tries` times in all. `organisations` are to endorse, in place of those that the policy needs.
+   * organisation used up, is made anew, `tries` times in all; one that the orderer left out of a batch (441, 442) is asked for again by
+   * its own nonce, which `said.nonce` of `NotValid` is. `organisations` are to endorse, in place of those that the policy needs.
    * After the client's `seconds` it ends by `Pending`, where the call is in no block yet.
    */
   async submit(chaincode, args, { organisations, tries = 1, nonce } = {}) {
     const until = performance.now() + 1000 * this.seconds;
-    for (let left = tries - 1; ; left--, nonce = undefined) {
-      const said = await this.outcome(callOf(chaincode, args, { organisations, nonce }), until);
+    for (let left = tries - 1; ; left--) {
+      const call = callOf(chaincode, args, { organisations, nonce }), said = await this.outcome(call, until);
+      nonce = isAborted(said) ? call.nonce : undefined;
       if (said.valid) return said;
       if (said.pending) throw new Pending(said);
       const isLast = left <= 0 || performance.now() > until;
-      if (isLast || !mayBeTriedAgain(said)) throw new NotValid(200, said);
+      if (isLast || !mayBeTriedAgain(said)) throw new NotValid(200, { ...said, nonce: call.nonce });
     }
   }
 
-  /** What becomes of a call, whatever that is; `pending` where its time is up. Who asks again for the same waits for it. */
+  /**
+   * What becomes of a call, whatever that is; `pending` where its time is up. Who asks again for the same waits for it. Where nodes could
+   * do nothing up to the end (503), it ends by `NoAnswer`, as where none answers: one of them may have put the call before.
+   */
   async outcome(call, until = performance.now() + 1000 * this.seconds) {
     for (;;) {
-      const said = await this.ask("POST", transactions(until), call, [], until);
+      const said = await this.ask("POST", transactions(until), call, [], until)
+        .catch(error => { throw isFinal(error) || error instanceof NoAnswer ? error : new NoAnswer(this.nodes, error); });
       if (!said.pending || until - performance.now() < LEAST) return said;
     }
   }

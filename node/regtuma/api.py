@@ -34,6 +34,8 @@ PART = 16
 JSON, LINES, EVENTS = "application/json", "application/jsonl", "text/event-stream"
 # How long it may take until it is told that something is wrong: envelopes that wait, a log that takes none; lines that are unread.
 STUCK, UNLED, BEHIND = 30.0, 15.0, 10_000
+# With so many entries of the log a node takes minutes to start.
+MANY_ENTRIES = 300_000
 # Method, path, the right that it needs, and what answers.
 Route = tuple[str, str, str, Handler]
 
@@ -101,10 +103,21 @@ class Api:
 
     def warnings(self) -> list[str]:
         warnings = [self.endorsing.out_of_place and f"nothing is endorsed: {self.endorsing.out_of_place}",
-                    self.config.ticks.warning(self.chain.height, self.chain.share, self.chain.wait),
+                    self.plan_warning(),
                     *(f"{it} used up the id of a call of ours, and is asked to endorse only if no others will do"
                       for it in sorted(self.chain.origins.blamed))]
+        if self.chain.entries > MANY_ENTRIES:
+            warnings.append(f"the log has {self.chain.entries:,} entries, so that a node takes minutes to start: refill it")
         return [it for it in warnings if it]
+
+    def plan_warning(self) -> str:
+        """What is told of the chain's end and of this organisation's plan, and whose calls the ticks were for."""
+        chain = self.chain
+        warning = self.config.ticks.warning(chain.height, chain.share, chain.wait)
+        if not warning or not chain.ticked:
+            return warning
+        (caller, count), = chain.ticked.most_common(1)
+        return f"{warning}; calls of {caller} waited for {count:,} of the {chain.counts['ticks']:,.0f} ticks since this node began"
 
     async def get_metrics(self, _request: web.Request) -> web.Response:
         return web.Response(body=self.metrics.text(), headers={"Content-Type": TYPE})
@@ -246,9 +259,14 @@ class Api:
         check(is_one, "a request has a list of proposals, and may have a height")
         proposals = [checked(it) for it in objects(body.get("proposals"), "proposals", MOST_CALLS)]
         asker: str = request["caller"]
+        counted = list[int]()
+
+        def take(size: int) -> None:
+            self.access.load.take(request, size)
+            counted.append(size)
         async with self.access.load.turn(request):
-            answers = await self.endorsing.answers(asker, proposals, height)
-        return await self.tell(request, {"answers": answers})
+            said: Object = {"answers": await self.endorsing.answers(asker, proposals, height, take)}
+        return await self.tell(request, said, counted=sum(counted))
 
     async def agree(self, request: web.Request) -> web.Response:
         """The operator's word that the organisation endorses this very upgrade or amendment."""
@@ -318,13 +336,14 @@ class Api:
             yield text
         return await self.send(request, texts(), JSON)
 
-    async def tell(self, request: web.Request, said: Object, status: int = 200) -> web.StreamResponse:
-        """An answer that may be long: as long as it is on its way, it is one of the bytes that are held for the organisation."""
+    async def tell(self, request: web.Request, said: Object, status: int = 200, counted: int = 0) -> web.StreamResponse:
+        """An answer that may be long: as long as it is on its way, it is one of the bytes that are held for the organisation, of which so
+        many were counted before."""
         text = dumps(said)
         if len(text) <= PIECE:
             return web.Response(text=text, status=status, content_type=JSON)
         said.clear()
-        self.access.load.take(request, len(text))
+        self.access.load.take(request, len(text) - counted)
 
         async def texts() -> AsyncIterator[str]:
             yield text

@@ -17,9 +17,11 @@ from .entries import ENTRY_CHARACTERS, ENTRY_LINES, Entry, Lines, Log, LogError
 from .filters import FilterEnded
 from .journal import Quota
 from .origins import Origins
+from .pace import EACH, Pace
 from .peer import Peer
 from .tags import Key, Keys
 from .times import Times
+from .turns import Turns
 from .waiting import within
 from .wire import Object
 
@@ -32,6 +34,8 @@ NEWEST = 16
 REMEMBERED = 1000
 # So many blocks may be of lines that the log has told other nodes and not yet this one.
 AHEAD = 100
+# An id and its envelope that are to be put, and who waits for that.
+Unput = tuple[str, str, asyncio.Future[None]]
 NO_SHARE = "this organisation has brought about its share of the chain's blocks: a call may be put by another one's node"
 
 
@@ -65,30 +69,35 @@ class Chain:
         # Who has another block, as long as nobody has looked into it: nothing is endorsed or put meanwhile.
         self.forked: str | None = None
         self.lies: dict[str, Quota] = {}
+        # What was looked into: an organisation, and what it says of a block; or the organisation whole.
+        self.past_forks = frozenset(ledger.past_forks)
         # When the log was seen last to take entries.
         self.led = time.monotonic()
         # This organisation's part of the log, and what of the log counts.
         self.part, self.lines = config.organisation.encode(), Lines()
-        # Where the log is; how many of its lines the peer was given, and how many it has read.
-        self.revision = self.given = self.read = 0
+        # Where the log is, and how many entries it has; how many of its lines the peer was given, and how many it has read.
+        self.revision = self.entries = self.given = self.read = 0
+        # How often entries are put: a file bears any number.
+        self.pace = Pace(0.0 if config.is_local else EACH)
         self.awaited, self.asking = Awaited(), Asking()
         # Numbers of committed blocks whose hashes are to be told.
         self.unsaid: asyncio.Queue[int] = asyncio.Queue()
         # Who waits for the flag of a transaction, by its id.
-        self.waiters: dict[str, list[asyncio.Future[Object]]] = {}
+        self.waiters: dict[str, set[asyncio.Future[Object]]] = {}
         # What became of those that this node has put and that are in no block, for those who ask later.
         self.refused: collections.OrderedDict[str, Object] = collections.OrderedDict()
-        # Ids of those that this node has put into the log, and that are in no block yet; those of the envelopes of its entries, by
-        # their names, until these are read; and those of lines that the peer has not read.
-        self.in_log: set[str] = set()
+        # Ids of those that this node has put into the log, and that are in no block yet, with their callers; those of the envelopes of its
+        # entries, by their names, until these are read; and those of lines that the peer has not read.
+        self.in_log: dict[str, str] = {}
         self.own: dict[bytes, list[str]] = {}
         self.unread: dict[str, str] = {}
         # Whose envelopes of the calls that are under way here came first.
         self.origins = Origins(config.organisation, say)
-        # Ids and envelopes that are to be put, and who waits for that.
-        self.unput: list[tuple[str, str, asyncio.Future[None]]] = []
+        self.unput: Turns[Unput] = Turns()
         self.put_wanted = asyncio.Event()
         self.counts: collections.defaultdict[str, float] = collections.defaultdict(float)
+        # For how many ticks calls of each caller have waited.
+        self.ticked: collections.Counter[str] = collections.Counter()
         self.newest: collections.OrderedDict[int, asyncio.Task[str]] = collections.OrderedDict()
 
     async def start(self) -> None:
@@ -143,6 +152,7 @@ class Chain:
             self.given += len(made)
             await self.peer.log(made)
             self.revision = entries[-1].revision
+            self.entries += len(entries)
 
     def counted(self, entry: Entry) -> list[bytes]:
         """The lines of an entry that count. Who waits for one that does not is told."""
@@ -188,10 +198,11 @@ class Chain:
                 self.say(f"{self.peer.name}: {' '.join(words)}")
 
     def hear_fork(self, organisation: str, number: str) -> None:
-        """Somebody has another block: as long as nobody has looked into these very words, the node reads on, and puts nothing."""
+        """Somebody has another block: as long as nobody has looked into these very words, or into all that it says, the node reads on, and
+        puts nothing."""
         words = f"{organisation} says that it has another block {number}"
         self.lies.setdefault(organisation, Quota(organisation, self.say)).tell(f"forked: {words}")
-        if f"{organisation} {number}" not in self.config.ledger.past_forks:
+        if not self.past_forks & {organisation, f"{organisation} {number}"}:
             self.forked = self.forked or words
 
     async def committed(self, number: int) -> None:
@@ -216,7 +227,9 @@ class Chain:
         while True:
             await asyncio.sleep(0.05)
             try:
-                await self.tick(time.monotonic())
+                if self.is_due(time.monotonic()):
+                    await self.pace.turn()
+                    await self.tick(time.monotonic())
             except LogError as error:
                 self.say(f"not put: {error}")
                 await asyncio.sleep(1)
@@ -245,7 +258,9 @@ class Chain:
             name = f"{self.config.organisation}/tick-{number}"
             if self.asking.number == number:
                 name += f"-{secrets.token_hex(8)}"
-            self.counts["ticks"] += await self.log.append(name, ["tick"], SHORT_PATIENCE)
+            if await self.log.append(name, ["tick"], SHORT_PATIENCE):
+                self.counts["ticks"] += 1
+                self.ticked.update(set(self.in_log.values()))
             self.asking = Asking(number, time.monotonic())
 
     # ---------------------------------------------------------------- blocks, and who waits for them
@@ -276,13 +291,12 @@ class Chain:
 
     def wait_for(self, id: str) -> asyncio.Future[Object]:
         waiter: asyncio.Future[Object] = asyncio.get_running_loop().create_future()
-        self.waiters.setdefault(id, []).append(waiter)
+        self.waiters.setdefault(id, set()).add(waiter)
         return waiter
 
     def forget(self, id: str, waiter: asyncio.Future[Object]) -> None:
-        waiters = self.waiters.get(id, [])
-        if waiter in waiters:
-            waiters.remove(waiter)
+        if waiters := self.waiters.get(id):
+            waiters.discard(waiter)
             if not waiters:
                 del self.waiters[id]
 
@@ -291,30 +305,31 @@ class Chain:
             self.refused[id] = outcome
             if len(self.refused) > REMEMBERED:
                 self.refused.popitem(last=False)
-        self.in_log.discard(id)
+        self.in_log.pop(id, None)
         self.origins.end(id)
-        for waiter in self.waiters.pop(id, []):
+        for waiter in self.waiters.pop(id, ()):
             if not waiter.done():
                 waiter.set_result(outcome)
 
     # ---------------------------------------------------------------- envelopes
 
-    async def put(self, id: str, envelope: str) -> None:
-        """Puts a transaction's envelope into the log. What comes while one entry is under way goes into the next one together."""
+    async def put(self, caller: str, id: str, envelope: str) -> None:
+        """Puts a transaction's envelope into the log. What comes before the next entry may be put goes into it together."""
         done: asyncio.Future[None] = asyncio.get_running_loop().create_future()
-        self.unput.append((id, envelope, done))
+        self.unput.add(caller, (id, envelope, done))
         self.put_wanted.set()
-        self.in_log.add(id)
+        self.in_log[id] = caller
         self.origins.note_put(id, envelope)
         try:
             await done
         except LogError:
-            self.in_log.discard(id)
+            self.in_log.pop(id, None)
             raise
 
     async def put_envelopes(self) -> None:
         while True:
             await self.put_wanted.wait()
+            await self.pace.turn()
             batch = self._next_entry()
             failed: LogError | None = None
             began, name = time.monotonic(), f"{self.config.organisation}/call-{secrets.token_hex(12)}"
@@ -331,15 +346,15 @@ class Chain:
                 if not done.done():
                     done.set_exception(failed) if failed else done.set_result(None)
 
-    def _next_entry(self) -> list[tuple[str, str, asyncio.Future[None]]]:
+    def _next_entry(self) -> list[Unput]:
         """Takes as many envelopes as one entry may have."""
-        taken, size = 0, 0
-        for _, envelope, _ in self.unput[:ENTRY_LINES]:
+        batch, size = list[Unput](), 0
+        while self.unput and len(batch) < ENTRY_LINES:
+            _, envelope, _ = self.unput.next()
             size += len(envelope) + 1
-            if taken and size > ENTRY_CHARACTERS:
+            if batch and size > ENTRY_CHARACTERS:
                 break
-            taken += 1
-        batch, self.unput = self.unput[:taken], self.unput[taken:]
+            batch.append(self.unput.take())
         if not self.unput:
             self.put_wanted.clear()
         return batch

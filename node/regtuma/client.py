@@ -53,7 +53,8 @@ class Failed(Exception):
 
 
 class Refused(Failed):
-    """A node refused: the call is in no block. `status` is that of HTTP, `said["refused"]` the ledger's number, if it has one."""
+    """A node refused: the call is in no block. `status` is that of HTTP, `said["refused"]` the ledger's number, if it has one. Behind 441
+    and 442 `submit` may be asked again by `said["nonce"]` alone."""
 
     def __init__(self, status: int, said: Object):
         super().__init__(str(said.get("why", f"the node answers by status {status}")), said)
@@ -65,7 +66,7 @@ class Invalid(Failed):
 
 
 class NoAnswer(Failed):
-    """No node answered. Whether a call that was submitted is in the log is not known: `said["id"]` is its id, for `status`."""
+    """No node answered, or could do it. Whether a call that was submitted is in the log is not known: `said["id"]` is its id, for `status`."""
 
 
 class Pending(Failed):
@@ -128,22 +129,25 @@ class Client:
     def submit(self, chaincode: str, *args: str, arg: bytes | None = None, organisations: list[str] | None = None,
                tries: int = 1, nonce: str | None = None) -> Object:
         """Has a call committed: its id, block, place, flag and result once it is VALID. One that conflicts with another, or whose id
-        another organisation used up, is made anew, `tries` times in all. `organisations` are to endorse, in place of those that the
+        another organisation used up, is made anew, `tries` times in all. One that the orderer left out of a batch (441, 442) is asked for
+        again by its own nonce, as anybody may put it once more: so it counts once. `organisations` are to endorse, in place of those that the
         policy needs; a `nonce` of 32 hex digits names the transaction, where the caller has asked for it before. After the client's
         `seconds` it ends by `Pending`, where the call is in no block yet."""
         until = time.monotonic() + self.seconds
         for left in range(max(tries, 1) - 1, -1, -1):
             call = call_of(chaincode, args, arg, organisations, nonce)
-            said, nonce = self.outcome(call, until), None
+            said = self.outcome(call, until)
+            nonce = call["nonce"] if said.get("refused") in ABORTED else None
             if said.get("valid"):
                 return said
             if not left or time.monotonic() > until or not may_be_tried_again(said):
                 break
-        raise failure(said)
+        raise failure({**said, "nonce": call["nonce"]})
 
     def outcome(self, call: Object, until: float = 0.0) -> Object:
         """What becomes of a call or a change, whatever that is: an answer of the API with `valid`, `refused` or neither; with `pending`
-        where its time is up, by the clock of `time.monotonic`, by default after the client's `seconds`."""
+        where its time is up, by the clock of `time.monotonic`, by default after the client's `seconds`. Where nodes could do nothing up to
+        the end (503), it ends by `NoAnswer`, as where none answers: one of them may have put the call before."""
         until = until or time.monotonic() + self.seconds
         try:
             while True:
@@ -151,7 +155,9 @@ class Client:
                 said = self._ask(dict, "POST", self._transactions(until), call, (), until)
                 if not said.get("pending") or until - time.monotonic() < LEAST:
                     return said
-        except NoAnswer as error:
+        except (NoAnswer, Refused) as error:
+            if is_final(error):
+                raise
             raise NoAnswer(str(error), {"id": id_of(call)}) from None
 
     def submit_all(self, calls: Iterable[Object]) -> list[Object]:
@@ -330,7 +336,7 @@ def refusal(answer: http.client.HTTPResponse) -> Refused:
 
 
 def may_be_tried_again(said: Object) -> bool:
-    """Whether a call that is not VALID may be so by another nonce."""
+    """Whether a call that is not VALID may be so later, or by another nonce."""
     return said.get("flag") in CONFLICTS or said.get("refused") in ABORTED or "used_up_by" in said
 
 

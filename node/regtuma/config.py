@@ -49,7 +49,8 @@ class Ledger:
     approver: list[str] = dataclasses.field(default_factory=list)
     # The template of the live page, examples/page/template.html of the repository.
     template: str = ""
-    # Once in so many blocks nodes tell each other a hash; and which words of others that a block is another one were looked into.
+    # Once in so many blocks nodes tell each other a hash; and which words of others that a block is another one were looked into,
+    # or whose all.
     seen: int = 64
     past_forks: list[str] = dataclasses.field(default_factory=list)
 

@@ -5,14 +5,16 @@ import json
 import os
 import time
 import weakref
-from collections.abc import Coroutine
+from collections.abc import Callable, Coroutine
 from typing import Any
 
 from .chain import Chain
 from .config import Config
 from .entries import LogError
 from .filters import Asked, FilterEnded
+from .load import size_of
 from .tags import Key
+from .waiting import together
 from .wire import Object, id_of
 
 # What is answered where the organisation has no place in the ledger, as it may have later.
@@ -30,6 +32,10 @@ MOST_WORDS = 300
 BARE_WORDS = 4
 # After how many seconds what the log did not take is put again, and how long an answer of the approver may take.
 PAUSE, APPROVAL_SECONDS = 5.0, 30.0
+
+
+def uncounted(_size: int) -> None:
+    """Where nobody counts answers."""
 
 
 class Agreed:
@@ -149,17 +155,23 @@ class Endorsing:
 
     # ---------------------------------------------------------------- endorsements
 
-    async def answers(self, asker: str, proposals: list[Object], height: int = 0) -> list[Object]:
+    async def answers(self, asker: str, proposals: list[Object], height: int = 0, take: Callable[[int], None] = uncounted) -> list[Object]:
         """What this organisation answers to proposals, each by its payload and endorsement on a state after so many blocks at
         least, as far as it comes up within a second; or why not.
 
         An endorsement says that the chaincode does this, and not that the organisation wants it. Where it has an approver, that
         is asked first: a line of JSON with the proposal and who asks, and the answer is `yes`, or why not. A change of code or
         members is endorsed where the operator has agreed to this very one.
+
+        Each answer is counted as it comes: where there is no room for it, none of the others is waited for.
         """
+        async def counted(proposal: Object) -> Object:
+            said = await self.answer(asker, proposal)
+            take(size_of(said))
+            return said
         if self.chain.height < height:
             await self.chain.at_least(height, 1.0)
-        return list(await asyncio.gather(*(self.answer(asker, it) for it in proposals)))
+        return await together(counted(it) for it in proposals)
 
     async def answer(self, asker: str, proposal: Object) -> Object:
         """The answer to a proposal, once it is the asker's turn: why it is denied, or what the peer says."""
@@ -205,6 +217,7 @@ class Endorsing:
             await self.put_seen(number, said)
 
     async def put_seen(self, number: int, line: str) -> None:
+        await self.chain.pace.turn()
         while True:
             try:
                 await self.chain.log.append(f"{self.config.organisation}/seen-{number}", [line])

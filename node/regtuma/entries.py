@@ -72,6 +72,9 @@ class Log(Protocol):
     async def is_empty(self) -> bool:
         """Whether the log has no entry."""
 
+    async def count(self) -> int:
+        """How many entries the log has."""
+
     async def is_led(self) -> bool:
         """Whether entries can be put now."""
 

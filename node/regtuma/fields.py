@@ -9,8 +9,8 @@ from urllib.parse import urlsplit
 RIGHTS = ("read", "observe", "evaluate", "submit", "endorse", "agree")
 ORGANISATION = re.compile("[A-Za-z0-9_]{1,32}")
 CALLER = re.compile(r"[A-Za-z0-9_*]{1,32}/[A-Za-z0-9_.*@-]{1,64}")
-# What somebody says of a block: that it has another one.
-FORK = re.compile(r"[A-Za-z0-9_]{1,32} [1-9][0-9]{0,9}")
+# What somebody says of a block, that it has another one; or all that an organisation says so.
+FORK = re.compile(r"[A-Za-z0-9_]{1,32}( [1-9][0-9]{0,9})?")
 # By which a caller says who it is where there are no certificates.
 CALLER_HEADER = "Regtuma-Caller"
 # By which the proxy hands on a caller's certificate, as haproxy.cfg has it: DER in base64.
@@ -83,7 +83,7 @@ TABLES: dict[str, dict[str, Field]] = {
                "template": FILE, "seen": number(1, 65535),
                "approver": Field(listed(text), "a command, as a list of words"),
                "past_forks": Field(listed(lambda it: isinstance(it, str) and FORK.fullmatch(it) is not None),
-                                   'a list of what was looked into, each an organisation and a block, as ["Shop 64"]')},
+                                   'a list of what was looked into, each an organisation and a block, or an organisation, as ["Shop 64", "Depot"]')},
     # In the place of [tls], [authorities], [etcd] and [rights], for nodes of one person on one machine.
     "log": {"file": NEEDED_FILE},
     "tls": {"certificate": NEEDED_FILE, "key": NEEDED_FILE},

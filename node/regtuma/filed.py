@@ -106,6 +106,9 @@ class FileLog:
     async def is_empty(self) -> bool:
         return next(entries_of(self.file), None) is None
 
+    async def count(self) -> int:
+        return sum(1 for _ in entries_of(self.file))
+
     async def is_led(self) -> bool:
         try:
             self._opened().close()

@@ -142,6 +142,10 @@ class Asked(Filter):
         self._write_soon()
         return asker
 
+    def room(self, most: int) -> int:
+        """How many lines may wait for an answer at a time, of a kind of which that many may at the most."""
+        return most
+
     def _write_soon(self) -> None:
         if not self.is_to_write:
             self.is_to_write = True
@@ -152,7 +156,7 @@ class Asked(Filter):
         self.is_to_write, lines = False, list[str]()
         for most in sorted(self.unwritten):
             unwritten = self.unwritten[most]
-            while unwritten and len(self.asked) < MOST_ASKED and self.written[most] < most:
+            while unwritten and len(self.asked) < MOST_ASKED and self.written[most] < self.room(most):
                 line, asker = unwritten.popleft()
                 if not asker.done():
                     lines.append(f"{line}\n")

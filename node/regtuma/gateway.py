@@ -3,7 +3,6 @@ import asyncio
 import collections
 import time
 import weakref
-from collections.abc import Awaitable
 
 from . import numbers
 from .chain import FULL, NO_SHARE, Chain
@@ -11,9 +10,11 @@ from .config import Config
 from .endorsing import Endorsing
 from .entries import LogError
 from .filters import FilterEnded
-from .links import Batches, Link
+from .links import Link
+from .load import Held
 from .proposals import Refused, call_of, check, checked, organisations_of
-from .wire import Object, envelope, id_of, proposal_of
+from .waiting import together
+from .wire import Object, envelope, id_of, proposal_bytes
 
 TOO_LARGE = 421
 TRIES = 12
@@ -43,7 +44,8 @@ class Gateway:
         # How many bytes an envelope may have, once it is known.
         self.absolute: int | None = None
         self.links = {it: Link(it, config, chain.say) for it in config.nodes}
-        self.owns: dict[str, Own] = {}
+        # How many bytes are held for the calls of each caller.
+        self.held: collections.Counter[str] = collections.Counter()
 
     async def close(self) -> None:
         await asyncio.gather(*(it.close() for it in self.links.values()))
@@ -174,10 +176,14 @@ class Gateway:
         return {**words, "valid": tx["flag"] == 0, "why": await numbers.why(self.chain.peer, tx)}
 
     async def endorse_and_put(self, id: str, caller: str, proposal: Object, named: list[str] | None) -> None:
-        made = await self.endorsed(caller, proposal, named)
-        await self.check_size(made)
-        if id not in self.chain.origins.used_up:
-            await self.chain.put(id, made)
+        held = Held(self.held, caller)
+        try:
+            made = await self.endorsed(held, proposal, named)
+            await self.check_size(made)
+            if id not in self.chain.origins.used_up:
+                await self.chain.put(caller, id, made)
+        finally:
+            held.give()
 
     async def check_size(self, made: str) -> None:
         """Whether the orderer takes an envelope of this size."""
@@ -189,13 +195,15 @@ class Gateway:
 
     # ---------------------------------------------------------------- endorsements
 
-    async def endorsed(self, caller: str, proposal: Object, named: list[str] | None) -> str:
+    async def endorsed(self, held: Held, proposal: Object, named: list[str] | None) -> str:
         """The envelope of a proposal. It is begun again where a node is behind another one, gives no answer, or endorses what it should
         not, and without those who refuse, unless they were named."""
         height, why, asking = 0, "no organisation answers", Asking(self.config.organisation, named)
         for turn in range(TRIES):
+            held.give()
+            held.take(proposal)
             asked = named or await self.organisations(proposal, asking)
-            said = await self.said(asked, caller, proposal, height)
+            said = await self.said(asked, held, proposal, height)
             answers = {it: said[it] for it in asked if it in said}
             if missing := [it for it in asked if it not in answers]:
                 why = f"no answer of {', '.join(missing)}"
@@ -215,12 +223,18 @@ class Gateway:
             await asyncio.sleep(0.01 * turn)
         raise Refused(503, {"why": why})
 
-    async def said(self, asked: list[str], caller: str, proposal: Object, height: int) -> dict[str, Object]:
+    async def said(self, asked: list[str], held: Held, proposal: Object, height: int) -> dict[str, Object]:
         """What these answer to a proposal, and this organisation too, with whose execution theirs are compared."""
         own = [self.config.organisation] if "chaincode" in proposal and not self.endorsing.out_of_place else []
-        begun = {it: self.ask(it, caller, proposal, height) for it in dict.fromkeys([*asked, *own])}
-        said = {it: await answer for it, answer in begun.items()}
-        return {it: answer for it, answer in said.items() if answer is not None}
+        everybody = list(dict.fromkeys([*asked, *own]))
+        answers = await together(self.counted(it, held, proposal, height) for it in everybody)
+        return {it: answer for it, answer in zip(everybody, answers) if answer is not None}
+
+    async def counted(self, organisation: str, held: Held, proposal: Object, height: int) -> Object | None:
+        """What an organisation answers, which is held from then on; None where its node gives no answer."""
+        answer = await self.ask(organisation, held.caller, proposal, height)
+        held.take(answer or {})
+        return answer
 
     async def faults(self, proposal: Object, answers: dict[str, Object], own: Object | None) -> dict[str, str]:
         """What is wrong with endorsements, by who gave them: none of them is put."""
@@ -299,19 +313,21 @@ class Gateway:
             raise Refused(422, numbers.in_words("refused 401"))
         return answer
 
-    def ask(self, organisation: str, caller: str, proposal: Object, height: int) -> Awaitable[Object | None]:
-        """What an organisation will answer; None where its node gives no answer."""
+    async def ask(self, organisation: str, caller: str, proposal: Object, height: int) -> Object | None:
+        """What an organisation answers; None where its node gives no answer."""
         if organisation == self.config.organisation:
-            return self.own(caller).ask(proposal, height)
+            return await self.own(caller, proposal, height)
         if organisation not in self.links:
             raise Refused(422, {"why": f"no node of {organisation} is known here"})
-        return self.links[organisation].ask(proposal, height)
+        return await self.links[organisation].ask(caller, proposal, height)
 
-    def own(self, caller: str) -> "Own":
-        """What this organisation is asked by one of its callers."""
-        if caller not in self.owns:
-            self.owns[caller] = Own(self.endorsing, caller)
-        return self.owns[caller]
+    async def own(self, caller: str, proposal: Object, height: int) -> Object | None:
+        """What this organisation answers; None where the peer or the approver has ended, of which the node tells where it ends for it."""
+        try:
+            answer, = await self.endorsing.answers(caller, [proposal], height)
+            return answer
+        except FilterEnded:
+            return None
 
 
 class Asking:
@@ -354,18 +370,3 @@ def made_of(answers: dict[str, Object], faults: dict[str, str]) -> str | None:
     if faults or "payload" not in first or any(it.get("payload") != first["payload"] for it in others):
         return None
     return envelope(first["payload"], [it["endorsement"] for it in answers.values()])
-
-
-class Own(Batches):
-    """This organisation's own endorsements, as one caller asks for them."""
-
-    def __init__(self, endorsing: Endorsing, caller: str):
-        super().__init__(requests=1_000_000)
-        self.endorsing, self.caller = endorsing, caller
-
-    async def answers(self, proposals: list[Object], height: int) -> list[Object] | None:
-        try:
-            return await self.endorsing.answers(self.caller, proposals, height)
-        except FilterEnded:
-            # The peer or the approver has ended, of which the node tells where it ends for it.
-            return None

@@ -10,6 +10,7 @@ from .config import Config
 from .fields import CALLER_HEADER
 from .journal import Quota
 from .proposals import is_hex, matches
+from .turns import Turns
 from .waiting import TooMuch, value_of, whole
 from .wire import Object
 
@@ -35,7 +36,7 @@ class Batches:
 
     def __init__(self, requests: int):
         self.requests, self.under_way = requests, 0
-        self.waiting: list[Waiting] = []
+        self.waiting: Turns[Waiting] = Turns()
         self.works: set[asyncio.Task[None]] = set()
 
     def most(self) -> int:
@@ -46,10 +47,11 @@ class Batches:
         """What is answered to proposals on a state after so many blocks at least, each by one; None where no answer came."""
         raise NotImplementedError
 
-    def ask(self, proposal: Object, height: int) -> asyncio.Future[Object | None]:
+    def ask(self, caller: str, proposal: Object, height: int) -> asyncio.Future[Object | None]:
         done: asyncio.Future[Object | None] = asyncio.get_running_loop().create_future()
-        self.waiting.append((proposal, height, done))
-        if len(self.waiting) == 1:
+        is_first = not self.waiting
+        self.waiting.add(caller, (proposal, height, done))
+        if is_first:
             self._begin()
         return done
 
@@ -65,8 +67,7 @@ class Batches:
             # Those that ask in this very moment come along.
             await asyncio.sleep(0)
             while self.waiting:
-                most = self.most()
-                batch, self.waiting = self.waiting[:most], self.waiting[most:]
+                batch = [self.waiting.take() for _ in range(min(self.most(), len(self.waiting)))]
                 if self.waiting:
                     self._begin()
                 await self._answer(batch)
@@ -143,8 +144,7 @@ class Link(Batches):
         """The node is not asked for a while. Those who wait for their turn have no answer at once, so that they ask another one's."""
         self.quota.tell(f"no endorsement of {self.organisation}: {why}")
         self.down = time.monotonic() + DOWN_SECONDS
-        waiting, self.waiting = self.waiting, []
-        for _, _, done in waiting:
+        for _, _, done in self.waiting.take_all():
             if not done.done():
                 done.set_result(None)
 

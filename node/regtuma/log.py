@@ -64,6 +64,9 @@ async def begin(log: Log, config: Config, marks: list[str]) -> str:
     count = 0
     for count, entry in enumerate(entries(marks), 1):
         await log.append(f"{config.organisation}{REFILL.decode()}{count}", entry)
+    if marks and await log.count() != count + 1:
+        raise NotDone("somebody else has put entries meanwhile, so that these blocks would not come out: begin again with a new, empty etcd,"
+                      " which no other organisation reaches until it is filled")
     filled = f", and {len(marks)} marks are behind it in {count} more entries" if marks else ""
     return f"the log has begun: its first entry names the genesis file {digest}{filled}"
 

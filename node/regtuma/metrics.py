@@ -39,11 +39,16 @@ class Metrics(Collector):
             "behind": ("Lines of the log not yet read", chain.given - chain.read),
             "asked": ("What was asked of the ledger's peer, and is not answered", chain.peer.unanswered),
             "log_revision": ("Where the log was read to", chain.revision),
+            "log_entries": ("Entries of the log that were read", chain.entries),
             "forked": ("Whether somebody says that a block is another one", int(chain.forked is not None)),
             "streams": ("Readers of /events", self.streams),
         }
         for name, (words, value) in gauges.items():
             yield GaugeMetricFamily(f"regtuma_{name}", words, value=value)
+        ticked = CounterMetricFamily("regtuma_ticks", "Ticks that this node has put while calls of a caller waited", labels=["caller"])
+        for caller, number in chain.ticked.items():
+            ticked.add_metric([caller], number)
+        yield ticked
         events = CounterMetricFamily("regtuma_counted", "What happened", labels=["what"])
         for what, count in chain.counts.items():
             events.add_metric([what], count)

@@ -4,6 +4,7 @@ them comes out in their order.
 A line of the log begins with `log`, so that nothing in the log is taken for something that is asked.
 """
 import json
+import os
 from collections.abc import Awaitable, Callable
 from typing import Any
 
@@ -11,6 +12,9 @@ from .filters import MOST_ASKED, Asked, FilterEnded, TooLong, say_nothing
 
 # So many lines of the log are handed on together: what is asked meanwhile comes between.
 AT_ONCE = 64
+# Where so many lines are unread, which are two entries, only as many calls and questions of a kind wait for an answer as the program answers
+# side by side: between those at hand and the next ones it reads no more lines than the pipe has.
+BEHIND, WORKERS = 1000, len(os.sched_getaffinity(0))
 # Questions that look through many transactions, or verify all of a block, and how many of them wait for an answer at a time: what
 # comes behind them waits too.
 LONG, MOST_LONG = ("block", "history", "transaction"), 4
@@ -22,11 +26,18 @@ class Peer(Asked):
         # Who hears what becomes of the log's lines, a word at a time.
         self.hear_log = hear_log
         self.turn = 0
+        # How many lines of the log were handed on, and are not read.
+        self.unread_lines = 0
 
     async def log(self, lines: list[bytes]) -> None:
         """Hands on lines of the log, each an index and a text, and waits where the program is behind."""
         for place in range(0, len(lines), AT_ONCE):
-            await self.write(*(b"log " + it for it in lines[place:place + AT_ONCE]))
+            handed_on = lines[place:place + AT_ONCE]
+            self.unread_lines += len(handed_on)
+            await self.write(*(b"log " + it for it in handed_on))
+
+    def room(self, most: int) -> int:
+        return min(most, WORKERS) if self.unread_lines > BEHIND else most
 
     async def answer_to(self, kind: str, text: str, most: int = MOST_ASKED) -> tuple[str, int]:
         """What is answered to a line of this kind, and the height at which it was."""
@@ -43,7 +54,8 @@ class Peer(Asked):
                 self.answer(said)
             case ["answer" | "refused", *_] | ["bad", "line", *_]:
                 raise FilterEnded(f"{self.name} says: {said}")
-            case _:
+            case [word, *_]:
+                self.unread_lines -= word == "read"
                 await self.hear_log(said.split(" "))
 
     # ---------------------------------------------------------------- questions

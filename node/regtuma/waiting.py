@@ -1,7 +1,7 @@
 """Waiting for a limited time, and reading so much at most."""
 import asyncio
 import json
-from collections.abc import Coroutine
+from collections.abc import Coroutine, Iterable
 from typing import Any, TypeVar
 
 import aiohttp
@@ -28,6 +28,16 @@ async def within(seconds: float, doing: Coroutine[Any, Any, T]) -> T:
         return task.result()
     finally:
         task.cancel()
+
+
+async def together(doings: Iterable[Coroutine[Any, Any, T]]) -> list[T]:
+    """What all of these come to, side by side. Where one fails, the others end."""
+    tasks = [asyncio.ensure_future(it) for it in doings]
+    try:
+        return list(await asyncio.gather(*tasks))
+    finally:
+        for it in tasks:
+            it.cancel()
 
 
 async def whole(content: aiohttp.StreamReader, longest: int) -> bytes:

@@ -1,5 +1,6 @@
 """The API: each route stands in the documents, asks for a right, and tells what is wrong with a request."""
 import asyncio
+import collections
 import contextlib
 import io
 import json
@@ -11,7 +12,7 @@ from unittest import mock
 
 import support
 from aiohttp.test_utils import TestClient, TestServer
-from regtuma import api, config, gateway, load, page
+from regtuma import api, config, gateway, load, page, ticks
 from regtuma.chain import Awaited, Chain
 from regtuma.endorsing import Endorsing
 from regtuma.fields import RIGHTS
@@ -244,6 +245,19 @@ class Health(Case):
         status, said = await self.get("/healthz")
         self.assertEqual((status, said["warnings"]), (200, ["nothing is endorsed: refused 806", "the chain has 9 blocks left, and this organisation's share of these is 9"]))
 
+    async def test_whose_calls_the_ticks_were_for(self):
+        self.chain.counts["ticks"], self.chain.ticked = 1010, collections.Counter({"Maker/bob": 20, "Maker/alice": 1000})
+        said = "this organisation is ahead of its plan, so it asks for a block after 700 s: 9 blocks of its share are left"
+        with mock.patch.object(ticks.Ticks, "warning", return_value=said):
+            self.assertEqual((await self.get("/healthz"))[1]["warnings"],
+                             [f"{said}; calls of Maker/alice waited for 1,000 of the 1,010 ticks since this node began"])
+        self.assertIn('regtuma_ticks_total{caller="Maker/alice"} 1000.0', (await self.get("/metrics"))[1])
+
+    async def test_a_log_of_many_entries(self):
+        self.chain.entries = 312_000
+        self.assertEqual((await self.get("/healthz"))[1]["warnings"], ["the log has 312,000 entries, so that a node takes minutes to start: refill it"])
+        self.assertIn("\nregtuma_log_entries 312000.0\n", (await self.get("/metrics"))[1])
+
     async def test_waiting_is_measured_by_a_clock_that_never_goes_back(self):
         self.chain.awaited = Awaited(5, 1, time.monotonic() - 3)
         for now in (0.0, 1e12):
@@ -294,6 +308,49 @@ class Calls(Case):
         for body in ({}, {"proposals": []}, {"proposals": [1]}, {"proposals": [CALL], "height": "4"}, {"proposals": [{**CALL, "x": 1}]},
                      {"proposals": [CALL] * (api.MOST_CALLS + 1)}):
             self.assertEqual((await self.post("/endorse", body))[0], 400)
+
+    async def test_answers_to_proposals_are_counted_as_they_come(self):
+        """Those that have no room are not made: an answer has up to a megabyte, and there may be 500."""
+        made = list[int]()
+
+        async def answer_to(*_) -> tuple[str, int]:
+            made.append(1)
+            await asyncio.sleep(0)
+            return f"endorsed {'aa' * 20_000} 01", 4
+        with mock.patch.object(load, "BODIES", 1 << 20), mock.patch.object(self.chain.peer, "answer_to", answer_to):
+            status, said = await self.post("/endorse", {"proposals": [CALL] * 500}, caller="Carrier/node")
+            self.assertEqual((status, said["why"]), (429, "requests of Carrier have 1 MiB under way here: ask again"))
+            self.assertLess(len(made), 100)
+            status, said = await self.post("/endorse", {"proposals": [CALL] * 20}, caller="Carrier/node")
+            self.assertEqual((status, len(said["answers"])), (200, 20))
+        self.assertEqual(self.api.access.load.bodies["Carrier"], 0)
+
+    async def test_one_caller_leaves_room_for_bodies_of_others(self):
+        """However many it sends, and does not end."""
+        body = {"chaincode": "assets", "args": ["a" * 1000]}
+        ready, begun = asyncio.Event(), []
+
+        async def pieces():
+            yield b"x" * 900_000
+            begun.append(1)
+            await ready.wait()
+        with mock.patch.object(load, "BODIES", 4 << 20):
+            more = {"headers": {"Content-Type": "application/json"}}
+            many = [asyncio.ensure_future(self.ask("POST", "/evaluate", data=pieces(), **more)) for _ in range(4)]
+            while len(begun) < 4:
+                await asyncio.sleep(0.01)
+            while self.api.access.load.bodies["Maker"] < 3_600_000:
+                await asyncio.sleep(0.01)
+            status, said = await self.ask("POST", "/evaluate", data=b"x" * 700_000, **more)
+            self.assertEqual((status, said["why"]), (429, "requests of Maker have 4 MiB under way here: ask again"))
+            self.config.rights["evaluate"].append("Maker/bob")
+            self.assertEqual((await self.post("/evaluate", body, caller="Maker/bob"))[0], 200)
+            status, _ = await self.ask("POST", "/evaluate", data=b"x" * 700_000, caller="Maker/bob", **more)
+            self.assertEqual(status, 400)
+            ready.set()
+            self.assertEqual([it[0] for it in await asyncio.gather(*many)], [400] * 4)
+        load_now = self.api.access.load
+        self.assertEqual((load_now.bodies["Maker"], load_now.of_callers["Maker/alice"]), (0, 0))
 
     async def test_submit(self):
         with mock.patch.object(Gateway, "submit", side_effect=[{"id": "ab", "pending": True}, {"id": "ab"}, {"id": "a"}, {"id": "b"}]):

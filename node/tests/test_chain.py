@@ -9,13 +9,14 @@ from unittest import mock
 
 import support
 from regtuma import chain as chains
-from regtuma import config, endorsing, gateway, ticks
+from regtuma import config, endorsing, gateway, load, ticks
 from regtuma.chain import Asking, Awaited, Chain
 from regtuma.endorsing import Agreed, Endorsing
 from regtuma.entries import Entry, LogError
 from regtuma.filters import FilterEnded
 from regtuma.gateway import Gateway
 from regtuma.links import Link
+from regtuma.load import Held
 from regtuma.proposals import Refused
 from regtuma.tags import Key
 from regtuma.ticks import LAST_BLOCK
@@ -194,12 +195,22 @@ class Lines(Case):
 
     async def test_who_waits_for_a_transaction_is_told_once_its_block_is_on_the_disk(self):
         waiters = [self.chain.wait_for(it) for it in ("ab", "cd", "ef")]
-        self.chain.in_log = {"ab"}
+        self.chain.in_log = {"ab": "Maker/alice"}
         await self.passed("tx 7.0 ab 0 6d", "tx 7.1 cd 4 -")
         self.assertEqual([it.done() for it in waiters], [False] * 3)
         await self.passed("committed 7 flags 0 4")
         told = [{"id": "ab", "block": 7, "place": 0, "flag": 0, "result": "6d"}, {"id": "cd", "block": 7, "place": 1, "flag": 4, "result": ""}]
-        self.assertEqual(([it.result() for it in waiters[:2]], waiters[2].done(), self.chain.in_log), (told, False, set()))
+        self.assertEqual(([it.result() for it in waiters[:2]], waiters[2].done(), self.chain.in_log), (told, False, {}))
+
+    async def test_many_that_wait_for_one_call_may_go_at_once(self):
+        """Their number is not looked through for each."""
+        asyncio.get_running_loop().set_debug(False)
+        waiters = [self.chain.wait_for("ab") for _ in range(50_000)]
+        began = time.process_time()
+        for it in reversed(waiters):
+            self.chain.forget("ab", it)
+        self.assertLess(time.process_time() - began, 5.0)
+        self.assertEqual(self.chain.waiters, {})
 
     async def test_an_aborted_transaction_is_told(self):
         waiter = self.chain.wait_for("ab")
@@ -223,19 +234,19 @@ class Lines(Case):
     async def test_a_call_whose_line_is_skipped_is_told_why(self):
         waiter, envelope = self.chain.wait_for("ab"), ENVELOPE
         work = asyncio.ensure_future(self.chain.put_envelopes())
-        await self.chain.put("ab", envelope)
+        await self.chain.put("Maker/alice", "ab", envelope)
         work.cancel()
         name, = self.chain.log.entries
         self.assertEqual(self.chain.counted(Entry(7, name.encode(), envelope.encode())), [f"7.0 {envelope}\n".encode()])
         await self.passed("skipped 7.0 301", "read 7.0 0")
         told = {"id": "ab", "refused": 301, "why": "the orderer skips its envelope (refused 301)"}
         self.assertEqual([await self.gateway.outcome("Maker/alice", waiter.result()), await self.gateway.status("Maker/alice", "ab")], [told, told])
-        self.assertEqual((self.chain.in_log, self.chain.own, self.chain.unread), (set(), {}, {}))
+        self.assertEqual((self.chain.in_log, self.chain.own, self.chain.unread), ({}, {}, {}))
 
     async def test_a_call_that_finds_no_share_left_is_told(self):
         waiter = self.chain.wait_for("ab")
         work = asyncio.ensure_future(self.chain.put_envelopes())
-        await self.chain.put("ab", ENVELOPE)
+        await self.chain.put("Maker/alice", "ab", ENVELOPE)
         work.cancel()
         self.chain.lines.shares.paid[b"Maker"] = 3 * LAST_BLOCK * self.chain.lines.shares.block
         name, = self.chain.log.entries
@@ -276,13 +287,22 @@ class Lines(Case):
         self.assertEqual([await self.chain.at_least(it, 0.01) for it in (1, 2)], [True, False])
 
     async def test_past_forks_it_goes_on_for_that_lie_alone(self):
-        self.config.ledger.past_forks = ["Shop 4"]
+        self.chain.past_forks = frozenset(["Shop 4"])
         await self.passed("forked Shop 4")
         self.assertIsNone(self.chain.forked)
         for other in ("Shop 5", "Carrier 4"):
             await self.passed(f"forked {other}")
             self.assertIn("says that it has another block", self.chain.forked or "")
             self.chain.forked = None
+
+    async def test_past_all_forks_of_an_organisation(self):
+        """It may lie about each block, also of those that are still to come."""
+        self.config.ledger.past_forks = ["Shop", "Carrier 7"]
+        self.chain = Chain(self.config, FakeLog(), self.said.append)
+        await self.passed(*(f"forked Shop {it}" for it in range(1, 1000)), "forked Carrier 7")
+        self.assertIsNone(self.chain.forked)
+        await self.passed("forked Carrier 8")
+        self.assertEqual(self.chain.forked, "Carrier says that it has another block 8")
 
 
 class End(Case):
@@ -314,7 +334,7 @@ class End(Case):
 class Entries(Case):
     async def put(self, *envelopes: str) -> list:
         work = asyncio.ensure_future(self.chain.put_envelopes())
-        done = await asyncio.gather(*(self.chain.put(it, it) for it in envelopes), return_exceptions=True)
+        done = await asyncio.gather(*(self.chain.put("Maker/alice", it, it) for it in envelopes), return_exceptions=True)
         work.cancel()
         return done
 
@@ -322,6 +342,46 @@ class Entries(Case):
         self.assertEqual(await self.put("aa", "bb"), [None, None])
         (name, marks), = self.chain.log.entries.items()
         self.assertEqual((name.startswith("Maker/call-"), marks), (True, ["aa", "bb"]))
+
+    async def test_what_comes_until_the_next_entry_may_be_put_goes_into_it(self):
+        """A tick takes a turn as well."""
+        turns = asyncio.Semaphore(0)
+        self.chain.pace, self.chain.awaited = mock.Mock(turn=turns.acquire), Awaited(4, 1, 0.0)
+        works = [asyncio.ensure_future(self.chain.put_envelopes())]
+        puts = []
+        for it in ("aa", "bb", "cc"):
+            puts.append(asyncio.ensure_future(self.chain.put("Maker/alice", it, it)))
+            await asyncio.sleep(0.01)
+        self.assertEqual(self.chain.log.entries, {})
+        turns.release()
+        await asyncio.gather(*puts)
+        works.append(asyncio.ensure_future(self.chain.keep_time()))
+        await asyncio.sleep(0.2)
+        self.assertEqual(list(self.chain.log.entries.values()), [["aa", "bb", "cc"]])
+        turns.release()
+        async with asyncio.timeout(60):
+            while len(self.chain.log.entries) < 2:
+                await asyncio.sleep(0.01)
+        for it in works:
+            it.cancel()
+        self.assertEqual(list(self.chain.log.entries.values()), [["aa", "bb", "cc"], ["tick"]])
+
+    async def test_callers_take_turns(self):
+        """However many long envelopes one has, those of others go into the next entries."""
+        work = asyncio.ensure_future(self.chain.put_envelopes())
+        with mock.patch.object(chains, "ENTRY_CHARACTERS", 10):
+            puts = [self.chain.put("Maker/alice", it, it) for it in ("a1a1a1", "a2a2a2", "a3a3a3")]
+            await asyncio.gather(*puts, *(self.chain.put(f"Maker/{it}", it, it) for it in ("bb", "cc")))
+        work.cancel()
+        self.assertEqual(list(self.chain.log.entries.values()), [["a1a1a1", "bb"], ["cc", "a2a2a2"], ["a3a3a3"]])
+
+    async def test_who_waited_for_ticks_is_counted(self):
+        self.chain.in_log = {"ab": "Maker/alice", "cd": "Maker/alice", "ef": "Maker/bob"}
+        for number in (4, 5):
+            self.chain.awaited = Awaited(number, 1, 0.0)
+            await self.chain.tick(1e10)
+            self.chain.in_log.pop("ef", None)
+        self.assertEqual((self.chain.ticked, self.chain.counts["ticks"]), ({"Maker/alice": 2, "Maker/bob": 1}, 2))
 
     async def test_entries_have_so_many_lines_and_characters(self):
         await self.put(*["aa"] * (chains.ENTRY_LINES + 1))
@@ -522,6 +582,9 @@ class Calls(Case):
             return answers[organisation].pop(0)
         self.gateway.ask = ask if answers else self.gateway.ask
 
+    def held(self) -> Held:
+        return Held(self.gateway.held, "Maker/alice")
+
     async def entries(self, count: int) -> None:
         """Waits until so many entries are in the log."""
         while len(self.chain.log.entries) < count:
@@ -529,7 +592,7 @@ class Calls(Case):
 
     async def refusal(self, named=None) -> tuple[int, str]:
         with self.assertRaises(Refused) as raised:
-            await self.gateway.endorsed("Maker/alice", CALL, named)
+            await self.gateway.endorsed(self.held(), CALL, named)
         return raised.exception.status, raised.exception.said["why"]
 
     async def test_the_fewest_are_asked(self):
@@ -544,11 +607,11 @@ class Calls(Case):
 
     async def test_an_envelope_is_made_of_what_agrees(self):
         self.answer(Maker=[{**ENDORSED}], Carrier=[{**ENDORSED, "endorsement": "02"}])
-        self.assertEqual(await self.gateway.endorsed("Maker/alice", CALL, None), "aa020102")
+        self.assertEqual(await self.gateway.endorsed(self.held(), CALL, None), "aa020102")
 
     async def test_who_is_behind_is_asked_again_on_the_height_of_the_other(self):
         self.answer(Maker=[{**ENDORSED, "height": 2, "payload": "bb"}, ENDORSED], Carrier=[ENDORSED, ENDORSED])
-        await self.gateway.endorsed("Maker/alice", CALL, None)
+        await self.gateway.endorsed(self.held(), CALL, None)
         self.assertEqual([height for _, height in self.asked], [0, 0, 3, 3])
 
     async def test_who_stays_behind_is_passed_over(self):
@@ -574,7 +637,7 @@ class Calls(Case):
             with self.subTest(lie=lie):
                 self.gateway.chosen, self.gateway.links["Carrier"].down = {}, 0
                 self.answer(Maker=[ENDORSED] * 12, Carrier=[lie] * 12, Shop=[shop] * 12)
-                self.assertEqual(await self.gateway.endorsed("Maker/alice", CALL, None), "aa020102")
+                self.assertEqual(await self.gateway.endorsed(self.held(), CALL, None), "aa020102")
                 self.assertEqual(([it for it, _ in self.asked].count("Carrier"), self.asked[-1]), (4, ("Shop", 3)))
         self.chain.peer.satisfying = [{"Maker", "Carrier", "Shop"}]
         self.gateway.chosen, self.gateway.links["Carrier"].down = {}, 0
@@ -604,7 +667,7 @@ class Calls(Case):
         self.assertEqual(await self.refusal(), (422, "Carrier does not endorse it: the module of the definition is not installed, or not at hand"))
         self.assertEqual(len(self.asked), 2)
         self.answer(Maker=[ENDORSED] * 2, Carrier=[{**no_module, "height": 2}, ENDORSED])
-        self.assertEqual(await self.gateway.endorsed("Maker/alice", CALL, None), "aa020101")
+        self.assertEqual(await self.gateway.endorsed(self.held(), CALL, None), "aa020101")
 
     async def test_another_one_is_asked_in_the_place_of_who_refuses(self):
         self.shop()
@@ -612,7 +675,7 @@ class Calls(Case):
         for carrier in ([{"denied": "not today", "height": 3}], [refused]):
             self.gateway.chosen, turns = {}, len(carrier) + 1
             self.answer(Maker=[ENDORSED] * turns, Carrier=carrier, Shop=[{**ENDORSED, "endorsement": "02"}])
-            self.assertEqual(await self.gateway.endorsed("Maker/alice", CALL, None), "aa020102")
+            self.assertEqual(await self.gateway.endorsed(self.held(), CALL, None), "aa020102")
         self.answer(Maker=[ENDORSED], Carrier=[{"denied": "not today", "height": 3}])
         self.assertEqual(await self.refusal(["Maker", "Carrier"]), (422, "Carrier does not endorse it: not today"))
         self.answer(Maker=[{"denied": "not today", "height": 3}], Carrier=[ENDORSED])
@@ -634,7 +697,7 @@ class Calls(Case):
             with self.subTest(height=height):
                 self.answer(Maker=[ENDORSED] * 2, Carrier=[doubted, ENDORSED])
                 self.gateway.faults.side_effect = [{"Carrier": "it lies"}, {}]
-                self.assertEqual(await self.gateway.endorsed("Maker/alice", CALL, ["Maker", "Carrier"]), "aa020101")
+                self.assertEqual(await self.gateway.endorsed(self.held(), CALL, ["Maker", "Carrier"]), "aa020101")
                 self.answer(Maker=[ENDORSED] * 3, Carrier=[doubted] * 3)
                 self.gateway.faults.side_effect = [{"Carrier": "it lies"}] * 3
                 self.assertEqual(await self.refusal(["Maker", "Carrier"]), (503, "no endorsement of Carrier: it lies"))
@@ -642,13 +705,13 @@ class Calls(Case):
 
     async def test_this_node_is_asked_too_where_others_are_named(self):
         self.answer(Maker=[ENDORSED], Carrier=[ENDORSED])
-        self.assertEqual(await self.gateway.endorsed("Maker/alice", CALL, ["Carrier"]), "aa0101")
+        self.assertEqual(await self.gateway.endorsed(self.held(), CALL, ["Carrier"]), "aa0101")
         self.assertEqual((len(self.asked), list(self.gateway.faults.call_args.args[1]), self.gateway.faults.call_args.args[2]),
                          (2, ["Carrier"], ENDORSED))
 
     async def test_an_approver_that_has_ended_gives_no_answer(self):
         self.endorsing.approver = Says()
-        self.assertIsNone(await self.gateway.own("Maker/alice").answers([CALL], 0))
+        self.assertIsNone(await self.gateway.own("Maker/alice", CALL, 0))
         self.assertEqual(await self.refusal(["Maker"]), (503, "no answer of Maker"))
 
     async def test_an_unknown_organisation(self):
@@ -663,6 +726,22 @@ class Calls(Case):
         with mock.patch.object(gateway, "MOST_UNDER_WAY", 0), self.assertRaises(Refused) as raised:
             await self.gateway.submit("Maker/alice", CALL, 60.0)
         self.assertEqual((raised.exception.status, self.chain.waiters), (503, {}))
+
+    async def test_calls_of_one_caller_hold_so_many_bytes(self):
+        """As long as they wait for other answers, or for the log; others go on."""
+        calls = [{**CALL, "nonce": f"{it:032x}"} for it in range(5)]
+        size = load.size_of(CALL) + 2 * load.size_of(ENDORSED)
+        self.answer(Maker=[ENDORSED] * 5, Carrier=[ENDORSED] * 5)
+        with mock.patch.object(load, "CALLS_OF_CALLER", 2 * size), mock.patch.object(load, "CALLS", 3 * size):
+            said = [await self.gateway.submit_all(it, [call], 0.05) for it, call in zip(("Maker/alice",) * 3 + ("Maker/bob",) * 2, calls)]
+        self.assertEqual([it.get("pending") or it["why"][:16] for answers in said for it in answers],
+                         [True, True, "calls of Maker/a", True, "calls have 0 MiB"])
+        self.assertEqual(self.gateway.held, {"Maker/alice": 2 * size, "Maker/bob": size})
+        work = asyncio.ensure_future(self.chain.put_envelopes())
+        while self.gateway.under_way:
+            await asyncio.sleep(0.01)
+        work.cancel()
+        self.assertEqual(self.gateway.held.total(), 0)
 
     async def test_one_nonce_is_put_once(self):
         self.answer(Maker=[ENDORSED] * 2, Carrier=[ENDORSED] * 2)
@@ -703,7 +782,7 @@ class Calls(Case):
         for _ in range(2):
             self.assertTrue((await self.gateway.submit("Maker/alice", CALL, 0.1))["pending"])
             await self.entries(1)
-        self.assertEqual((len(self.chain.log.entries), self.chain.in_log), (1, {id_of(CALL)}))
+        self.assertEqual((len(self.chain.log.entries), self.chain.in_log), (1, {id_of(CALL): "Maker/alice"}))
         self.chain.resolve(id_of(CALL), {"id": id_of(CALL), "refused": 441})
         await asyncio.sleep(0)
         self.assertTrue((await self.gateway.submit("Maker/alice", CALL, 0.1))["pending"])
@@ -717,7 +796,7 @@ class Calls(Case):
         for _ in range(2):
             failure, = await asyncio.gather(self.gateway.submit("Maker/alice", CALL, 60.0), return_exceptions=True)
             self.assertEqual(str(failure), "no majority")
-        self.assertEqual((self.chain.in_log, self.chain.waiters), (set(), {}))
+        self.assertEqual((self.chain.in_log, self.chain.waiters), ({}, {}))
         work.cancel()
 
     async def test_what_is_too_large_is_not_put(self):

@@ -1,6 +1,7 @@
 """The client and its command line: what is printed, and how a stream of blocks goes on and ends."""
 import contextlib
 import io
+import itertools
 import json
 import os
 import pathlib
@@ -249,6 +250,31 @@ class Clients(unittest.TestCase):
             self.assertTrue(client_of("https://1:1").submit("assets", "x", tries=2)["valid"])
         self.assertEqual((nonces[0], len(set(nonces))), ("0f" * 16, 3))
 
+    def test_a_call_that_was_left_out_of_a_batch_keeps_its_nonce(self):
+        """Its envelope stands in the log, for everybody to put again: by one nonce it counts once."""
+        nonces = []
+
+        def begin(_link: Link, _method: str, _path: str, body: dict, _seconds: float) -> Answer:
+            nonces.append(body["nonce"])
+            return Answer(200, b'{"refused":442,"why":"left out"}' if len(nonces) in (1, 3) else b'{"valid":true}')
+        with mock.patch.object(Link, "begin", begin):
+            self.assertTrue(client_of("https://1:1").submit("assets", "x", tries=2)["valid"])
+            with self.assertRaisesRegex(Refused, "^left out$") as raised:
+                client_of("https://1:1").submit("assets", "x")
+        self.assertEqual((nonces[0], nonces[2]), (nonces[1], raised.exception.said["nonce"]))
+
+    def test_a_call_may_be_in_the_log_where_nodes_can_do_nothing(self):
+        """One of them may have put it, and been cut off before it said so."""
+        client = client_of("https://1:1", "https://2:1")
+        client.seconds = 0.2
+        for later in (503, 403):
+            answers = itertools.chain([ConnectionResetError("gone")], iter(lambda: Answer(later, b'{"why":"not now"}'), None))
+            failure = NoAnswer if later == 503 else Refused
+            with self.subTest(later=later), mock.patch.object(Link, "begin", side_effect=answers), mock.patch.object(clients, "PAUSE", 0.05):
+                with self.assertRaisesRegex(failure, "^not now$") as raised:
+                    client.submit("assets", "x", nonce="0f" * 16)
+                self.assertEqual("id" in raised.exception.said, later == 503)
+
     def test_a_node_that_says_nothing_is_not_waited_for(self):
         with socket.create_server(("127.0.0.1", 0)) as silent:
             client = Client([f"http://127.0.0.1:{silent.getsockname()[1]}"], seconds=0.6)
@@ -315,6 +341,25 @@ class InJavascript(unittest.TestCase):
             await vetoed.submit("assets", ["x"]).catch(error => console.log(error.message));
             console.log((await vetoed.submit("assets", ["x"], { tries: 2 })).valid, nonces.size);""")
         self.assertEqual(said, "used up\ntrue 3\n")
+
+    def test_a_call_that_was_left_out_of_a_batch_keeps_its_nonce(self):
+        said = self.said("""
+            const nonces = [], left = '{"refused":442,"why":"left out"}';
+            const busy = new Client(["https://1:1"], async (_, { body }) => {
+              nonces.push(JSON.parse(body).nonce);
+              return new Response([1, 3].includes(nonces.length) ? left : '{"valid":true}');
+            });
+            console.log((await busy.submit("assets", ["x"], { tries: 2 })).valid, nonces[0] === nonces[1]);
+            await busy.submit("assets", ["x"]).catch(error => console.log(error.name, error.said.nonce === nonces[2]));""")
+        self.assertEqual(said, "true true\nNotValid true\n")
+
+    def test_a_call_may_be_in_the_log_where_nodes_can_do_nothing(self):
+        said = self.said("""
+            for (const status of [503, 403]) {
+              const busy = new Client(["https://1:1"], async () => new Response('{"why":"not now"}', { status }), { seconds: 0.3 });
+              await busy.submit("assets", ["x"]).catch(error => console.log(error.name));
+            }""")
+        self.assertEqual(said, "NoAnswer\nNotValid\n")
 
     def test_a_node_that_says_nothing_is_not_waited_for(self):
         with socket.create_server(("127.0.0.1", 0)) as silent:

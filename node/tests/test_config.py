@@ -28,7 +28,7 @@ MISTAKES = [
     ('keys = "maker.key"', 'seen = 1.5', "[ledger] seen has to be a whole number from 1 to 65535, and is 1.5"),
     ('keys = "maker.key"', 'approver = "yes"', "[ledger] approver has to be a command, as a list of words"),
     ('keys = "maker.key"', 'past_forks = true', "[ledger] past_forks has to be a list of what was looked into"),
-    ('keys = "maker.key"', 'past_forks = ["Shop"]', "[ledger] past_forks has to be a list of what was looked into"),
+    ('keys = "maker.key"', 'past_forks = ["Shop 0"]', "[ledger] past_forks has to be a list of what was looked into"),
     ('keys = "maker.key"', f'keys = "{32 * "5e"}"', "line 9: [ledger] keys names "),
     ('"etcd.password"', f'"{16 * "5e"}"', "line 23: [etcd] password_file names "),
     ('[tls]\ncertificate = "node.pem"\n', '[tls]\n', "line 11: [tls] certificate is missing"),

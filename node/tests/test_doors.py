@@ -221,6 +221,27 @@ class Doors(unittest.TestCase):
             it.close()
         self.come(lambda: self.get("/height", "alice")[0] == 200)
 
+    def test_who_may_not_ask_is_heard_less_often(self):
+        """Each request takes the node's loop some time."""
+        with contextlib.closing(http.client.HTTPSConnection("127.0.0.1", self.port, timeout=PATIENCE, context=self.tls("forged"))) as at:
+            said, until = list[int](), time.monotonic() + PATIENCE
+            while 429 not in said and time.monotonic() < until:
+                at.request("GET", "/height")
+                answer = at.getresponse()
+                answer.read()
+                said.append(answer.status)
+        self.assertEqual((set(said[:90]), said[-1]), ({403}, 429))
+        self.others_are_served()
+
+    def test_an_address_begins_so_many_connections(self):
+        """Each costs the proxy a millisecond, also where nothing more is said."""
+        for _ in range(700):
+            with contextlib.suppress(OSError):
+                socket.create_connection(("127.0.0.1", self.port), PATIENCE, ("127.0.0.6", 0)).close()
+        with self.assertRaises(OSError):
+            self.connect("alice", source="127.0.0.6")
+        self.others_are_served()
+
     def test_an_organisation_has_one_share_however_it_spells_its_name(self):
         for name in ("before", "behind"):
             with self.subTest(name=name):

@@ -43,23 +43,23 @@ class Links(unittest.IsolatedAsyncioTestCase):
 
     async def test_what_is_asked_at_once_goes_together(self):
         link = await self.link(answers(5))
-        found = await asyncio.gather(*(link.ask(CALL, it) for it in range(5)))
+        found = await asyncio.gather(*(link.ask("Maker/alice", CALL, it) for it in range(5)))
         self.assertEqual((found, self.proposals(), self.node.asked[0][1]["height"]), ([ANSWER] * 5, [5], 4))
 
     async def test_a_slow_node_gets_fewer_at_a_time(self):
         link = await self.link(answers(2), answers(2), answers(1))
         link.each = 0.5
-        await asyncio.gather(*(link.ask(CALL, 0) for _ in range(5)))
+        await asyncio.gather(*(link.ask("Maker/alice", CALL, 0) for _ in range(5)))
         self.assertEqual(self.proposals(), [2, 2, 1])
         self.assertLess(link.each, 0.5)
 
     async def test_a_node_that_answers_late_is_slow(self):
         link = await self.link([b"{"])
         with mock.patch.object(links, "ENDORSE_SECONDS", 0.1):
-            self.assertIsNone(await link.ask(CALL, 0))
+            self.assertIsNone(await link.ask("Maker/alice", CALL, 0))
         link = await self.link()
         with mock.patch.object(Link, "post", return_value=None), mock.patch.object(links, "ENDORSE_SECONDS", -1.0):
-            self.assertIsNone(await link.ask(CALL, 0))
+            self.assertIsNone(await link.ask("Maker/alice", CALL, 0))
         self.assertEqual(link.each, 0.04)
 
     async def test_a_node_that_gives_no_answer_is_passed_over_for_a_while(self):
@@ -69,20 +69,31 @@ class Links(unittest.IsolatedAsyncioTestCase):
                               ((200, []), "200")]:
             with self.subTest(told=told):
                 link = await self.link(failure)
-                self.assertIsNone(await link.ask(CALL, 0))
+                self.assertIsNone(await link.ask("Maker/alice", CALL, 0))
                 self.assertGreater(link.down, 0)
                 self.assertIn(f"no endorsement of Carrier: {told}", self.said[0])
 
     async def test_who_waits_for_a_node_that_falls_silent_asks_another_one_at_once(self):
         link = await self.link(*["nothing"] * 20)
         with mock.patch.object(links, "ENDORSE_SECONDS", 0.5), mock.patch.object(Link, "most", return_value=10):
-            self.assertEqual(await asyncio.gather(*(link.ask(CALL, 0) for _ in range(200))), [None] * 200)
+            self.assertEqual(await asyncio.gather(*(link.ask("Maker/alice", CALL, 0) for _ in range(200))), [None] * 200)
         self.assertLessEqual(len(self.node.asked), links.REQUESTS)
+
+    async def test_callers_take_turns(self):
+        """However many calls one has, and however slow they are, those of others go with the next ones."""
+        link = await self.link(answers(2), answers(2), answers(2), answers(2), answers(1))
+        link.requests = 1
+        many = [link.ask("Maker/alice", {**CALL, "arg": f"{it:02x}"}, 0) for it in range(7)]
+        others = [link.ask(f"Maker/{it}", {**CALL, "arg": it}, 0) for it in ("bb", "cc")]
+        with mock.patch.object(Link, "most", return_value=2):
+            self.assertEqual(await asyncio.gather(*many, *others), [ANSWER] * 9)
+        asked = [[it["arg"] for it in body["proposals"]] for _, body, _ in self.node.asked]
+        self.assertEqual(asked, [["00", "bb"], ["cc", "01"], ["02", "03"], ["04", "05"], ["06"]])
 
     async def test_an_answer_that_is_too_long_is_none(self):
         link = await self.link(answers(5))
         with mock.patch.object(links, "LONGEST", 9):
-            self.assertIsNone(await link.ask(CALL, 0))
+            self.assertIsNone(await link.ask("Maker/alice", CALL, 0))
         self.assertEqual(self.said, ["no endorsement of Carrier: its answer has more than 0 MiB"])
 
     async def test_one_long_word_takes_little_memory(self):
@@ -91,37 +102,37 @@ class Links(unittest.IsolatedAsyncioTestCase):
                            ("a" * 301, "it does not answer each proposal")):
             for escapes in (True, False):
                 link = await self.link((200, json.dumps({"answers": [{"denied": word, "height": 0}]}, ensure_ascii=escapes)))
-                self.assertIsNone(await link.ask(CALL, 0))
+                self.assertIsNone(await link.ask("Maker/alice", CALL, 0))
                 self.assertEqual(self.said, [f"no endorsement of Carrier: {told}"])
 
     async def test_who_has_much_to_say_is_asked_for_less(self):
         link = await self.link(answers(8), answers(4), answers(4), answers(4))
         with mock.patch.object(links, "LONGEST", len(json.dumps(answers(4)[1]))):
-            self.assertEqual(await asyncio.gather(*(link.ask(CALL, 0) for _ in range(8))), [None] * 8)
-            self.assertEqual(await asyncio.gather(*(link.ask(CALL, 0) for _ in range(4))), [ANSWER] * 4)
+            self.assertEqual(await asyncio.gather(*(link.ask("Maker/alice", CALL, 0) for _ in range(8))), [None] * 8)
+            self.assertEqual(await asyncio.gather(*(link.ask("Maker/alice", CALL, 0) for _ in range(4))), [ANSWER] * 4)
         self.assertEqual((self.proposals(), self.said, link.few), ([8, 4], [], 8))
         link = await self.link((429, {"why": "ask again"}), answers(1))
-        self.assertEqual(await asyncio.gather(link.ask(CALL, 0), link.ask(CALL, 0)), [None] * 2)
-        self.assertEqual((await link.ask(CALL, 0), self.said), (ANSWER, []))
+        self.assertEqual(await asyncio.gather(link.ask("Maker/alice", CALL, 0), link.ask("Maker/alice", CALL, 0)), [None] * 2)
+        self.assertEqual((await link.ask("Maker/alice", CALL, 0), self.said), (ANSWER, []))
 
     async def test_no_cookies_are_kept(self):
         link = await self.link(Cookies(answers(1)), Cookies(answers(1)), answers(1))
         # Of names alone they are kept.
         link.url = link.url.replace("127.0.0.1", "localhost")
         for _ in range(3):
-            self.assertEqual(await link.ask(CALL, 0), ANSWER)
+            self.assertEqual(await link.ask("Maker/alice", CALL, 0), ANSWER)
         self.assertEqual(len(link.http.cookie_jar), 0)
 
     async def test_an_answer_of_many_values_is_none(self):
         link = await self.link((200, '{"answers":[' + "[]," * 2000 + "[]]}"), answers(2))
-        self.assertEqual(await asyncio.gather(link.ask(CALL, 0)), [None])
+        self.assertEqual(await asyncio.gather(link.ask("Maker/alice", CALL, 0)), [None])
         self.assertEqual(self.said, ["no endorsement of Carrier: its answer has more than 1,000 commas"])
-        self.assertEqual(await asyncio.gather(link.ask(CALL, 0), link.ask(CALL, 0)), [ANSWER] * 2)
+        self.assertEqual(await asyncio.gather(link.ask("Maker/alice", CALL, 0), link.ask("Maker/alice", CALL, 0)), [ANSWER] * 2)
 
     async def test_a_node_sends_another_one_nowhere(self):
         link = await self.link(answers(1))
         link.url = (await self.enterAsyncContext(Elsewhere(self.node.url))).url
-        self.assertIsNone(await link.ask(CALL, 0))
+        self.assertIsNone(await link.ask("Maker/alice", CALL, 0))
         self.assertEqual(self.node.asked, [])
 
     async def test_a_change_has_the_time_of_a_call(self):
@@ -129,13 +140,13 @@ class Links(unittest.IsolatedAsyncioTestCase):
         with mock.patch.object(Link, "post", return_value=[ANSWER]) as post:
             for proposal in (CALL, CHANGE):
                 link.each = 0.01
-                await link.ask(proposal, 3)
+                await link.ask("Maker/alice", proposal, 3)
                 self.assertEqual(post.call_args.args, ([proposal], 3, links.ENDORSE_SECONDS + 0.04))
 
     async def test_nobody_hangs_where_something_fails(self):
         link = await self.link()
         with mock.patch.object(Link, "post", side_effect=RuntimeError("boom")), mock.patch.object(Link, "most", return_value=1):
-            self.assertEqual(await asyncio.gather(*(link.ask(CALL, 3) for _ in range(5))), [None] * 5)
+            self.assertEqual(await asyncio.gather(*(link.ask("Maker/alice", CALL, 3) for _ in range(5))), [None] * 5)
 
 
 class ByHand(unittest.IsolatedAsyncioTestCase):
@@ -156,12 +167,17 @@ class ByHand(unittest.IsolatedAsyncioTestCase):
 
     async def test_marks_go_into_entries_that_cost_no_share(self):
         with mock.patch.object(log, "ENTRY_CHARACTERS", 7):
-            said = await log.begin(await self.log((200, {}), DONE, DONE, NOT_DONE), self.config, ["aabb", "tick", "cc"])
-        keys = [it[1]["compare"][0]["key"] for it in self.node.asked[1:]]
+            said = await log.begin(await self.log((200, {}), DONE, DONE, NOT_DONE, (200, {"count": "3"})), self.config, ["aabb", "tick", "cc"])
+        keys = [it[1]["compare"][0]["key"] for it in self.node.asked[1:-1]]
         self.assertEqual(keys, [base64_of(f"log/{it}") for it in ("Maker/genesis", "Maker/refill-1", "Maker/refill-2")])
         begun = f"the log has begun: its first entry names the genesis file {hashlib.sha256(b'').hexdigest()}"
         self.assertEqual(said, f"{begun}, and 3 marks are behind it in 2 more entries")
         self.assertEqual(await log.begin(await self.log((200, {}), DONE), self.config, []), begun)
+
+    async def test_a_refill_that_somebody_has_broken_is_told(self):
+        """What stands between its entries ends it: other blocks would come out."""
+        with self.assertRaisesRegex(log.NotDone, "^somebody else has put entries meanwhile, .* begin again with a new, empty etcd"):
+            await log.begin(await self.log((200, {}), DONE, DONE, (200, {"count": "3"})), self.config, ["aabb", "tick"])
 
     async def test_a_module_has_its_digest(self):
         digest = hashlib.sha256(b"\0asm").hexdigest()

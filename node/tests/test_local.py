@@ -130,7 +130,7 @@ class Named(Case):
         link = links.Link("Carrier", self.config, lambda _: None)
         self.addAsyncCleanup(link.close)
         with mock.patch.object(self.api.endorsing, "answers", mock.AsyncMock(return_value=[ENDORSED])) as asked:
-            self.assertEqual(await link.ask(CALL, 0), ENDORSED)
+            self.assertEqual(await link.ask("Maker/alice", CALL, 0), ENDORSED)
         self.assertEqual(asked.call_args.args[0], "Maker/node")
 
     async def test_the_owner_is_looked_for_once_a_connection(self):

@@ -101,7 +101,7 @@ class Of:
             one, other = await self.log(), await self.log()
             self.assertEqual((await one.is_empty(), await one.is_led()), (True, True))
             await other.append("Maker/genesis", ["genesis 00"])
-            self.assertFalse(await one.is_empty())
+            self.assertEqual((await one.is_empty(), await one.count()), (False, 1))
 
         async def test_lines_have_their_numbers(self):
             log = await self.log()

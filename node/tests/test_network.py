@@ -90,7 +90,7 @@ class Case(unittest.IsolatedAsyncioTestCase):
     async def flag(self, chain: Chain, proposal: dict, made: str) -> int:
         """What becomes of an envelope that is put as it is."""
         waiter = chain.wait_for(id_of(proposal))
-        await chain.put(id_of(proposal), made)
+        await chain.put("Maker/alice", id_of(proposal), made)
         async with asyncio.timeout(PATIENCE):
             flag: int = (await waiter)["flag"]
             return flag

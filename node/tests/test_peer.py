@@ -8,7 +8,7 @@ from collections.abc import AsyncIterator
 from unittest import mock
 
 import support
-from regtuma import chain, endorsing, filters
+from regtuma import chain, endorsing, filters, peer as peers
 from regtuma.endorsing import Approver
 from regtuma.filters import Asked, Filter, FilterEnded
 from regtuma.metrics import Metrics
@@ -160,6 +160,20 @@ class Peers(unittest.IsolatedAsyncioTestCase):
         self.assertEqual([(await it)[0] for it in asked[1:150]], [f"call {it}" for it in range(1, 150)])
         self.assertEqual(self.peer.unanswered, 0)
         self.assertEqual(self.heard[1:], ["read 9.0 0"])
+
+    async def test_who_is_behind_the_log_is_asked_for_few_calls_at_a_time(self):
+        """Each may be slow, and it reads the log between them: else one that asks without end keeps it behind for good."""
+        first = asyncio.ensure_future(self.peer.answer_to("call", self.blocked("go")))
+        await self.come(lambda: self.peer.asked)
+        await self.peer.log([b"9.0 tick\n"] * (peers.BEHIND + 1))
+        asked = [asyncio.ensure_future(self.peer.answer_to("call", str(it))) for it in range(50)]
+        with mock.patch.object(peers, "WORKERS", 3):
+            await asyncio.sleep(0.05)
+            self.assertEqual((len(self.peer.asked), self.peer.unanswered), (3, 51))
+            self.go("go")
+            await asyncio.gather(first, *asked)
+            await self.come(lambda: self.peer.unread_lines == 0)
+        self.assertEqual((self.peer.room(filters.MOST_ASKED), self.heard.count("read 9.0 0")), (filters.MOST_ASKED, peers.BEHIND + 1))
 
     async def test_few_wait_that_look_through_the_chain(self):
         """So that what is asked behind them waits for few, however many are asked for, and gone again."""
