@@ -14,7 +14,7 @@ from .links import Link
 from .load import Held
 from .proposals import Refused, call_of, check, checked, organisations_of
 from .waiting import together
-from .wire import Object, envelope, id_of, proposal_bytes
+from .wire import Object, envelope, id_of, proposal_of
 
 TOO_LARGE = 421
 TRIES = 12
