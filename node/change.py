@@ -80,7 +80,8 @@ def wanted(words: argparse.Namespace, stands: Membership) -> Membership:
             raise NoChange(f"{name} is no member")
         del found[name]
     after = Membership(stands.serial + 1, [found[name] for name in sorted(found)], words.policy or begun.policy)
-    if (after.members, after.policy) == (stands.members, stands.policy):
+    # The genesis file's members stand in its own order.
+    if (after.by_name, after.policy) == (stands.by_name, stands.policy):
         raise NoChange("that is what stands already")
     return after
 

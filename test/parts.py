@@ -384,7 +384,7 @@ TYPED_BEFORE = {readme: "README.md", formats: "docs/OUTPUT.md"}
 # The packages of Debian that parts of test/run need.
 OF_NODE = ["openssl", "nodejs", "haproxy", "python3-aiohttp", "python3-cryptography", "python3-prometheus-client"]
 OF_LOG = ["etcd-server", "etcd-client"]
-PACKAGES: dict[Part, list[str]] = {types: ["mypy", *OF_NODE[3:]], formats: ["jq"], keys: ["openssl"], node: [*OF_NODE, *OF_LOG],
+PACKAGES: dict[Part, list[str]] = {types: ["mypy", *OF_NODE[3:]], formats: ["jq"], keys: ["openssl"], asking: ["wabt"], node: [*OF_NODE, *OF_LOG],
                                    scripts: [*OF_LOG, "curl", *OF_NODE]}
 
 
